@@ -1,0 +1,83 @@
+-- Answers (docs/PROTOCOL.md, "Answers").
+use Rattle.std.specs.Prelude.{ℕ, List, [], ◌∷◌, ◌++◌, map, codes, Result, Ok, Err}
+use Rattle.serde_json.specs.Data.{Data, boolean, string, array, object, Items, no_items, item, no_members, member}
+use Rattle.serde_json.specs.Written.{compact_text}
+use Rattle.ink_model.specs.declared.fault.Fault.{Fault}
+use Rattle.ink_model.specs.declared.fault.Fault.TheVariants as fault
+use Rattle.ink_model.specs.declared.fault.Refusal.{Refusal}
+use Rattle.ink_model.specs.declared.fault.Refusal.TheVariants as refusal
+use Rattle.ink_model.specs.declared.fault.Halt.{Halt}
+use Rattle.ink_model.specs.declared.fault.Halt.TheVariants as halt
+use Rattle.ink_model.specs.declared.host.Event.{Event}
+use Rattle.ink_model.specs.declared.passage.Passage.{Passage}
+use Rattle.ink_model.specs.declared.passage.Shown.{Shown}
+
+-- what a command answers: a passage, a refusal, or a fault with what happened before it
+pub data Reply : Type 0 where
+  Tells : (passage : Passage) → Reply
+  Refuses : (refusal : Refusal) → Reply
+  Breaks : (fault : Fault) → (events : List Event) → Reply
+
+-- what a call that runs the story returned, as a reply
+abbrev pub reply_of_halt : Halt → Reply
+reply_of_halt (halt.Refused r) = Refuses r
+reply_of_halt (halt.Fault f events) = Breaks f events
+
+abbrev pub reply_of : Result Passage Halt → Reply
+reply_of (Ok passage) = Tells passage
+reply_of (Err h) = reply_of_halt h
+
+-- ---- replies as JSON
+
+abbrev pub fault_name : Fault → List ℕ
+fault_name fault.HostRefused = codes "HostRefused"
+fault_name fault.TooDeep = codes "TooDeep"
+fault_name fault.OutOfSteps = codes "OutOfSteps"
+fault_name fault.OutOfMemory = codes "OutOfMemory"
+
+abbrev pub refusal_name : Refusal → List ℕ
+refusal_name refusal.CannotContinue = codes "CannotContinue"
+refusal_name refusal.BadCommand = codes "BadCommand"
+refusal_name (refusal.Broken f) = codes "Broken"
+refusal_name refusal.OutOfMemory = codes "OutOfMemory"
+
+abbrev pub items_of : List Data → Items
+items_of [] = no_items
+items_of (d ∷ ds) = item d (items_of ds)
+
+abbrev pub texts_data : List (List ℕ) → Data
+texts_data ts = array (items_of (map string ts))
+
+abbrev pub shown_data : Shown → Data
+shown_data choice = object (member (codes "tags") (texts_data choice.tags) (member (codes "text") (string choice.text) no_members))
+
+-- there is no event yet
+abbrev pub event_data : Event → Data
+event_data e = elim e [ ]
+
+abbrev pub events_data : List Event → Data
+events_data events = array (items_of (map event_data events))
+
+abbrev pub passage_data : Passage → Data
+passage_data p = object
+    (member (codes "choices") (array (items_of (map shown_data p.choices)))
+    (member (codes "events") (events_data p.events)
+    (member (codes "loose") (boolean p.loose)
+    (member (codes "more") (boolean p.more)
+    (member (codes "tags") (texts_data p.tags)
+    (member (codes "text") (string p.text) no_members))))))
+
+abbrev pub refusal_data : Refusal → Data
+refusal_data (refusal.Broken f) =
+    object (member (codes "fault") (string (fault_name f)) (member (codes "refused") (string (codes "Broken")) no_members))
+refusal_data r = object (member (codes "refused") (string (refusal_name r)) no_members)
+
+abbrev pub reply_data : Reply → Data
+reply_data (Tells passage) = passage_data passage
+reply_data (Refuses r) = refusal_data r
+reply_data (Breaks f events) =
+    object (member (codes "events") (events_data events) (member (codes "fault") (string (fault_name f)) no_members))
+
+-- a reply as it is written: compact JSON and a newline
+unfoldable pub answer : Reply → List ℕ
+answer reply = compact_text (reply_data reply) ++ 10 ∷ []

@@ -1,0 +1,15 @@
+pub mod Tree
+pub mod View
+pub mod Narrow
+pub mod Place
+pub mod Grammar
+pub mod Mark
+pub mod Clean
+pub mod Configuration
+pub mod Step
+pub mod Run
+pub mod Command
+pub mod Answer
+pub mod State
+pub mod Session
+pub mod Memory

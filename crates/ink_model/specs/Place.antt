@@ -1,0 +1,39 @@
+-- Where flow starts, enters and goes on (docs/RUNNING.md, "Places").
+use Rattle.std.specs.Prelude.{◌+◌, List, [], ◌∷◌, ◌++◌, reverse, Option, Some, None, nat_lt, if◌then◌else◌}
+use Rattle.ink_model.specs.Tree.{StoryTree, leaf, container, Trees, no_trees, tree, at, width}
+use Rattle.ink_model.specs.declared.place.Part.{Part}
+use Rattle.ink_model.specs.declared.place.Part.TheVariants.{Index, Name}
+
+-- the way from content down to its first content that holds no other by index
+abbrev mutual
+  pub way_in : StoryTree → List Part
+  way_in (leaf l) = []
+  way_in (container name flags content named) = way_into content
+
+  pub way_into : Trees → List Part
+  way_into no_trees = []
+  way_into (tree t ts) = Index 0 ∷ way_in t
+
+-- the same for what is found at a place; where nothing is, there is no way
+abbrev pub way_from : Option StoryTree → List Part
+way_from None = []
+way_from (Some t) = way_in t
+
+-- where a step at a place gets to before it performs
+unfoldable pub entered : StoryTree → List Part → List Part
+entered s p = p ++ way_from (at s p)
+
+-- A story starts at the root's first content, or at the root itself where it is empty.
+abbrev pub start_place : StoryTree → List Part
+start_place s = if nat_lt 0 (width (Some s)) then Index 0 ∷ [] else []
+
+-- The place after a place, given from its end: the next index of the container, or what follows the container while it
+-- stands by index.
+abbrev pub next_upwards : StoryTree → List Part → Option (List Part)
+next_upwards s [] = None
+next_upwards s (Name n ∷ up) = None
+next_upwards s (Index i ∷ up) =
+    if nat_lt (i + 1) (width (at s (reverse up))) then Some (reverse (Index (i + 1) ∷ up)) else next_upwards s up
+
+unfoldable pub next_place : StoryTree → List Part → Option (List Part)
+next_place s p = next_upwards s (reverse p)

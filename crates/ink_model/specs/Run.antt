@@ -1,0 +1,90 @@
+-- A forward run, by its moments (docs/RUNNING.md, "Runs").
+use Rattle.std.specs.Prelude.{ℕ, zero, suc, List, [], ◌∷◌, ◌++◌, Option, Some, None}
+use Rattle.ink_model.specs.Tree.{StoryTree}
+use Rattle.ink_model.specs.Place.{entered}
+use Rattle.ink_model.specs.Configuration.{Configuration, place_of, with_flow, begun}
+use Rattle.ink_model.specs.Step.{Bound, Outcome, Next, Stop, Wants, Faults, step, go_on}
+use Rattle.ink_model.specs.declared.fault.Fault.{Fault}
+use Rattle.ink_model.specs.declared.fault.Fault.TheVariants.{HostRefused, OutOfSteps}
+use Rattle.ink_model.specs.declared.host.Given.{Given}
+use Rattle.ink_model.specs.declared.host.Given.TheVariants as given
+use Rattle.ink_model.specs.declared.place.Part.{Part}
+use Rattle.ink_model.specs.declared.value.Value.{Value}
+use Rattle.ink_model.specs.declared.value.Value.TheVariants as value
+
+-- ---- answers of the host's objects
+
+abbrev pub value_given : Given → Value
+value_given (given.Int z) = value.Int z
+value_given (given.Bool b) = value.Bool b
+value_given (given.Text t) = value.Text t
+value_given given.Void = value.Void
+
+abbrev pub pushed : Value → Configuration → Configuration
+pushed v c = with_flow (record c.flow { stack = v ∷ c.flow.stack }) c
+
+abbrev pub answered_at : StoryTree → Value → Option (List Part) → Configuration → Outcome
+answered_at s v None c = Stop c
+answered_at s v (Some p) c = go_on s (entered s p) (pushed v c)
+
+-- a wanted call was answered, or refused: the answer is pushed, and flow goes on
+abbrev pub answered : StoryTree → Configuration → Option Given → Outcome
+answered s c None = Faults HostRefused
+answered s c (Some g) = answered_at s (value_given g) (place_of c) c
+
+-- a call that was made, and what came of it
+pub record Made : Type 0 where
+  pub name : List ℕ
+  pub arguments : List Value
+  pub gave : Option Given
+
+-- ---- moments
+
+-- How far a run is, the answers that are left, and the calls made. After a fault: the configuration before its step.
+pub data Moment : Type 0 where
+  At : (now : Configuration) → (left : List (Option Given)) → (made : List Made) → Moment
+  Stopped : (after : Configuration) → (left : List (Option Given)) → (made : List Made) → Moment
+  Faulted : (fault : Fault) → (before : Configuration) → (left : List (Option Given)) → (made : List Made) → Moment
+  Waits : (name : List ℕ) → (made : List Made) → Moment
+
+abbrev pub moment_after : Configuration → Outcome → List (Option Given) → List Made → Moment
+moment_after c (Next d) left made = At d left made
+moment_after c (Stop d) left made = Stopped d left made
+moment_after c (Faults f) left made = Faulted f c left made
+moment_after c (Wants name arguments d) left made = Waits name made
+
+-- a wanted call takes the next answer; without one the run waits
+abbrev pub came : StoryTree → Configuration → Outcome → List (Option Given) → List Made → Moment
+came s c (Wants name arguments d) (a ∷ left) made =
+    moment_after c (answered s d a) left (made ++ record { name = name; arguments = arguments; gave = a } ∷ [])
+came s c outcome left made = moment_after c outcome left made
+
+-- the next moment; a run that has ended stays as it is
+abbrev pub next : StoryTree → Bound → Moment → Moment
+next s b (At c left made) = came s c (step s b c) left made
+next s b (Stopped c left made) = Stopped c left made
+next s b (Faulted f c left made) = Faulted f c left made
+next s b (Waits name made) = Waits name made
+
+unfoldable pub run : StoryTree → Bound → ℕ → Moment → Moment
+run s b zero m = m
+run s b (suc n) m = next s b (run s b n m)
+
+-- the moment after n steps from a configuration, under answers
+abbrev pub moment : StoryTree → Bound → Configuration → List (Option Given) → ℕ → Moment
+moment s b c answers n = run s b n (At c answers [])
+
+-- steps that a command may take
+abbrev pub max_steps : ℕ
+max_steps = 1000000
+
+-- a run that needs one more step than it may take
+abbrev pub cut_off : Moment → Moment
+cut_off (At c left made) = Faulted OutOfSteps c left made
+cut_off (Stopped c left made) = Stopped c left made
+cut_off (Faulted f c left made) = Faulted f c left made
+cut_off (Waits name made) = Waits name made
+
+-- the run of a command to its end
+abbrev pub through : StoryTree → Bound → Configuration → List (Option Given) → Moment
+through s b c answers = cut_off (moment s b (begun c) answers max_steps)

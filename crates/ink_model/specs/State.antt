@@ -1,0 +1,24 @@
+-- The state of a player between commands.
+use Rattle.std.specs.Prelude.{ℕ, List, Bool, false}
+use Rattle.ink_model.specs.Tree.{StoryTree}
+use Rattle.ink_model.specs.Configuration.{Configuration, can_go_on, start}
+use Rattle.ink_model.specs.declared.fault.Fault.{Fault}
+use Rattle.ink_model.specs.declared.value.Value.{Value}
+
+-- ready, or broken by a fault, with the globals as they stood before the step that faulted
+pub data Condition : Type 0 where
+  Ready : (now : Configuration) → Condition
+  Broken : (fault : Fault) → (globals : List (List ℕ × Value)) → Condition
+
+-- the stamp is that of the next event
+pub record State : Type 0 where
+  pub condition : Condition
+  pub stamp : ℕ
+
+abbrev pub is_running : Condition → Bool
+is_running (Ready c) = can_go_on c
+is_running (Broken f globals) = false
+
+-- as a story is opened
+abbrev pub opened : StoryTree → State
+opened s = record { condition = Ready (start s); stamp = 0 }

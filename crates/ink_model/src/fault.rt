@@ -1,0 +1,64 @@
+//! Refusals and faults.
+
+use crate::host::Event;
+use crate::place::Place;
+use crate::seq::Seq;
+
+/// Why a story is refused.
+#[derive(Clone, Copy, Debug, PartialEq, Eq, thiserror::Error)]
+pub enum Cause {
+    #[error("NotJson")]
+    NotJson,
+    #[error("Version")]
+    Version,
+    #[error("Shape")]
+    Shape,
+    #[error("Unsupported")]
+    Unsupported,
+    #[error("BadPath")]
+    BadPath,
+    #[error("Limit")]
+    Limit,
+    #[error("OutOfMemory")]
+    OutOfMemory,
+}
+
+/// A refused story: why, and the place of what is wrong, which is the root where the whole is.
+#[derive(Drop)]
+pub struct ReadRefusal {
+    pub cause: Cause,
+    pub place: Place,
+}
+
+/// What can go wrong while a story runs.
+#[derive(Clone, Copy, Debug, PartialEq, Eq, thiserror::Error)]
+pub enum Fault {
+    #[error("HostRefused")]
+    HostRefused,
+    #[error("TooDeep")]
+    TooDeep,
+    #[error("OutOfSteps")]
+    OutOfSteps,
+    #[error("OutOfMemory")]
+    OutOfMemory,
+}
+
+/// Why a command is refused. Nothing has changed then.
+#[derive(Clone, Copy, Debug, PartialEq, Eq, thiserror::Error)]
+pub enum Refusal {
+    #[error("CannotContinue")]
+    CannotContinue,
+    #[error("BadCommand")]
+    BadCommand,
+    #[error("Broken")]
+    Broken(Fault),
+    #[error("OutOfMemory")]
+    OutOfMemory,
+}
+
+/// Why a command that runs the story gave no passage.
+#[derive(Drop)]
+pub enum Halt {
+    Refused(Refusal),
+    Fault { fault: Fault, events: Seq<Event> },
+}

@@ -1,0 +1,16 @@
+//! What a host gives and is told.
+
+use crate::text::Text;
+
+/// What a host object answers.
+#[derive(Drop)]
+pub enum Given {
+    Int(i32),
+    Bool(bool),
+    Text(Text),
+    Void,
+}
+
+/// What happened between a player and the objects of its host. No form of content makes an event yet.
+#[derive(Clone, Copy, Debug, PartialEq, Eq)]
+pub enum Event {}

@@ -1,0 +1,27 @@
+//! The plain types of compiled ink stories. The definitions of the rules stand in `specs/`.
+#![tactic(auto)]
+
+mod command;
+mod content;
+mod fault;
+mod frame;
+mod host;
+mod mark;
+mod passage;
+mod place;
+mod seq;
+mod text;
+mod value;
+
+pub use command::Command;
+pub use content::{Content, Control, Leaf};
+pub use fault::{Cause, Fault, Halt, ReadRefusal, Refusal};
+pub use frame::FrameKind;
+pub use host::{Event, Given};
+pub use mark::Mark;
+pub use passage::{Passage, Shown};
+pub use place::{Part, Path, Place};
+pub use seq::Seq;
+pub use text::Text;
+pub use value::Value;
+

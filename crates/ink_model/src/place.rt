@@ -1,0 +1,53 @@
+//! Places in a story, and paths to them.
+
+ghost use Rattle.std.specs.Prelude.{◌≡◌, [], ◌∷◌, ◌++◌, OnOk, OnErr};
+
+use crate::seq::Seq;
+use crate::text::Text;
+use std::alloc::{AllocError, Global};
+use std::marker::Model;
+
+/// One step down in a story: to the content at an index, or to a container given by key.
+#[derive(Drop)]
+pub enum Part {
+    Index(u32),
+    Name(Text),
+}
+
+/// A place: the parts that lead to it from the root, which is the empty place. A contract sees the list of parts.
+#[derive(Drop)]
+pub struct Place {
+    parts: Vec<Part>,
+}
+
+impl Model for Place {
+    ghost use Rattle.std.specs.Prelude.{List};
+    ghost use Rattle.ink_model.specs.declared.place.Part.{Part};
+    ghost Value = { List Part };
+    ghost view = { λ p. p.parts.items };
+}
+
+impl Place {
+    /// The root, which takes no memory.
+    pub fn root(alloc: Global) -> Place
+        ensures { result ≡ [] }
+    {
+        Place {
+            parts: Vec::new(alloc),
+        }
+    }
+
+    /// The parts, from the root on.
+    pub fn parts(&self) -> &[Part]
+        ensures { result.now ≡ self.now }
+    {
+        self.parts.as_slice()
+    }
+}
+
+/// A path as it is written: from the root, or relative to the content that has it.
+#[derive(Drop)]
+pub struct Path {
+    pub relative: bool,
+    pub parts: Seq<Part>,
+}
