@@ -13,3 +13,4 @@ pub mod Answer
 pub mod State
 pub mod Session
 pub mod Memory
+pub mod Examples

@@ -1,0 +1,301 @@
+-- Small worked examples of the rules, each proved by computation.
+use Rattle.std.specs.Prelude.{◌≡◌, ℕ, zero, suc, ◌+◌, List, [], ◌∷◌, ◌++◌, refl, codes, true, false, Option, Some, None, Ok, Err}
+use Rattle.std.proofs.Common.{inl, inr, ap, arith, zero-add, suc-add}
+use Rattle.std.proofs.lemmas.Str.{is_utf8-from_IsUtf8}
+use Rattle.std.specs.Char.{encode_utf8}
+use Rattle.serde_json.specs.Data.{unsigned, Data, null, number, string, array, object, no_items, item, no_members, member}
+use Rattle.serde_json.proofs.OnLiterals.{serde_json_on_literals}
+use Rattle.ink_model.specs.Tree.{StoryTree, leaf, container, Trees, no_trees, tree, no_keys, key, at}
+use Rattle.ink_model.specs.Place.{entered, next_place}
+use Rattle.ink_model.specs.Grammar as grammar
+use Rattle.ink_model.specs.Grammar.{here, of_json, of_value, string_leaf}
+use Rattle.ink_model.specs.Mark.{cut, shown}
+use Rattle.ink_model.specs.Clean.{clean}
+use Rattle.ink_model.specs.Configuration.{Configuration, start, ended, with_safe, put_at, moved, settled, begun}
+use Rattle.ink_model.specs.Step.{Bound, step, go_on, writes, nothing_bound, Next, Stop, with_page}
+use Rattle.ink_model.specs.Run.{Made, moment, next, run, through, cut_off, At, Stopped}
+use Rattle.ink_model.specs.Command.{lines_of, command_of}
+use Rattle.ink_model.specs.Answer.{answer, Tells, Refuses, Breaks}
+use Rattle.ink_model.specs.Session.{Session, Serves, passage}
+use Rattle.ink_model.specs.State.{State, Ready, Broken, opened}
+use Rattle.ink_model.specs.declared.host.Given.{Given}
+use Rattle.ink_model.specs.declared.command.Command.TheVariants.{Through}
+use Rattle.ink_model.specs.declared.content.Leaf.TheVariants as leaves
+use Rattle.ink_model.specs.declared.content.Control.TheVariants.{Done, End}
+use Rattle.ink_model.specs.declared.fault.Cause.TheVariants.{NotJson, Version, Shape, Unsupported, Limit}
+use Rattle.ink_model.specs.declared.fault.Fault.TheVariants as fault
+use Rattle.ink_model.specs.declared.fault.Refusal.TheVariants as refusal
+use Rattle.ink_model.specs.declared.mark.Mark.TheVariants.{Text, Blank, Newline}
+use Rattle.ink_model.specs.declared.place.Part.TheVariants.{Index, Name}
+
+-- ---- a story: ["^Hi","\n",["done",{"#n":"g"}],null], and a container by key that flow never comes to
+
+abbrev text : List ℕ → StoryTree
+text t = leaf (leaves.Text t)
+
+abbrev newline : StoryTree
+newline = leaf leaves.Newline
+
+abbrev list : Trees → StoryTree
+list content = container None 0 content no_keys
+
+abbrev small : StoryTree
+small = container None 0 (tree (text (codes "Hi")) (tree newline (tree (container (Some (codes "g")) 0 (tree (leaf (leaves.Control Done)) no_trees) no_keys) no_trees)))
+    (key (codes "k") (list (tree (text (codes "x")) no_trees)) no_keys)
+
+-- ---- places
+
+found_by_index : at small (Index 2 ∷ Index 0 ∷ []) ≡ Some (leaf (leaves.Control Done))
+found_by_index = refl
+
+found_by_name : at small (Name (codes "k") ∷ Index 0 ∷ []) ≡ Some (text (codes "x"))
+found_by_name = refl
+
+-- flow goes down to the first content before it performs
+goes_in : entered small (Index 2 ∷ []) ≡ Index 2 ∷ Index 0 ∷ []
+unfolding entered
+goes_in = refl
+
+-- off the end of a list, flow goes on after it; off the end of a container by key, nowhere
+goes_up : next_place (list (tree (list (tree newline no_trees)) (tree newline no_trees))) (Index 0 ∷ Index 0 ∷ []) ≡ Some (Index 1 ∷ [])
+unfolding next_place
+goes_up = refl
+
+stays_in_name : next_place small (Name (codes "k") ∷ Index 0 ∷ []) ≡ None
+unfolding next_place
+stays_in_name = refl
+
+-- ---- steps
+
+-- a text is written, and flow moves on
+a_step : step small nothing_bound (start small)
+    ≡ Next (with_page (record { line = Text (codes "Hi") ∷ []; sections = []; next_enter = 0 }) (moved (Index 0 ∷ []) (Some (Index 1 ∷ [])) (start small)))
+unfolding step start entered writes go_on next_place cut
+a_step = refl
+
+-- `done` stops flow safely, and the previous place stays
+a_done : step (list (tree (leaf (leaves.Control Done)) no_trees)) nothing_bound (start small) ≡ Stop (with_safe true (put_at None (start small)))
+unfolding step start entered
+a_done = refl
+
+an_end : step (list (tree (leaf (leaves.Control End)) no_trees)) nothing_bound (start small) ≡ Stop (ended (start small))
+unfolding step start entered
+an_end = refl
+
+-- off the story's end flow stops, and has moved
+off_the_end : step (list (tree (list no_trees) no_trees)) nothing_bound (start small) ≡ Stop (moved (Index 0 ∷ []) None (start small))
+unfolding step start entered go_on next_place
+off_the_end = refl
+
+-- ---- a run and its passage
+
+a_run : moment small nothing_bound (start small) [] 3
+    ≡ Stopped (with_safe true (put_at None (with_page (record { line = Text (codes "Hi") ∷ Newline ∷ []; sections = []; next_enter = 0 })
+    (moved (Index 1 ∷ []) (Some (Index 2 ∷ [])) (start small))))) [] []
+unfolding run step start entered writes go_on next_place cut
+a_run = refl
+
+a_passage : (passage (with_safe true (put_at None (with_page (record { line = Text (codes "Hi") ∷ Newline ∷ []; sections = []; next_enter = 0 }) (start small)))))
+    ≡ record { text = codes "Hi\n"; tags = []; choices = []; events = []; more = false; loose = false }
+unfolding passage start shown clean
+a_passage = refl
+
+-- a stop off the end is a loose one
+a_loose_passage : (passage (put_at None (start small))) ≡ record { text = []; tags = []; choices = []; events = []; more = false; loose = true }
+unfolding passage start shown clean
+a_loose_passage = refl
+
+-- ---- text
+
+cut_at_both_ends : cut (codes "\n\nA\n \n") ≡ Newline ∷ Text (codes "A") ∷ Newline ∷ []
+unfolding cut
+cut_at_both_ends = refl
+
+cut_blanks : cut (codes " \n \n ") ≡ Blank (codes " ") ∷ Newline ∷ Blank (codes " ") ∷ []
+unfolding cut
+cut_blanks = refl
+
+-- a newline inside a text stands where it is
+not_cut_inside : cut (codes "a\nb ") ≡ Text (codes "a\nb ") ∷ []
+unfolding cut
+not_cut_inside = refl
+
+-- a leading newline is hidden, and of two in a row the second
+hidden_newlines : shown (Newline ∷ Text (codes "A") ∷ Newline ∷ Newline ∷ Text (codes "B") ∷ []) ≡ codes "A\nB"
+unfolding shown
+hidden_newlines = refl
+
+cleaned : clean (codes "  a \t b \n\t\n c") ≡ codes "a b\n\nc"
+unfolding clean
+cleaned = refl
+
+-- ---- what is refused when a story is read
+
+abbrev file : Data → Data → Data
+file version root = object (member (codes "inkVersion") version (member (codes "root") root no_members))
+
+abbrev version_21 : Data
+version_21 = number (unsigned 21)
+
+abbrev done_word : Data
+done_word = string (codes "done")
+
+read_small : of_value (file version_21 (array (item done_word (item null no_items)))) ≡ Ok (list (tree (leaf (leaves.Control Done)) no_trees))
+unfolding string_leaf
+read_small = refl
+
+no_json : of_json None ≡ Err (here NotJson)
+no_json = refl
+
+no_object : of_value (array no_items) ≡ Err (here Shape)
+no_object = refl
+
+-- the version is looked at before the root
+other_version : of_value (file (number (unsigned 20)) null) ≡ Err (here Version)
+other_version = refl
+
+with_lists : of_value (object (member (codes "inkVersion") version_21 (member (codes "listDefs") (object (member (codes "l") null no_members)) (member (codes "root") null no_members)))) ≡ Err (here Unsupported)
+with_lists = refl
+
+root_is_no_list : of_value (file version_21 null) ≡ Err (here Shape)
+root_is_no_list = refl
+
+-- elements by index come before the containers by key, and content of which nothing is known yet is refused where it stands
+unsupported : of_value (file version_21 (array (item (array (item done_word (item (number (unsigned 1)) (item null no_items)))) (item (object (member (codes "k") null no_members)) no_items))))
+    ≡ Err (record { cause = Unsupported; place = Index 0 ∷ Index 1 ∷ [] })
+unfolding string_leaf
+unsupported = refl
+
+no_container_at_key : of_value (file version_21 (array (item (object (member (codes "k") null no_members)) no_items))) ≡ Err (record { cause = Shape; place = Name (codes "k") ∷ [] })
+no_container_at_key = refl
+
+abbrev named_list : Data
+named_list = array (item (object (member (codes "#n") (string (codes "a")) no_members)) no_items)
+
+repeated_name : of_value (file version_21 (array (item named_list (item named_list (item null no_items))))) ≡ Err (record { cause = Shape; place = Index 1 ∷ [] })
+repeated_name = refl
+
+-- the limit of nesting comes before all else at its place
+too_deep : grammar.content 21 121 false false (array no_items) ≡ Err (here Limit)
+too_deep = refl
+
+-- ---- command lines and sessions
+
+some_lines : lines_of (codes "through\n\nbye") ≡ codes "through" ∷ [] ∷ codes "bye" ∷ []
+some_lines = refl
+
+no_last_line : lines_of (codes "a\n") ≡ codes "a" ∷ []
+no_last_line = refl
+
+abbrev cannot : List ℕ
+cannot = codes "{\"refused\":\"CannotContinue\"}\n"
+
+abbrev bad_command : List ℕ
+bad_command = codes "{\"refused\":\"BadCommand\"}\n"
+
+a_refusal : answer (Refuses refusal.CannotContinue) ≡ cannot
+unfolding answer serde_json_on_literals
+a_refusal = refl
+
+a_bad_command : answer (Refuses refusal.BadCommand) ≡ bad_command
+unfolding answer serde_json_on_literals
+a_bad_command = refl
+
+a_broken_answer : answer (Refuses (refusal.Broken fault.TooDeep)) ≡ codes "{\"fault\":\"TooDeep\",\"refused\":\"Broken\"}\n"
+unfolding answer serde_json_on_literals
+a_broken_answer = refl
+
+a_fault_answer : answer (Breaks fault.OutOfSteps []) ≡ codes "{\"events\":[],\"fault\":\"OutOfSteps\"}\n"
+unfolding answer serde_json_on_literals
+a_fault_answer = refl
+
+through_line : command_of (codes "through") ≡ Some Through
+unfolding command_of encode_utf8
+through_line = rw (is_utf8-from_IsUtf8 (codes "through") (codes "through", (refl, refl))) refl
+
+other_line : command_of (codes "bye") ≡ None
+unfolding command_of encode_utf8
+other_line = rw (is_utf8-from_IsUtf8 (codes "bye") (codes "bye", (refl, refl))) refl
+
+abbrev stopped : State
+stopped = record { condition = Ready (put_at None (start small)); stamp = 0 }
+
+abbrev broken : State
+broken = record { condition = Broken fault.TooDeep []; stamp = 0 }
+
+-- where flow has stopped, running is refused, and so is a line that is no command; nothing changes
+a_session : Session small nothing_bound (codes "through" ∷ codes "bye" ∷ []) stopped (cannot ++ bad_command) stopped
+unfolding Serves start
+a_session = (
+  Refuses refusal.CannotContinue,
+  stopped,
+  bad_command,
+  rw through_line (refl, refl),
+  rw a_refusal refl,
+  (Refuses refusal.BadCommand, stopped, [], rw other_line (refl, refl), rw a_bad_command refl, (refl, refl)),
+)
+
+-- after a fault a command that runs is answered by the fault
+a_broken_session : Session small nothing_bound (codes "through" ∷ []) broken (codes "{\"fault\":\"TooDeep\",\"refused\":\"Broken\"}\n") broken
+unfolding Serves
+a_broken_session = (Refuses (refusal.Broken fault.TooDeep), broken, [], rw through_line (refl, refl), rw a_broken_answer refl, (refl, refl))
+
+-- a run that has stopped stays as it is
+stays : (s : StoryTree) (b : Bound) (c d : Configuration) (k j : ℕ) (left answers : List (Option Given)) (made : List Made)
+    → moment s b c answers k ≡ Stopped d left made → run s b (j + k) (At c answers []) ≡ Stopped d left made
+unfolding run
+stays s b c d k zero left answers made e = rw (zero-add k) e
+stays s b c d k (suc j) left answers made e = rw (suc-add j k) (ap (next s b) (stays s b c d k j left answers made e))
+
+abbrev small_end : Configuration
+small_end = with_safe true (put_at None (with_page (record { line = Text (codes "Hi") ∷ Newline ∷ []; sections = []; next_enter = 0 })
+    (moved (Index 1 ∷ []) (Some (Index 2 ∷ [])) (start small))))
+
+small_through : through small nothing_bound (start small) [] ≡ Stopped small_end [] []
+unfolding start
+small_through = ap cut_off (stays small nothing_bound (begun (start small)) small_end 3 999997 [] [] [] a_run)
+
+abbrev small_passage : List ℕ
+small_passage = codes "{\"choices\":[],\"events\":[],\"loose\":false,\"more\":false,\"tags\":[],\"text\":\"Hi\\n\"}\n"
+
+a_told_answer : answer (Tells (passage small_end)) ≡ small_passage
+unfolding answer serde_json_on_literals passage start shown clean
+a_told_answer = refl
+
+abbrev after_small : State
+after_small = record { condition = Ready (settled small_end); stamp = 0 }
+
+-- a story is played to its end; then running is refused, and so is a line that is no command
+a_whole_session : Session small nothing_bound (codes "through" ∷ codes "through" ∷ codes "bye" ∷ []) (opened small) (small_passage ++ (cannot ++ bad_command)) after_small
+unfolding Serves start settled
+a_whole_session = (
+  Tells (passage small_end),
+  after_small,
+  cannot ++ bad_command,
+  rw through_line (inl ([], rw small_through (refl, refl)), refl),
+  rw a_told_answer refl,
+  (
+    Refuses refusal.CannotContinue,
+    after_small,
+    bad_command,
+    rw through_line (refl, refl),
+    rw a_refusal refl,
+    (Refuses refusal.BadCommand, after_small, [], rw other_line (refl, refl), rw a_bad_command refl, (refl, refl)),
+  ),
+)
+
+abbrev no_memory : State
+no_memory = record { condition = Broken fault.OutOfMemory []; stamp = 0 }
+
+-- where memory is refused at some step, the fault says so, and the player is broken by it
+a_short_session : Session small nothing_bound (codes "through" ∷ codes "bye" ∷ []) (opened small)
+    (codes "{\"events\":[],\"fault\":\"OutOfMemory\"}\n" ++ bad_command) no_memory
+unfolding Serves start answer run serde_json_on_literals
+a_short_session = (
+  Breaks fault.OutOfMemory [],
+  no_memory,
+  bad_command,
+  rw through_line (inr (record { given = []; steps = 0; reached = begun (start small); left = []; made = []; within = omega arith; got_there = inl refl; says = refl; breaks = refl }), refl),
+  refl,
+  (Refuses refusal.BadCommand, no_memory, [], rw other_line (refl, refl), refl, (refl, refl)),
+)
