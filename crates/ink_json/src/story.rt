@@ -13,15 +13,3 @@ pub struct RawStory {
     pub(crate) root: Content,
     ghost narrow: { is_narrow (view root) ≡ true },
 }
-
-impl RawStory {
-    ghost use Rattle.ink_json.specs.Story.{tree};
-
-    /// The content at a place, none where nothing stands there. Takes no memory.
-    pub fn at(&self, parts: &[Part]) -> Option<&Content>
-        ensures found { option_map (λ c. view c.now) result ≡ at (tree self.now) parts.now }
-        ensures width { width (at (tree self.now) parts.now) < 2 ^ 32 }
-    {
-        None
-    }
-}
