@@ -1,0 +1,8 @@
+//! Reading a compiled story: from JSON to raw content.
+#![tactic(auto)]
+
+mod reading;
+mod story;
+
+pub use reading::read_story;
+pub use story::RawStory;
