@@ -1,13 +1,14 @@
 //! Cutting a written text into marks (docs/TEXT.md, "Cutting").
 
-ghost use Rattle.std.specs.Prelude.{◌≡◌, ◌++◌, IfOk, OnOk, IfSome, is_some};
-ghost use Rattle.std.specs.List.{prefix_len, suffix_len};
-ghost use Rattle.ink_model.specs.Mark.{cut, cut_end, has_newline, is_blank, is_white, leading, piece, trailing, trimmed, without};
+ghost use Rattle.std.specs.Prelude.{◌≡◌, ◌++◌, not, IfOk, OnOk, IfSome, is_some, slice_index};
+ghost use Rattle.std.specs.List.{list_any, prefix_len, suffix_len};
+ghost use Rattle.ink_model.specs.Mark.{cut, cut_end, has_newline, is_blank, is_newline, is_white, leading, piece, trailing, trimmed, without};
 
 use ink_model::{Mark, Text};
 use std::alloc::{AllocError, Global};
 
 /// The marks of a written text (docs/TEXT.md, "Cutting"). The one error is a refused request for memory.
+#[tactic(auto, unfolding(ink_model::specs::Mark::cut))]
 pub(crate) fn cut_text(alloc: Global, text: &str) -> Result<Vec<Mark>, AllocError>
     ensures { IfOk result (λ marks. marks.items ≡ cut text.now) }
 {
@@ -48,11 +49,12 @@ fn push_piece(alloc: Global, marks: &mut Vec<Mark>, text: &str) -> Result<(), Al
         return Ok(());
     }
     let copy = Text::from_str(alloc, text)?;
-    if text.as_bytes().iter().all(|byte| is_blank(*byte)) {
-        marks.push(Mark::Blank(copy))?;
+    let mark = if has_words(text) {
+        Mark::Text(copy)
     } else {
-        marks.push(Mark::Text(copy))?;
-    }
+        Mark::Blank(copy)
+    };
+    marks.push(mark)?;
     Ok(())
 }
 
@@ -63,13 +65,12 @@ fn split_start(text: &str) -> Option<(&str, &str)>
     ensures before { IfSome result (λ parts. parts.0.now ≡ leading is_blank text.now) }
     ensures after { IfSome result (λ parts. parts.1.now ≡ trailing is_blank (leading is_white text.now) ++ without is_white text.now) }
 {
-    let bytes = text.as_bytes();
-    let first = leading_blanks(bytes);
-    if first == bytes.len() || bytes[first] != b'\n' {
+    let first = leading_blanks(text);
+    if !is_newline_at(text, first) {
         return None;
     }
-    let white = leading_white(bytes);
-    let after = white - trailing_blanks(&bytes[..white]);
+    let white = leading_white(text);
+    let after = white - trailing_blanks(&text[..white]);
     Some((&text[..first], &text[after..]))
 }
 
@@ -79,42 +80,69 @@ fn split_end(text: &str) -> Option<(&str, &str)>
     ensures before { IfSome result (λ parts. parts.0.now ≡ trimmed is_white text.now ++ leading is_blank (trailing is_white text.now)) }
     ensures after { IfSome result (λ parts. parts.1.now ≡ trailing is_blank text.now) }
 {
-    let bytes = text.as_bytes();
-    let after = bytes.len() - trailing_blanks(bytes);
-    if after == 0 || bytes[after - 1] != b'\n' {
+    let after = text.len() - trailing_blanks(text);
+    if after == 0 || !is_newline_at(text, after - 1) {
         return None;
     }
-    let white = bytes.len() - trailing_white(bytes);
-    let first = white + leading_blanks(&bytes[white..]);
+    let white = text.len() - trailing_white(text);
+    let first = white + leading_blanks(&text[white..]);
     Some((&text[..first], &text[after..]))
 }
 
 /// How many blanks a text begins with.
-fn leading_blanks(bytes: &[u8]) -> usize
-    ensures { result ≡ prefix_len is_blank bytes.now }
+fn leading_blanks(text: &str) -> usize
+    ensures { result ≡ prefix_len is_blank text.now }
 {
-    bytes.iter().take_while(|byte| is_blank(**byte)).count()
+    text.as_bytes()
+        .iter()
+        .take_while(|byte| is_blank(**byte))
+        .count()
 }
 
 /// How many white bytes a text begins with.
-fn leading_white(bytes: &[u8]) -> usize
-    ensures { result ≡ prefix_len is_white bytes.now }
+fn leading_white(text: &str) -> usize
+    ensures { result ≡ prefix_len is_white text.now }
 {
-    bytes.iter().take_while(|byte| is_white(**byte)).count()
+    text.as_bytes()
+        .iter()
+        .take_while(|byte| is_white(**byte))
+        .count()
 }
 
 /// How many blanks a text ends with.
-fn trailing_blanks(bytes: &[u8]) -> usize
-    ensures { result ≡ suffix_len is_blank bytes.now }
+fn trailing_blanks(text: &str) -> usize
+    ensures { result ≡ suffix_len is_blank text.now }
 {
-    bytes.iter().rev().take_while(|byte| is_blank(**byte)).count()
+    text.as_bytes()
+        .iter()
+        .rev()
+        .take_while(|byte| is_blank(**byte))
+        .count()
 }
 
 /// How many white bytes a text ends with.
-fn trailing_white(bytes: &[u8]) -> usize
-    ensures { result ≡ suffix_len is_white bytes.now }
+fn trailing_white(text: &str) -> usize
+    ensures { result ≡ suffix_len is_white text.now }
 {
-    bytes.iter().rev().take_while(|byte| is_white(**byte)).count()
+    text.as_bytes()
+        .iter()
+        .rev()
+        .take_while(|byte| is_white(**byte))
+        .count()
+}
+
+/// Some byte of a text is no blank.
+fn has_words(text: &str) -> bool
+    ensures { result ≡ list_any (λ byte. not (is_blank byte)) text.now }
+{
+    text.as_bytes().iter().any(|byte| !is_blank(*byte))
+}
+
+/// A newline stands at a place in a text.
+fn is_newline_at(text: &str, at: usize) -> bool
+    ensures { result ≡ is_newline (slice_index text.now at) }
+{
+    at < text.len() && text.as_bytes()[at] == b'\n'
 }
 
 /// A space or a tab.
