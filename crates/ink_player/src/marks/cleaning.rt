@@ -28,7 +28,7 @@ pub(crate) fn clean_text(alloc: Global, text: &str) -> Result<Text, AllocError>
             }
             ' ' | '\t' => match before {
                 Before::Nothing => Before::Nothing,
-                _ => Before::Gap,
+                Before::Word | Before::Gap => Before::Gap,
             },
             _ => {
                 if let Before::Gap = before {
