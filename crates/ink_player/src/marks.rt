@@ -6,3 +6,6 @@ mod showing;
 
 pub(crate) use cutting::cut_text;
 pub(crate) use showing::{shown_tags, shown_text};
+
+#[cfg(test)]
+mod tests;

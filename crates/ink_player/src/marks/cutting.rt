@@ -1,6 +1,6 @@
 //! Cutting a written text into marks (docs/TEXT.md, "Cutting").
 
-ghost use Rattle.std.specs.Prelude.{◌≡◌, ◌++◌, not, IfOk, OnOk, IfSome, is_some, slice_index};
+ghost use Rattle.std.specs.Prelude.{◌≡◌, [], ◌∷◌, ◌++◌, not, IfOk, OnOk, IfSome, is_some, slice_index};
 ghost use Rattle.std.specs.List.{list_any, prefix_len, suffix_len};
 ghost use Rattle.ink_model.specs.Mark.{cut, cut_end, has_newline, is_blank, is_newline, is_white, leading, piece, trailing, trimmed, without};
 
@@ -15,8 +15,7 @@ pub(crate) fn cut_text(alloc: Global, text: &str) -> Result<Vec<Mark>, AllocErro
     let mut marks = Vec::new(alloc);
     match split_start(text) {
         Some((before, after)) => {
-            push_piece(alloc, &mut marks, before)?;
-            marks.push(Mark::Newline)?;
+            push_line(alloc, &mut marks, before)?;
             push_end(alloc, &mut marks, after)?;
             Ok(marks)
         }
@@ -33,12 +32,20 @@ fn push_end(alloc: Global, marks: &mut Vec<Mark>, text: &str) -> Result<(), Allo
 {
     match split_end(text) {
         Some((before, after)) => {
-            push_piece(alloc, marks, before)?;
-            marks.push(Mark::Newline)?;
+            push_line(alloc, marks, before)?;
             push_piece(alloc, marks, after)
         }
         None => push_piece(alloc, marks, text),
     }
+}
+
+/// Adds the mark of a piece, and a newline. The one error is a refused request for memory.
+fn push_line(alloc: Global, marks: &mut Vec<Mark>, text: &str) -> Result<(), AllocError>
+    ensures { OnOk result (marks.new.items ≡ marks.old.items ++ (piece text.now ++ Mark.Newline ∷ [])) }
+{
+    push_piece(alloc, marks, text)?;
+    marks.push(Mark::Newline)?;
+    Ok(())
 }
 
 /// Adds the mark of a piece, if it is not empty. The one error is a refused request for memory.
