@@ -6,6 +6,7 @@ use Rattle.std.proofs.lemmas.Str.{inside_one, length-encode, len_utf8_bounds}
 use lib.Utf8.{encode}
 use Rattle.ink_model.specs.Mark.{is_newline, is_blank, is_white}
 use Rattle.ink_model.specs.Clean.{onto, pieces, joined, has_bytes, clean_line, clean}
+use Rattle.ink_player.specs.Cleaning.{space}
 use Rattle.ink_player.specs.declared.marks.cleaning.Before.{Before}
 use Rattle.ink_player.specs.declared.marks.cleaning.Before.TheVariants.{Nothing, Word, Gap}
 
@@ -16,17 +17,6 @@ abbrev pub gap : Before → Before
 gap Nothing = Nothing
 gap Word = Gap
 gap Gap = Gap
-
--- what is written in front of a word's byte
-abbrev pub space : Before → List ℕ
-space Nothing = []
-space Word = []
-space Gap = 32 ∷ []
-
-pub space_none : (before : Before) → before ≢ Gap → space before ≡ []
-space_none Nothing h = refl
-space_none Word h = refl
-space_none Gap h = absurd (h refl)
 
 -- what is written from here on
 abbrev pub cleaned_on : Before → List ℕ → List ℕ
