@@ -1,5 +1,5 @@
 -- A text cleaned in one walk, which keeps what stands on the line before a character.
-use Rattle.std.proofs.Common.{◌≡◌, ℕ, suc, ◌<◌, ◌≢◌, Bool, true, false, cond, if◌then◌else◌, List, [], ◌∷◌, ◌++◌, map, filter, length, get_or, refl, sym, ap, ◌∙◌, arith, inl, inr}
+use Rattle.std.proofs.Common.{◌≡◌, ℕ, suc, ◌<◌, ◌≢◌, ◌⊎◌, Bool, true, false, cond, if◌then◌else◌, List, [], ◌∷◌, ◌++◌, map, filter, length, get_or, refl, sym, ap, ◌∙◌, arith, inl, inr}
 use Rattle.std.proofs.lemmas.Bool.{cases_lt, ne_eqb, or_parts}
 use Rattle.std.proofs.lemmas.List.{append-nil, append_assoc}
 use Rattle.std.proofs.lemmas.Str.{inside_one, length-encode, len_utf8_bounds}
@@ -162,3 +162,9 @@ word_step out rest before c tab newline blank =
     append_assoc (out ++ space before) (encode c) (cleaned_on Word rest)
     ∙ append_assoc out (space before) (encode c ++ cleaned_on Word rest)
     ∙ ap (λ cs. out ++ cs) (sym (word_first before (encode c) rest some (IsWord-encode c tab newline blank)))
+
+pub blank_step : (out text rest next : List ℕ) (before after : Before) (c : ℕ) → (c ≡ 9) ⊎ (c ≡ 32) → gap before ≡ after → rest ≡ encode c ++ next → out ++ cleaned_on before rest ≡ text → out ++ cleaned_on after next ≡ text
+unfolding encode
+blank_step out text rest next before after c blank goes e so_far =
+    let gone : cleaned_on before (encode c ++ next) ≡ cleaned_on (gap before) next = elim blank [ inl t ↦ rw t refl | inr s ↦ rw s refl ] in
+    rw (sym goes) (ap (λ cs. out ++ cs) (sym (ap (cleaned_on before) e ∙ gone)) ∙ so_far)
