@@ -1,4 +1,4 @@
-use Rattle.std.proofs.Common.{◌≡◌, ◌≢◌, inl, inr, ◌++◌, ap, sym, ◌∙◌, refl, string_bytes, arith}
+use Rattle.std.proofs.Common.{◌≡◌, ◌≢◌, ◌++◌, ap, sym, ◌∙◌, refl, string_bytes, arith}
 use Rattle.ink_player.proofs.Cleaning.{gap, cleaned_on, clean_is, blank_step, word_step}
 use Rattle.ink_player.specs.declared.marks.cleaning.Before.TheVariants.{Nothing, Gap}
 use Rattle.ink_player.proofs.marks.cleaning.clean_text.Goals as goal
@@ -14,7 +14,7 @@ loop-character-preserved-in-Nothing c =
 
 pub loop-character-preserved-in-Word : goal.loop-character-preserved-in-Word
 loop-character-preserved-in-Word c =
-    let after : gap c.loop-character.before ≡ Gap = elim c.in-Word.is [ inl e ↦ ap gap e | inr e ↦ ap gap e ] in
+    let after : gap c.loop-character.before ≡ Gap = grind (arith, c.in-Word.is) in
     blank_step _ _ _ _ c.loop-character.before Gap c.in-Some.character c.in-32.is after c.in-Some.ensures.steps.0 c.loop-character.invariant
 
 pub loop-character-preserved : goal.loop-character-preserved
