@@ -2,6 +2,8 @@
 
 ghost use Rattle.std.specs.Prelude.{◌≡◌};
 
+mod places;
+
 use ink_model::{Mark, Place};
 use std::alloc::Global;
 
