@@ -1,1 +1,4 @@
 pub mod Moving
+pub mod Stepping
+pub mod Telling
+pub mod Running

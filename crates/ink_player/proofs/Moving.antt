@@ -1,5 +1,5 @@
 -- The next place, by the last part of a place, and how wide raw content is.
-use Rattle.std.proofs.Common.{◌≡◌, ◌∙◌, ℕ, suc, ◌+◌, ◌<◌, ◌≤◌, ap, refl, List, [], ◌∷◌, ◌++◌, length, reverse, arith, sym, Option, Some, None, option_map, String, Global, Bor, Bool, true, false, nat_lt, if◌then◌else◌}
+use Rattle.std.proofs.Common.{◌≡◌, ◌∙◌, ℕ, suc, ◌+◌, ◌<◌, ◌≤◌, ap, refl, List, [], ◌∷◌, ◌++◌, length, reverse, arith, sym, Option, Some, None, option_map, Bor, true, false, nat_lt}
 use Rattle.std.proofs.lemmas.List.{append-nil, reverse-append, reverse-reverse}
 use Rattle.std.proofs.lemmas.Bool.Decides.{nat_tests}
 use Rattle.std.proofs.lemmas.Grind.{reverse_onto}
@@ -18,14 +18,14 @@ module _ (s : StoryTree) (rest up : List Part) where
   next_at_name n e = upwards (Name n) e
 
   pub next_at_sibling : (i : ℕ) → rest ≡ up ++ Index i ∷ [] → i + 1 < width (at s up)
-    → next_upwards s (reverse rest) ≡ Some (up ++ Index (i + 1) ∷ [])
+      → next_upwards s (reverse rest) ≡ Some (up ++ Index (i + 1) ∷ [])
   next_at_sibling i e below =
       let h : nat_lt (i + 1) (width (at s up)) ≡ true = grind (arith, nat_tests) in
       upwards (Index i) e
       ∙ rw (reverse-reverse up, h) (ap Some (reverse_onto (reverse up) (Index (i + 1)) [] ∙ ap (λ xs. xs ++ Index (i + 1) ∷ []) (reverse-reverse up)))
 
   pub next_above : (i : ℕ) → rest ≡ up ++ Index i ∷ [] → width (at s up) ≤ i + 1
-    → next_upwards s (reverse rest) ≡ next_upwards s (reverse up)
+      → next_upwards s (reverse rest) ≡ next_upwards s (reverse up)
   next_above i e past = let h : nat_lt (i + 1) (width (at s up)) ≡ false = grind (arith, nat_tests) in upwards (Index i) e ∙ rw (reverse-reverse up, h) refl
 
 pub next_at_root : (s : StoryTree) (rest : List Part) → length rest ≡ 0 → next_upwards s (reverse rest) ≡ None
@@ -38,12 +38,12 @@ count_view (c ∷ cs) = ap suc (count_view cs)
 
 -- where a step gets to, by what was found at its place
 pub entered_some : (s : StoryTree) (p : List Part) (found : Option (Bor Content)) (c : Bor Content) → option_map (λ r. view r.now) found ≡ at s p
-  → found ≡ Some c → p ++ way_in (view c.now) ≡ entered s p
+    → found ≡ Some c → p ++ way_in (view c.now) ≡ entered s p
 unfolding entered
 entered_some s p found c e h = ap (λ t. p ++ way_from t) (sym (ap (λ f. option_map (λ r. view r.now) f) h) ∙ e)
 
 pub entered_none : (s : StoryTree) (p : List Part) (found : Option (Bor Content)) → option_map (λ r. view r.now) found ≡ at s p
-  → found ≡ None → p ≡ entered s p
+    → found ≡ None → p ≡ entered s p
 unfolding entered
 entered_none s p found e h =
     sym (append-nil p) ∙ ap (λ t. p ++ way_from t) (sym (ap (λ f. option_map (λ r. view r.now) f) h) ∙ e)

@@ -67,7 +67,11 @@ fn go_in(here: &mut Place, from: &Content) -> Result<(), AllocError>
 }
 
 /// The place after a place, none where flow stops. The one error is a refused request for memory.
-pub(super) fn place_after(alloc: Global, story: &RawStory, here: &[Part]) -> Result<Option<Place>, AllocError>
+pub(super) fn place_after(
+    alloc: Global,
+    story: &RawStory,
+    here: &[Part],
+) -> Result<Option<Place>, AllocError>
     ensures { IfOk result (λ next. next ≡ next_place (tree story.now) here.now) }
 {
     match sibling_after(story, here) {

@@ -1,4 +1,4 @@
-use Rattle.std.proofs.Common.{◌≡◌, ◌∙◌, ◌+◌, ◌<◌, ◌≤◌, ap, sym, [], ◌∷◌, ◌++◌, arith}
+use Rattle.std.proofs.Common.{◌≡◌, ◌∙◌, ap, sym, [], ◌∷◌, ◌++◌, arith}
 use Rattle.ink_json.specs.Story.{tree}
 use Rattle.ink_model.specs.Tree.{at, width}
 use Rattle.ink_model.specs.Place.{next_place}
