@@ -52,11 +52,12 @@ impl Place {
         }
     }
 
-    /// The place to which these parts lead, which are copied. The one error is a refused request for memory.
+    /// The place to which these parts lead, which are copied, with room for one more. The one error is a refused request
+    /// for memory.
     pub fn from_parts(alloc: Global, parts: &[Part]) -> Result<Place, AllocError>
         ensures { IfOk result (λ place. place ≡ parts.now) }
     {
-        let mut copies = Vec::with_capacity(alloc, parts.len())?;
+        let mut copies = Vec::with_capacity(alloc, parts.len() + 1)?;
         for part in parts {
             let copy = part.clone_in(alloc)?;
             copies.push(copy)?;
