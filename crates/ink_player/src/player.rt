@@ -7,6 +7,9 @@ ghost use Rattle.ink_model.specs.State.{opened, is_running};
 ghost use Rattle.ink_model.specs.Step.{nothing_bound};
 ghost use Rattle.ink_model.specs.declared.fault.Fault.TheVariants.{OutOfMemory};
 
+#[cfg(test)]
+mod tests;
+
 use crate::desk::Desk;
 use crate::machine::Machine;
 use crate::story::Story;
