@@ -1,3 +1,4 @@
 pub mod Words
 pub mod Cleaning
 pub mod Past
+pub mod Steps

@@ -1,5 +1,5 @@
 -- What a player stands for.
-use Rattle.std.specs.Prelude.{[], false, None, Some, Option}
+use Rattle.std.specs.Prelude.{[], None, Some, Option}
 use Rattle.ink_json.specs.Story.{tree}
 use Rattle.ink_model.specs.Tree.{StoryTree}
 use Rattle.ink_model.specs.Configuration.{Configuration, base_frame}

@@ -1,9 +1,22 @@
 //! The machine that runs a story forward.
 
-ghost use Rattle.std.specs.Prelude.{◌≡◌};
+ghost use Rattle.std.specs.Prelude.{◌≡◌, IfOk};
+ghost use Rattle.ink_model.specs.Configuration.{start, begun, settled, can_go_on};
+ghost use Rattle.ink_model.specs.Session.{passage, is_loose, RunsThrough};
+ghost use Rattle.ink_model.specs.Step.{nothing_bound};
+ghost use Rattle.ink_player.specs.Words.{story_tree, config_of};
+ghost use Rattle.ink_player.specs.Steps.{Runs, told, left_by};
 
-use ink_model::{Mark, Place};
-use std::alloc::Global;
+mod places;
+mod steps;
+
+use crate::marks::{shown_tags, shown_text};
+use crate::story::Story;
+use ink_model::{Fault, Mark, Passage, Place, Seq};
+use std::alloc::{AllocError, Global};
+
+/// Steps that a command may take.
+const MAX_STEPS: u32 = 1_000_000;
 
 /// What changes while a story runs. Of a configuration's fields those that no content writes yet are not kept.
 #[derive(Drop)]
@@ -13,4 +26,103 @@ pub struct Machine {
     pub(crate) safe: bool,
     pub(crate) marks: Vec<Mark>,
     pub(crate) alloc: Global,
+}
+
+/// How a step ended: flow went on, it stopped, or a fault came and nothing has changed.
+#[derive(Clone, Copy)]
+pub enum StepEnd {
+    Went,
+    Stopped,
+    Fault(Fault),
+}
+
+impl Machine {
+    /// A machine at the story's start. The one error is a refused request for memory.
+    #[tactic(auto, unfolding(ink_model::specs::Configuration::start))]
+    pub(crate) fn new(alloc: Global, story: &Story) -> Result<Machine, AllocError>
+        ensures { IfOk result (λ m. config_of m ≡ start (story_tree story.now)) }
+    {
+        let place = places::first_place(alloc, &story.raw)?;
+        Ok(Machine {
+            place: Some(place),
+            previous: None,
+            safe: false,
+            marks: Vec::new(alloc),
+            alloc,
+        })
+    }
+
+    /// Whether flow has not stopped.
+    pub(crate) fn can_go_on(&self) -> bool
+        ensures { result ≡ can_go_on (config_of self.now) }
+    {
+        self.place.is_some()
+    }
+
+    /// Whether flow has stopped at a loose end.
+    fn is_loose(&self) -> bool
+        ensures { result ≡ is_loose (config_of self.now) }
+    {
+        !self.can_go_on() && !self.safe
+    }
+
+    /// Runs to the stop and tells the passage. After a fault the machine is of no more use.
+    pub(crate) fn through(&mut self, story: &Story) -> Result<Passage, Fault>
+        ensures { RunsThrough (story_tree story.now) nothing_bound (config_of self.old) (told result) (left_by result (config_of self.new)) }
+    {
+        self.begin();
+        if let Err(fault) = self.run(story) {
+            return Err(fault);
+        }
+        let Ok(passage) = self.passage() else {
+            return Err(Fault::OutOfMemory);
+        };
+        self.settle();
+        Ok(passage)
+    }
+
+    /// As a running command begins.
+    fn begin(&mut self)
+        ensures { config_of self.new ≡ begun (config_of self.old) }
+    {
+        self.safe = false;
+    }
+
+    /// Steps to the stop.
+    fn run(&mut self, story: &Story) -> Result<(), Fault>
+        ensures { Runs (story_tree story.now) (config_of self.old) (config_of self.new) result }
+    {
+        for _step in 0..MAX_STEPS {
+            match self.step(story) {
+                StepEnd::Went => {}
+                StepEnd::Stopped => return Ok(()),
+                StepEnd::Fault(fault) => return Err(fault),
+            }
+        }
+        Err(Fault::OutOfSteps)
+    }
+
+    /// What is told of the machine as a running command ends. The one error is a refused request for memory.
+    fn passage(&self) -> Result<Passage, AllocError>
+        ensures { IfOk result (λ p. p ≡ passage (config_of self.now)) }
+    {
+        let text = shown_text(self.alloc, self.marks.as_slice())?;
+        let tags = shown_tags(self.alloc, self.marks.as_slice())?;
+        Ok(Passage {
+            text,
+            tags,
+            choices: Seq::new(self.alloc),
+            events: Seq::new(self.alloc),
+            more: self.can_go_on(),
+            loose: self.is_loose(),
+        })
+    }
+
+    /// As a running command ends: the text was taken.
+    #[tactic(auto, unfolding(ink_model::specs::Configuration::settled))]
+    fn settle(&mut self)
+        ensures { config_of self.new ≡ settled (config_of self.old) }
+    {
+        self.marks.clear();
+    }
 }

@@ -7,10 +7,13 @@ ghost use Rattle.ink_model.specs.State.{opened, is_running};
 ghost use Rattle.ink_model.specs.Step.{nothing_bound};
 ghost use Rattle.ink_model.specs.declared.fault.Fault.TheVariants.{OutOfMemory};
 
+#[cfg(test)]
+mod tests;
+
 use crate::desk::Desk;
 use crate::machine::Machine;
 use crate::story::Story;
-use ink_model::{Fault, Halt, Passage, Seq};
+use ink_model::{Fault, Halt, Passage, Refusal, Seq};
 use std::alloc::Global;
 
 /// A story that is played: where it stands, and the desk of the host's objects.
@@ -40,19 +43,28 @@ impl Player {
         ensures fault { IfErr result (λ e. e.fault ≡ OutOfMemory) }
         ensures kept { IfErr result (λ e. e.story ≡ story) }
     {
-        let _ = alloc;
-        Err(OpenFault {
-            fault: Fault::OutOfMemory,
-            story,
-            desk,
-        })
+        match Machine::new(alloc, &story) {
+            Ok(machine) => Ok(Player {
+                story,
+                desk,
+                machine,
+                broken: None,
+                stamp: 0,
+                alloc,
+            }),
+            Err(_) => Err(OpenFault {
+                fault: Fault::OutOfMemory,
+                story,
+                desk,
+            }),
+        }
     }
 
     /// Whether flow can go on: no fault has broken the player, and flow has not stopped. Takes no memory.
     pub fn can_continue(&self) -> bool
         ensures { result ≡ is_running (state_of self.now).condition }
     {
-        self.broken.is_none() && self.machine.place.is_some()
+        self.broken.is_none() && self.machine.can_go_on()
     }
 
     /// Runs to the stop, and tells the passage.
@@ -60,11 +72,22 @@ impl Player {
         ensures does { Through (story_of self.old) nothing_bound (state_of self.old) (reply_of result) (state_of self.new) }
         ensures story { story_of self.new ≡ story_of self.old }
     {
-        self.broken = Some(Fault::OutOfMemory);
-        Err(Halt::Fault {
-            fault: Fault::OutOfMemory,
-            events: Seq::new(self.alloc),
-        })
+        if let Some(fault) = self.broken {
+            return Err(Halt::Refused(Refusal::Broken(fault)));
+        }
+        if !self.machine.can_go_on() {
+            return Err(Halt::Refused(Refusal::CannotContinue));
+        }
+        match self.machine.through(&self.story) {
+            Ok(passage) => Ok(passage),
+            Err(fault) => {
+                self.broken = Some(fault);
+                Err(Halt::Fault {
+                    fault,
+                    events: Seq::new(self.alloc),
+                })
+            }
+        }
     }
 
     /// Ends the player and hands the desk back. Takes no memory.

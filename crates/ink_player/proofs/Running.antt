@@ -1,0 +1,79 @@
+-- Runs, moment by moment.
+use Rattle.std.proofs.Common.{◌≡◌, ◌∙◌, ◌⊎◌, ℕ, zero, suc, ◌+◌, ◌-◌, ◌≤◌, ◌<◌, ap, sym, refl, inl, inr, [], arith}
+use Rattle.ink_model.specs.Tree.{StoryTree}
+use Rattle.ink_model.specs.Configuration.{Configuration}
+use Rattle.ink_model.specs.Step.{Outcome, Next, Stop, Wants, Faults, step, nothing_bound}
+use Rattle.ink_model.specs.Run.{Moment, At, Stopped, Faulted, came, next, run, moment, cut_off, max_steps}
+use Rattle.ink_model.specs.declared.fault.Fault.{Fault}
+use Rattle.ink_model.specs.declared.fault.Fault.TheVariants.{OutOfMemory}
+use Rattle.ink_player.specs.Steps.{Ends, GotTo}
+use Rattle.ink_player.specs.declared.machine.StepEnd.TheVariants as ends
+
+-- ---- the moment after an outcome
+
+went : (s : StoryTree) (old new : Configuration) (o : Outcome) → Ends o old new ends.Went → came s old o [] [] ≡ At new [] []
+went s old new (Next c) h = ap (λ d. At d [] []) (sym h)
+went s old new (Stop c) h = absurd h
+went s old new (Wants name arguments c) h = absurd h
+went s old new (Faults f) h = absurd h
+
+stopped : (s : StoryTree) (old new : Configuration) (o : Outcome) → Ends o old new ends.Stopped → came s old o [] [] ≡ Stopped new [] []
+stopped s old new (Next c) h = absurd h
+stopped s old new (Stop c) h = ap (λ d. Stopped d [] []) (sym h)
+stopped s old new (Wants name arguments c) h = absurd h
+stopped s old new (Faults f) h = absurd h
+
+-- a fault of the story, or want of memory
+faulted : (s : StoryTree) (old new : Configuration) (f : Fault) (o : Outcome) → Ends o old new (ends.Fault f)
+    → (came s old o [] [] ≡ Faulted f new [] []) ⊎ ((f ≡ OutOfMemory) × (new ≡ old))
+faulted s old new f (Next c) h = inr h
+faulted s old new f (Stop c) h = inr h
+faulted s old new f (Wants name arguments c) h = inr h
+faulted s old new f (Faults g) h = elim h.0 [
+  | inl same ↦ inl (ap (λ x. Faulted x old [] []) (sym same) ∙ ap (λ d. Faulted f d [] []) (sym h.1))
+  | inr short ↦ inr (short, h.1)
+]
+
+-- ---- from moment to moment
+
+module _ (s : StoryTree) (start : Configuration) where
+  pub begins : moment s nothing_bound start [] 0 ≡ At start [] []
+  unfolding run
+  begins = refl
+
+  step_on : (n : ℕ) (m : Moment) → moment s nothing_bound start [] n ≡ m → moment s nothing_bound start [] (n + 1) ≡ next s nothing_bound m
+  unfolding run
+  step_on n m h =
+      let one : n + 1 ≡ suc n = omega arith in
+      ap (moment s nothing_bound start []) one ∙ ap (next s nothing_bound) h
+
+  -- a run that has ended stays as it is
+  stays : (j n k : ℕ) (m : Moment) → next s nothing_bound m ≡ m → k ≡ n + j → moment s nothing_bound start [] n ≡ m
+      → moment s nothing_bound start [] k ≡ m
+  stays zero n k m ended e h = let same : k ≡ n = omega arith in ap (moment s nothing_bound start []) same ∙ h
+  stays (suc j) n k m ended e h =
+      let same : k ≡ (n + j) + 1 = omega arith in
+      ap (moment s nothing_bound start []) same ∙ step_on (n + j) m (stays j n (n + j) m ended refl h) ∙ ended
+
+  stays_to : (n k : ℕ) (m : Moment) → next s nothing_bound m ≡ m → n ≤ k → moment s nothing_bound start [] n ≡ m
+      → moment s nothing_bound start [] k ≡ m
+  stays_to n k m ended le h = let e : k ≡ n + (k - n) = omega arith in stays (k - n) n k m ended e h
+
+  pub run_went : (n : ℕ) (old new : Configuration) → moment s nothing_bound start [] n ≡ At old [] []
+      → Ends (step s nothing_bound old) old new ends.Went → moment s nothing_bound start [] (n + 1) ≡ At new [] []
+  run_went n old new h e = step_on n _ h ∙ went s old new (step s nothing_bound old) e
+
+  pub run_stopped : (n k : ℕ) (old new : Configuration) → n < k → moment s nothing_bound start [] n ≡ At old [] []
+      → Ends (step s nothing_bound old) old new ends.Stopped → moment s nothing_bound start [] k ≡ Stopped new [] []
+  run_stopped n k old new below h e =
+      stays_to (n + 1) k (Stopped new [] []) refl (omega arith) (step_on n _ h ∙ stopped s old new (step s nothing_bound old) e)
+
+  pub run_faulted : (n : ℕ) (old new : Configuration) (f : Fault) → n < max_steps → moment s nothing_bound start [] n ≡ At old [] []
+      → Ends (step s nothing_bound old) old new (ends.Fault f)
+      → (cut_off (moment s nothing_bound start [] max_steps) ≡ Faulted f new [] []) ⊎ ((f ≡ OutOfMemory) × GotTo s start new)
+  run_faulted n old new f below h e = elim (faulted s old new f (step s nothing_bound old) e) [
+    | inl came_so ↦
+        inl (ap cut_off (stays_to (n + 1) max_steps (Faulted f new [] []) refl (omega arith) (step_on n _ h ∙ came_so)))
+    | inr short ↦
+        inr (short.0, record { steps = n; within = omega arith; got_there = h ∙ ap (λ d. At d [] []) (sym short.1) })
+  ]

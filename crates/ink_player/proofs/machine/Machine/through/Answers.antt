@@ -1,0 +1,12 @@
+use Rattle.ink_player.specs.Words.{config_of}
+use Rattle.ink_player.proofs.Telling.{tells, breaks, breaks_after}
+use Rattle.ink_player.proofs.machine.Machine.through.Goals as goal
+
+pub returns-in-Err : goal.returns-in-Err
+returns-in-Err c = breaks _ _ _ c.begin.ensures (config_of c.run.new.self) _ c.in-Err.ensures
+
+pub returns-in_default-passage : goal.returns-in_default-passage
+returns-in_default-passage c = breaks_after _ _ _ c.begin.ensures (config_of c.run.new.self) c.in_default.ensures
+
+pub returns : goal.returns
+returns c = tells _ _ _ c.begin.ensures _ _ _ c.in_default.ensures c.in-Ok.ensures c.settle.ensures
