@@ -1,6 +1,7 @@
 //! Reading a compiled story: from JSON to raw content.
 #![tactic(auto)]
 
+mod descent;
 mod reading;
 mod story;
 

@@ -5,6 +5,7 @@ ghost use Rattle.ink_model.specs.Tree.{at, width};
 ghost use Rattle.ink_model.specs.View.{view};
 ghost use Rattle.ink_model.specs.Narrow.{is_narrow};
 
+use crate::descent::step;
 use ink_model::{Content, Part};
 
 /// A story as it was read: its content, by places.
@@ -22,6 +23,10 @@ impl RawStory {
         ensures found { option_map (λ c. view c.now) result ≡ at (tree self.now) parts.now }
         ensures width { width (at (tree self.now) parts.now) < 2 ^ 32 }
     {
-        None
+        let mut here = &self.root;
+        for part in parts {
+            here = step(here, part)?;
+        }
+        Some(here)
     }
 }
