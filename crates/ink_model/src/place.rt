@@ -1,6 +1,6 @@
 //! Places in a story, and paths to them.
 
-ghost use Rattle.std.specs.Prelude.{◌≡◌, [], ◌∷◌, ◌++◌, OnOk, OnErr};
+ghost use Rattle.std.specs.Prelude.{◌≡◌, [], ◌∷◌, IfOk};
 
 use crate::seq::Seq;
 use crate::text::Text;
@@ -35,6 +35,15 @@ impl Place {
         Place {
             parts: Vec::new(alloc),
         }
+    }
+
+    /// This place inside what stands at a part: the part goes in front. The one error is a refused request for memory.
+    pub fn under(self, part: Part) -> Result<Place, AllocError>
+        ensures { IfOk result (λ place. place ≡ part ∷ self) }
+    {
+        let Place { mut parts } = self;
+        parts.insert(0, part)?;
+        Ok(Place { parts })
     }
 
     /// The parts, from the root on.
