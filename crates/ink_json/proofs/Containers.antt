@@ -1,5 +1,5 @@
 -- Reading content element by element and key by key, beside its faults and its tree.
-use Rattle.std.proofs.Common.{◌≡◌, ℕ, zero, suc, ◌+◌, ◌-◌, ◌<◌, ◌≤◌, List, [], ◌∷◌, ◌++◌, map, length, get_or, drop, Bool, true, false, not, ◌||◌, ◌&&◌, nat_lt, cond, Option, Some, None, option_map, Result, Ok, Err, String, Global, Vec, BTreeMap, Ordering, Less, Equal, Greater, string_bytes, string_cmp, nat_cmp, is_eq, refl, sym, ap, subst, ◌∙◌, append_assoc, arith, rules, add-one, drop-cons}
+use Rattle.std.proofs.Common.{◌≡◌, ℕ, zero, suc, ◌+◌, ◌-◌, ◌<◌, ◌≤◌, List, [], ◌∷◌, ◌++◌, map, length, get_or, drop, Bool, true, false, ◌&&◌, nat_lt, cond, Option, Some, None, Ok, Err, String, Global, Vec, BTreeMap, Ordering, Less, Equal, Greater, string_bytes, string_cmp, nat_cmp, refl, sym, ap, subst, ◌∙◌, append_assoc, arith, rules, add-one, drop-cons}
 use Rattle.std.proofs.lemmas.Bool.Decides.{nat_tests}
 use Rattle.std.proofs.lemmas.List.{map_push}
 use Rattle.std.proofs.lemmas.Cmp.{nat_list_cmp_total}
@@ -9,20 +9,18 @@ use Rattle.std.specs.List.Sorted.{IsStrictlySortedBy}
 use Rattle.std.specs.Map.{keys_of}
 use Rattle.std.specs.Cmp.Lexicographic.{slice_cmp}
 use Rattle.std.specs.Ordering.{match_ordering, ordering_reverse}
-use Rattle.serde_json.specs.Data.{Data, null, boolean, number, string, array, object, Items, no_items, item, Members, no_members, member}
+use Rattle.serde_json.specs.Data.{Data, null, boolean, number, string, array, object, Items, item, Members}
 use Rattle.serde_json.specs.View.{view as json_view, items_view, members_view}
-use Rattle.serde_json.specs.declared.value.Value.{Value, Object}
-use Rattle.serde_json.proofs.Views.{view-Object}
-use Rattle.ink_model.specs.Tree.{StoryTree, container, Trees, no_trees, tree, Keyed, no_keys, key}
+use Rattle.serde_json.specs.declared.value.Value.{Value}
+use Rattle.ink_model.specs.Tree.{StoryTree, container, Trees, no_trees, tree, Keyed, key}
 use Rattle.ink_model.specs.View.{view, trees_of, trees_view, keyed_view}
-use Rattle.ink_model.specs.Grammar.{here, under, when, first, own, own_after, is_empty, is_last, are_flags, member_of, flags_key, flags_of, name_in, name_of, is_misnamed, is_taken, with_name, is_own, max_nesting, content, faults, faults_inside, faults_keyed, faults_by, tree_of, content_of, keyed_in, keyed_last, keyed_by}
+use Rattle.ink_model.specs.Grammar.{under, first, own, own_after, is_empty, is_last, are_flags, member_of, flags_key, flags_of, name_in, name_of, is_misnamed, is_taken, with_name, is_own, max_nesting, content, faults, faults_inside, faults_keyed, faults_by, tree_of, content_of, keyed_in, keyed_last, keyed_by}
 use Rattle.ink_model.specs.declared.content.Content.{Content, Container, the_lemmas}
-use Rattle.ink_model.specs.declared.fault.Cause.TheVariants.{Shape, Limit}
 use Rattle.ink_model.specs.declared.fault.ReadRefusal.{ReadRefusal}
 use Rattle.ink_model.specs.declared.place.Part.TheVariants.{Index, Name}
 use Rattle.ink_json.specs.declared.error.ReadError.{ReadError}
 use Rattle.ink_json.specs.declared.error.ReadError.TheVariants.{Memory, Refused}
-use Rattle.ink_json.specs.Reading.{Fails, Gives, IsFirst, IsUnder, is_whole, faults_last, faults_named, put_key}
+use Rattle.ink_json.specs.Reading.{Fails, IsFirst, IsUnder, is_whole, faults_last, faults_named, put_key}
 use Rattle.ink_json.specs.Size.{size, items_size, members_size}
 
 abbrev pub Entry : Type 0
@@ -33,7 +31,7 @@ view-Container name flags inside keyed = search (rules, the_lemmas)
 
 -- ---- sizes
 
-size_positive : (d : Data) → 1 ≤ size d
+pub size_positive : (d : Data) → 1 ≤ size d
 size_positive null = omega arith
 size_positive (boolean b) = omega arith
 size_positive (number n) = omega arith
@@ -191,9 +189,10 @@ pub element_goes : (version nesting : ℕ) (vs : List Value) (i : ℕ) (v : Valu
     → (all ≡ faults_inside version nesting (i + 1) (with_name taken (name_of (json_view v))) (items_view (drop (i + 1) vs)))
     × (content_of version (items_view (drop i vs)) ≡ tree read (content_of version (items_view (drop (i + 1) vs))))
 element_goes version nesting vs i v is taken read all more e given =
-    let k = first_ok (map (under (Index i)) (faults version (nesting + 1) (is_misnamed taken (json_view v)) (json_view v))) (tree_of version true (json_view v)) read given in
-    (e ∙ faults_from version nesting vs i v is more taken ∙ ap (λ fs. fs ++ faults_inside version nesting (i + 1) (with_name taken (name_of (json_view v))) (items_view (drop (i + 1) vs))) k.0,
-     content_from version nesting vs i v is more ∙ ap (λ t. tree t (content_of version (items_view (drop (i + 1) vs)))) k.1)
+    let k = first_ok (map (under (Index i)) (faults version (nesting + 1) (is_misnamed taken (json_view v)) (json_view v))) (tree_of version true (json_view v)) read given in (
+      e ∙ faults_from version nesting vs i v is more taken ∙ ap (λ fs. fs ++ faults_inside version nesting (i + 1) (with_name taken (name_of (json_view v))) (items_view (drop (i + 1) vs))) k.0,
+      content_from version nesting vs i v is more ∙ ap (λ t. tree t (content_of version (items_view (drop (i + 1) vs)))) k.1,
+    )
 
 pub element_stops : (version nesting : ℕ) (vs : List Value) (i : ℕ) (v : Value) (is : v ≡ get_or vs i v) (taken : List (List ℕ)) (e : ReadError) (all : List ReadRefusal) → i < length vs - 1
     → all ≡ faults_inside version nesting i taken (items_view (drop i vs))

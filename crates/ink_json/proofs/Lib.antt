@@ -5,3 +5,5 @@ pub mod Sets
 pub mod Words
 pub mod Lasts
 pub mod Containers
+pub mod Bytes
+pub mod Width

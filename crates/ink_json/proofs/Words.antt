@@ -1,5 +1,5 @@
 -- Strings that are leaves.
-use Rattle.std.proofs.Common.{◌≡◌, ℕ, List, [], ◌∷◌, Bool, true, false, eqb, cond, Option, Some, None, unwrap_or, Result, refl, sym, ap, ◌∙◌}
+use Rattle.std.proofs.Common.{◌≡◌, ℕ, List, [], ◌∷◌, Bool, true, false, eqb, cond, Option, None, unwrap_or, Result, refl, ap}
 use Rattle.std.proofs.lemmas.Bool.{eqb-true}
 use Rattle.ink_model.specs.Grammar.{written_leaf, word_leaf, string_leaf}
 use Rattle.ink_model.specs.declared.content.Leaf.{Leaf}

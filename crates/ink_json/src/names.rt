@@ -27,7 +27,10 @@ fn is_taken(names: &BTreeSet<&str>, name: Option<&str>) -> bool
 }
 
 /// Adds a name, where there is one.
-pub(crate) fn give<'v>(names: &mut BTreeSet<&'v str>, name: Option<&'v str>) -> Result<(), AllocError>
+pub(crate) fn give<'v>(
+    names: &mut BTreeSet<&'v str>,
+    name: Option<&'v str>,
+) -> Result<(), AllocError>
     ensures { OnOk result ((taken : List (List ℕ)) → Holds names.old taken → Holds names.new (with_name taken (option_map (λ n. n.now) name.entry))) }
 {
     if let Some(name) = name {

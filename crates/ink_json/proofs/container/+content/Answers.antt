@@ -1,9 +1,8 @@
-use Rattle.std.proofs.Common.{◌≡◌, ◌<◌, ◌-◌, [], ◌∷◌, ◌++◌, Ok, map, ap, sym, ◌∙◌, arith, rules}
+use Rattle.std.proofs.Common.{◌-◌, [], ◌∷◌, ◌++◌, Ok, map, ap, sym, ◌∙◌, arith}
 use Rattle.std.proofs.lemmas.Result.{err_from_is_err_and}
 use Rattle.serde_json.specs.View.{view as json_view, items_view, members_view}
 use Rattle.ink_model.specs.Grammar.{with_name, name_of, faults_by, keyed_by}
 use Rattle.ink_model.specs.View.{view, trees_view, keyed_view}
-use Rattle.ink_json.specs.Reading.{Holds, is_whole}
 use Rattle.ink_json.proofs.Containers.{container_stops, container_stops_late, container_read, own_is, keyed_is, whole_has, length_size, item_within, entry_within, element_goes, element_stops, elements_end, trees_front, pushed_front, view-Container, Entry, next_key, after_key, own_key, own_key_faults, key_stops, key_goes, key_put}
 use Rattle.ink_json.proofs.container.+content.Goals as goal
 
@@ -110,9 +109,12 @@ read_keyed-loop-key-preserved-in-Continue-branch-2 t c =
     let name = c.as_str-name in
     let own = sym c.if-not-is_own.ensures in
     record {
-      keys = (keys.0 ++ e ∷ [], after_key c.args.keys.now.entries keys.0 e c.next.new.self split,
-      key_put 21 c.args.nesting e c.next.new.self name.result.now c.contains-misnamed.result name.ensures.value own (view c.in_ok-container.container) c.in_ok-container.ensures
-      c.args.keys.now.entries keys.0 _ _ split c.iter-key-items.ensures.ordered keys.2 c.in_ok-put.ensures);
+      keys = (
+        keys.0 ++ e ∷ [],
+        after_key c.args.keys.now.entries keys.0 e c.next.new.self split,
+        key_put 21 c.args.nesting e c.next.new.self name.result.now c.contains-misnamed.result name.ensures.value own (view c.in_ok-container.container) c.in_ok-container.ensures
+            c.args.keys.now.entries keys.0 _ _ split c.iter-key-items.ensures.ordered keys.2 c.in_ok-put.ensures,
+      );
       faults = λ taken held. key_goes 21 c.args.nesting e c.next.new.self name.result.now c.contains-misnamed.result name.ensures.value own (view c.in_ok-container.container) c.in_ok-container.ensures
-      taken _ (c.contains-misnamed.ensures ∙ held name.result.now) (c.loop-key.invariant.faults taken held ∙ ap (λ es. faults_by 21 c.args.nesting taken (members_view es)) c.in-Some.ensures.steps);
+          taken _ (c.contains-misnamed.ensures ∙ held name.result.now) (c.loop-key.invariant.faults taken held ∙ ap (λ es. faults_by 21 c.args.nesting taken (members_view es)) c.in-Some.ensures.steps);
     }
