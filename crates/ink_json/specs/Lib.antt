@@ -1,1 +1,3 @@
 pub mod Story
+pub mod Size
+pub mod Reading

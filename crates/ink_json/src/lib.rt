@@ -1,7 +1,13 @@
 //! Reading a compiled story: from JSON to raw content.
 #![tactic(auto)]
 
+mod container;
 mod descent;
+mod error;
+mod leaf;
+mod limits;
+mod names;
+mod own;
 mod reading;
 mod story;
 

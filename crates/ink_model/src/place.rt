@@ -76,6 +76,15 @@ impl Place {
         Ok(())
     }
 
+    /// This place inside what stands at a part: the part goes in front. The one error is a refused request for memory.
+    pub fn under(self, part: Part) -> Result<Place, AllocError>
+        ensures { IfOk result (λ place. place ≡ part ∷ self) }
+    {
+        let Place { mut parts } = self;
+        parts.insert(0, part)?;
+        Ok(Place { parts })
+    }
+
     /// The parts, from the root on.
     pub fn parts(&self) -> &[Part]
         ensures { result.now ≡ self.now }

@@ -1,0 +1,19 @@
+-- Strings that are leaves.
+use Rattle.std.proofs.Common.{◌≡◌, ℕ, List, [], ◌∷◌, Bool, true, false, eqb, cond, Option, None, unwrap_or, Result, refl, ap}
+use Rattle.std.proofs.lemmas.Bool.{eqb-true}
+use Rattle.ink_model.specs.Grammar.{written_leaf, word_leaf, string_leaf}
+use Rattle.ink_model.specs.declared.content.Leaf.{Leaf}
+use Rattle.ink_model.specs.declared.fault.Cause.{Cause}
+
+other : (c : ℕ) (cs : List ℕ) (b : Bool) (r : Option (Result Leaf Cause)) → eqb c 94 ≡ b → ((rest : List ℕ) → c ∷ cs ≡ 94 ∷ rest → ⊥) → cond b r None ≡ None
+other c cs true r e h = absurd (h cs (ap (λ x. x ∷ cs) (eqb-true c 94 e)))
+other c cs false r e h = refl
+
+unwritten : (s : List ℕ) → ((rest : List ℕ) → s ≡ 94 ∷ rest → ⊥) → written_leaf s ≡ None
+unwritten [] h = refl
+unwritten (c ∷ cs) h = other c cs (eqb c 94) _ refl h
+
+-- a string that does not begin with `^` is a word
+pub string_leaf_word : (s : List ℕ) → ((rest : List ℕ) → s ≡ 94 ∷ rest → ⊥) → string_leaf s ≡ word_leaf s
+unfolding string_leaf
+string_leaf_word s h = ap (λ o. unwrap_or o (word_leaf s)) (unwritten s h)
