@@ -1,6 +1,8 @@
 //! The player of a story, and the session over command lines.
 #![tactic(auto)]
 
+mod answer;
+mod command;
 mod desk;
 mod machine;
 mod marks;
