@@ -1,2 +1,4 @@
 pub mod Commands
 pub mod Answering
+pub mod Writing
+pub mod Reading

@@ -1,2 +1,6 @@
 pub mod Words
 pub mod Answers
+pub mod Ends
+pub mod Buffered
+pub mod Input
+pub mod Lines

@@ -4,12 +4,19 @@
 mod answer;
 mod command;
 mod desk;
+mod end;
+mod input;
+mod lines;
 mod machine;
 mod marks;
+mod output;
 mod player;
 mod story;
 
 pub use desk::Desk;
+pub use end::{PlayEnd, PlayFault, RunFault};
+pub use input::{ReadFailed, Source};
 pub use ink_model::{Event, Fault, Halt, Passage, Refusal, Shown};
+pub use output::{Sink, WriteFailed};
 pub use player::{OpenFault, Player};
 pub use story::{Story, accept};
