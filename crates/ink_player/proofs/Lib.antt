@@ -2,3 +2,4 @@ pub mod Commands
 pub mod Answering
 pub mod Writing
 pub mod Reading
+pub mod Sessions

@@ -4,3 +4,4 @@ pub mod Ends
 pub mod Buffered
 pub mod Input
 pub mod Lines
+pub mod Serving

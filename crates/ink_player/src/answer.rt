@@ -12,7 +12,7 @@ use std::alloc::{AllocError, Global};
 
 /// What a call that runs the story returned, as the line that is written, its newline at the end. The one error is a
 /// refused request for memory.
-pub(crate) fn answer_line(alloc: Global, outcome: Result<Passage, Halt>) -> Result<String, AllocError>
+pub(crate) fn answer_text(alloc: Global, outcome: Result<Passage, Halt>) -> Result<String, AllocError>
     ensures { IfOk result (λ text. string_bytes text ≡ answer (reply_of outcome)) }
 {
     let reply = reply_value(alloc, outcome)?;

@@ -33,6 +33,7 @@ pub trait Source {
 }
 
 /// Any reader as a source.
+#[derive(Drop)]
 pub(crate) struct Reader<'a, R> {
     pub(crate) inner: &'a mut R,
     pub(crate) has_failed: bool,

@@ -11,6 +11,7 @@ mod machine;
 mod marks;
 mod output;
 mod player;
+mod session;
 mod story;
 
 pub use desk::Desk;
@@ -19,4 +20,5 @@ pub use input::{ReadFailed, Source};
 pub use ink_model::{Event, Fault, Halt, Passage, Refusal, Shown};
 pub use output::{Sink, WriteFailed};
 pub use player::{OpenFault, Player};
+pub use session::{run, serve};
 pub use story::{Story, accept};

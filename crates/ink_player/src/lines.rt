@@ -19,6 +19,7 @@ pub(crate) enum Line {
 /// `OutOfMemory`.
 pub(crate) fn next_line<S: Source>(alloc: Global, ahead: &mut Ahead, source: &mut S, limit: usize) -> Result<Line, RunFault>
     ensures gives { GivesLine (S.remaining source.old) (S.remaining source.new) ahead.old ahead.new limit result }
+    ensures bound { length ahead.new.unread ≤ ahead.new.spare + 1 }
     ensures cause { S.has_failed source.new ≡ (reads_fail result || S.has_failed source.old) }
     ensures name { S.name source.new ≡ S.name source.old }
 {

@@ -32,6 +32,7 @@ pub trait Sink {
 }
 
 /// Any writer as a sink.
+#[derive(Drop)]
 pub(crate) struct Writer<'a, W> {
     pub(crate) inner: &'a mut W,
     pub(crate) has_failed: bool,
