@@ -3,3 +3,4 @@ pub mod Answering
 pub mod Writing
 pub mod Reading
 pub mod Sessions
+pub mod Playings

@@ -105,7 +105,7 @@ pub runs_more : (s t : StoryTree) (a b c h i j : Option (List ℕ)) (o m : Buffe
 runs_more s t a b c h i j o m old mid new r l e p =
     let q = subst (λ x. Runs x m.spare m.unread b c i j mid new r) e p in
     let bytes : o.unread ++ (l.takes.got ++ q.bytes) ≡ l.line ++ 10 ∷ (m.unread ++ q.bytes) =
-        sym (append_assoc o.unread l.takes.got q.bytes) ∙ ap (λ x. x ++ q.bytes) l.takes.bytes ∙ append_assoc (l.line ++ 10 ∷ []) m.unread q.bytes ∙ append_assoc l.line (10 ∷ []) (m.unread ++ q.bytes) in
+    sym (append_assoc o.unread l.takes.got q.bytes) ∙ ap (λ x. x ++ q.bytes) l.takes.bytes ∙ append_assoc (l.line ++ 10 ∷ []) m.unread q.bytes ∙ append_assoc l.line (10 ∷ []) (m.unread ++ q.bytes) in
     let count : m.spare + (length l.line + 1) ≡ o.spare = omega (arith, l.takes.count, length-append l.line (10 ∷ [])) in
     record {
       bytes = l.takes.got ++ q.bytes;
@@ -114,7 +114,7 @@ runs_more s t a b c h i j o m old mid new r l e p =
       written = answer l.answered.reply ++ q.written;
       appended = Appends-trans h i j (answer l.answered.reply) q.written l.answered.appended q.appended;
       ends = subst (λ x. RunEnds s o.spare c x old (answer l.answered.reply ++ q.written) new r) (sym bytes)
-        (ends_more s m.spare o.spare c l.line (m.unread ++ q.bytes) old mid l.answered.reply q.written new r l.is_line l.answered.serves count q.ends);
+          (ends_more s m.spare o.spare c l.line (m.unread ++ q.bytes) old mid l.answered.reply q.written new r l.is_line l.answered.serves count q.ends);
     }
 
 -- ---- ends
@@ -155,8 +155,8 @@ no_line s a b h o n old fault.TooLong g bound =
       splits = none_served _;
       session = (refl, refl);
       over = elim g.1 [
-        inl q ↦ inl (record { front = g.0.part; more = n.unread; whole = refl; plain = t.plain; long = q })
-      | inr q ↦ inr (record { front = g.0.part; more = n.unread; whole = refl; plain = t.plain; count = omega (arith, t.takes.count, q.1); long = q.2 })
+        | inl q ↦ inl (record { front = g.0.part; more = n.unread; whole = refl; plain = t.plain; long = q })
+        | inr q ↦ inr (record { front = g.0.part; more = n.unread; whole = refl; plain = t.plain; count = omega (arith, t.takes.count, q.1); long = q.2 })
       ];
     })
 no_line s a b h o n old fault.OutOfMemory g bound =

@@ -5,3 +5,4 @@ pub mod Buffered
 pub mod Input
 pub mod Lines
 pub mod Serving
+pub mod Playing

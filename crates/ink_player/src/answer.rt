@@ -12,7 +12,10 @@ use std::alloc::{AllocError, Global};
 
 /// What a call that runs the story returned, as the line that is written, its newline at the end. The one error is a
 /// refused request for memory.
-pub(crate) fn answer_text(alloc: Global, outcome: Result<Passage, Halt>) -> Result<String, AllocError>
+pub(crate) fn answer_text(
+    alloc: Global,
+    outcome: Result<Passage, Halt>,
+) -> Result<String, AllocError>
     ensures { IfOk result (λ text. string_bytes text ≡ answer (reply_of outcome)) }
 {
     let reply = reply_value(alloc, outcome)?;
@@ -47,7 +50,12 @@ fn passage_value(alloc: Global, passage: &Passage) -> Result<Value, AllocError>
     passage_object(alloc, passage, choices, tags)
 }
 
-fn passage_object(alloc: Global, passage: &Passage, choices: Value, tags: Value) -> Result<Value, AllocError>
+fn passage_object(
+    alloc: Global,
+    passage: &Passage,
+    choices: Value,
+    tags: Value,
+) -> Result<Value, AllocError>
     ensures { IfOk result (λ v. view v ≡ passage_with passage.now (view choices) (view tags)) }
 {
     json!(in alloc; {

@@ -79,8 +79,11 @@ pub(crate) struct Ahead {
 impl Model for Ahead {
     ghost use Rattle.std.specs.Prelude.{◌≤◌, ◌+◌, take, drop};
     ghost use Rattle.ink_player.specs.Buffered.{Buffered};
+
     ghost Value = { Buffered };
+
     ghost view = { λ a. record { unread = drop a.at (take a.end a.chunk); spare = a.spare } };
+
     ghost invariant = { λ a. (a.at ≤ a.end) × (a.end ≤ 4096) × (a.end ≤ a.at + a.spare + 1) };
 }
 
@@ -103,7 +106,11 @@ impl Ahead {
 
     /// The next byte. Where none is left of what was read, reads at most `room` bytes and one, and never more than one
     /// past those that may be taken.
-    pub(crate) fn next<S: Source>(&mut self, source: &mut S, room: usize) -> Result<Next, ReadFailed>
+    pub(crate) fn next<S: Source>(
+        &mut self,
+        source: &mut S,
+        room: usize,
+    ) -> Result<Next, ReadFailed>
         ensures gives { Gives (S.remaining source.old) (S.remaining source.new) self.old self.new result }
         ensures cause { S.has_failed source.new ≡ (is_err result || S.has_failed source.old) }
         ensures name { S.name source.new ≡ S.name source.old }

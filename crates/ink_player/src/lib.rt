@@ -11,14 +11,16 @@ mod machine;
 mod marks;
 mod output;
 mod player;
+mod playing;
 mod session;
 mod story;
 
 pub use desk::Desk;
 pub use end::{PlayEnd, PlayFault, RunFault};
-pub use input::{ReadFailed, Source};
 pub use ink_model::{Event, Fault, Halt, Passage, Refusal, Shown};
+pub use input::{ReadFailed, Source};
 pub use output::{Sink, WriteFailed};
 pub use player::{OpenFault, Player};
+pub use playing::{play, serve_story};
 pub use session::{run, serve};
 pub use story::{Story, accept};

@@ -17,7 +17,12 @@ pub(crate) enum Line {
 /// The next line, of at most so many bytes. No more is read than tells that it is longer. Errors: `Read`, where the
 /// source failed; `TooLong`, where the line is longer, or all bytes were taken that may be and more are there;
 /// `OutOfMemory`.
-pub(crate) fn next_line<S: Source>(alloc: Global, ahead: &mut Ahead, source: &mut S, limit: usize) -> Result<Line, RunFault>
+pub(crate) fn next_line<S: Source>(
+    alloc: Global,
+    ahead: &mut Ahead,
+    source: &mut S,
+    limit: usize,
+) -> Result<Line, RunFault>
     ensures gives { GivesLine (S.remaining source.old) (S.remaining source.new) ahead.old ahead.new limit result }
     ensures bound { length ahead.new.unread ≤ ahead.new.spare + 1 }
     ensures cause { S.has_failed source.new ≡ (reads_fail result || S.has_failed source.old) }

@@ -148,7 +148,12 @@ fn serve_line<S: Source, T: Sink>(
 }
 
 // Performs the command of a line, and writes the answer.
-fn answer_line<T: Sink>(alloc: Global, sink: &mut T, player: &mut Player, line: &[u8]) -> Result<(), RunFault>
+fn answer_line<T: Sink>(
+    alloc: Global,
+    sink: &mut T,
+    player: &mut Player,
+    line: &[u8],
+) -> Result<(), RunFault>
     ensures answers { Answers (story_of player.old) line.now (T.contents sink.old) (T.contents sink.new) (state_of player.old) (state_of player.new) result }
     ensures story { story_of player.new ≡ story_of player.old }
     ensures write_cause { T.has_failed sink.new ≡ (writes_fail result || T.has_failed sink.old) }

@@ -1,4 +1,4 @@
-use Rattle.std.proofs.Common.{ap, ◌∙◌, arith, List, [], ◌≡◌, ℕ, length}
+use Rattle.std.proofs.Common.{ap, ◌∙◌, arith}
 use Rattle.ink_player.proofs.Reading.{some_there}
 use Rattle.ink_player.proofs.input.Ahead.fill.Goals as goal
 
