@@ -1,0 +1,17 @@
+-- The command of a line that is a text, and of one that isn't.
+use Rattle.std.proofs.Common.{◌≡◌, ℕ, Bool, true, false, List, None, ap, ◌∙◌, cond, refl, IsUtf8}
+use Rattle.std.specs.Str.{is_utf8}
+use Rattle.std.proofs.lemmas.Str.{IsUtf8-from_is_utf8, is_utf8-from_IsUtf8}
+use Rattle.ink_model.specs.Command.{command_of, command_word}
+
+pub command_of_text : (line : List ℕ) → IsUtf8 line → command_of line ≡ command_word line
+unfolding command_of
+command_of_text line h = ap (λ b. cond b (command_word line) None) (is_utf8-from_IsUtf8 line h)
+
+no_text : (line : List ℕ) (b : Bool) → is_utf8 line ≡ b → (IsUtf8 line → ⊥) → b ≡ false
+no_text line true e h = absurd (h (IsUtf8-from_is_utf8 line e))
+no_text line false e h = refl
+
+pub command_of_no_text : (line : List ℕ) → (IsUtf8 line → ⊥) → command_of line ≡ None
+unfolding command_of
+command_of_no_text line h = ap (λ b. cond b (command_word line) None) (no_text line _ refl h)

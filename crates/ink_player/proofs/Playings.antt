@@ -1,0 +1,167 @@
+-- How a play goes on from its story's line.
+use Rattle.std.proofs.Common.{◌≡◌, ℕ, ◌+◌, ◌-◌, ◌<◌, ◌≤◌, max, List, [], ◌∷◌, ◌++◌, length, Bool, true, false, Option, Result, Ok, Err, ap, ◌∙◌, sym, refl, subst, inl, inr, arith, append_assoc, append-nil, length-append}
+use Rattle.std.specs.Io.KnownBytes.{Appends, Consumes, IsAtEnd}
+use Rattle.std.proofs.KnownBytes.{Appends-nil, Consumes-trans}
+use Rattle.ink_model.specs.Grammar.{here, story, max_story}
+use Rattle.ink_model.specs.State.{State, opened}
+use Rattle.ink_model.specs.Tree.{StoryTree}
+use Rattle.ink_player.specs.Buffered.{Buffered}
+use Rattle.ink_player.specs.Input.{Takes}
+use Rattle.ink_player.specs.Lines.{has_newline, TakesLine, TakesPart, IsTooLong, GivesLine}
+use Rattle.ink_player.specs.Playing.{IsStoryLine, PlaysOn, EndsEarly, IsRefused, IsUnopened, PlayFails, PlayEnds, Plays, play_fault, OpenFails, Opens}
+use Rattle.ink_player.specs.Serving.{RunEnds, Runs, max_input}
+use Rattle.ink_player.specs.Words.{state_of, story_of}
+use Rattle.ink_player.specs.declared.desk.Desk.{Desk}
+use Rattle.ink_player.specs.declared.end.PlayEnd.{PlayEnd}
+use Rattle.ink_player.specs.declared.end.PlayFault.{PlayFault}
+use Rattle.ink_player.specs.declared.end.PlayFault.TheVariants as play
+use Rattle.ink_player.specs.declared.end.RunFault.{RunFault}
+use Rattle.ink_player.specs.declared.end.RunFault.TheVariants as fault
+use Rattle.ink_player.specs.declared.player.Player.{Player}
+
+abbrev fresh : Buffered
+fresh = record { unread = []; spare = max_input }
+
+got_is : (a b : Option (List ℕ)) (o n : Buffered) (taken : List ℕ) → o ≡ fresh → (t : Takes a b o n taken) → t.got ≡ taken ++ n.unread
+got_is a b o n taken e t = sym (ap (λ z. z.unread ++ t.got) e) ∙ t.bytes
+
+count_is : (a b : Option (List ℕ)) (o n : Buffered) (taken : List ℕ) → o ≡ fresh → Takes a b o n taken → n.spare + length taken ≡ max_input
+count_is a b o n taken e t = t.count ∙ ap (λ z. z.spare) e
+
+-- no more was read than tells that the story is over its limit
+story_bound : (a b : Option (List ℕ)) (o n : Buffered) (taken line : List ℕ) → o ≡ fresh → TakesLine a b o n max_story taken line → length (taken ++ n.unread) ≤ max_story + 1
+story_bound a b o n taken line e t = omega (arith, t.room, ap (λ z. length z.unread) e, length-append taken n.unread)
+
+none_left : (l : List ℕ) → length l ≡ 0 → l ≡ []
+none_left [] e = refl
+none_left (x ∷ xs) e = let no : ⊥ = omega (arith, e) in absurd no
+
+-- ---- ends before a session
+
+plays_early : (a b h : Option (List ℕ)) (o n : Buffered) (taken : List ℕ) (r : Result Desk PlayEnd) → o ≡ fresh → Takes a b o n taken → length (taken ++ n.unread) ≤ max_story + 1
+    → PlayEnds b (taken ++ n.unread) [] r → Plays a b h h r
+plays_early a b h o n taken r e t bound p = record {
+  bytes = t.got;
+  consumed = t.consumed;
+  bound = omega (arith, bound, ap length (got_is a b o n taken e t));
+  written = [];
+  appended = Appends-nil h;
+  ends = subst (λ l. PlayEnds b l [] r) (sym (got_is a b o n taken e t)) p;
+}
+
+early : (bytes : List ℕ) → length bytes ≤ max_story + 1 → EndsEarly bytes []
+early bytes bound = record { nothing = refl; bound = bound }
+
+no_story_for : (a b h : Option (List ℕ)) (o n : Buffered) (f : RunFault) (d : Desk) → o ≡ fresh → GivesLine a b o n max_story (Err f)
+    → Plays a b h h (Err (record { fault = play_fault f; desk = d }))
+no_story_for a b h o n fault.Read d e g =
+    let t = g.0.takes in
+    let bound = story_bound a b o n g.0.part g.0.part e t in
+    plays_early a b h o n g.0.part _ e t.takes bound
+    (inl (early _ bound, refl, ap (λ l. has_newline (g.0.part ++ l)) g.1 ∙ ap has_newline (append-nil g.0.part) ∙ t.plain))
+no_story_for a b h o n fault.Write d e g = absurd g
+no_story_for a b h o n fault.TooLong d e g =
+    let t = g.0.takes in
+    let bound = story_bound a b o n g.0.part g.0.part e t in
+    let long = elim g.1 as (λ _. (has_newline (g.0.part ++ n.unread) ≡ false) × (max_story < length (g.0.part ++ n.unread))) [
+      | inl more ↦
+          let all : n.unread ≡ [] = none_left n.unread (omega (arith, more, bound, length-append g.0.part n.unread)) in
+          (ap (λ l. has_newline (g.0.part ++ l)) all ∙ ap has_newline (append-nil g.0.part) ∙ t.plain, omega (arith, more, length-append g.0.part n.unread))
+      | inr q ↦
+          let no : ⊥ = omega (arith, q.0, q.1, count_is a b o n g.0.part e t.takes) in absurd no
+    ] in
+    plays_early a b h o n g.0.part _ e t.takes bound (early _ bound, inr (inr (refl, long.0, long.1)))
+no_story_for a b h o n fault.OutOfMemory d e g =
+    let t = g.takes in
+    let bound = story_bound a b o n g.part g.part e t in
+    plays_early a b h o n g.part _ e t.takes bound (early _ bound, inr (inl refl))
+
+pub no_story : (a b h : Option (List ℕ)) (o n : Buffered) (f : RunFault) (pf : PlayFault) (d : Desk) → o ≡ fresh → GivesLine a b o n max_story (Err f) → pf ≡ play_fault f
+    → Plays a b h h (Err (record { fault = pf; desk = d }))
+no_story a b h o n f pf d e g k =
+    subst (λ x. Plays a b h h (Err (record { fault = x; desk = d }))) (sym k) (no_story_for a b h o n f d e g)
+
+fails_early : (left : Option (List ℕ)) (bytes line input : List ℕ) (f : PlayFault) → IsStoryLine left bytes line input → length bytes ≤ max_story + 1 → OpenFails line f → PlayFails left bytes [] f
+fails_early left bytes line input (play.Story r) l bound p = (early bytes bound, inl (line, input, l, p))
+fails_early left bytes line input (play.Start f) l bound p =
+    (early bytes bound, record { why = p.0; line = line; input = input; story_line = l; tree = p.1.0; reads = p.1.1 })
+fails_early left bytes line input (play.Run f) l bound p = absurd p
+
+-- a story that ended at its newline, or at the reader's end
+abbrev pub TakesStory : Option (List ℕ) → Option (List ℕ) → Buffered → Buffered → List ℕ → Type 0
+TakesStory a b o n line = TakesLine a b o n max_story (line ++ 10 ∷ []) line × (length line ≤ max_story)
+
+abbrev pub TakesAll : Option (List ℕ) → Option (List ℕ) → Buffered → Buffered → List ℕ → Type 0
+TakesAll a b o n line = TakesLine a b o n max_story line line × (length line ≤ max_story) × (n.unread ≡ []) × IsAtEnd b
+
+pub unopened : (a b h : Option (List ℕ)) (o n : Buffered) (line : List ℕ) (x : PlayEnd) → o ≡ fresh → TakesStory a b o n line → Opens line (Err x) → Plays a b h h (Err x)
+unopened a b h o n line x e t p =
+    let bound = story_bound a b o n (line ++ 10 ∷ []) line e t.0 in
+    plays_early a b h o n (line ++ 10 ∷ []) (Err x) e t.0.takes bound
+    (fails_early b _ line n.unread x.fault (record { plain = t.0.plain; within = t.1; whole = inl (append_assoc line (10 ∷ []) n.unread) }) bound p)
+
+all_is : (a b : Option (List ℕ)) (o n : Buffered) (line : List ℕ) → TakesAll a b o n line → IsStoryLine b (line ++ n.unread) line []
+all_is a b o n line t = record {
+  plain = t.0.plain;
+  within = t.1;
+  whole = inr (ap (λ l. line ++ l) t.2 ∙ append-nil line, refl, t.3);
+}
+
+pub unopened_last : (a b h : Option (List ℕ)) (o n : Buffered) (line : List ℕ) (x : PlayEnd) → o ≡ fresh → TakesAll a b o n line → Opens line (Err x) → Plays a b h h (Err x)
+unopened_last a b h o n line x e t p =
+    let bound = story_bound a b o n line line e t.0 in
+    plays_early a b h o n line (Err x) e t.0.takes bound (fails_early b _ line [] x.fault (all_is a b o n line t) bound p)
+
+-- ---- a session after the story
+
+-- there is nothing after it
+pub plays_last : (a b h : Option (List ℕ)) (o n : Buffered) (line : List ℕ) (p : Player) (d : Desk) → o ≡ fresh → TakesAll a b o n line → Opens line (Ok p) → Plays a b h h (Ok d)
+plays_last a b h o n line p d e t opens =
+    plays_early a b h o n line (Ok d) e t.0.takes (story_bound a b o n line line e t.0) (record {
+      line = line;
+      input = [];
+      story_line = all_is a b o n line t;
+      tree = story_of p;
+      reads = opens.0;
+      new = opened (story_of p);
+      ends = record { at_end = t.3; within = omega arith; each = tt; session = (refl, refl) };
+    })
+
+plays_from : (a b c h j : Option (List ℕ)) (o n : Buffered) (line : List ℕ) (p : Player) (new : State) (r : Result (Unit {0}) RunFault) (x : Result Desk PlayEnd)
+    → o ≡ fresh → TakesStory a b o n line → Opens line (Ok p) → Runs (story_of p) n.spare n.unread b c h j (state_of p) new r
+    → ((bytes written : List ℕ) → PlaysOn c bytes written r → PlayEnds c bytes written x) → Plays a c h j x
+plays_from a b c h j o n line p new r x e t opens q into =
+    let got = t.0.takes.got in
+    let bytes : got ++ q.bytes ≡ line ++ 10 ∷ (n.unread ++ q.bytes) =
+    ap (λ l. l ++ q.bytes) (got_is a b o n (line ++ 10 ∷ []) e t.0.takes) ∙ append_assoc (line ++ 10 ∷ []) n.unread q.bytes ∙ append_assoc line (10 ∷ []) (n.unread ++ q.bytes) in
+    let count : n.spare + (length line + 1) ≡ max_input = omega (arith, count_is a b o n (line ++ 10 ∷ []) e t.0.takes, length-append line (10 ∷ [])) in
+    let most : n.spare ≡ max_input - (length line + 1) = omega (arith, count) in
+    record {
+      bytes = got ++ q.bytes;
+      consumed = Consumes-trans a b c got q.bytes t.0.takes.consumed q.consumed;
+      bound = omega (arith, q.bound, count, ap length bytes, length-append line (10 ∷ (n.unread ++ q.bytes)));
+      written = q.written;
+      appended = q.appended;
+      ends = into (got ++ q.bytes) q.written (record {
+        line = line;
+        input = n.unread ++ q.bytes;
+        story_line = record { plain = t.0.plain; within = t.1; whole = inl bytes };
+        tree = story_of p;
+        reads = opens.0;
+        new = new;
+        ends = subst (λ m. RunEnds (story_of p) m c (n.unread ++ q.bytes) (opened (story_of p)) q.written new r) most
+            (subst (λ s. RunEnds (story_of p) n.spare c (n.unread ++ q.bytes) s q.written new r) opens.1 q.ends);
+      });
+    }
+
+pub plays_on : (a b c h j : Option (List ℕ)) (o n : Buffered) (line : List ℕ) (p : Player) (new : State) (d : Desk)
+    → o ≡ fresh → TakesStory a b o n line → Opens line (Ok p) → Runs (story_of p) n.spare n.unread b c h j (state_of p) new (Ok tt) → Plays a c h j (Ok d)
+plays_on a b c h j o n line p new d e t opens q = plays_from a b c h j o n line p new (Ok tt) (Ok d) e t opens q (λ bytes written y. y)
+
+pub plays_short : (a b c h j : Option (List ℕ)) (o n : Buffered) (line : List ℕ) (p : Player) (new : State) (f : RunFault) (d : Desk)
+    → o ≡ fresh → TakesStory a b o n line → Opens line (Ok p) → Runs (story_of p) n.spare n.unread b c h j (state_of p) new (Err f) → Plays a c h j (Err (record { fault = play.Run f; desk = d }))
+plays_short a b c h j o n line p new f d e t opens q =
+    plays_from a b c h j o n line p new (Err f) (Err (record { fault = play.Run f; desk = d })) e t opens q (λ bytes written y. inr y)
+
+pub opens_as : (text line : List ℕ) (r : Result Player PlayEnd) → text ≡ line → Opens text r → Opens line r
+opens_as text line r e p = subst (λ l. Opens l r) e p

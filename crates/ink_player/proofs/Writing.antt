@@ -1,0 +1,27 @@
+-- How far a sink has come with bytes.
+use Rattle.std.proofs.Common.{◌≡◌, ◌≢◌, ℕ, List, ◌++◌, Bool, true, false, ◌||◌, ◌&&◌, ◌∙◌, ap, sym, append_assoc, take, drop, take-append-drop, Option, Result, Ok}
+use Rattle.std.proofs.lemmas.Bool.{ne_eqb}
+use Rattle.ink_player.specs.Ends.{takes_nothing, is_some_byte}
+use Rattle.std.specs.Io.KnownBytes.{Appends}
+use Rattle.std.proofs.KnownBytes.{Appends-trans}
+
+-- a front of the bytes is written, and rest is left
+pub record Wrote (old new : Option (List ℕ)) (bytes rest : List ℕ) : Type 0 where
+  pub part : List ℕ
+  pub whole : bytes ≡ part ++ rest
+  pub appended : Appends old new part
+
+pub wrote_more : (old mid new : Option (List ℕ)) (bytes rest after : List ℕ) (n : ℕ) → Wrote old mid bytes rest → Appends mid new (take n rest) → after ≡ drop n rest
+    → Wrote old new bytes after
+wrote_more old mid new bytes rest after n w a e = record {
+  part = w.part ++ take n rest;
+  whole = w.whole ∙ ap (λ l. w.part ++ l) (sym (take-append-drop n rest) ∙ ap (λ l. take n rest ++ l) (sym e)) ∙ sym (append_assoc w.part (take n rest) after);
+  appended = Appends-trans old mid new w.part (take n rest) w.appended a;
+}
+
+takes_some : (n : ℕ) (bytes : List ℕ) → n ≢ 0 → takes_nothing {E = Unit {0}} (Ok n) bytes ≡ false
+takes_some n bytes h = ap (λ b. b && is_some_byte bytes) (ne_eqb n 0 h)
+
+-- a write that took some byte leaves the sink as sound as it was
+pub still_sound : (n : ℕ) (bytes : List ℕ) (first old new : Bool) → n ≢ 0 → new ≡ (takes_nothing {E = Unit {0}} (Ok n) bytes || old) → old ≡ first → new ≡ first
+still_sound n bytes first old new h e k = e ∙ ap (λ b. b || old) (takes_some n bytes h) ∙ k

@@ -1,0 +1,124 @@
+-- What playing a story over bytes does, and how it may end (docs/PROTOCOL.md, "Playing").
+use Rattle.std.specs.Prelude.{◌≡◌, ◌<◌, ◌≤◌, ◌+◌, ◌-◌, ℕ, List, [], ◌∷◌, ◌++◌, length, Bool, true, false, ◌⊎◌, Option, Result, Ok, Err}
+use Rattle.std.specs.Io.KnownBytes.{Appends, Consumes, IsAtEnd}
+use Rattle.ink_model.specs.Grammar.{here, story, max_story}
+use Rattle.ink_model.specs.State.{State, opened}
+use Rattle.ink_model.specs.Tree.{StoryTree}
+use Rattle.ink_model.specs.declared.fault.Cause.TheVariants as cause
+use Rattle.ink_model.specs.declared.fault.Fault.{Fault}
+use Rattle.ink_model.specs.declared.fault.Fault.TheVariants.{OutOfMemory}
+use Rattle.ink_model.specs.declared.fault.ReadRefusal.{ReadRefusal}
+use Rattle.ink_player.specs.Lines.{has_newline}
+use Rattle.ink_player.specs.Serving.{RunEnds, max_input}
+use Rattle.ink_player.specs.Words.{state_of, story_of}
+use Rattle.ink_player.specs.declared.desk.Desk.{Desk}
+use Rattle.ink_player.specs.declared.end.PlayEnd.{PlayEnd}
+use Rattle.ink_player.specs.declared.end.PlayFault.{PlayFault}
+use Rattle.ink_player.specs.declared.end.PlayFault.TheVariants as play
+use Rattle.ink_player.specs.declared.end.RunFault.{RunFault}
+use Rattle.ink_player.specs.declared.end.RunFault.TheVariants as fault
+use Rattle.ink_player.specs.declared.player.Player.{Player}
+
+-- The story is the first line, within its limit: up to its newline, with the session's input behind it, or up to the
+-- reader's end.
+pub record IsStoryLine (left : Option (List ℕ)) (bytes line input : List ℕ) : Type 0 where
+  pub plain : has_newline line ≡ false
+  pub within : length line ≤ max_story
+  pub whole : (bytes ≡ line ++ 10 ∷ input) ⊎ ((bytes ≡ line) × (input ≡ []) × IsAtEnd left)
+
+-- The story was opened, and the lines behind it were served to the reader's end or to what ended the session. The input's
+-- limit counts the story and its newline.
+pub record PlaysOn (left : Option (List ℕ)) (bytes written : List ℕ) (result : Result (Unit {0}) RunFault) : Type 0 where
+  pub line : List ℕ
+  pub input : List ℕ
+  pub story_line : IsStoryLine left bytes line input
+  pub tree : StoryTree
+  pub reads : story line ≡ Ok tree
+  pub new : State
+  pub ends : RunEnds tree (max_input - (length line + 1)) left input (opened tree) written new result
+
+-- the story ended what came: nothing was written, and no more was read than tells that a story is over its limit
+pub record EndsEarly (bytes written : List ℕ) : Type 0 where
+  pub nothing : written ≡ []
+  pub bound : length bytes ≤ max_story + 1
+
+-- the story is not one, or memory was refused
+abbrev pub IsRefused : List ℕ → ReadRefusal → Type 0
+IsRefused line r = (r ≡ here cause.OutOfMemory) ⊎ (story line ≡ Err r)
+
+-- the story was refused; where it is over its limit, it is refused for that, and where memory was refused for its line, too
+abbrev pub IsStoryRefused : Option (List ℕ) → List ℕ → ReadRefusal → Type 0
+IsStoryRefused left bytes r =
+    ((line : List ℕ) × (input : List ℕ) × IsStoryLine left bytes line input × IsRefused line r)
+    ⊎ ((r ≡ here cause.OutOfMemory) ⊎ ((r ≡ here cause.Limit) × (has_newline bytes ≡ false) × (max_story < length bytes)))
+
+-- memory was refused for opening the story
+pub record IsUnopened (left : Option (List ℕ)) (bytes : List ℕ) (f : Fault) : Type 0 where
+  pub why : f ≡ OutOfMemory
+  pub line : List ℕ
+  pub input : List ℕ
+  pub story_line : IsStoryLine left bytes line input
+  pub tree : StoryTree
+  pub reads : story line ≡ Ok tree
+
+abbrev pub PlayFails : Option (List ℕ) → List ℕ → List ℕ → PlayFault → Type 0
+PlayFails left bytes written (play.Story r) = EndsEarly bytes written × IsStoryRefused left bytes r
+PlayFails left bytes written (play.Start f) = EndsEarly bytes written × IsUnopened left bytes f
+PlayFails left bytes written (play.Run f) = (EndsEarly bytes written × (f ≡ fault.Read) × (has_newline bytes ≡ false)) ⊎ PlaysOn left bytes written (Err f)
+
+abbrev pub PlayEnds : Option (List ℕ) → List ℕ → List ℕ → Result Desk PlayEnd → Type 0
+PlayEnds left bytes written (Ok desk) = PlaysOn left bytes written (Ok tt)
+PlayEnds left bytes written (Err e) = PlayFails left bytes written e.fault
+
+-- Which bytes were read, not more than one beyond those that an input may have, what was written, and how it ended.
+pub record Plays (left left' held held' : Option (List ℕ)) (result : Result Desk PlayEnd) : Type 0 where
+  pub bytes : List ℕ
+  pub consumed : Consumes left left' bytes
+  pub bound : length bytes ≤ max_input + 1
+  pub written : List ℕ
+  pub appended : Appends held held' written
+  pub ends : PlayEnds left' bytes written result
+
+-- ---- whether it was the reader's or the writer's fault
+
+abbrev pub is_reading : PlayFault → Bool
+is_reading (play.Story r) = false
+is_reading (play.Start f) = false
+is_reading (play.Run fault.Read) = true
+is_reading (play.Run fault.Write) = false
+is_reading (play.Run fault.TooLong) = false
+is_reading (play.Run fault.OutOfMemory) = false
+
+abbrev pub is_writing : PlayFault → Bool
+is_writing (play.Story r) = false
+is_writing (play.Start f) = false
+is_writing (play.Run fault.Read) = false
+is_writing (play.Run fault.Write) = true
+is_writing (play.Run fault.TooLong) = false
+is_writing (play.Run fault.OutOfMemory) = false
+
+abbrev pub play_reads_fail : Result Desk PlayEnd → Bool
+play_reads_fail (Ok desk) = false
+play_reads_fail (Err e) = is_reading e.fault
+
+abbrev pub play_writes_fail : Result Desk PlayEnd → Bool
+play_writes_fail (Ok desk) = false
+play_writes_fail (Err e) = is_writing e.fault
+
+-- ---- parts of it
+
+-- why there is no story line, as the fault of a play
+abbrev pub play_fault : RunFault → PlayFault
+play_fault fault.Read = play.Run fault.Read
+play_fault fault.Write = play.Run fault.Write
+play_fault fault.TooLong = play.Story (here cause.Limit)
+play_fault fault.OutOfMemory = play.Story (here cause.OutOfMemory)
+
+abbrev pub OpenFails : List ℕ → PlayFault → Type 0
+OpenFails line (play.Story r) = IsRefused line r
+OpenFails line (play.Start f) = (f ≡ OutOfMemory) × ((tree : StoryTree) × (story line ≡ Ok tree))
+OpenFails line (play.Run f) = ⊥
+
+abbrev pub Opens : List ℕ → Result Player PlayEnd → Type 0
+Opens line (Ok p) = (story line ≡ Ok (story_of p)) × (state_of p ≡ opened (story_of p))
+Opens line (Err e) = OpenFails line e.fault

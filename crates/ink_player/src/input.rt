@@ -1,0 +1,174 @@
+//! Where lines are read from.
+
+ghost use Rattle.std.specs.Prelude.{◌≡◌, ◌<◌, ◌≤◌, ◌+◌, ◌-◌, ℕ, max, min, List, [], ◌∷◌, Bool, true, false, ◌||◌, ◌++◌, Option, length, take, drop, is_err, IfOk, OnOk, OnErr, MatchResult};
+ghost use Rattle.std.specs.Io.{ReadsAtMost};
+ghost use Rattle.std.specs.Io.KnownBytes.{Consumes, Keeps, IsAtEnd, ReadConsumes};
+
+use std::io::Read;
+use std::marker::Model;
+
+/// A source failed.
+#[derive(Clone, Copy, Debug, PartialEq, Eq, thiserror::Error)]
+#[error("read failed")]
+pub struct ReadFailed;
+
+/// A reader that says whether it has failed.
+pub trait Source {
+    /// The bytes that reads will give from here on, where they are known.
+    ghost remaining: { Self → Option (List ℕ) };
+
+    /// Whether a read has failed.
+    ghost has_failed: { Self → Bool };
+
+    /// Which source it is. A source around a reference says by it which reference it holds.
+    ghost name: { Self → ℕ };
+
+    /// Reads some bytes into the front of the buffer, and tells how many: none only at the end, or where there is no
+    /// room. `ReadFailed` says that none were read.
+    fn read(&mut self, buffer: &mut [u8]) -> Result<usize, ReadFailed>
+        ensures bound { ReadsAtMost result buffer.new }
+        ensures bytes { ReadConsumes (remaining self.old) (remaining self.new) result buffer.new }
+        ensures cause { has_failed self.new ≡ (is_err result || has_failed self.old) }
+        ensures name { name self.new ≡ name self.old };
+}
+
+/// Any reader as a source.
+#[derive(Drop)]
+pub(crate) struct Reader<'a, R> {
+    pub(crate) inner: &'a mut R,
+    pub(crate) has_failed: bool,
+}
+
+impl<R: Read> Source for Reader<'_, R> {
+    ghost remaining = { λ s. R.remaining s.inner.now };
+
+    ghost has_failed = { λ s. s.has_failed };
+
+    ghost name = { λ s. s.inner.ghost_name };
+
+    fn read(&mut self, buffer: &mut [u8]) -> Result<usize, ReadFailed> {
+        match self.inner.read(buffer) {
+            Ok(count) => Ok(count),
+            Err(_) => {
+                self.has_failed = true;
+                Err(ReadFailed)
+            }
+        }
+    }
+}
+
+/// How many bytes are read at a time, at most.
+const CHUNK: usize = 4096;
+
+/// What `Ahead::next` gives: a byte, or the source's end, or that one byte more stands there than may be taken.
+pub(crate) enum Next {
+    Byte(u8),
+    End,
+    TooMany,
+}
+
+/// Bytes that were read and not yet taken, and how many may still be taken.
+#[derive(Drop)]
+pub(crate) struct Ahead {
+    chunk: [u8; CHUNK],
+    at: usize,
+    end: usize,
+    spare: usize,
+}
+
+impl Model for Ahead {
+    ghost use Rattle.std.specs.Prelude.{◌≤◌, ◌+◌, take, drop};
+    ghost use Rattle.ink_player.specs.Buffered.{Buffered};
+
+    ghost Value = { Buffered };
+
+    ghost view = { λ a. record { unread = drop a.at (take a.end a.chunk); spare = a.spare } };
+
+    ghost invariant = { λ a. (a.at ≤ a.end) × (a.end ≤ 4096) × (a.end ≤ a.at + a.spare + 1) };
+}
+
+impl Ahead {
+    ghost use Rattle.std.specs.Prelude.{◌≡◌, ◌<◌, ◌≤◌, ◌+◌, max, [], ◌∷◌, ◌||◌, length, is_err, IfOk, OnOk, OnErr};
+    ghost use Rattle.std.specs.Io.KnownBytes.{IsAtEnd};
+    ghost use Rattle.ink_player.specs.Input.{Gives, Takes, count_taken};
+
+    /// Nothing was read, and this many bytes may be taken.
+    pub(crate) fn new(most: usize) -> Ahead
+        ensures { result ≡ record { unread = []; spare = most } }
+    {
+        Ahead {
+            chunk: [0; CHUNK],
+            at: 0,
+            end: 0,
+            spare: most,
+        }
+    }
+
+    /// The next byte. Where none is left of what was read, reads at most `room` bytes and one, and never more than one
+    /// past those that may be taken.
+    pub(crate) fn next<S: Source>(
+        &mut self,
+        source: &mut S,
+        room: usize,
+    ) -> Result<Next, ReadFailed>
+        ensures gives { Gives (S.remaining source.old) (S.remaining source.new) self.old self.new result }
+        ensures cause { S.has_failed source.new ≡ (is_err result || S.has_failed source.old) }
+        ensures name { S.name source.new ≡ S.name source.old }
+        ensures bound { length self.new.unread ≤ self.new.spare + 1 }
+        ensures room { IfOk result (λ n. count_taken n + length self.new.unread ≤ max (length self.old.unread) (room + 1)) }
+    {
+        self.fill(source, room)?;
+        if self.at == self.end {
+            return Ok(Next::End);
+        }
+        if self.spare == 0 {
+            return Ok(Next::TooMany);
+        }
+        Ok(Next::Byte(self.pop()))
+    }
+
+    // Reads where none is left of what was read. At `Ok` there is then a byte, unless the source is at its end.
+    fn fill<S: Source>(&mut self, source: &mut S, room: usize) -> Result<(), ReadFailed>
+        ensures takes { Takes (S.remaining source.old) (S.remaining source.new) self.old self.new [] }
+        ensures end { OnOk result (self.new.unread ≡ [] → IsAtEnd (S.remaining source.new)) }
+        ensures err { OnErr result (self.new.unread ≡ []) }
+        ensures cause { S.has_failed source.new ≡ (is_err result || S.has_failed source.old) }
+        ensures name { S.name source.new ≡ S.name source.old }
+        ensures bound { length self.new.unread ≤ self.new.spare + 1 }
+        ensures room { length self.new.unread ≤ max (length self.old.unread) (room + 1) }
+    {
+        if self.at < self.end {
+            return Ok(());
+        }
+        let room = room.min(self.spare).min(CHUNK - 1) + 1;
+        self.at = 0;
+        self.end = 0;
+        self.end = read_some(source, &mut self.chunk, room)?;
+        Ok(())
+    }
+
+    fn pop(&mut self) -> u8
+        requires some { 0 < length self.old.unread }
+        requires spare { 0 < self.old.spare }
+        ensures bytes { self.old.unread ≡ result ∷ self.new.unread }
+        ensures count { self.new.spare + 1 ≡ self.old.spare }
+    {
+        let byte = self.chunk[self.at];
+        self.at += 1;
+        self.spare -= 1;
+        byte
+    }
+}
+
+fn read_some<S: Source>(source: &mut S, chunk: &mut [u8], room: usize) -> Result<usize, ReadFailed>
+    requires some { 0 < room }
+    requires fits { room ≤ length chunk.old }
+    ensures bound { IfOk result (λ n. n ≤ room) }
+    ensures bytes { MatchResult result
+        (λ n. Consumes (S.remaining source.old) (S.remaining source.new) (take n chunk.new) × (n ≡ 0 → IsAtEnd (S.remaining source.new)))
+        (λ _. Keeps (S.remaining source.old) (S.remaining source.new)) }
+    ensures cause { S.has_failed source.new ≡ (is_err result || S.has_failed source.old) }
+    ensures name { S.name source.new ≡ S.name source.old }
+{
+    source.read(&mut chunk[..room])
+}

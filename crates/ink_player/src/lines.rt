@@ -1,0 +1,59 @@
+//! Taking lines from a source.
+
+ghost use Rattle.std.specs.Prelude.{◌≡◌, ◌≤◌, ◌+◌, ◌||◌, length};
+ghost use Rattle.ink_player.specs.Lines.{GivesLine, Pushes, reads_fail};
+
+use crate::end::RunFault;
+use crate::input::{Ahead, Next, Source};
+use std::alloc::Global;
+
+/// A line: one that ended at its newline, without it, or what stands before the source's end.
+#[derive(Drop)]
+pub(crate) enum Line {
+    Whole(Vec<u8>),
+    Last(Vec<u8>),
+}
+
+/// The next line, of at most so many bytes. No more is read than tells that it is longer. Errors: `Read`, where the
+/// source failed; `TooLong`, where the line is longer, or all bytes were taken that may be and more are there;
+/// `OutOfMemory`.
+pub(crate) fn next_line<S: Source>(
+    alloc: Global,
+    ahead: &mut Ahead,
+    source: &mut S,
+    limit: usize,
+) -> Result<Line, RunFault>
+    ensures gives { GivesLine (S.remaining source.old) (S.remaining source.new) ahead.old ahead.new limit result }
+    ensures bound { length ahead.new.unread ≤ ahead.new.spare + 1 }
+    ensures cause { S.has_failed source.new ≡ (reads_fail result || S.has_failed source.old) }
+    ensures name { S.name source.new ≡ S.name source.old }
+{
+    let mut line = Vec::new(alloc);
+    'bytes: loop {
+        let Ok(next) = ahead.next(source, limit - line.len()) else {
+            return Err(RunFault::Read);
+        };
+        match next {
+            Next::Byte(b'\n') => return Ok(Line::Whole(line)),
+            Next::Byte(byte) => {
+                if let Err(fault) = push_byte(&mut line, byte, limit) {
+                    return Err(fault);
+                }
+            }
+            Next::End => return Ok(Line::Last(line)),
+            Next::TooMany => return Err(RunFault::TooLong),
+        }
+    }
+}
+
+fn push_byte(line: &mut Vec<u8>, byte: u8, limit: usize) -> Result<(), RunFault>
+    ensures { Pushes line.old.items byte limit line.new.items result }
+{
+    if line.len() >= limit {
+        return Err(RunFault::TooLong);
+    }
+    if line.push(byte).is_err() {
+        return Err(RunFault::OutOfMemory);
+    }
+    Ok(())
+}

@@ -1,0 +1,140 @@
+//! Playing a story over bytes (docs/PROTOCOL.md, "Playing").
+
+ghost use Rattle.std.specs.Prelude.{◌≡◌, ◌||◌};
+ghost use Rattle.ink_model.specs.Grammar.{here};
+ghost use Rattle.ink_player.specs.Playing.{Opens, Plays, play_fault, play_reads_fail, play_writes_fail};
+
+use crate::desk::Desk;
+use crate::end::{PlayEnd, PlayFault, RunFault};
+use crate::input::{Ahead, Reader, Source};
+use crate::lines::{Line, next_line};
+use crate::output::{Sink, Writer};
+use crate::player::{OpenFault, Player};
+use crate::session::{MAX_INPUT, serve_lines};
+use crate::story::accept;
+use ink_json::read_story;
+use ink_model::{Cause, Place, ReadRefusal};
+use std::alloc::Global;
+use std::io::{Read, Write};
+
+/// The most bytes of a story.
+const MAX_STORY: usize = 16_777_216;
+
+/// Plays a story: the first line is the story, and the lines after it are served as `run` does until the reader's end. The
+/// limit of the input, 64 MiB, counts the story. The desk is handed back, at an error too.
+///
+/// Errors: `Story`, where the story is refused, with nothing written; a story line over 16 MiB is refused with `Limit` at
+/// the root. `Start`, where memory was refused for opening it. `Run`, as of `run`; the reader may also fail within the story.
+pub fn play<R: Read, W: Write>(
+    alloc: Global,
+    reader: &mut R,
+    writer: &mut W,
+    desk: Desk,
+) -> Result<Desk, PlayEnd>
+    ensures plays { Plays (R.remaining reader.old) (R.remaining reader.new) (W.contents writer.old) (W.contents writer.new) result }
+{
+    let mut source = Reader {
+        inner: reader,
+        has_failed: false,
+    };
+    let mut sink = Writer {
+        inner: writer,
+        has_failed: false,
+    };
+    let outcome = serve_story(alloc, &mut source, &mut sink, desk);
+    // No effect at run time. The proof reads what the reader and the writer came to from these.
+    let _ = &*source.inner;
+    let _ = &*sink.inner;
+    outcome
+}
+
+/// Plays a story as `play` does, over a source and a sink, which say whether they have failed: the source has failed in this
+/// call exactly where the error is `Read`, and the sink, or it took no byte, exactly where it is `Write`.
+pub fn serve_story<S: Source, T: Sink>(
+    alloc: Global,
+    source: &mut S,
+    sink: &mut T,
+    desk: Desk,
+) -> Result<Desk, PlayEnd>
+    ensures plays { Plays (S.remaining source.old) (S.remaining source.new) (T.contents sink.old) (T.contents sink.new) result }
+    ensures read_cause { S.has_failed source.new ≡ (play_reads_fail result || S.has_failed source.old) }
+    ensures write_cause { T.has_failed sink.new ≡ (play_writes_fail result || T.has_failed sink.old) }
+    ensures source_name { S.name source.new ≡ S.name source.old }
+    ensures sink_name { T.name sink.new ≡ T.name sink.old }
+{
+    let mut ahead = Ahead::new(MAX_INPUT);
+    let line = match next_line(alloc, &mut ahead, source, MAX_STORY) {
+        Ok(line) => line,
+        Err(fault) => {
+            let fault = fault_of(alloc, fault);
+            return Err(PlayEnd { fault, desk });
+        }
+    };
+    match line {
+        Line::Whole(line) => {
+            let mut player = match open_story(alloc, &line, desk) {
+                Ok(player) => player,
+                Err(end) => return Err(end),
+            };
+            let outcome = serve_lines(alloc, &mut ahead, source, sink, &mut player);
+            let desk = player.close();
+            match outcome {
+                Ok(()) => Ok(desk),
+                Err(fault) => Err(PlayEnd {
+                    fault: PlayFault::Run(fault),
+                    desk,
+                }),
+            }
+        }
+        Line::Last(line) => match open_story(alloc, &line, desk) {
+            Ok(player) => Ok(player.close()),
+            Err(end) => Err(end),
+        },
+    }
+}
+
+// Reads and opens a story.
+fn open_story(alloc: Global, line: &[u8], desk: Desk) -> Result<Player, PlayEnd>
+    ensures { Opens line.now result }
+{
+    let raw = match read_story(alloc, line) {
+        Ok(raw) => raw,
+        Err(refusal) => {
+            let fault = PlayFault::Story(refusal);
+            return Err(PlayEnd { fault, desk });
+        }
+    };
+    match Player::open(alloc, accept(raw), desk) {
+        Ok(player) => Ok(player),
+        Err(
+            OpenFault {
+                fault,
+                story: _,
+                desk,
+            },
+        ) => {
+            let fault = PlayFault::Start(fault);
+            Err(PlayEnd { fault, desk })
+        }
+    }
+}
+
+// Why there is no story.
+fn fault_of(alloc: Global, fault: RunFault) -> PlayFault
+    ensures { result ≡ play_fault fault }
+{
+    match fault {
+        RunFault::Read | RunFault::Write => PlayFault::Run(fault),
+        RunFault::TooLong => PlayFault::Story(at_root(alloc, Cause::Limit)),
+        RunFault::OutOfMemory => PlayFault::Story(at_root(alloc, Cause::OutOfMemory)),
+    }
+}
+
+fn at_root(alloc: Global, cause: Cause) -> ReadRefusal
+    ensures { result ≡ here cause }
+{
+    ReadRefusal {
+        cause,
+        place: Place::root(alloc),
+    }
+}

@@ -1,0 +1,180 @@
+//! Sessions over command lines (docs/PROTOCOL.md, "Sessions").
+
+ghost use Rattle.std.specs.Prelude.{◌≡◌, [], ◌||◌, ◌≤◌, ◌+◌, length};
+ghost use Rattle.ink_model.specs.Answer.{reply_of};
+ghost use Rattle.ink_model.specs.Session.{Does};
+ghost use Rattle.ink_model.specs.Step.{nothing_bound};
+ghost use Rattle.ink_player.specs.Words.{state_of, story_of};
+ghost use Rattle.ink_player.specs.Lines.{reads_fail};
+ghost use Rattle.ink_player.specs.Serving.{Answers, Turns, Runs, max_input, writes_fail};
+
+use crate::answer::answer_text;
+use crate::command::read_command;
+use crate::end::RunFault;
+use crate::input::{Ahead, Reader, Source};
+use crate::lines::{Line, next_line};
+use crate::output::{Sink, WriteFailed, Writer, write_whole};
+use crate::player::Player;
+use ink_model::{Command, Halt, Passage, Refusal};
+use std::alloc::Global;
+use std::io::{Read, Write};
+
+/// The most bytes of a command line, without its newline.
+const MAX_LINE: usize = 1_048_576;
+
+/// The most bytes of an input, its newlines counted.
+pub(crate) const MAX_INPUT: usize = 67_108_864;
+
+/// Whether a session goes on after a line.
+pub(crate) enum Turn {
+    More,
+    Done,
+}
+
+/// Serves command lines until the reader's end (docs/PROTOCOL.md, "Sessions"): the answer to each line is written as soon
+/// as the line is complete. Reads what is there, one read at a time, and at most one byte more than an input may have.
+///
+/// Errors, where the answers to earlier lines have been written: `Read`, where the reader failed; `Write`, where the writer
+/// failed or took no byte, and the command whose answer could not be written has taken effect; `TooLong`, where a line is
+/// longer than 1 MiB or the input longer than 64 MiB; `OutOfMemory`, where memory was refused for a line, or for the text of
+/// an answer, whose command has taken effect.
+pub fn run<R: Read, W: Write>(
+    alloc: Global,
+    reader: &mut R,
+    writer: &mut W,
+    player: &mut Player,
+) -> Result<(), RunFault>
+    ensures runs { Runs (story_of player.old) max_input [] (R.remaining reader.old) (R.remaining reader.new)
+        (W.contents writer.old) (W.contents writer.new) (state_of player.old) (state_of player.new) result }
+    ensures story { story_of player.new ≡ story_of player.old }
+{
+    let mut source = Reader {
+        inner: reader,
+        has_failed: false,
+    };
+    let mut sink = Writer {
+        inner: writer,
+        has_failed: false,
+    };
+    let outcome = serve(alloc, &mut source, &mut sink, player);
+    // No effect at run time. The proof reads what the reader and the writer came to from these.
+    let _ = &*source.inner;
+    let _ = &*sink.inner;
+    outcome
+}
+
+/// Serves command lines as `run` does, over a source and a sink, which say whether they have failed: the source has failed
+/// in this call exactly where the error is `Read`, and the sink, or it took no byte, exactly where it is `Write`.
+pub fn serve<S: Source, T: Sink>(
+    alloc: Global,
+    source: &mut S,
+    sink: &mut T,
+    player: &mut Player,
+) -> Result<(), RunFault>
+    ensures runs { Runs (story_of player.old) max_input [] (S.remaining source.old) (S.remaining source.new)
+        (T.contents sink.old) (T.contents sink.new) (state_of player.old) (state_of player.new) result }
+    ensures story { story_of player.new ≡ story_of player.old }
+    ensures read_cause { S.has_failed source.new ≡ (reads_fail result || S.has_failed source.old) }
+    ensures write_cause { T.has_failed sink.new ≡ (writes_fail result || T.has_failed sink.old) }
+    ensures source_name { S.name source.new ≡ S.name source.old }
+    ensures sink_name { T.name sink.new ≡ T.name sink.old }
+{
+    let mut ahead = Ahead::new(MAX_INPUT);
+    serve_lines(alloc, &mut ahead, source, sink, player)
+}
+
+// Serves lines to the end, or to what ends the session early.
+pub(crate) fn serve_lines<S: Source, T: Sink>(
+    alloc: Global,
+    ahead: &mut Ahead,
+    source: &mut S,
+    sink: &mut T,
+    player: &mut Player,
+) -> Result<(), RunFault>
+    ensures runs { Runs (story_of player.old) ahead.old.spare ahead.old.unread (S.remaining source.old) (S.remaining source.new)
+        (T.contents sink.old) (T.contents sink.new) (state_of player.old) (state_of player.new) result }
+    ensures story { story_of player.new ≡ story_of player.old }
+    ensures read_cause { S.has_failed source.new ≡ (reads_fail result || S.has_failed source.old) }
+    ensures write_cause { T.has_failed sink.new ≡ (writes_fail result || T.has_failed sink.old) }
+    ensures source_name { S.name source.new ≡ S.name source.old }
+    ensures sink_name { T.name sink.new ≡ T.name sink.old }
+{
+    'lines: loop {
+        match serve_line(alloc, ahead, source, sink, player) {
+            Ok(Turn::More) => {}
+            Ok(Turn::Done) => return Ok(()),
+            Err(fault) => return Err(fault),
+        }
+    }
+}
+
+// Serves the next line, if there is one.
+fn serve_line<S: Source, T: Sink>(
+    alloc: Global,
+    ahead: &mut Ahead,
+    source: &mut S,
+    sink: &mut T,
+    player: &mut Player,
+) -> Result<Turn, RunFault>
+    ensures turns { Turns (story_of player.old) (S.remaining source.old) (S.remaining source.new) (T.contents sink.old) (T.contents sink.new)
+        ahead.old ahead.new (state_of player.old) (state_of player.new) result }
+    ensures story { story_of player.new ≡ story_of player.old }
+    ensures read_cause { S.has_failed source.new ≡ (reads_fail result || S.has_failed source.old) }
+    ensures write_cause { T.has_failed sink.new ≡ (writes_fail result || T.has_failed sink.old) }
+    ensures source_name { S.name source.new ≡ S.name source.old }
+    ensures sink_name { T.name sink.new ≡ T.name sink.old }
+{
+    let line = match next_line(alloc, ahead, source, MAX_LINE) {
+        Ok(line) => line,
+        Err(fault) => return Err(fault),
+    };
+    match line {
+        Line::Whole(line) => {
+            if let Err(fault) = answer_line(alloc, sink, player, &line) {
+                return Err(fault);
+            }
+            Ok(Turn::More)
+        }
+        Line::Last(line) => {
+            if line.is_empty() {
+                return Ok(Turn::Done);
+            }
+            if let Err(fault) = answer_line(alloc, sink, player, &line) {
+                return Err(fault);
+            }
+            Ok(Turn::Done)
+        }
+    }
+}
+
+// Performs the command of a line, and writes the answer.
+fn answer_line<T: Sink>(
+    alloc: Global,
+    sink: &mut T,
+    player: &mut Player,
+    line: &[u8],
+) -> Result<(), RunFault>
+    ensures answers { Answers (story_of player.old) line.now (T.contents sink.old) (T.contents sink.new) (state_of player.old) (state_of player.new) result }
+    ensures story { story_of player.new ≡ story_of player.old }
+    ensures write_cause { T.has_failed sink.new ≡ (writes_fail result || T.has_failed sink.old) }
+    ensures sink_name { T.name sink.new ≡ T.name sink.old }
+{
+    let outcome = perform(player, read_command(line));
+    let Ok(text) = answer_text(alloc, outcome) else {
+        return Err(RunFault::OutOfMemory);
+    };
+    match write_whole(sink, text.as_bytes()) {
+        Ok(()) => Ok(()),
+        Err(WriteFailed) => Err(RunFault::Write),
+    }
+}
+
+fn perform(player: &mut Player, command: Option<Command>) -> Result<Passage, Halt>
+    ensures does { Does (story_of player.old) nothing_bound command (state_of player.old) (reply_of result) (state_of player.new) }
+    ensures story { story_of player.new ≡ story_of player.old }
+{
+    match command {
+        Some(Command::Through) => player.through(),
+        None => Err(Halt::Refused(Refusal::BadCommand)),
+    }
+}
