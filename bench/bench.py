@@ -1,0 +1,84 @@
+#!/usr/bin/env python3
+"""Times reading and running on stories of 1, 4 and 16 MiB, and prints the times side by side.
+
+    bench/bench.py [PROGRAM]      the program is ./inkplay unless another is named
+
+Each time is the least of three runs, in milliseconds, with the program's start in it. The last column is the time at
+16 MiB over that at 4 MiB: work that grows with the bytes alone grows about four times. Machines are noisy, so compare
+within one run.
+"""
+import os
+import subprocess
+import sys
+import time
+
+MIB = 1 << 20
+SIZES = (1, 4, 16)
+HEAD = '{"inkVersion":21,"root":['
+TAIL = ',"done",null],"listDefs":{}}'
+
+
+def flat(size, element):
+    """Elements in one list, up to the size."""
+    count = (size - len(HEAD) - len(TAIL)) // (len(element) + 1)
+    return HEAD + ",".join([element] * count) + TAIL
+
+
+def long_texts(size):
+    """Texts of 200 bytes, of which even 16 MiB have fewer than 100,000."""
+    return flat(size, '"^' + "word " * 40 + '"')
+
+
+def short_texts(size):
+    return flat(size, '"^abcd"')
+
+
+def nested(size):
+    """Towers of containers, as deep as they may be: the root is the first of 120."""
+    return flat(size, "[" * 119 + "null]" + ",null]" * 118)
+
+
+def huge_texts(size):
+    """Texts of just under 1 MiB."""
+    return flat(size, '"^' + "x" * (MIB - 64) + '"')
+
+
+def best(program, lines):
+    """The least time of three runs, and what was written."""
+    times, written = [], b""
+    for _ in range(3):
+        begun = time.perf_counter()
+        done = subprocess.run([program], input=lines.encode(), stdout=subprocess.PIPE, stderr=subprocess.PIPE)
+        times.append(time.perf_counter() - begun)
+        if done.returncode != 0:
+            sys.exit("bench: %s" % done.stderr.decode().strip())
+        written = done.stdout
+    return min(times) * 1000, written
+
+
+def row(name, times):
+    print("%-34s %s %8.2f" % (name, " ".join("%9.1f" % t for t in times), times[-1] / times[-2]))
+
+
+def main():
+    top = os.path.dirname(os.path.dirname(os.path.abspath(__file__)))
+    program = sys.argv[1] if len(sys.argv) > 1 else os.path.join(top, "inkplay")
+    best(program, '{"inkVersion":21,"root":["done",null]}\n')  # built, and in the cache
+    print("%-34s %s %8s" % ("ms", " ".join("%5d MiB" % s for s in SIZES), "16 / 4"))
+    for name, make in (("texts of 200 bytes", long_texts), ("texts of 4 bytes", short_texts),
+                       ("containers nested to the limit", nested), ("texts of just under 1 MiB", huge_texts)):
+        stories = [make(s * MIB) for s in SIZES]
+        times = [best(program, s + "\n")[0] for s in stories]
+        row(name + ", read", times)
+        if make is long_texts:
+            ran = []
+            for story in stories:
+                took, written = best(program, story + "\nthrough\n")
+                if b'"text":"word word' not in written:
+                    sys.exit("bench: %r" % written[:200])
+                ran.append(took)
+            row("  .. and run through", ran)
+
+
+if __name__ == "__main__":
+    main()
