@@ -24,3 +24,4 @@ pub use place::{Part, Path, Place};
 pub use seq::Seq;
 pub use text::Text;
 pub use value::Value;
+
