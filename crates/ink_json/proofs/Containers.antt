@@ -20,7 +20,7 @@ use Rattle.ink_model.specs.declared.fault.ReadRefusal.{ReadRefusal}
 use Rattle.ink_model.specs.declared.place.Part.TheVariants.{Index, Name}
 use Rattle.ink_json.specs.declared.error.ReadError.{ReadError}
 use Rattle.ink_json.specs.declared.error.ReadError.TheVariants.{Memory, Refused}
-use Rattle.ink_json.specs.Reading.{Fails, IsFirst, IsUnder, is_whole, faults_last, faults_named, put_key}
+use Rattle.ink_json.specs.Reading.{Fails, IsFirst, is_whole, faults_last, faults_named, put_key}
 use Rattle.ink_json.specs.Size.{size, items_size, members_size}
 
 abbrev pub Entry : Type 0
@@ -79,19 +79,6 @@ pub first_fails : {A : Type 0} (e : ReadError) (fs : List ReadRefusal) (a : A) �
 first_fails Memory fs a h = tt
 first_fails (Refused r) [] a h = absurd h
 first_fails (Refused r) (f ∷ fs) a h = ap Err h
-
--- an error under a part
-pub fails_under : {A : Type 0} (p : _) (e q : ReadError) (fs : List ReadRefusal) (a : A) → IsUnder p e q → Fails e (first fs a) → Fails q (first (map (under p) fs) a)
-fails_under p e Memory fs a u h = tt
-fails_under p Memory (Refused q) fs a u h = absurd u
-fails_under p (Refused r) (Refused q) [] a u h = absurd cc
-fails_under p (Refused r) (Refused q) (f ∷ fs) a u h =
-    let same : f ≡ r = cc in
-    let there : under p f ≡ q = ap (under p) same ∙ sym u in ap Err there
-
-pub ok_under : {A : Type 0} (p : _) (fs : List ReadRefusal) (a b : A) → first fs a ≡ Ok b → first (map (under p) fs) a ≡ Ok b
-ok_under p [] a b h = h
-ok_under p (f ∷ fs) a b h = absurd cc
 
 -- ---- a container's own object
 

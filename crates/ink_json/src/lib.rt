@@ -13,3 +13,6 @@ mod story;
 
 pub use reading::read_story;
 pub use story::RawStory;
+
+#[cfg(test)]
+mod tests;

@@ -12,5 +12,5 @@ pub enum Given {
 }
 
 /// What happened between a player and the objects of its host. No form of content makes an event yet.
-#[derive(Clone, Copy, Debug, PartialEq, Eq)]
+#[derive(Drop)]
 pub enum Event {}
