@@ -1,14 +1,17 @@
 #!/usr/bin/env python3
-"""Refuses each request for memory in turn while the program plays, and looks at what it answers.
+"""Refuses each request for memory in turn while a story is played, and looks at what is answered: by the program, and by
+calls of the library.
 
     tests/refuse_memory.py [PROGRAM]      the program is ./inkplay's unless another is named
 
 A small library, built here with cc and loaded in front of the C library, refuses the n-th request. For each story below n
 goes from 1 on until no request is left to refuse. Each run has to end as docs/PROTOCOL.md says: the named error for want of
 memory, or the same answers as with ample memory up to the command that found none, the fault OutOfMemory there, and what a
-broken player answers to the lines after it. The last line tells the number of runs; the status is 0 only where all hold.
+broken player answers to the lines after it. A test of the library that holds under any refusal is run in the same way. The
+last line tells the number of runs; the status is 0 only where all hold.
 """
 import os
+import shutil
 import subprocess
 import sys
 import tempfile
@@ -47,19 +50,30 @@ STORIES = (
     ('{"inkVersion":21,"root":[[1,["done",{"#n":"g-0"}],null],"done",null],"listDefs":{}}', ("through",)),
 )
 
+TEST = "player::tests::want_of_memory_is_told"
+
 BROKEN = b'{"fault":"OutOfMemory","refused":"Broken"}'
 BAD_COMMAND = b'{"refused":"BadCommand"}'
 FAULT = b'{"events":[],"fault":"OutOfMemory"}'
 
 
-def play(program, text, shim=None, refuse=0):
+def play(words, text, shim=None, refuse=0):
     """Status, lines of output, standard error, and whether a request was refused."""
     with tempfile.TemporaryFile() as told:
         env = dict(os.environ, LD_PRELOAD=shim, REFUSE=str(refuse), TELL=str(told.fileno())) if shim else None
-        done = subprocess.run([program], input=text.encode(), stdout=subprocess.PIPE, stderr=subprocess.PIPE, env=env,
+        done = subprocess.run(words, input=text.encode(), stdout=subprocess.PIPE, stderr=subprocess.PIPE, env=env,
                               pass_fds=(told.fileno(),))
         told.seek(0)
         return done.returncode, done.stdout.splitlines(), done.stderr, bool(told.read())
+
+
+def test_binary(top):
+    """The library's tests, which are proved and built first where that has not been done."""
+    crate = os.path.join(top, "crates/ink_player")
+    binary = os.path.join(crate, "out/ink_player_tests")
+    if not os.path.exists(binary):
+        subprocess.run([shutil.which("rt") or "/opt/rattle/bin/rt", "test"], cwd=crate, stdout=subprocess.DEVNULL, check=True)
+    return binary
 
 
 def after_fault(commands):
@@ -95,15 +109,23 @@ def main():
         subprocess.run(["cc", "-shared", "-fPIC", "-O1", "-o", shim, source, "-ldl"], check=True)
         for story, commands in STORIES:
             text = "\n".join((story,) + commands) + "\n"
-            ample = play(program, text)[:3]
+            ample = play([program], text)[:3]
             for n in range(1, 100000):
-                status, lines, error, refused = play(program, text, shim, n)
+                status, lines, error, refused = play([program], text, shim, n)
                 if not refused:
                     break
                 runs += 1
                 if not is_right(commands, ample, status, lines, error):
                     wrong += 1
                     print("request %d of %s: status %d, %r, %r" % (n, story[:60], status, lines, error))
+        for n in range(1, 100000):
+            status, lines, error, refused = play([test_binary(top), TEST], "", shim, n)
+            if not refused:
+                break
+            runs += 1
+            if status != 0:
+                wrong += 1
+                print("request %d of %s: status %d, %r, %r" % (n, TEST, status, lines, error))
     print("%d runs, %d wrong" % (runs, wrong))
     return 1 if wrong or not runs else 0
 

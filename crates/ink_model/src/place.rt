@@ -38,7 +38,9 @@ pub struct Place {
 impl Model for Place {
     ghost use Rattle.std.specs.Prelude.{List};
     ghost use Rattle.ink_model.specs.declared.place.Part.{Part};
+
     ghost Value = { List Part };
+
     ghost view = { λ p. p.parts.items };
 }
 

@@ -13,7 +13,9 @@ pub struct Seq<T> {
 
 impl<T> Model for Seq<T> {
     ghost use Rattle.std.specs.Prelude.{List};
+
     ghost Value = { List T };
+
     ghost view = { λ s. s.items.items };
 }
 

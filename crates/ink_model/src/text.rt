@@ -13,7 +13,9 @@ pub struct Text {
 
 impl Model for Text {
     ghost use Rattle.std.specs.Prelude.{List, ℕ, string_bytes};
+
     ghost Value = { List ℕ };
+
     ghost view = { λ t. string_bytes t.string };
 }
 

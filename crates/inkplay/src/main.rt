@@ -4,10 +4,9 @@
 
 use ink_model::{Cause, Part, Place, ReadRefusal};
 use ink_player::{Desk, PlayEnd, PlayFault, play};
-use std::env;
-use std::io;
 use std::process::ExitCode;
 use std::rt::Env;
+use std::{env, io};
 
 /// The input was served to its end.
 const SERVED: u8 = 0;

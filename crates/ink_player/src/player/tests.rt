@@ -1,7 +1,8 @@
 //! Each call of the player once, on short stories.
 
-use crate::{Desk, Halt, OpenFault, Player, Refusal, accept};
+use crate::{Desk, Fault, Halt, OpenFault, Player, Refusal, accept};
 use ink_json::read_story;
+use ink_model::Cause;
 use std::alloc::Global;
 
 /// A player at the start of a story, none where the story is refused or memory is.
@@ -68,5 +69,49 @@ fn a_stop_off_the_end_is_loose_and_end_is_not(rt: HostRuntime) {
     };
     assert_eq!(rt; passage.text.as_str(), "A");
     assert!(rt; !passage.loose);
+    player.close().close();
+}
+
+/// Holds with ample memory, and also where any one request is refused (tests/refuse_memory.py runs it so).
+#[test]
+fn want_of_memory_is_told(rt: HostRuntime) {
+    let story =
+        br##"{"inkVersion":21,"root":[["^ A ","\n",[null],["^B","end",{"#n":"b"}],{"k":[null]}],null]}"##;
+    let raw = match read_story(rt.alloc(), story) {
+        Ok(raw) => raw,
+        Err(refusal) => {
+            assert!(rt; refusal.cause == Cause::OutOfMemory);
+            assert!(rt; refusal.place.parts().is_empty());
+            return;
+        }
+    };
+    let mut player = match Player::open(rt.alloc(), accept(raw), Desk::new()) {
+        Ok(player) => player,
+        Err(
+            OpenFault {
+                fault,
+                story: _,
+                desk,
+            },
+        ) => {
+            desk.close();
+            assert!(rt; fault == Fault::OutOfMemory);
+            return;
+        }
+    };
+    match player.through() {
+        Ok(passage) => assert_eq!(rt; passage.text.as_str(), "A\nB"),
+        Err(Halt::Fault { fault, events }) => {
+            assert!(rt; fault == Fault::OutOfMemory);
+            assert!(rt; events.as_slice().is_empty());
+            let broken = match player.through() {
+                Err(Halt::Refused(Refusal::Broken(Fault::OutOfMemory))) => true,
+                _ => false,
+            };
+            assert!(rt; broken);
+        }
+        Err(Halt::Refused(_)) => panic!(rt; "refused"),
+    }
+    assert!(rt; !player.can_continue());
     player.close().close();
 }
