@@ -33,6 +33,12 @@ pub struct ReadRefusal {
 /// What can go wrong while a story runs.
 #[derive(Clone, Copy, Debug, PartialEq, Eq, thiserror::Error)]
 pub enum Fault {
+    #[error("StackEmpty")]
+    StackEmpty,
+    #[error("BadOperands")]
+    BadOperands,
+    #[error("Divide")]
+    Divide,
     #[error("HostRefused")]
     HostRefused,
     #[error("TooDeep")]
