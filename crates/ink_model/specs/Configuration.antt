@@ -39,7 +39,7 @@ pub record ChoiceOf (P : Type 0) : Type 0 where
   pub hidden : Bool
   pub thread : ThreadOf P
 
--- what a flow has of its own; the evaluation stack has its top first
+-- what a flow has of its own; the evaluation stack from the bottom
 pub record FlowOf (P : Type 0) : Type 0 where
   pub threads : ThreadsOf P
   pub stack : List Value

@@ -21,7 +21,7 @@ value_given (given.Text t) = value.Text t
 value_given given.Void = value.Void
 
 abbrev pub pushed : Value → Configuration → Configuration
-pushed v c = with_flow (record c.flow { stack = v ∷ c.flow.stack }) c
+pushed v c = with_flow (record c.flow { stack = c.flow.stack ++ v ∷ [] }) c
 
 abbrev pub answered_at : StoryTree → Value → Option (List Part) → Configuration → Outcome
 answered_at s v None c = Stop c
