@@ -1,6 +1,6 @@
 //! Places in a story, and paths to them.
 
-ghost use Rattle.std.specs.Prelude.{◌≡◌, [], ◌∷◌, ◌++◌, OnOk, OnErr};
+ghost use Rattle.std.specs.Prelude.{◌≡◌, [], ◌∷◌, ◌++◌, IfOk, OnOk, OnErr};
 
 use crate::seq::Seq;
 use crate::text::Text;
@@ -12,6 +12,21 @@ use std::marker::Model;
 pub enum Part {
     Index(u32),
     Name(Text),
+}
+
+impl Part {
+    /// A copy. The one error is a refused request for memory.
+    pub fn clone_in(&self, alloc: Global) -> Result<Part, AllocError>
+        ensures { IfOk result (λ copy. copy ≡ self.now) }
+    {
+        match self {
+            Part::Index(index) => Ok(Part::Index(*index)),
+            Part::Name(name) => {
+                let copy = name.clone_in(alloc)?;
+                Ok(Part::Name(copy))
+            }
+        }
+    }
 }
 
 /// A place: the parts that lead to it from the root, which is the empty place. A contract sees the list of parts.
@@ -37,6 +52,27 @@ impl Place {
         Place {
             parts: Vec::new(alloc),
         }
+    }
+
+    /// The place to which these parts lead, which are copied. The one error is a refused request for memory.
+    pub fn from_parts(alloc: Global, parts: &[Part]) -> Result<Place, AllocError>
+        ensures { IfOk result (λ place. place ≡ parts.now) }
+    {
+        let mut copies = Vec::with_capacity(alloc, parts.len())?;
+        for part in parts {
+            let copy = part.clone_in(alloc)?;
+            copies.push(copy)?;
+        }
+        Ok(Place { parts: copies })
+    }
+
+    /// Goes one part down. The one error is a refused request for memory, and leaves the place as it was.
+    pub fn push(&mut self, part: Part) -> Result<(), AllocError>
+        ensures ok { OnOk result (self.new ≡ self.old ++ part ∷ []) }
+        ensures err { OnErr result (self.new ≡ self.old) }
+    {
+        self.parts.push(part)?;
+        Ok(())
     }
 
     /// The parts, from the root on.
