@@ -7,6 +7,7 @@ pub mod Mark
 pub mod Clean
 pub mod Value
 pub mod Operator
+pub mod OperatorExamples
 pub mod Configuration
 pub mod Step
 pub mod Run
