@@ -113,9 +113,9 @@ fn the_stack_keeps_its_values(rt: HostRuntime) -> Result<(), Fail> {
     assert_eq!(rt; stack.len(), 10_000);
     assert!(rt; matches!(stack.peek(2)?, Value::Int(9997)));
     assert!(rt; matches!(stack.peek(10_000), Err(Fault::StackEmpty)));
-    for number in 0..10_000 {
+    for number in (0..10_000).rev() {
         let value = stack.pop()?;
-        assert!(rt; matches!(value, Value::Int(n) if n == 9_999 - number));
+        assert!(rt; matches!(value, Value::Int(n) if n == number));
     }
     assert!(rt; matches!(stack.pop(), Err(Fault::StackEmpty)));
     Ok(())
