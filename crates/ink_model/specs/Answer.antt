@@ -30,6 +30,9 @@ reply_of (Err h) = reply_of_halt h
 -- ---- replies as JSON
 
 abbrev pub fault_name : Fault → List ℕ
+fault_name fault.StackEmpty = codes "StackEmpty"
+fault_name fault.BadOperands = codes "BadOperands"
+fault_name fault.Divide = codes "Divide"
 fault_name fault.HostRefused = codes "HostRefused"
 fault_name fault.TooDeep = codes "TooDeep"
 fault_name fault.OutOfSteps = codes "OutOfSteps"

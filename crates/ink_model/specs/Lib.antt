@@ -5,6 +5,9 @@ pub mod Place
 pub mod Grammar
 pub mod Mark
 pub mod Clean
+pub mod Value
+pub mod Operator
+pub mod OperatorExamples
 pub mod Configuration
 pub mod Step
 pub mod Run

@@ -1,8 +1,12 @@
 //! Refusals and faults.
 
+ghost use Rattle.std.specs.Prelude.{◌≡◌};
+ghost use Rattle.ink_model.specs.declared.fault.Fault.TheVariants.{OutOfMemory};
+
 use crate::host::Event;
 use crate::place::Place;
 use crate::seq::Seq;
+use std::alloc::{AllocError, AllocFailed};
 
 /// Why a story is refused.
 #[derive(Clone, Copy, Debug, PartialEq, Eq, thiserror::Error)]
@@ -33,6 +37,12 @@ pub struct ReadRefusal {
 /// What can go wrong while a story runs.
 #[derive(Clone, Copy, Debug, PartialEq, Eq, thiserror::Error)]
 pub enum Fault {
+    #[error("StackEmpty")]
+    StackEmpty,
+    #[error("BadOperands")]
+    BadOperands,
+    #[error("Divide")]
+    Divide,
     #[error("HostRefused")]
     HostRefused,
     #[error("TooDeep")]
@@ -61,4 +71,20 @@ pub enum Refusal {
 pub enum Halt {
     Refused(Refusal),
     Fault { fault: Fault, events: Seq<Event> },
+}
+
+impl From<AllocError> for Fault {
+    ghost from_gives = { λ _ e. e ≡ OutOfMemory };
+
+    fn from(_refused: AllocError) -> Fault {
+        Fault::OutOfMemory
+    }
+}
+
+impl<T: Drop> From<AllocFailed<T>> for Fault {
+    ghost from_gives = { λ _ e. e ≡ OutOfMemory };
+
+    fn from(_refused: AllocFailed<T>) -> Fault {
+        Fault::OutOfMemory
+    }
 }

@@ -99,3 +99,36 @@ pub struct Path {
     pub relative: bool,
     pub parts: Seq<Part>,
 }
+
+impl Path {
+    /// A copy. The one error is a refused request for memory.
+    pub fn clone_in(&self, alloc: Global) -> Result<Path, AllocError>
+        ensures { IfOk result (λ copy. copy ≡ self.now) }
+    {
+        Ok(Path {
+            relative: self.relative,
+            parts: self.parts.clone_in(alloc)?,
+        })
+    }
+}
+
+impl Seq<Part> {
+    /// A copy. The one error is a refused request for memory.
+    pub fn clone_in(&self, alloc: Global) -> Result<Seq<Part>, AllocError>
+        ensures { IfOk result (λ copy. copy ≡ self.now) }
+    {
+        Ok(Seq::from_vec(copied_parts(alloc, self.as_slice())?))
+    }
+}
+
+// Copies of parts, in order.
+fn copied_parts(alloc: Global, parts: &[Part]) -> Result<Vec<Part>, AllocError>
+    ensures { IfOk result (λ copies. copies.items ≡ parts.now) }
+{
+    let mut copies = Vec::with_capacity(alloc, parts.len())?;
+    for part in parts {
+        let copy = part.clone_in(alloc)?;
+        copies.push(copy)?;
+    }
+    Ok(copies)
+}

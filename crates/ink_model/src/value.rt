@@ -1,7 +1,10 @@
 //! Values.
 
+ghost use Rattle.std.specs.Prelude.{◌≡◌, IfOk};
+
 use crate::place::Path;
 use crate::text::Text;
+use std::alloc::{AllocError, Global};
 
 /// A value of a running story.
 #[derive(Drop)]
@@ -13,4 +16,21 @@ pub enum Value {
     Pointer(Text, i32),
     Void,
     Tag(Text),
+}
+
+impl Value {
+    /// A copy. The one error is a refused request for memory.
+    pub fn clone_in(&self, alloc: Global) -> Result<Value, AllocError>
+        ensures { IfOk result (λ copy. copy ≡ self.now) }
+    {
+        match self {
+            Value::Int(number) => Ok(Value::Int(*number)),
+            Value::Bool(truth) => Ok(Value::Bool(*truth)),
+            Value::Text(text) => Ok(Value::Text(text.clone_in(alloc)?)),
+            Value::Target(path) => Ok(Value::Target(path.clone_in(alloc)?)),
+            Value::Pointer(name, frame) => Ok(Value::Pointer(name.clone_in(alloc)?, *frame)),
+            Value::Void => Ok(Value::Void),
+            Value::Tag(text) => Ok(Value::Tag(text.clone_in(alloc)?)),
+        }
+    }
 }

@@ -1,0 +1,35 @@
+-- A value that stands for a number has its number and its printed text as an operand.
+use Rattle.std.proofs.Common.{◌≡◌, ℕ, ℤ, List, Some, None, Result, Ok, refl}
+use Rattle.ink_model.specs.Operator.{operand, number, both, of_texts, of_two}
+use Rattle.ink_model.specs.Value.{printed}
+use Rattle.ink_model.specs.declared.fault.Fault.{Fault}
+use Rattle.ink_model.specs.declared.operator.Op.{Op}
+use Rattle.ink_model.specs.declared.value.Value.{Value}
+use Rattle.ink_model.specs.declared.value.Value.TheVariants.{Int, Bool as Truth, Text, Target, Pointer, Void, Tag}
+use Rattle.ink_value.specs.Words.{Gives, number_of, number_text}
+
+pub operand_number : (v : Value) (z : ℤ) → number_of v ≡ Some z → operand v ≡ number z (number_text v)
+operand_number (Int x) z h = cc
+operand_number (Truth b) z h = cc
+operand_number (Text t) z h = cc
+operand_number (Target p) z h = cc
+operand_number (Pointer n i) z h = cc
+operand_number Void z h = cc
+operand_number (Tag t) z h = cc
+
+pub printed_number : (v : Value) (z : ℤ) → number_of v ≡ Some z → printed v ≡ Ok (number_text v)
+unfolding printed
+printed_number (Int x) z h = refl
+printed_number (Truth b) z h = refl
+printed_number (Text t) z h = cc
+printed_number (Target p) z h = cc
+printed_number (Pointer n i) z h = cc
+printed_number Void z h = cc
+printed_number (Tag t) z h = cc
+
+-- a number before a text is printed
+pub text_before : (operator : Op) (v w : Value) (z : ℤ) (s t : List ℕ) (r : Result Value Fault) → number_of v ≡ Some z → printed v ≡ Ok s → w ≡ Text t
+    → Gives r (of_texts operator s t) → Gives r (of_two operator (both (operand v) (operand w)))
+text_before operator v w z s t r counted shown is_text h =
+    let same : s ≡ number_text v = cc (printed_number v z counted) in
+    rw (operand_number v z counted, is_text, ← same) h

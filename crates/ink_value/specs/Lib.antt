@@ -1,0 +1,3 @@
+pub mod Words
+pub mod Groups
+pub mod Stack

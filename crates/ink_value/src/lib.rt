@@ -1,0 +1,19 @@
+//! Values of a running story: what operators make of them, their truth and their printed text, and the evaluation stack
+//! (docs/VALUES.md).
+#![tactic(auto)]
+
+mod numbers;
+mod operate;
+mod printing;
+mod stack;
+mod targets;
+mod texts;
+mod truth;
+
+pub use operate::apply;
+pub use printing::printed;
+pub use stack::EvalStack;
+pub use truth::is_true;
+
+#[cfg(test)]
+mod tests;

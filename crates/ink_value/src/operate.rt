@@ -1,0 +1,124 @@
+//! Operators on values.
+
+ghost use Rattle.std.specs.Prelude.{◌≡◌, ◌≢◌, false, [], ◌∷◌, List, ℕ};
+ghost use Rattle.ink_model.specs.Operator as rules;
+ghost use Rattle.ink_model.specs.Operator.{operand, both};
+ghost use Rattle.ink_value.specs.Words as words;
+ghost use Rattle.ink_value.specs.Words.{Gives, is_text, has_text};
+
+use crate::numbers::of_numbers;
+use crate::printing::printed;
+use crate::targets::of_targets;
+use crate::texts::of_texts;
+use ink_model::{Fault, Op, Path, Value};
+use std::alloc::Global;
+
+/// What an operator makes of as many values as it takes, in the order in which they were pushed (docs/VALUES.md).
+///
+/// `BadOperands` where the operator has no result for values of these kinds, or for as many; `Divide` for a divisor that is 0,
+/// and for the least integer by -1; `TooDeep` for a text that would be longer than a text may be; `OutOfMemory` for a
+/// refused request for memory, which only texts make.
+#[tactic(auto, unfolding(ink_model::specs::Operator::apply))]
+pub fn apply(alloc: Global, operator: Op, values: &[Value]) -> Result<Value, Fault>
+    ensures result { Gives result (rules.apply operator values.now) }
+    ensures memory { has_text values.now ≡ false → result ≢ Err Fault.OutOfMemory }
+{
+    match values {
+        [value] => of_one(operator, value),
+        [left, right] => of_two(alloc, operator, left, right),
+        _ => Err(Fault::BadOperands),
+    }
+}
+
+#[tactic(auto, using(crate::proofs::Operands::operand_number))]
+fn of_one(operator: Op, value: &Value) -> Result<Value, Fault>
+    ensures { result ≡ rules.of_one operator (operand value.now) }
+{
+    match number_of(value) {
+        Some(number) => of_number(operator, number),
+        None => Err(Fault::BadOperands),
+    }
+}
+
+fn of_number(operator: Op, x: i32) -> Result<Value, Fault>
+    ensures { (text : List ℕ) → result ≡ rules.of_one operator (rules.number x text) }
+{
+    match operator {
+        Op::Negate => Ok(Value::Int(x.wrapping_neg())),
+        Op::Not => Ok(Value::Bool(x == 0)),
+        Op::Floor | Op::Ceiling | Op::Int => Ok(Value::Int(x)),
+        _ => Err(Fault::BadOperands),
+    }
+}
+
+fn of_two(alloc: Global, operator: Op, left: &Value, right: &Value) -> Result<Value, Fault>
+    ensures result { Gives result (rules.of_two operator (both (operand left.now) (operand right.now))) }
+    ensures memory { has_text (left.now ∷ right.now ∷ []) ≡ false → result ≢ Err Fault.OutOfMemory }
+{
+    if let Some(number) = number_of(left) {
+        return after_number(alloc, operator, left, number, right);
+    }
+    match left {
+        Value::Text(text) => after_text(alloc, operator, text.as_str(), right),
+        Value::Target(path) => after_target(operator, path, right),
+        _ => Err(Fault::BadOperands),
+    }
+}
+
+fn number_of(value: &Value) -> Option<i32>
+    ensures { result ≡ words.number_of value.now }
+{
+    match value {
+        Value::Int(number) => Some(*number),
+        Value::Bool(truth) => Some(i32::from(*truth)),
+        _ => None,
+    }
+}
+
+// A value that stands for a number, and any value.
+#[tactic(auto, using(crate::proofs::Operands::operand_number, crate::proofs::Operands::printed_number))]
+fn after_number(
+    alloc: Global,
+    operator: Op,
+    left: &Value,
+    number: i32,
+    right: &Value,
+) -> Result<Value, Fault>
+    requires { words.number_of left.now ≡ Some number }
+    ensures result { Gives result (rules.of_two operator (both (operand left.now) (operand right.now))) }
+    ensures memory { is_text right.now ≡ false → result ≢ Err Fault.OutOfMemory }
+{
+    if let Some(other) = number_of(right) {
+        return of_numbers(operator, number, other);
+    }
+    if let Value::Text(text) = right {
+        let left = printed(alloc, left)?;
+        return of_texts(alloc, operator, left.as_str(), text.as_str());
+    }
+    Err(Fault::BadOperands)
+}
+
+// A text and any value.
+#[tactic(auto, unfolding(ink_model::specs::Value::printed))]
+fn after_text(alloc: Global, operator: Op, left: &str, right: &Value) -> Result<Value, Fault>
+    ensures { Gives result (rules.of_two operator (both (rules.words left.now) (operand right.now))) }
+{
+    match right {
+        Value::Text(text) => of_texts(alloc, operator, left, text.as_str()),
+        Value::Int(_) | Value::Bool(_) => {
+            let text = printed(alloc, right)?;
+            of_texts(alloc, operator, left, text.as_str())
+        }
+        _ => Err(Fault::BadOperands),
+    }
+}
+
+// A divert target and any value.
+fn after_target(operator: Op, left: &Path, right: &Value) -> Result<Value, Fault>
+    ensures { result ≡ rules.of_two operator (both (rules.target left.now) (operand right.now)) }
+{
+    match right {
+        Value::Target(path) => of_targets(operator, left, path),
+        _ => Err(Fault::BadOperands),
+    }
+}

@@ -1,0 +1,30 @@
+//! The printed text of values.
+
+ghost use Rattle.std.specs.Prelude.{◌≡◌};
+ghost use Rattle.ink_model.specs.Value as rules;
+ghost use Rattle.ink_value.specs.Words.{Gives};
+
+use ink_model::{Fault, Text, Value};
+use std::alloc::Global;
+
+/// The printed text of a value (docs/VALUES.md).
+///
+/// `BadOperands` where it has none; `OutOfMemory` for a refused request for memory.
+#[tactic(auto, unfolding(ink_model::specs::Value::printed))]
+pub fn printed(alloc: Global, value: &Value) -> Result<Text, Fault>
+    ensures { Gives result (rules.printed value.now) }
+{
+    match value {
+        Value::Int(number) => Ok(Text::from_string(number.to_string(alloc)?)),
+        Value::Bool(truth) => Ok(Text::from_str(alloc, truth_text(*truth))?),
+        Value::Text(text) => Ok(text.clone_in(alloc)?),
+        Value::Void => Ok(Text::from_str(alloc, "")?),
+        Value::Target(_) | Value::Pointer(..) | Value::Tag(_) => Err(Fault::BadOperands),
+    }
+}
+
+fn truth_text(truth: bool) -> &'static str
+    ensures { result.now ≡ rules.truth_text truth }
+{
+    if truth { "true" } else { "false" }
+}

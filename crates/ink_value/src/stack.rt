@@ -1,0 +1,82 @@
+//! The evaluation stack.
+
+ghost use Rattle.std.specs.Prelude.{◌≡◌, ◌≢◌, ◌≤◌, ◌↔◌, ◌⊎◌, [], ◌∷◌, ◌++◌, length, reverse, slice_get, OnOk, OnErr, IfOk, IfErr, MatchResult};
+ghost use Rattle.ink_value.specs.Stack.{max_stack};
+
+use ink_model::{Fault, Value};
+use std::alloc::Global;
+use std::marker::Model;
+
+// As many values as it can hold.
+const MAX_STACK: usize = 10_000;
+
+/// The values that are being evaluated. A contract sees them from the bottom up.
+#[derive(Drop)]
+pub struct EvalStack {
+    items: Vec<Value>,
+}
+
+impl Model for EvalStack {
+    ghost use Rattle.std.specs.Prelude.{◌≤◌, vec_len};
+    ghost use Rattle.ink_value.specs.Stack.{Stack, max_stack};
+
+    ghost Value = { Stack };
+
+    ghost view = { λ s. record { items = s.items.items } };
+
+    ghost invariant = { λ s. vec_len s.items ≤ max_stack };
+}
+
+impl EvalStack {
+    /// An empty stack, which takes no memory.
+    pub fn new(alloc: Global) -> EvalStack
+        ensures { result.items ≡ [] }
+    {
+        EvalStack {
+            items: Vec::new(alloc),
+        }
+    }
+
+    /// Puts a value on top. `TooDeep` where 10,000 values are there; `OutOfMemory` for a refused request for memory. On an
+    /// error nothing has changed.
+    pub fn push(&mut self, value: Value) -> Result<(), Fault>
+        ensures ok { OnOk result (self.new.items ≡ self.old.items ++ value ∷ []) }
+        ensures err { OnErr result (self.new.items ≡ self.old.items) }
+        ensures too_deep { (result ≡ Err Fault.TooDeep) ↔ (length self.old.items ≡ max_stack) }
+        ensures faults { IfErr result (λ f. (f ≡ Fault.TooDeep) ⊎ (f ≡ Fault.OutOfMemory)) }
+    {
+        if self.items.len() >= MAX_STACK {
+            return Err(Fault::TooDeep);
+        }
+        self.items.push(value)?;
+        Ok(())
+    }
+
+    /// Takes the value on top. `StackEmpty` where there is none, and then nothing has changed.
+    pub fn pop(&mut self) -> Result<Value, Fault>
+        ensures items { IfOk result (λ value. self.old.items ≡ self.new.items ++ value ∷ []) }
+        ensures err { OnErr result (self.new.items ≡ self.old.items) }
+        ensures empty { (result ≡ Err Fault.StackEmpty) ↔ (self.old.items ≡ []) }
+        ensures faults { IfErr result (λ f. (f ≡ Fault.StackEmpty) ⊎ (f ≡ Fault.OutOfMemory)) }
+        ensures memory { result ≢ Err Fault.OutOfMemory }
+    {
+        self.items.pop().ok_or(Fault::StackEmpty)
+    }
+
+    /// The value that lies so deep: 0 is the top. `StackEmpty` where there is none so deep.
+    pub fn peek(&self, depth: usize) -> Result<&Value, Fault>
+        ensures { MatchResult result (λ value. slice_get (reverse self.now.items) depth ≡ Some value.now) (λ f. (f ≡ Fault.StackEmpty) × (length self.now.items ≤ depth)) }
+    {
+        if depth >= self.items.len() {
+            return Err(Fault::StackEmpty);
+        }
+        Ok(&self.items[self.items.len() - 1 - depth])
+    }
+
+    /// How many values there are.
+    pub fn len(&self) -> usize
+        ensures { result ≡ length self.now.items }
+    {
+        self.items.len()
+    }
+}
