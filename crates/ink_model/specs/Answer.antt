@@ -1,7 +1,9 @@
 -- Answers (docs/PROTOCOL.md, "Answers").
-use Rattle.std.specs.Prelude.{ℕ, List, [], ◌∷◌, ◌++◌, map, codes, Result, Ok, Err}
-use Rattle.serde_json.specs.Data.{Data, boolean, string, array, object, Items, no_items, item, no_members, member}
+use Rattle.std.specs.Prelude.{ℕ, List, [], ◌∷◌, ◌++◌, map, codes, decimal, if◌then◌else◌, Result, Ok, Err}
+use Rattle.serde_json.specs.Data.{Data, null, boolean, number, string, array, object, Items, no_items, item, no_members, member}
+use Rattle.serde_json.specs.Find.{of_integer}
 use Rattle.serde_json.specs.Written.{compact_text}
+use Rattle.ink_model.specs.Clean.{joined}
 use Rattle.ink_model.specs.declared.fault.Fault.{Fault}
 use Rattle.ink_model.specs.declared.fault.Fault.TheVariants as fault
 use Rattle.ink_model.specs.declared.fault.Refusal.{Refusal}
@@ -10,15 +12,22 @@ use Rattle.ink_model.specs.declared.fault.Halt.{Halt}
 use Rattle.ink_model.specs.declared.fault.Halt.TheVariants as halt
 use Rattle.ink_model.specs.declared.host.Event.{Event}
 use Rattle.ink_model.specs.declared.passage.Passage.{Passage}
+use Rattle.ink_model.specs.declared.place.Part.{Part}
+use Rattle.ink_model.specs.declared.place.Part.TheVariants.{Index, Name}
+use Rattle.ink_model.specs.declared.place.Path.{Path}
+use Rattle.ink_model.specs.declared.value.Value.{Value}
+use Rattle.ink_model.specs.declared.value.Value.TheVariants as value
 use Rattle.ink_model.specs.declared.passage.Shown.{Shown}
 
--- what a command answers: a passage, a refusal, or a fault with what happened before it
+-- what a command answers: a passage, what happened, a value, a refusal, or a fault with what happened before it
 pub data Reply : Type 0 where
   Tells : (passage : Passage) → Reply
+  Acts : (events : List Event) → Reply
+  Shows : (value : Value) → Reply
   Refuses : (refusal : Refusal) → Reply
   Breaks : (fault : Fault) → (events : List Event) → Reply
 
--- what a call that runs the story returned, as a reply
+-- what calls returned, as replies
 abbrev pub reply_of_halt : Halt → Reply
 reply_of_halt (halt.Refused r) = Refuses r
 reply_of_halt (halt.Fault f events) = Breaks f events
@@ -27,12 +36,22 @@ abbrev pub reply_of : Result Passage Halt → Reply
 reply_of (Ok passage) = Tells passage
 reply_of (Err h) = reply_of_halt h
 
+abbrev pub reply_of_events : Result (List Event) Halt → Reply
+reply_of_events (Ok events) = Acts events
+reply_of_events (Err h) = reply_of_halt h
+
+abbrev pub reply_of_value : Result Value Refusal → Reply
+reply_of_value (Ok v) = Shows v
+reply_of_value (Err r) = Refuses r
+
 -- ---- replies as JSON
 
 abbrev pub fault_name : Fault → List ℕ
 fault_name fault.StackEmpty = codes "StackEmpty"
 fault_name fault.BadOperands = codes "BadOperands"
 fault_name fault.Divide = codes "Divide"
+fault_name fault.BadMode = codes "BadMode"
+fault_name fault.NoTemp = codes "NoTemp"
 fault_name fault.HostRefused = codes "HostRefused"
 fault_name fault.TooDeep = codes "TooDeep"
 fault_name fault.OutOfSteps = codes "OutOfSteps"
@@ -40,6 +59,8 @@ fault_name fault.OutOfMemory = codes "OutOfMemory"
 
 abbrev pub refusal_name : Refusal → List ℕ
 refusal_name refusal.CannotContinue = codes "CannotContinue"
+refusal_name refusal.NoSuchVariable = codes "NoSuchVariable"
+refusal_name refusal.BadValue = codes "BadValue"
 refusal_name refusal.BadCommand = codes "BadCommand"
 refusal_name (refusal.Broken f) = codes "Broken"
 refusal_name refusal.OutOfMemory = codes "OutOfMemory"
@@ -70,6 +91,23 @@ passage_data p = object
     (member (codes "tags") (texts_data p.tags)
     (member (codes "text") (string p.text) no_members))))))
 
+-- a path as it is written: its components joined by dots, and a dot before a relative one
+abbrev pub part_text : Part → List ℕ
+part_text (Index i) = decimal i
+part_text (Name n) = n
+
+abbrev pub path_text : Path → List ℕ
+path_text p = (if p.relative then 46 ∷ [] else []) ++ joined 46 (map part_text p.parts)
+
+abbrev pub value_data : Value → Data
+value_data (value.Int z) = number (of_integer z)
+value_data (value.Bool b) = boolean b
+value_data (value.Text t) = string t
+value_data (value.Target p) = object (member (codes "->") (string (path_text p)) no_members)
+value_data (value.Pointer n i) = object (member (codes "ci") (number (of_integer i)) (member (codes "var") (string n) no_members))
+value_data value.Void = null
+value_data (value.Tag t) = object (member (codes "tag") (string t) no_members)
+
 abbrev pub refusal_data : Refusal → Data
 refusal_data (refusal.Broken f) =
     object (member (codes "fault") (string (fault_name f)) (member (codes "refused") (string (codes "Broken")) no_members))
@@ -77,6 +115,8 @@ refusal_data r = object (member (codes "refused") (string (refusal_name r)) no_m
 
 abbrev pub reply_data : Reply → Data
 reply_data (Tells passage) = passage_data passage
+reply_data (Acts events) = object (member (codes "events") (events_data events) no_members)
+reply_data (Shows v) = object (member (codes "value") (value_data v) no_members)
 reply_data (Refuses r) = refusal_data r
 reply_data (Breaks f events) =
     object (member (codes "events") (events_data events) (member (codes "fault") (string (fault_name f)) no_members))

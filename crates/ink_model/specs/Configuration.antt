@@ -120,15 +120,36 @@ base_frame p = record { kind = Base; place = p; temps = []; evaluating = false; 
 abbrev pub base_threads : Option (List Part) → ThreadsOf (List Part)
 base_threads p = record { thread = record { frame = base_frame p; below = []; previous = None }; below = [] }
 
-unfoldable pub start : StoryTree → Configuration
-start s = record {
-  flow = record { threads = base_threads (Some (start_place s)); stack = []; choices = []; safe = false };
+abbrev pub with_globals : List (List ℕ × Value) → Configuration → Configuration
+with_globals vs c = record c { shared = record c.shared { globals = vs } }
+
+-- nothing has happened yet, and flow stands at a place
+unfoldable pub fresh_at : List Part → Configuration
+fresh_at p = record {
+  flow = record { threads = base_threads (Some p); stack = []; choices = []; safe = false };
   shared = record { globals = []; visits = []; turns = []; turn = 0 };
   page = record { line = []; sections = []; next_enter = 0 };
 }
 
+-- the start of a story, with these globals
+unfoldable pub start : StoryTree → List (List ℕ × Value) → Configuration
+start s globals = with_globals globals (fresh_at (start_place s))
+
 abbrev pub with_safe : Bool → Configuration → Configuration
 with_safe b c = with_flow (record c.flow { safe = b }) c
+
+abbrev pub with_stack : List Value → Configuration → Configuration
+with_stack vs c = with_flow (record c.flow { stack = vs }) c
+
+-- evaluation mode is the top frame's
+abbrev pub is_evaluating : Configuration → Bool
+is_evaluating c = c.flow.threads.thread.frame.evaluating
+
+abbrev pub mode_of : Bool → ThreadOf (List Part) → ThreadOf (List Part)
+mode_of b t = record t { frame = record t.frame { evaluating = b } }
+
+abbrev pub with_mode : Bool → Configuration → Configuration
+with_mode b c = with_flow (record c.flow { threads = record c.flow.threads { thread = mode_of b c.flow.threads.thread } }) c
 
 -- `end`: flow stops safely, and of threads and choices nothing is left
 abbrev pub ended : Configuration → Configuration

@@ -8,16 +8,17 @@ use Rattle.serde_json.proofs.OnLiterals.{serde_json_on_literals}
 use Rattle.ink_model.specs.Tree.{StoryTree, leaf, container, Trees, no_trees, tree, no_keys, key, at}
 use Rattle.ink_model.specs.Place.{entered, next_place}
 use Rattle.ink_model.specs.Grammar as grammar
-use Rattle.ink_model.specs.Grammar.{here, of_json, of_value, string_leaf}
+use Rattle.ink_model.specs.Grammar.{here, of_json, of_value, string_leaf, word}
 use Rattle.ink_model.specs.Mark.{cut, shown}
 use Rattle.ink_model.specs.Clean.{clean}
-use Rattle.ink_model.specs.Configuration.{Configuration, start, ended, with_safe, put_at, moved, settled, begun}
+use Rattle.ink_model.specs.Configuration.{Configuration, start, fresh_at, ended, with_safe, put_at, moved, settled, begun}
 use Rattle.ink_model.specs.Step.{Bound, step, go_on, writes, nothing_bound, Next, Stop, with_page}
 use Rattle.ink_model.specs.Run.{Made, moment, next, run, through, cut_off, At, Stopped}
 use Rattle.ink_model.specs.Command.{lines_of, command_of}
 use Rattle.ink_model.specs.Answer.{answer, Tells, Refuses, Breaks}
 use Rattle.ink_model.specs.Session.{Session, Serves, passage}
-use Rattle.ink_model.specs.State.{State, Ready, Broken, opened}
+use Rattle.ink_model.specs.State.{State, Ready, Broken}
+use Rattle.ink_model.specs.Opening.{opened}
 use Rattle.ink_model.specs.declared.host.Given.{Given}
 use Rattle.ink_model.specs.declared.command.Command.TheVariants.{Through}
 use Rattle.ink_model.specs.declared.content.Leaf.TheVariants as leaves
@@ -68,41 +69,41 @@ stays_in_name = refl
 -- ---- steps
 
 -- a text is written, and flow moves on
-a_step : step small nothing_bound (start small)
-    ≡ Next (with_page (record { line = Text (codes "Hi") ∷ []; sections = []; next_enter = 0 }) (moved (Index 0 ∷ []) (Some (Index 1 ∷ [])) (start small)))
-unfolding step start entered writes go_on next_place cut
+a_step : step small nothing_bound (start small [])
+    ≡ Next (with_page (record { line = Text (codes "Hi") ∷ []; sections = []; next_enter = 0 }) (moved (Index 0 ∷ []) (Some (Index 1 ∷ [])) (start small [])))
+unfolding step start fresh_at entered writes go_on next_place cut
 a_step = refl
 
 -- `done` stops flow safely, and the previous place stays
-a_done : step (list (tree (leaf (leaves.Control Done)) no_trees)) nothing_bound (start small) ≡ Stop (with_safe true (put_at None (start small)))
-unfolding step start entered
+a_done : step (list (tree (leaf (leaves.Control Done)) no_trees)) nothing_bound (start small []) ≡ Stop (with_safe true (put_at None (start small [])))
+unfolding step start fresh_at entered
 a_done = refl
 
-an_end : step (list (tree (leaf (leaves.Control End)) no_trees)) nothing_bound (start small) ≡ Stop (ended (start small))
-unfolding step start entered
+an_end : step (list (tree (leaf (leaves.Control End)) no_trees)) nothing_bound (start small []) ≡ Stop (ended (start small []))
+unfolding step start fresh_at entered
 an_end = refl
 
 -- off the story's end flow stops, and has moved
-off_the_end : step (list (tree (list no_trees) no_trees)) nothing_bound (start small) ≡ Stop (moved (Index 0 ∷ []) None (start small))
-unfolding step start entered go_on next_place
+off_the_end : step (list (tree (list no_trees) no_trees)) nothing_bound (start small []) ≡ Stop (moved (Index 0 ∷ []) None (start small []))
+unfolding step start fresh_at entered go_on next_place
 off_the_end = refl
 
 -- ---- a run and its passage
 
-a_run : moment small nothing_bound (start small) [] 3
+a_run : moment small nothing_bound (start small []) [] 3
     ≡ Stopped (with_safe true (put_at None (with_page (record { line = Text (codes "Hi") ∷ Newline ∷ []; sections = []; next_enter = 0 })
-    (moved (Index 1 ∷ []) (Some (Index 2 ∷ [])) (start small))))) [] []
-unfolding run step start entered writes go_on next_place cut
+    (moved (Index 1 ∷ []) (Some (Index 2 ∷ [])) (start small []))))) [] []
+unfolding run step start fresh_at entered writes go_on next_place cut
 a_run = refl
 
-a_passage : (passage (with_safe true (put_at None (with_page (record { line = Text (codes "Hi") ∷ Newline ∷ []; sections = []; next_enter = 0 }) (start small)))))
+a_passage : (passage (with_safe true (put_at None (with_page (record { line = Text (codes "Hi") ∷ Newline ∷ []; sections = []; next_enter = 0 }) (start small [])))))
     ≡ record { text = codes "Hi\n"; tags = []; choices = []; events = []; more = false; loose = false }
-unfolding passage start shown clean
+unfolding passage start fresh_at shown clean
 a_passage = refl
 
 -- a stop off the end is a loose one
-a_loose_passage : (passage (put_at None (start small))) ≡ record { text = []; tags = []; choices = []; events = []; more = false; loose = true }
-unfolding passage start shown clean
+a_loose_passage : (passage (put_at None (start small []))) ≡ record { text = []; tags = []; choices = []; events = []; more = false; loose = true }
+unfolding passage start fresh_at shown clean
 a_loose_passage = refl
 
 -- ---- text
@@ -141,7 +142,7 @@ abbrev done_word : Data
 done_word = string (codes "done")
 
 read_small : of_value (file version_21 (array (item done_word (item null no_items)))) ≡ Ok (list (tree (leaf (leaves.Control Done)) no_trees))
-unfolding string_leaf
+unfolding string_leaf word
 read_small = refl
 
 no_json : of_json None ≡ Err (here NotJson)
@@ -161,9 +162,9 @@ root_is_no_list : of_value (file version_21 null) ≡ Err (here Shape)
 root_is_no_list = refl
 
 -- elements by index come before the containers by key, and content of which nothing is known yet is refused where it stands
-unsupported : of_value (file version_21 (array (item (array (item done_word (item (number (unsigned 1)) (item null no_items)))) (item (object (member (codes "k") null no_members)) no_items))))
+unsupported : of_value (file version_21 (array (item (array (item done_word (item (string (codes "str")) (item null no_items)))) (item (object (member (codes "k") null no_members)) no_items))))
     ≡ Err (record { cause = Unsupported; place = Index 0 ∷ Index 1 ∷ [] })
-unfolding string_leaf
+unfolding string_leaf word
 unsupported = refl
 
 no_container_at_key : of_value (file version_21 (array (item (object (member (codes "k") null no_members)) no_items))) ≡ Err (record { cause = Shape; place = Name (codes "k") ∷ [] })
@@ -218,14 +219,14 @@ unfolding command_of encode_utf8
 other_line = rw (is_utf8-from_IsUtf8 (codes "bye") (codes "bye", (refl, refl))) refl
 
 abbrev stopped : State
-stopped = record { condition = Ready (put_at None (start small)); stamp = 0 }
+stopped = record { condition = Ready (put_at None (start small [])); stamp = 0 }
 
 abbrev broken : State
 broken = record { condition = Broken fault.TooDeep []; stamp = 0 }
 
 -- where flow has stopped, running is refused, and so is a line that is no command; nothing changes
 a_session : Session small nothing_bound (codes "through" ∷ codes "bye" ∷ []) stopped (cannot ++ bad_command) stopped
-unfolding Serves start
+unfolding Serves start fresh_at
 a_session = (
   Refuses refusal.CannotContinue,
   stopped,
@@ -249,25 +250,25 @@ stays s b c d k (suc j) left answers made e = rw (suc-add j k) (ap (next s b) (s
 
 abbrev small_end : Configuration
 small_end = with_safe true (put_at None (with_page (record { line = Text (codes "Hi") ∷ Newline ∷ []; sections = []; next_enter = 0 })
-    (moved (Index 1 ∷ []) (Some (Index 2 ∷ [])) (start small))))
+    (moved (Index 1 ∷ []) (Some (Index 2 ∷ [])) (start small []))))
 
-small_through : through small nothing_bound (start small) [] ≡ Stopped small_end [] []
-unfolding start
-small_through = ap cut_off (stays small nothing_bound (begun (start small)) small_end 3 999997 [] [] [] a_run)
+small_through : through small nothing_bound (start small []) [] ≡ Stopped small_end [] []
+unfolding start fresh_at
+small_through = ap cut_off (stays small nothing_bound (begun (start small [])) small_end 3 999997 [] [] [] a_run)
 
 abbrev small_passage : List ℕ
 small_passage = codes "{\"choices\":[],\"events\":[],\"loose\":false,\"more\":false,\"tags\":[],\"text\":\"Hi\\n\"}\n"
 
 a_told_answer : answer (Tells (passage small_end)) ≡ small_passage
-unfolding answer serde_json_on_literals passage start shown clean
+unfolding answer serde_json_on_literals passage start fresh_at shown clean
 a_told_answer = refl
 
 abbrev after_small : State
 after_small = record { condition = Ready (settled small_end); stamp = 0 }
 
 -- a story is played to its end; then running is refused, and so is a line that is no command
-a_whole_session : Session small nothing_bound (codes "through" ∷ codes "through" ∷ codes "bye" ∷ []) (opened small) (small_passage ++ (cannot ++ bad_command)) after_small
-unfolding Serves start settled
+a_whole_session : Session small nothing_bound (codes "through" ∷ codes "through" ∷ codes "bye" ∷ []) (opened (start small [])) (small_passage ++ (cannot ++ bad_command)) after_small
+unfolding Serves start fresh_at settled
 a_whole_session = (
   Tells (passage small_end),
   after_small,
@@ -288,14 +289,14 @@ abbrev no_memory : State
 no_memory = record { condition = Broken fault.OutOfMemory []; stamp = 0 }
 
 -- where memory is refused at some step, the fault says so, and the player is broken by it
-a_short_session : Session small nothing_bound (codes "through" ∷ codes "bye" ∷ []) (opened small)
+a_short_session : Session small nothing_bound (codes "through" ∷ codes "bye" ∷ []) (opened (start small []))
     (codes "{\"events\":[],\"fault\":\"OutOfMemory\"}\n" ++ bad_command) no_memory
-unfolding Serves start answer run serde_json_on_literals
+unfolding Serves start fresh_at answer run serde_json_on_literals
 a_short_session = (
   Breaks fault.OutOfMemory [],
   no_memory,
   bad_command,
-  rw through_line (inr (record { given = []; steps = 0; reached = begun (start small); left = []; made = []; within = omega arith; got_there = inl refl; says = refl; breaks = refl }), refl),
+  rw through_line (inr (record { given = []; steps = 0; reached = begun (start small []); left = []; made = []; within = omega arith; got_there = inl refl; says = refl; breaks = refl }), refl),
   refl,
   (Refuses refusal.BadCommand, no_memory, [], rw other_line (refl, refl), refl, (refl, refl)),
 )

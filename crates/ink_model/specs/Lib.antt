@@ -7,10 +7,13 @@ pub mod Mark
 pub mod Clean
 pub mod Value
 pub mod Operator
+pub mod Store
+pub mod Stack
 pub mod OperatorExamples
 pub mod Configuration
 pub mod Step
 pub mod Run
+pub mod Opening
 pub mod Command
 pub mod Answer
 pub mod State

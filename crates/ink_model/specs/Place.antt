@@ -1,6 +1,7 @@
 -- Where flow starts, enters and goes on (docs/RUNNING.md, "Places").
-use Rattle.std.specs.Prelude.{◌+◌, List, [], ◌∷◌, ◌++◌, reverse, Option, Some, None, nat_lt, if◌then◌else◌}
-use Rattle.ink_model.specs.Tree.{StoryTree, leaf, container, Trees, no_trees, tree, at, width}
+use Rattle.std.specs.Prelude.{ℕ, ◌+◌, List, [], ◌∷◌, ◌++◌, reverse, Bool, false, bytes_eq, Option, Some, None, is_some, nat_lt, if◌then◌else◌}
+use Rattle.std.specs.Option.{option_map}
+use Rattle.ink_model.specs.Tree.{StoryTree, leaf, container, Trees, no_trees, tree, by_key, at, width}
 use Rattle.ink_model.specs.declared.place.Part.{Part}
 use Rattle.ink_model.specs.declared.place.Part.TheVariants.{Index, Name}
 
@@ -37,3 +38,25 @@ next_upwards s (Index i ∷ up) =
 
 unfoldable pub next_place : StoryTree → List Part → Option (List Part)
 next_place s p = next_upwards s (reverse p)
+
+-- ---- knots
+
+-- landing on a container: at its first content, or on the container itself where it is empty
+unfoldable pub landed : StoryTree → List Part → List Part
+landed s p = if nat_lt 0 (width (at s p)) then p ++ Index 0 ∷ [] else p
+
+abbrev pub is_named : List ℕ → Option (List ℕ) → Bool
+is_named name None = false
+is_named name (Some own) = bytes_eq name own
+
+-- the index, from this one on, of the container that gives itself this name
+abbrev pub named_index : List ℕ → ℕ → Trees → Option ℕ
+named_index name i no_trees = None
+named_index name i (tree (leaf l) ts) = named_index name (i + 1) ts
+named_index name i (tree (container own flags content named) ts) = if is_named name own then Some i else named_index name (i + 1) ts
+
+-- a knot: a container of the root by this name, given by key or in its list
+unfoldable pub knot : List ℕ → StoryTree → Option (List Part)
+knot name (leaf l) = None
+knot name (container own flags content named) =
+    if is_some (by_key name named) then Some (Name name ∷ []) else option_map (λ i. Index i ∷ []) (named_index name 0 content)

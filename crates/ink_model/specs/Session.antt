@@ -1,19 +1,25 @@
 -- What a player answers to command lines (docs/PROTOCOL.md, "Sessions").
-use Rattle.std.specs.Prelude.{◌≡◌, ℕ, List, [], ◌∷◌, ◌++◌, Bool, true, false, not, ◌&&◌, ◌⊎◌, Option, Some, None, if◌then◌else◌, MatchBool}
+use Rattle.std.specs.Prelude.{length, nat_lt, is_some, Result, Ok, Err, ◌≡◌, ℕ, List, [], ◌∷◌, ◌++◌, Bool, true, false, not, ◌&&◌, ◌⊎◌, Option, Some, None, if◌then◌else◌, MatchBool}
 use Rattle.ink_model.specs.Tree.{StoryTree}
 use Rattle.ink_model.specs.Mark.{shown, tags}
 use Rattle.ink_model.specs.Clean.{clean}
-use Rattle.ink_model.specs.Configuration.{Configuration, ChoiceOf, can_go_on, settled}
+use Rattle.ink_model.specs.Configuration.{Configuration, ChoiceOf, can_go_on, settled, with_globals}
 use Rattle.ink_model.specs.Step.{Bound}
-use Rattle.ink_model.specs.Run.{Moment, Stopped, Faulted, through}
+use Rattle.ink_model.specs.Run.{value_given, Moment, Stopped, Faulted, through}
 use Rattle.ink_model.specs.Memory.{FallsShort}
 use Rattle.ink_model.specs.Command.{command_of}
-use Rattle.ink_model.specs.Answer.{Reply, Tells, Refuses, Breaks, answer}
-use Rattle.ink_model.specs.State.{State, Condition, Ready, Broken}
+use Rattle.ink_model.specs.Answer.{Reply, Tells, Acts, Shows, Refuses, Breaks, answer}
+use Rattle.ink_model.specs.State.{State, Condition, Ready, Broken, globals_of}
+use Rattle.ink_model.specs.Store.{stored, store}
+use Rattle.ink_model.specs.Opening.{opening}
+use Rattle.ink_model.specs.Grammar.{max_text}
 use Rattle.ink_model.specs.declared.command.Command.{Command}
 use Rattle.ink_model.specs.declared.command.Command.TheVariants as command
 use Rattle.ink_model.specs.declared.fault.Refusal.TheVariants as refusal
+use Rattle.ink_model.specs.declared.fault.Fault.{Fault}
 use Rattle.ink_model.specs.declared.host.Given.{Given}
+use Rattle.ink_model.specs.declared.host.Given.TheVariants as given
+use Rattle.ink_model.specs.declared.value.Value.{Value}
 use Rattle.ink_model.specs.declared.passage.Passage.{Passage}
 use Rattle.ink_model.specs.declared.passage.Shown.{Shown}
 use Rattle.ink_model.specs.declared.place.Part.{Part}
@@ -72,9 +78,61 @@ ThroughFrom s b (Ready c) old reply new = MatchBool (can_go_on c)
 abbrev pub Through : StoryTree → Bound → State → Reply → State → Type 0
 Through s b old reply new = ThroughFrom s b old.condition old reply new
 
+-- where memory was refused for a command that does not run the story: nothing has changed
+abbrev pub LacksMemory : State → Reply → State → Type 0
+LacksMemory old reply new = Keeps (Refuses refusal.OutOfMemory) old reply new
+
+abbrev pub with_condition : Condition → State → State
+with_condition c st = record st { condition = c }
+
+-- `restart`, by what opening comes to: as the story was opened, with the stamps going on
+abbrev pub RestartsAs : Result Configuration Fault → State → Reply → State → Type 0
+RestartsAs (Ok c) old reply new = (reply ≡ Acts []) × (new ≡ with_condition (Ready c) old)
+RestartsAs (Err f) old reply new = (reply ≡ Breaks f []) × (new ≡ with_condition (Broken f (globals_of old.condition)) old)
+
+abbrev pub Restart : StoryTree → State → Reply → State → Type 0
+Restart s old reply new = RestartsAs (opening s) old reply new ⊎ LacksMemory old reply new
+
+-- `get`, also of a broken player
+abbrev pub GetsFrom : Option Value → State → Reply → State → Type 0
+GetsFrom None old reply new = Keeps (Refuses refusal.NoSuchVariable) old reply new
+GetsFrom (Some v) old reply new = Keeps (Shows v) old reply new
+
+abbrev pub Get : List ℕ → State → Reply → State → Type 0
+Get name old reply new = GetsFrom (stored name (globals_of old.condition)) old reply new ⊎ LacksMemory old reply new
+
+-- a value that may be set: no void, and no text over its limit
+abbrev pub settable : Given → Bool
+settable (given.Int z) = true
+settable (given.Bool b) = true
+settable (given.Text t) = not (nat_lt max_text (length t))
+settable given.Void = false
+
+-- `set` of a value: a bad value is told before an absent variable
+abbrev pub SetsIn : List ℕ → Given → Configuration → State → Reply → State → Type 0
+SetsIn name g c old reply new = MatchBool (settable g)
+    (MatchBool (is_some (stored name c.shared.globals))
+    ((reply ≡ Acts []) × (new ≡ with_condition (Ready (with_globals (store name (value_given g) c.shared.globals) c)) old))
+    (Keeps (Refuses refusal.NoSuchVariable) old reply new))
+    (Keeps (Refuses refusal.BadValue) old reply new)
+
+abbrev pub SetsBy : List ℕ → Option Given → Configuration → State → Reply → State → Type 0
+SetsBy name None c old reply new = Keeps (Refuses refusal.BadValue) old reply new
+SetsBy name (Some g) c old reply new = SetsIn name g c old reply new
+
+abbrev pub SetsFrom : List ℕ → Option Given → Condition → State → Reply → State → Type 0
+SetsFrom name value (Broken f globals) old reply new = Keeps (Refuses (refusal.Broken f)) old reply new
+SetsFrom name value (Ready c) old reply new = SetsBy name value c old reply new
+
+abbrev pub Set : List ℕ → Option Given → State → Reply → State → Type 0
+Set name value old reply new = SetsFrom name value old.condition old reply new ⊎ LacksMemory old reply new
+
 abbrev pub Does : StoryTree → Bound → Option Command → State → Reply → State → Type 0
 Does s b None old reply new = Keeps (Refuses refusal.BadCommand) old reply new
 Does s b (Some command.Through) old reply new = Through s b old reply new
+Does s b (Some (command.Set name value)) old reply new = Set name value old reply new
+Does s b (Some (command.Get name)) old reply new = Get name old reply new
+Does s b (Some command.Restart) old reply new = Restart s old reply new
 
 -- one line: its reply, and the state after it
 unfoldable pub Serves : StoryTree → Bound → List ℕ → State → Reply → State → Type 0

@@ -1,7 +1,6 @@
 -- The state of a player between commands.
 use Rattle.std.specs.Prelude.{ℕ, List, Bool, false}
-use Rattle.ink_model.specs.Tree.{StoryTree}
-use Rattle.ink_model.specs.Configuration.{Configuration, can_go_on, start}
+use Rattle.ink_model.specs.Configuration.{Configuration, can_go_on}
 use Rattle.ink_model.specs.declared.fault.Fault.{Fault}
 use Rattle.ink_model.specs.declared.value.Value.{Value}
 
@@ -19,6 +18,6 @@ abbrev pub is_running : Condition → Bool
 is_running (Ready c) = can_go_on c
 is_running (Broken f globals) = false
 
--- as a story is opened
-abbrev pub opened : StoryTree → State
-opened s = record { condition = Ready (start s); stamp = 0 }
+abbrev pub globals_of : Condition → List (List ℕ × Value)
+globals_of (Ready c) = c.shared.globals
+globals_of (Broken f globals) = globals

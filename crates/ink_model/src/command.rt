@@ -1,7 +1,13 @@
 //! Commands of the host's command lines.
 
-/// A command.
-#[derive(Clone, Copy, Debug, PartialEq, Eq)]
+use crate::host::Given;
+use crate::text::Text;
+
+/// A command. The value of `Set` is none where the line has JSON of another kind than a value has, or no JSON.
+#[derive(Drop)]
 pub enum Command {
     Through,
+    Set { name: Text, value: Option<Given> },
+    Get { name: Text },
+    Restart,
 }

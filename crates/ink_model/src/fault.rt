@@ -43,6 +43,10 @@ pub enum Fault {
     BadOperands,
     #[error("Divide")]
     Divide,
+    #[error("BadMode")]
+    BadMode,
+    #[error("NoTemp")]
+    NoTemp,
     #[error("HostRefused")]
     HostRefused,
     #[error("TooDeep")]
@@ -58,6 +62,10 @@ pub enum Fault {
 pub enum Refusal {
     #[error("CannotContinue")]
     CannotContinue,
+    #[error("NoSuchVariable")]
+    NoSuchVariable,
+    #[error("BadValue")]
+    BadValue,
     #[error("BadCommand")]
     BadCommand,
     #[error("Broken")]
