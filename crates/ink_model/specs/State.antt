@@ -1,5 +1,5 @@
 -- The state of a player between commands.
-use Rattle.std.specs.Prelude.{ℕ, List, Bool, false}
+use Rattle.std.specs.Prelude.{ℕ, List, Bool, false, Option, Some, None}
 use Rattle.ink_model.specs.Configuration.{Configuration, can_go_on}
 use Rattle.ink_model.specs.declared.fault.Fault.{Fault}
 use Rattle.ink_model.specs.declared.value.Value.{Value}
@@ -21,3 +21,7 @@ is_running (Broken f globals) = false
 abbrev pub globals_of : Condition → List (List ℕ × Value)
 globals_of (Ready c) = c.shared.globals
 globals_of (Broken f globals) = globals
+
+abbrev pub fault_in : Condition → Option Fault
+fault_in (Ready c) = None
+fault_in (Broken f globals) = Some f

@@ -1,9 +1,11 @@
 //! The player.
 
-ghost use Rattle.std.specs.Prelude.{◌≡◌, IfOk, IfErr};
-ghost use Rattle.ink_model.specs.Answer.{reply_of};
-ghost use Rattle.ink_model.specs.Session.{Through};
-ghost use Rattle.ink_model.specs.State.{opened, is_running};
+ghost use Rattle.std.specs.Prelude.{◌≡◌, ◌⊎◌, Some, IfOk, IfErr, Ok, Err};
+ghost use Rattle.ink_model.specs.Answer.{reply_of, reply_of_events, reply_of_value};
+ghost use Rattle.ink_model.specs.Configuration.{Configuration};
+ghost use Rattle.ink_model.specs.Opening.{opening, opened};
+ghost use Rattle.ink_model.specs.Session.{Through, Set, Get, Restart};
+ghost use Rattle.ink_model.specs.State.{is_running, fault_in};
 ghost use Rattle.ink_model.specs.Step.{nothing_bound};
 ghost use Rattle.ink_model.specs.declared.fault.Fault.TheVariants.{OutOfMemory};
 
@@ -13,7 +15,7 @@ mod tests;
 use crate::desk::Desk;
 use crate::machine::Machine;
 use crate::story::Story;
-use ink_model::{Fault, Halt, Passage, Refusal, Seq};
+use ink_model::{Event, Fault, Given, Halt, Passage, Refusal, Seq, Value};
 use std::alloc::Global;
 
 /// A story that is played: where it stands, and the desk of the host's objects.
@@ -36,11 +38,12 @@ pub struct OpenFault {
 impl Player {
     ghost use Rattle.ink_player.specs.Words.{state_of, story_of, story_tree};
 
-    /// Opens a story at its start (docs/RUNNING.md). The one fault is `OutOfMemory`.
+    /// Opens a story at its start, with the globals that it declares (docs/RUNNING.md, "Opening"). The fault is that of the
+    /// declarations, or `OutOfMemory`.
     pub fn open(alloc: Global, story: Story, desk: Desk) -> Result<Player, OpenFault>
         ensures story { IfOk result (λ p. story_of p ≡ story_tree story) }
-        ensures state { IfOk result (λ p. state_of p ≡ opened (story_tree story)) }
-        ensures fault { IfErr result (λ e. e.fault ≡ OutOfMemory) }
+        ensures state { IfOk result (λ p. (c : Configuration) × (opening (story_tree story) ≡ Ok c) × (state_of p ≡ opened c)) }
+        ensures fault { IfErr result (λ e. (e.fault ≡ OutOfMemory) ⊎ (opening (story_tree story) ≡ Err e.fault)) }
         ensures kept { IfErr result (λ e. e.story ≡ story) }
     {
         match Machine::new(alloc, &story) {
@@ -88,6 +91,41 @@ impl Player {
                 })
             }
         }
+    }
+
+    /// Gives a global a value. Refused with `Broken` after a fault, with `BadValue` for void and for a text over its limit,
+    /// with `NoSuchVariable` where there is no such global, and with `OutOfMemory`; nothing has changed then.
+    pub fn set(&mut self, name: &str, value: Given) -> Result<Seq<Event>, Halt>
+        ensures does { Set name.now (Some value) (state_of self.old) (reply_of_events result) (state_of self.new) }
+        ensures story { story_of self.new ≡ story_of self.old }
+    {
+        let _ = name;
+        let _ = value;
+        Err(Halt::Refused(Refusal::OutOfMemory))
+    }
+
+    /// A global's value; of a broken player as it stood before the step that faulted. Refused with `NoSuchVariable` where
+    /// there is no such global, and with `OutOfMemory`.
+    pub fn get(&self, name: &str) -> Result<Value, Refusal>
+        ensures { Get name.now (state_of self.now) (reply_of_value result) (state_of self.now) }
+    {
+        let _ = name;
+        Err(Refusal::OutOfMemory)
+    }
+
+    /// Begins anew, as the story was opened; a broken player too. Refused with `OutOfMemory` alone; nothing has changed then.
+    pub fn restart(&mut self) -> Result<Seq<Event>, Halt>
+        ensures does { Restart (story_of self.old) (state_of self.old) (reply_of_events result) (state_of self.new) }
+        ensures story { story_of self.new ≡ story_of self.old }
+    {
+        Err(Halt::Refused(Refusal::OutOfMemory))
+    }
+
+    /// The fault that broke the player, if one did. Takes no memory.
+    pub(crate) fn fault(&self) -> Option<Fault>
+        ensures { result ≡ fault_in (state_of self.now).condition }
+    {
+        self.broken
     }
 
     /// Ends the player and hands the desk back. Takes no memory.

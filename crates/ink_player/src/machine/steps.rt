@@ -54,6 +54,7 @@ impl Machine {
             Leaf::Newline => self.write_newline(story, here),
             Leaf::Control(Control::Done) => self.done(),
             Leaf::Control(Control::End) => self.end(),
+            _ => StepEnd::Fault(Fault::OutOfMemory),
         }
     }
 
