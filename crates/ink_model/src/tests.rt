@@ -1,4 +1,4 @@
-use crate::{Place, Seq, Text};
+use crate::{Part, Path, Place, Seq, Text, Value};
 use std::test::Fail;
 
 #[test]
@@ -11,5 +11,26 @@ fn texts_and_lists_keep_what_they_are_given(rt: HostRuntime) -> Result<(), Fail>
     let numbers = Seq::from_vec(vec![in rt.alloc(); 3, 1, 2]?);
     assert_eq!(rt; numbers.as_slice(), [3, 1, 2].as_slice());
     assert_eq!(rt; Place::root(rt.alloc()).parts().len(), 0);
+    Ok(())
+}
+
+#[test]
+fn values_are_copied(rt: HostRuntime) -> Result<(), Fail> {
+    let alloc = rt.alloc();
+    let name = Part::Name(Text::from_str(alloc, "knot")?);
+    let target = Value::Target(Path {
+        relative: true,
+        parts: Seq::from_vec(vec![in alloc; name, Part::Index(7)]?),
+    });
+    match target.clone_in(alloc)? {
+        Value::Target(path) => {
+            assert!(rt; path.relative);
+            assert!(rt;
+                matches!(path.parts.as_slice(), [Part::Name(name), Part::Index(7)] if name.as_str() == "knot")
+            );
+        }
+        _ => assert!(rt; false, "no target"),
+    }
+    assert!(rt; matches!(Value::Int(-5).clone_in(alloc)?, Value::Int(-5)));
     Ok(())
 }

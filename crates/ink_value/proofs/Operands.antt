@@ -1,5 +1,5 @@
 -- A value that stands for a number has its number and its printed text as an operand.
-use Rattle.std.proofs.Common.{◌≡◌, ℕ, ℤ, List, Some, None, Result, Ok, refl}
+use Rattle.std.proofs.Common.{◌≡◌, ℕ, ℤ, List, Some, Result, Ok, refl}
 use Rattle.ink_model.specs.Operator.{operand, number, both, of_texts, of_two}
 use Rattle.ink_model.specs.Value.{printed}
 use Rattle.ink_model.specs.declared.fault.Fault.{Fault}

@@ -1,5 +1,5 @@
 -- A text stands in another where it stands between two.
-use Rattle.std.proofs.Common.{◌≡◌, ◌↔◌, Bool, ℕ, List, [], ◌∷◌, ◌++◌, ◌==◌, ◌&&◌, ◌||◌, length, true, false, refl, sym, arith, ap, ◌∙◌, None}
+use Rattle.std.proofs.Common.{◌≡◌, Bool, ℕ, List, [], ◌∷◌, ◌++◌, ◌||◌, true, false, refl, sym, arith, ap, ◌∙◌, None}
 use Rattle.std.specs.Bool.{MatchBool}
 use Rattle.std.specs.Str.Pattern.{HasMatch, FindsText}
 use Rattle.std.specs.Str.Iter.{HasSubslice}

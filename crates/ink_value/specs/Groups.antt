@@ -1,5 +1,5 @@
 -- The operators on two integers in groups.
-use Rattle.std.specs.Prelude.{ℤ, Bool, true, false, not, ◌&&◌, ◌||◌, int_lt, int_le, Option, Some, None, Result, Ok, Err}
+use Rattle.std.specs.Prelude.{ℤ, Bool, not, ◌&&◌, ◌||◌, int_lt, int_le, Option, Some, None, Result, Ok}
 use Rattle.std.specs.Int.{w32, int_wrapping_add, int_wrapping_sub, int_wrapping_mul, int_min, int_max}
 use Rattle.std.specs.Ordering.{int_eq}
 use Rattle.ink_model.specs.Operator.{quotient, remainder, is_set}
