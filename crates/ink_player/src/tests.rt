@@ -5,9 +5,11 @@ use std::alloc::Global;
 use std::io::{Error, ErrorKind, Read, Result as IoResult, Write};
 use std::test::Fail;
 
-const STORY: &[u8] = br##"{"inkVersion":21,"root":[["^Hello, world!","\n",["done",{"#n":"g-0"}],null],"done",null],"listDefs":{}}"##;
+const STORY: &[u8] =
+    br##"{"inkVersion":21,"root":[["^Hello, world!","\n",["done",{"#n":"g-0"}],null],"done",null],"listDefs":{}}"##;
 
-const HELLO: &[u8] = br#"{"choices":[],"events":[],"loose":false,"more":false,"tags":[],"text":"Hello, world!\n"}"#;
+const HELLO: &[u8] =
+    br#"{"choices":[],"events":[],"loose":false,"more":false,"tags":[],"text":"Hello, world!\n"}"#;
 
 /// Gives at most so many bytes at a time, and at their end fails or is at its end.
 #[derive(Drop)]
