@@ -1,5 +1,5 @@
 -- The command of a line that is a text, and of one that isn't.
-use Rattle.std.proofs.Common.{◌≡◌, ℕ, Bool, true, false, List, None, ap, ◌∙◌, cond, refl, IsUtf8}
+use Rattle.std.proofs.Common.{◌≡◌, ℕ, Bool, true, false, List, None, ap, cond, refl, IsUtf8}
 use Rattle.std.specs.Str.{is_utf8}
 use Rattle.std.proofs.lemmas.Str.{IsUtf8-from_is_utf8, is_utf8-from_IsUtf8}
 use Rattle.ink_model.specs.Command.{command_of, command_word}

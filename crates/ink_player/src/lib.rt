@@ -24,3 +24,6 @@ pub use player::{OpenFault, Player};
 pub use playing::{play, serve_story};
 pub use session::{run, serve};
 pub use story::{Story, accept};
+
+#[cfg(test)]
+mod tests;
