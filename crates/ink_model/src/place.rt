@@ -59,12 +59,9 @@ impl Place {
     pub fn from_parts(alloc: Global, parts: &[Part]) -> Result<Place, AllocError>
         ensures { IfOk result (λ place. place ≡ parts.now) }
     {
-        let mut copies = Vec::with_capacity(alloc, parts.len() + 1)?;
-        for part in parts {
-            let copy = part.clone_in(alloc)?;
-            copies.push(copy)?;
-        }
-        Ok(Place { parts: copies })
+        Ok(Place {
+            parts: copied_parts(alloc, parts)?,
+        })
     }
 
     /// Goes one part down. The one error is a refused request for memory, and leaves the place as it was.
@@ -121,11 +118,11 @@ impl Seq<Part> {
     }
 }
 
-// Copies of parts, in order.
+// Copies of parts, in order, with room for one more.
 fn copied_parts(alloc: Global, parts: &[Part]) -> Result<Vec<Part>, AllocError>
     ensures { IfOk result (λ copies. copies.items ≡ parts.now) }
 {
-    let mut copies = Vec::with_capacity(alloc, parts.len())?;
+    let mut copies = Vec::with_capacity(alloc, parts.len() + 1)?;
     for part in parts {
         let copy = part.clone_in(alloc)?;
         copies.push(copy)?;
