@@ -20,7 +20,12 @@ pub(crate) fn read_object_leaf(alloc: Global, object: &Value) -> Result<Leaf, Re
     if has_later(object) {
         return Err(ReadError::here(alloc, Cause::Unsupported));
     }
-    read_head(alloc, object.get("VAR="), object.get("VAR?"), object.get("re"))
+    read_head(
+        alloc,
+        object.get("VAR="),
+        object.get("VAR?"),
+        object.get("re"),
+    )
 }
 
 fn read_head(
@@ -35,8 +40,7 @@ fn read_head(
     match (stored, read) {
         (Some(name), None) => read_stored(alloc, name, again),
         (None, Some(name)) => read_variable(alloc, name),
-        (None, None) => Err(ReadError::here(alloc, Cause::Shape)),
-        (Some(_), Some(_)) => Err(ReadError::here(alloc, Cause::Shape)),
+        (None, None) | (Some(_), Some(_)) => Err(ReadError::here(alloc, Cause::Shape)),
     }
 }
 

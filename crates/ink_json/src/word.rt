@@ -10,8 +10,12 @@ use ink_model::{Control, Leaf, Op};
 pub(crate) fn word_leaf(text: &str) -> Option<Leaf>
     ensures { result ≡ word text.now }
 {
-    let operator = arithmetic(text).or(comparison(text).or(logic(text).or(number(text))));
-    flow(text).or(evaluation(text).or(operator))
+    flow(text)
+        .or_else(|| evaluation(text))
+        .or_else(|| arithmetic(text))
+        .or_else(|| comparison(text))
+        .or_else(|| logic(text))
+        .or_else(|| number(text))
 }
 
 fn flow(text: &str) -> Option<Leaf>
