@@ -1,9 +1,10 @@
 -- Strings that are leaves.
-use Rattle.std.proofs.Common.{◌≡◌, ℕ, List, [], ◌∷◌, Bool, true, false, eqb, cond, Option, None, unwrap_or, Result, refl, ap}
+use Rattle.std.proofs.Common.{◌≡◌, ℕ, List, [], ◌∷◌, Bool, true, false, eqb, cond, Option, None, unwrap_or, ok_or, Result, refl, ap}
 use Rattle.std.proofs.lemmas.Bool.{eqb-true}
-use Rattle.ink_model.specs.Grammar.{written_leaf, word_leaf, string_leaf}
+use Rattle.ink_model.specs.Grammar.{written_leaf, word, string_leaf}
 use Rattle.ink_model.specs.declared.content.Leaf.{Leaf}
 use Rattle.ink_model.specs.declared.fault.Cause.{Cause}
+use Rattle.ink_model.specs.declared.fault.Cause.TheVariants.{Unsupported}
 
 other : (c : ℕ) (cs : List ℕ) (b : Bool) (r : Option (Result Leaf Cause)) → eqb c 94 ≡ b → ((rest : List ℕ) → c ∷ cs ≡ 94 ∷ rest → ⊥) → cond b r None ≡ None
 other c cs true r e h = absurd (h cs (ap (λ x. x ∷ cs) (eqb-true c 94 e)))
@@ -14,6 +15,6 @@ unwritten [] h = refl
 unwritten (c ∷ cs) h = other c cs (eqb c 94) _ refl h
 
 -- a string that does not begin with `^` is a word
-pub string_leaf_word : (s : List ℕ) → ((rest : List ℕ) → s ≡ 94 ∷ rest → ⊥) → string_leaf s ≡ word_leaf s
+pub string_leaf_word : (s : List ℕ) → ((rest : List ℕ) → s ≡ 94 ∷ rest → ⊥) → string_leaf s ≡ ok_or (word s) Unsupported
 unfolding string_leaf
-string_leaf_word s h = ap (λ o. unwrap_or o (word_leaf s)) (unwritten s h)
+string_leaf_word s h = ap (λ o. unwrap_or o (ok_or (word s) Unsupported)) (unwritten s h)

@@ -10,11 +10,11 @@ ghost use Rattle.ink_json.specs.Reading.{Gives, IsFirst, Holds, faults_last, fau
 ghost use Rattle.ink_json.specs.Size.{size, items_size, members_size};
 
 use crate::error::ReadError;
-use crate::leaf::read_string;
+use crate::leaf::{read_number, read_object, read_string};
 use crate::limits::MAX_NESTING;
 use crate::names::{give, is_misnamed};
 use crate::own::{copy_name, is_own, name_of, read_own};
-use ink_model::{Cause, Content};
+use ink_model::{Cause, Content, Leaf};
 use serde_json::{Map, Value};
 use std::alloc::{AllocError, Global};
 use std::collections::{BTreeMap, BTreeSet};
@@ -41,10 +41,10 @@ fn read_content(
     match value {
         Value::Array(items) => read_container(alloc, items, nesting, misnamed, true),
         Value::String(text) => read_string(alloc, text.as_str()),
+        Value::Bool(truth) => Ok(Content::Leaf(Leaf::Bool(*truth))),
+        Value::Number(number) => read_number(alloc, number),
+        Value::Object(_) => read_object(alloc, value),
         Value::Null => Err(ReadError::here(alloc, Cause::Shape)),
-        Value::Bool(_) | Value::Number(_) | Value::Object(_) => {
-            Err(ReadError::here(alloc, Cause::Unsupported))
-        }
     }
 }
 

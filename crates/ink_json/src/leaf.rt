@@ -1,15 +1,20 @@
 //! Reading content that holds no other.
 
-ghost use Rattle.std.specs.Prelude.{length, nat_lt, Ok, Err, if◌then◌else◌};
+ghost use Rattle.std.specs.Prelude.{length, nat_lt, Ok, Err, if◌then◌else◌, ok_or};
 ghost use Rattle.std.specs.Result.{result_unwrap_or};
-ghost use Rattle.ink_model.specs.Grammar.{string_leaf, word_leaf, leaf_faults, first, max_text};
+ghost use Rattle.serde_json.specs.Find.{as_integer};
+ghost use Rattle.serde_json.specs.View.{view as json_view, number_view};
+ghost use Rattle.ink_model.specs.Grammar.{string_leaf, integer_leaf, object_leaf, word, leaf_faults, first, max_text};
 ghost use Rattle.ink_model.specs.Tree.{leaf};
 ghost use Rattle.ink_model.specs.View.{view};
 ghost use Rattle.ink_json.specs.Reading.{Gives, placed};
 
 use crate::error::ReadError;
-use crate::limits::MAX_TEXT;
-use ink_model::{Cause, Content, Control, Leaf, Text};
+use crate::limits::{LEAST, MAX_TEXT, MOST};
+use crate::object::read_object_leaf;
+use crate::word::word_leaf;
+use ink_model::{Cause, Content, Leaf, Text};
+use serde_json::{Number, Value};
 use std::alloc::Global;
 
 /// The content that a string is.
@@ -18,6 +23,24 @@ pub(crate) fn read_string(alloc: Global, text: &str) -> Result<Content, ReadErro
         (first (leaf_faults (string_leaf text.now)) (leaf (result_unwrap_or (string_leaf text.now) Leaf.Newline))) }
 {
     let leaf = read_leaf(alloc, text)?;
+    Ok(Content::Leaf(leaf))
+}
+
+/// The content that a number is.
+pub(crate) fn read_number(alloc: Global, number: &Number) -> Result<Content, ReadError>
+    ensures { Gives view result
+        (first (leaf_faults (integer_leaf (as_integer (number_view number.now)))) (leaf (result_unwrap_or (integer_leaf (as_integer (number_view number.now))) Leaf.Newline))) }
+{
+    let leaf = read_integer(alloc, number)?;
+    Ok(Content::Leaf(leaf))
+}
+
+/// The content that an object is.
+pub(crate) fn read_object(alloc: Global, object: &Value) -> Result<Content, ReadError>
+    ensures { Gives view result
+        (first (leaf_faults (object_leaf (json_view object.now))) (leaf (result_unwrap_or (object_leaf (json_view object.now)) Leaf.Newline))) }
+{
+    let leaf = read_object_leaf(alloc, object)?;
     Ok(Content::Leaf(leaf))
 }
 
@@ -41,13 +64,23 @@ fn read_written(alloc: Global, written: &str) -> Result<Leaf, ReadError>
     Ok(Leaf::Text(Text::from_str(alloc, written)?))
 }
 
-fn read_word(alloc: Global, word: &str) -> Result<Leaf, ReadError>
-    ensures { Gives (λ l. l) result (placed (word_leaf word.now)) }
+fn read_word(alloc: Global, text: &str) -> Result<Leaf, ReadError>
+    ensures { Gives (λ l. l) result (placed (ok_or (word text.now) Cause.Unsupported)) }
 {
-    match word {
-        "\n" => Ok(Leaf::Newline),
-        "done" => Ok(Leaf::Control(Control::Done)),
-        "end" => Ok(Leaf::Control(Control::End)),
-        _ => Err(ReadError::here(alloc, Cause::Unsupported)),
+    match word_leaf(text) {
+        Some(leaf) => Ok(leaf),
+        None => Err(ReadError::here(alloc, Cause::Unsupported)),
+    }
+}
+
+fn read_integer(alloc: Global, number: &Number) -> Result<Leaf, ReadError>
+    ensures { Gives (λ l. l) result (placed (integer_leaf (as_integer (number_view number.now)))) }
+{
+    match number.as_i128() {
+        Some(number) if number < LEAST || number > MOST => {
+            Err(ReadError::here(alloc, Cause::Limit))
+        }
+        Some(number) => Ok(Leaf::Int(number as i32)),
+        None => Err(ReadError::here(alloc, Cause::Unsupported)),
     }
 }

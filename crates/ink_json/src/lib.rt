@@ -7,9 +7,11 @@ mod error;
 mod leaf;
 mod limits;
 mod names;
+mod object;
 mod own;
 mod reading;
 mod story;
+mod word;
 
 pub use reading::read_story;
 pub use story::RawStory;

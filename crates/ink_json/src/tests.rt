@@ -1,3 +1,5 @@
+mod leaves;
+
 use super::read_story;
 use ink_model::{Cause, Content, Leaf, Part, Text};
 use std::alloc::{AllocError, Global};
@@ -97,7 +99,7 @@ fn stories_are_refused(rt: HostRuntime) -> Result<(), Fail> {
             "",
         ),
         (
-            r##"{"inkVersion":21,"root":[[1,["done",{"#n":"g-0"}],null],"done",null]}"##,
+            r##"{"inkVersion":21,"root":[[1.5,["done",{"#n":"g-0"}],null],"done",null]}"##,
             Cause::Unsupported,
             "0.0",
         ),
@@ -117,7 +119,7 @@ fn stories_are_refused(rt: HostRuntime) -> Result<(), Fail> {
             "k",
         ),
         (
-            r##"{"inkVersion":21,"root":[{"a":["^a",[true,null],null],"b":1}]}"##,
+            r##"{"inkVersion":21,"root":[{"a":["^a",[{"->":"a"},null],null],"b":1}]}"##,
             Cause::Unsupported,
             "a.1.0",
         ),
