@@ -1,9 +1,2 @@
 pub mod Trees
 pub mod Narrow
-pub mod Size
-pub mod Sets
-pub mod Words
-pub mod Lasts
-pub mod Containers
-pub mod Bytes
-pub mod Width

@@ -1,3 +1,1 @@
 pub mod Story
-pub mod Size
-pub mod Reading

@@ -1,18 +1,9 @@
 //! Reading a compiled story: from JSON to raw content.
 #![tactic(auto)]
 
-mod container;
 mod descent;
-mod error;
-mod leaf;
-mod limits;
-mod names;
-mod own;
 mod reading;
 mod story;
 
 pub use reading::read_story;
 pub use story::RawStory;
-
-#[cfg(test)]
-mod tests;
