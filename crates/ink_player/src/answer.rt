@@ -9,6 +9,9 @@ ghost use Rattle.ink_model.specs.Clean.{joined};
 ghost use Rattle.ink_player.specs.Answers.{shown_list, passage_with};
 ghost use Rattle.ink_player.specs.Replies.{reply_by};
 
+#[cfg(test)]
+mod tests;
+
 use ink_model::{Event, Fault, Halt, Part, Passage, Path, Refusal, Seq, Shown, Text, Value};
 use serde_json::{Number, Value as Json, json};
 use std::alloc::{AllocError, Global};
@@ -27,73 +30,73 @@ pub(crate) enum Outcome {
 pub(crate) fn answer_text(alloc: Global, outcome: Outcome) -> Result<String, AllocError>
     ensures { IfOk result (λ text. string_bytes text ≡ answer (reply_by outcome)) }
 {
-    let reply = reply_value(alloc, outcome)?;
+    let reply = reply_json(alloc, outcome)?;
     let mut text = reply.to_string(alloc)?;
     text.push('\n')?;
     Ok(text)
 }
 
-fn reply_value(alloc: Global, outcome: Outcome) -> Result<Json, AllocError>
+fn reply_json(alloc: Global, outcome: Outcome) -> Result<Json, AllocError>
     ensures { IfOk result (λ v. view v ≡ reply_data (reply_by outcome)) }
 {
     match outcome {
-        Outcome::Passage(Ok(passage)) => passage_value(alloc, &passage),
-        Outcome::Events(Ok(_)) => acts_value(alloc),
-        Outcome::Value(Ok(value)) => shows_value(alloc, &value),
-        Outcome::Passage(Err(halt)) | Outcome::Events(Err(halt)) => halt_value(alloc, halt),
-        Outcome::Value(Err(refusal)) | Outcome::Refused(refusal) => refusal_value(alloc, refusal),
+        Outcome::Passage(Ok(passage)) => passage_json(alloc, &passage),
+        Outcome::Events(Ok(_)) => acts_json(alloc),
+        Outcome::Value(Ok(value)) => shows_json(alloc, &value),
+        Outcome::Passage(Err(halt)) | Outcome::Events(Err(halt)) => halt_json(alloc, halt),
+        Outcome::Value(Err(refusal)) | Outcome::Refused(refusal) => refusal_json(alloc, refusal),
     }
 }
 
 // There is no event yet.
-fn acts_value(alloc: Global) -> Result<Json, AllocError>
+fn acts_json(alloc: Global) -> Result<Json, AllocError>
     ensures { IfOk result (λ v. view v ≡ reply_data (Acts [])) }
 {
     json!(in alloc; { "events": [] })
 }
 
-fn shows_value(alloc: Global, value: &Value) -> Result<Json, AllocError>
+fn shows_json(alloc: Global, value: &Value) -> Result<Json, AllocError>
     ensures { IfOk result (λ v. view v ≡ reply_data (Shows value.now)) }
 {
-    let value = value_value(alloc, value)?;
+    let value = value_json(alloc, value)?;
     json!(in alloc; { "value": value })
 }
 
-fn value_value(alloc: Global, value: &Value) -> Result<Json, AllocError>
+fn value_json(alloc: Global, value: &Value) -> Result<Json, AllocError>
     ensures { IfOk result (λ v. view v ≡ value_data value.now) }
 {
     match value {
         Value::Int(number) => Ok(Json::Number(Number::from(*number))),
         Value::Bool(truth) => Ok(Json::Bool(*truth)),
-        Value::Text(text) => string_value(alloc, text),
-        Value::Target(path) => target_value(alloc, path),
-        Value::Pointer(name, frame) => pointer_value(alloc, name, *frame),
+        Value::Text(text) => string_json(alloc, text),
+        Value::Target(path) => target_json(alloc, path),
+        Value::Pointer(name, frame) => pointer_json(alloc, name, *frame),
         Value::Void => Ok(Json::Null),
-        Value::Tag(text) => tag_value(alloc, text),
+        Value::Tag(text) => tag_json(alloc, text),
     }
 }
 
-fn string_value(alloc: Global, text: &Text) -> Result<Json, AllocError>
+fn string_json(alloc: Global, text: &Text) -> Result<Json, AllocError>
     ensures { IfOk result (λ v. view v ≡ string text.now) }
 {
     let text = String::from_str(alloc, text.as_str())?;
     Ok(Json::String(text))
 }
 
-fn target_value(alloc: Global, path: &Path) -> Result<Json, AllocError>
+fn target_json(alloc: Global, path: &Path) -> Result<Json, AllocError>
     ensures { IfOk result (λ v. view v ≡ value_data (Value.Target path.now)) }
 {
     let text = path_text(alloc, path)?;
     json!(in alloc; { "->": text.as_str() })
 }
 
-fn pointer_value(alloc: Global, name: &Text, frame: i32) -> Result<Json, AllocError>
+fn pointer_json(alloc: Global, name: &Text, frame: i32) -> Result<Json, AllocError>
     ensures { IfOk result (λ v. view v ≡ value_data (Value.Pointer name.now frame)) }
 {
     json!(in alloc; { "ci": frame, "var": name.as_str() })
 }
 
-fn tag_value(alloc: Global, text: &Text) -> Result<Json, AllocError>
+fn tag_json(alloc: Global, text: &Text) -> Result<Json, AllocError>
     ensures { IfOk result (λ v. view v ≡ value_data (Value.Tag text.now)) }
 {
     json!(in alloc; { "tag": text.as_str() })
@@ -136,20 +139,20 @@ fn push_part(alloc: Global, text: &mut String, part: &Part) -> Result<(), AllocE
     }
 }
 
-fn halt_value(alloc: Global, halt: Halt) -> Result<Json, AllocError>
+fn halt_json(alloc: Global, halt: Halt) -> Result<Json, AllocError>
     ensures { IfOk result (λ v. view v ≡ reply_data (reply_of_halt halt)) }
 {
     match halt {
-        Halt::Refused(refusal) => refusal_value(alloc, refusal),
-        Halt::Fault { fault, events: _ } => fault_value(alloc, fault),
+        Halt::Refused(refusal) => refusal_json(alloc, refusal),
+        Halt::Fault { fault, events: _ } => fault_json(alloc, fault),
     }
 }
 
-fn passage_value(alloc: Global, passage: &Passage) -> Result<Json, AllocError>
+fn passage_json(alloc: Global, passage: &Passage) -> Result<Json, AllocError>
     ensures { IfOk result (λ v. view v ≡ passage_data passage.now) }
 {
-    let choices = choices_value(alloc, passage.choices.as_slice())?;
-    let tags = texts_value(alloc, passage.tags.as_slice())?;
+    let choices = choices_json(alloc, passage.choices.as_slice())?;
+    let tags = texts_json(alloc, passage.tags.as_slice())?;
     passage_object(alloc, passage, choices, tags)
 }
 
@@ -171,34 +174,34 @@ fn passage_object(
     })
 }
 
-fn choices_value(alloc: Global, choices: &[Shown]) -> Result<Json, AllocError>
+fn choices_json(alloc: Global, choices: &[Shown]) -> Result<Json, AllocError>
     ensures { IfOk result (λ v. view v ≡ shown_list choices.now) }
 {
     let mut values = Vec::new(alloc);
     for choice in choices {
-        values.push(shown_value(alloc, choice)?)?;
+        values.push(shown_json(alloc, choice)?)?;
     }
     Ok(Json::Array(values))
 }
 
-fn shown_value(alloc: Global, choice: &Shown) -> Result<Json, AllocError>
+fn shown_json(alloc: Global, choice: &Shown) -> Result<Json, AllocError>
     ensures { IfOk result (λ v. view v ≡ shown_data choice.now) }
 {
-    let tags = texts_value(alloc, choice.tags.as_slice())?;
+    let tags = texts_json(alloc, choice.tags.as_slice())?;
     json!(in alloc; { "tags": tags, "text": choice.text.as_str() })
 }
 
-fn texts_value(alloc: Global, texts: &[Text]) -> Result<Json, AllocError>
+fn texts_json(alloc: Global, texts: &[Text]) -> Result<Json, AllocError>
     ensures { IfOk result (λ v. view v ≡ texts_data texts.now) }
 {
     let mut values = Vec::new(alloc);
     for text in texts {
-        values.push(Json::String(String::from_str(alloc, text.as_str())?))?;
+        values.push(string_json(alloc, text)?)?;
     }
     Ok(Json::Array(values))
 }
 
-fn refusal_value(alloc: Global, refusal: Refusal) -> Result<Json, AllocError>
+fn refusal_json(alloc: Global, refusal: Refusal) -> Result<Json, AllocError>
     ensures { IfOk result (λ v. view v ≡ refusal_data refusal) }
 {
     let name = refusal_name(refusal);
@@ -212,7 +215,7 @@ fn refusal_value(alloc: Global, refusal: Refusal) -> Result<Json, AllocError>
     }
 }
 
-fn fault_value(alloc: Global, fault: Fault) -> Result<Json, AllocError>
+fn fault_json(alloc: Global, fault: Fault) -> Result<Json, AllocError>
     ensures { IfOk result (λ v. view v ≡ reply_data (Breaks fault [])) }
 {
     json!(in alloc; { "events": [], "fault": fault_name(fault) })
