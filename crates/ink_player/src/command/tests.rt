@@ -82,7 +82,7 @@ fn values_are_read(rt: HostRuntime) -> Result<(), Fail> {
 
 /// A line that sets `x` to a text of so many bytes.
 fn long_line(alloc: Global, length: usize) -> Result<Vec<u8>, AllocError> {
-    let mut line = Vec::with_capacity(alloc, length + 8)?;
+    let mut line = Vec::new(alloc);
     line.extend_from_slice(b"set x \"")?;
     for _ in 0..length {
         line.push(b'a')?;
