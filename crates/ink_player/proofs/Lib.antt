@@ -7,6 +7,7 @@ pub mod Telling
 pub mod Running
 pub mod Commands
 pub mod Answering
+pub mod Paths
 pub mod Writing
 pub mod Reading
 pub mod Sessions

@@ -1,13 +1,15 @@
 -- How a play goes on from its story's line.
-use Rattle.std.proofs.Common.{◌≡◌, ℕ, ◌+◌, ◌-◌, ◌<◌, ◌≤◌, List, [], ◌∷◌, ◌++◌, length, false, Option, Result, Ok, Err, ap, ◌∙◌, sym, refl, subst, inl, inr, arith, append_assoc, append-nil, length-append}
-use Rattle.std.specs.Io.KnownBytes.{IsAtEnd}
+use Rattle.std.proofs.Common.{◌≡◌, ℕ, ◌+◌, ◌-◌, ◌<◌, ◌≤◌, max, List, [], ◌∷◌, ◌++◌, length, Bool, true, false, Option, Result, Ok, Err, ap, ◌∙◌, sym, refl, subst, inl, inr, arith, append_assoc, append-nil, length-append}
+use Rattle.std.specs.Io.KnownBytes.{Appends, Consumes, IsAtEnd}
 use Rattle.std.proofs.KnownBytes.{Appends-nil, Consumes-trans}
-use Rattle.ink_model.specs.Grammar.{max_story}
-use Rattle.ink_model.specs.State.{State, opened}
+use Rattle.ink_model.specs.Grammar.{here, story, max_story}
+use Rattle.ink_model.specs.Opening.{opened}
+use Rattle.ink_model.specs.State.{State}
+use Rattle.ink_model.specs.Tree.{StoryTree}
 use Rattle.ink_player.specs.Buffered.{Buffered}
 use Rattle.ink_player.specs.Input.{Takes}
-use Rattle.ink_player.specs.Lines.{has_newline, TakesLine, GivesLine}
-use Rattle.ink_player.specs.Playing.{IsStoryLine, PlaysOn, EndsEarly, PlayFails, PlayEnds, Plays, play_fault, OpenFails, Opens}
+use Rattle.ink_player.specs.Lines.{has_newline, TakesLine, TakesPart, IsTooLong, GivesLine}
+use Rattle.ink_player.specs.Playing.{IsStoryLine, PlaysOn, EndsEarly, IsRefused, IsUnopened, PlayFails, PlayEnds, Plays, play_fault, OpenFails, Opens}
 use Rattle.ink_player.specs.Serving.{RunEnds, Runs, max_input}
 use Rattle.ink_player.specs.Words.{state_of, story_of}
 use Rattle.ink_player.specs.declared.desk.Desk.{Desk}
@@ -83,7 +85,7 @@ no_story a b h o n f pf d e g k =
 fails_early : (left : Option (List ℕ)) (bytes line input : List ℕ) (f : PlayFault) → IsStoryLine left bytes line input → length bytes ≤ max_story + 1 → OpenFails line f → PlayFails left bytes [] f
 fails_early left bytes line input (play.Story r) l bound p = (early bytes bound, inl (line, input, l, p))
 fails_early left bytes line input (play.Start f) l bound p =
-    (early bytes bound, record { why = p.0; line = line; input = input; story_line = l; tree = p.1.0; reads = p.1.1 })
+    (early bytes bound, record { line = line; input = input; story_line = l; tree = p.0; reads = p.1; why = p.2 })
 fails_early left bytes line input (play.Run f) l bound p = absurd p
 
 -- a story that ended at its newline, or at the reader's end
@@ -122,7 +124,9 @@ plays_last a b h o n line p d e t opens =
       story_line = all_is a b o n line t;
       tree = story_of p;
       reads = opens.0;
-      new = opened (story_of p);
+      first = opens.1.0;
+      opens = opens.1.1;
+      new = opened opens.1.0;
       ends = record { at_end = t.3; within = omega arith; each = tt; session = (refl, refl) };
     })
 
@@ -147,9 +151,11 @@ plays_from a b c h j o n line p new r x e t opens q into =
         story_line = record { plain = t.0.plain; within = t.1; whole = inl bytes };
         tree = story_of p;
         reads = opens.0;
+        first = opens.1.0;
+        opens = opens.1.1;
         new = new;
-        ends = subst (λ m. RunEnds (story_of p) m c (n.unread ++ q.bytes) (opened (story_of p)) q.written new r) most
-            (subst (λ s. RunEnds (story_of p) n.spare c (n.unread ++ q.bytes) s q.written new r) opens.1 q.ends);
+        ends = subst (λ m. RunEnds (story_of p) m c (n.unread ++ q.bytes) (opened opens.1.0) q.written new r) most
+            (subst (λ s. RunEnds (story_of p) n.spare c (n.unread ++ q.bytes) s q.written new r) opens.1.2 q.ends);
       });
     }
 

@@ -1,9 +1,9 @@
 -- How a session goes on by a line, and how it ends.
-use Rattle.std.proofs.Common.{◌≡◌, ℕ, ◌+◌, ◌<◌, ◌≤◌, List, [], ◌∷◌, ◌++◌, length, false, cond, ◌==◌, Option, Result, Ok, Err, ap, ◌∙◌, sym, refl, subst, inl, inr, arith, append_assoc, append-nil, length-append}
+use Rattle.std.proofs.Common.{◌≡◌, ℕ, ◌+◌, ◌<◌, ◌≤◌, List, [], ◌∷◌, ◌++◌, length, Bool, true, false, cond, ◌==◌, Option, Some, None, Result, Ok, Err, ap, ◌∙◌, sym, refl, subst, inl, inr, arith, append_assoc, append-nil, length-append}
 use Rattle.std.specs.List.{AllByRecursion}
-use Rattle.std.specs.Io.KnownBytes.{Appends, IsAtEnd}
+use Rattle.std.specs.Io.KnownBytes.{Appends, Consumes, IsAtEnd}
 use Rattle.std.proofs.KnownBytes.{Appends-nil, Appends-trans, Consumes-trans}
-use Rattle.ink_model.specs.Answer.{Reply, answer}
+use Rattle.ink_model.specs.Answer.{Reply, Refuses, answer}
 use Rattle.ink_model.specs.Clean.{onto}
 use Rattle.ink_model.specs.Command.{command_of, lines_of}
 use Rattle.ink_model.specs.Session.{Does, Serves, Session}
@@ -11,11 +11,14 @@ use Rattle.ink_model.specs.State.{State}
 use Rattle.ink_model.specs.Step.{nothing_bound}
 use Rattle.ink_model.specs.Tree.{StoryTree}
 use Rattle.ink_model.specs.declared.command.Command.{Command}
+use Rattle.ink_model.specs.declared.command.Command.TheVariants as command
+use Rattle.ink_model.specs.declared.fault.Refusal.TheVariants as refusal
 use Rattle.ink_player.specs.Buffered.{Buffered}
+use Rattle.ink_player.specs.Commands.{NeedsMemory}
 use Rattle.ink_player.specs.Ends.{Falls}
 use Rattle.ink_player.specs.Input.{Takes}
-use Rattle.ink_player.specs.Lines.{has_newline, TakesLine, GivesLine}
-use Rattle.ink_player.specs.Serving.{max_line, IsLine, spelled, Splits, IsFirst, IsLongInput, RunEnds, Runs, Answered, Answers, ServesLine}
+use Rattle.ink_player.specs.Lines.{has_newline, TakesLine, TakesPart, IsTooLong, GivesLine}
+use Rattle.ink_player.specs.Serving.{max_line, IsLine, spelled, Splits, IsFirst, ServesAll, LosesReader, IsLongLine, IsLongInput, GoesOver, ServesFirst, LacksMemory, LosesWriter, RunEnds, Runs, Answered, Unanswered, HalfAnswered, Answers, ServesLine}
 use Rattle.ink_player.specs.declared.end.RunFault.{RunFault}
 use Rattle.ink_player.specs.declared.end.RunFault.TheVariants as fault
 use Rattle.ink_player.proofs.Reading.{neither}
@@ -249,6 +252,18 @@ pub serves_by : (s : StoryTree) (line : List ℕ) (k : Option Command) (old : St
     → Serves s nothing_bound line old reply new
 unfolding Serves
 serves_by s line k old reply new e p = subst (λ x. Does s nothing_bound x old reply new) e p
+
+-- a command that memory was refused for may be refused for it
+lacking : (s : StoryTree) (k : Option Command) (st : State) → NeedsMemory k → Does s nothing_bound k st (Refuses refusal.OutOfMemory) st
+lacking s None st h = absurd h
+lacking s (Some command.Through) st h = absurd h
+lacking s (Some (command.Set name value)) st h = inr (refl, refl)
+lacking s (Some (command.Get name)) st h = inr (refl, refl)
+lacking s (Some command.Restart) st h = absurd h
+
+pub serves_lacking : (s : StoryTree) (line : List ℕ) (st : State) → NeedsMemory (command_of line) → Serves s nothing_bound line st (Refuses refusal.OutOfMemory) st
+unfolding Serves
+serves_lacking s line st h = lacking s (command_of line) st h
 
 pub written_as : (h i : Option (List ℕ)) (bytes text : List ℕ) → bytes ≡ text → Appends h i bytes → Appends h i text
 written_as h i bytes text e p = subst (Appends h i) e p

@@ -2,7 +2,9 @@ pub mod Words
 pub mod Cleaning
 pub mod Past
 pub mod Steps
+pub mod Commands
 pub mod Answers
+pub mod Replies
 pub mod Ends
 pub mod Buffered
 pub mod Input

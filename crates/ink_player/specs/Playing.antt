@@ -2,7 +2,9 @@
 use Rattle.std.specs.Prelude.{◌≡◌, ◌<◌, ◌≤◌, ◌+◌, ◌-◌, ℕ, List, [], ◌∷◌, ◌++◌, length, Bool, true, false, ◌⊎◌, Option, Result, Ok, Err}
 use Rattle.std.specs.Io.KnownBytes.{Appends, Consumes, IsAtEnd}
 use Rattle.ink_model.specs.Grammar.{here, story, max_story}
-use Rattle.ink_model.specs.State.{State, opened}
+use Rattle.ink_model.specs.Configuration.{Configuration}
+use Rattle.ink_model.specs.Opening.{opening, opened}
+use Rattle.ink_model.specs.State.{State}
 use Rattle.ink_model.specs.Tree.{StoryTree}
 use Rattle.ink_model.specs.declared.fault.Cause.TheVariants as cause
 use Rattle.ink_model.specs.declared.fault.Fault.{Fault}
@@ -34,8 +36,10 @@ pub record PlaysOn (left : Option (List ℕ)) (bytes written : List ℕ) (result
   pub story_line : IsStoryLine left bytes line input
   pub tree : StoryTree
   pub reads : story line ≡ Ok tree
+  pub first : Configuration
+  pub opens : opening tree ≡ Ok first
   pub new : State
-  pub ends : RunEnds tree (max_input - (length line + 1)) left input (opened tree) written new result
+  pub ends : RunEnds tree (max_input - (length line + 1)) left input (opened first) written new result
 
 -- the story ended what came: nothing was written, and no more was read than tells that a story is over its limit
 pub record EndsEarly (bytes written : List ℕ) : Type 0 where
@@ -52,14 +56,17 @@ IsStoryRefused left bytes r =
     ((line : List ℕ) × (input : List ℕ) × IsStoryLine left bytes line input × IsRefused line r)
     ⊎ ((r ≡ here cause.OutOfMemory) ⊎ ((r ≡ here cause.Limit) × (has_newline bytes ≡ false) × (max_story < length bytes)))
 
--- memory was refused for opening the story
+-- the story's declarations fault, or memory was refused for opening it
+abbrev pub CannotOpen : StoryTree → Fault → Type 0
+CannotOpen s f = (f ≡ OutOfMemory) ⊎ (opening s ≡ Err f)
+
 pub record IsUnopened (left : Option (List ℕ)) (bytes : List ℕ) (f : Fault) : Type 0 where
-  pub why : f ≡ OutOfMemory
   pub line : List ℕ
   pub input : List ℕ
   pub story_line : IsStoryLine left bytes line input
   pub tree : StoryTree
   pub reads : story line ≡ Ok tree
+  pub why : CannotOpen tree f
 
 abbrev pub PlayFails : Option (List ℕ) → List ℕ → List ℕ → PlayFault → Type 0
 PlayFails left bytes written (play.Story r) = EndsEarly bytes written × IsStoryRefused left bytes r
@@ -116,9 +123,9 @@ play_fault fault.OutOfMemory = play.Story (here cause.OutOfMemory)
 
 abbrev pub OpenFails : List ℕ → PlayFault → Type 0
 OpenFails line (play.Story r) = IsRefused line r
-OpenFails line (play.Start f) = (f ≡ OutOfMemory) × ((tree : StoryTree) × (story line ≡ Ok tree))
+OpenFails line (play.Start f) = (tree : StoryTree) × (story line ≡ Ok tree) × CannotOpen tree f
 OpenFails line (play.Run f) = ⊥
 
 abbrev pub Opens : List ℕ → Result Player PlayEnd → Type 0
-Opens line (Ok p) = (story line ≡ Ok (story_of p)) × (state_of p ≡ opened (story_of p))
+Opens line (Ok p) = (story line ≡ Ok (story_of p)) × ((c : Configuration) × (opening (story_of p) ≡ Ok c) × (state_of p ≡ opened c))
 Opens line (Err e) = OpenFails line e.fault

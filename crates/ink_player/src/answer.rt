@@ -1,61 +1,167 @@
 //! Answers as they are written (docs/PROTOCOL.md, "Answers").
 
-ghost use Rattle.std.specs.Prelude.{◌≡◌, [], IfOk, string_bytes};
+ghost use Rattle.std.specs.Prelude.{◌≡◌, [], ◌++◌, map, IfOk, OnOk, string_bytes};
 ghost use Rattle.serde_json.specs.View.{view};
 ghost use Rattle.serde_json.specs.Written.{compact_text, has_float};
-ghost use Rattle.ink_model.specs.Answer.{answer, fault_name as name_of_fault, refusal_name as name_of_refusal, refusal_data, reply_data, reply_of, reply_of_halt, texts_data, shown_data, passage_data, events_data, items_of, Breaks};
+ghost use Rattle.ink_model.specs.Answer.{answer, fault_name as name_of_fault, refusal_name as name_of_refusal, refusal_data, reply_data, reply_of_halt, value_data, part_text, path_text as written_path, Acts, Shows, texts_data, shown_data, passage_data, events_data, items_of, Breaks};
+ghost use Rattle.serde_json.specs.Data.{string};
+ghost use Rattle.ink_model.specs.Clean.{joined};
 ghost use Rattle.ink_player.specs.Answers.{shown_list, passage_with};
+ghost use Rattle.ink_player.specs.Replies.{reply_by};
 
-use ink_model::{Event, Fault, Halt, Passage, Refusal, Shown, Text};
-use serde_json::{Value, json};
+#[cfg(test)]
+mod tests;
+
+use ink_model::{Event, Fault, Halt, Part, Passage, Path, Refusal, Seq, Shown, Text, Value};
+use serde_json::{Number, Value as Json, json};
 use std::alloc::{AllocError, Global};
 
-/// What a call that runs the story returned, as the line that is written, its newline at the end. The one error is a
-/// refused request for memory.
-pub(crate) fn answer_text(
-    alloc: Global,
-    outcome: Result<Passage, Halt>,
-) -> Result<String, AllocError>
-    ensures { IfOk result (λ text. string_bytes text ≡ answer (reply_of outcome)) }
+/// What a command's call returned, or its refusal where none was made.
+#[derive(Drop)]
+pub(crate) enum Outcome {
+    Passage(Result<Passage, Halt>),
+    Events(Result<Seq<Event>, Halt>),
+    Value(Result<Value, Refusal>),
+    Refused(Refusal),
+}
+
+/// What a command's call returned, as the line that is written, its newline at the end. The one error is a refused request
+/// for memory.
+pub(crate) fn answer_text(alloc: Global, outcome: Outcome) -> Result<String, AllocError>
+    ensures { IfOk result (λ text. string_bytes text ≡ answer (reply_by outcome)) }
 {
-    let reply = reply_value(alloc, outcome)?;
+    let reply = reply_json(alloc, outcome)?;
     let mut text = reply.to_string(alloc)?;
     text.push('\n')?;
     Ok(text)
 }
 
-fn reply_value(alloc: Global, outcome: Result<Passage, Halt>) -> Result<Value, AllocError>
-    ensures { IfOk result (λ v. view v ≡ reply_data (reply_of outcome)) }
+fn reply_json(alloc: Global, outcome: Outcome) -> Result<Json, AllocError>
+    ensures { IfOk result (λ v. view v ≡ reply_data (reply_by outcome)) }
 {
     match outcome {
-        Ok(passage) => passage_value(alloc, &passage),
-        Err(halt) => halt_value(alloc, halt),
+        Outcome::Passage(Ok(passage)) => passage_json(alloc, &passage),
+        Outcome::Events(Ok(_)) => acts_json(alloc),
+        Outcome::Value(Ok(value)) => shows_json(alloc, &value),
+        Outcome::Passage(Err(halt)) | Outcome::Events(Err(halt)) => halt_json(alloc, halt),
+        Outcome::Value(Err(refusal)) | Outcome::Refused(refusal) => refusal_json(alloc, refusal),
     }
 }
 
-fn halt_value(alloc: Global, halt: Halt) -> Result<Value, AllocError>
+// There is no event yet.
+fn acts_json(alloc: Global) -> Result<Json, AllocError>
+    ensures { IfOk result (λ v. view v ≡ reply_data (Acts [])) }
+{
+    json!(in alloc; { "events": [] })
+}
+
+fn shows_json(alloc: Global, value: &Value) -> Result<Json, AllocError>
+    ensures { IfOk result (λ v. view v ≡ reply_data (Shows value.now)) }
+{
+    let value = value_json(alloc, value)?;
+    json!(in alloc; { "value": value })
+}
+
+fn value_json(alloc: Global, value: &Value) -> Result<Json, AllocError>
+    ensures { IfOk result (λ v. view v ≡ value_data value.now) }
+{
+    match value {
+        Value::Int(number) => Ok(Json::Number(Number::from(*number))),
+        Value::Bool(truth) => Ok(Json::Bool(*truth)),
+        Value::Text(text) => string_json(alloc, text),
+        Value::Target(path) => target_json(alloc, path),
+        Value::Pointer(name, frame) => pointer_json(alloc, name, *frame),
+        Value::Void => Ok(Json::Null),
+        Value::Tag(text) => tag_json(alloc, text),
+    }
+}
+
+fn string_json(alloc: Global, text: &Text) -> Result<Json, AllocError>
+    ensures { IfOk result (λ v. view v ≡ string text.now) }
+{
+    let text = String::from_str(alloc, text.as_str())?;
+    Ok(Json::String(text))
+}
+
+fn target_json(alloc: Global, path: &Path) -> Result<Json, AllocError>
+    ensures { IfOk result (λ v. view v ≡ value_data (Value.Target path.now)) }
+{
+    let text = path_text(alloc, path)?;
+    json!(in alloc; { "->": text.as_str() })
+}
+
+fn pointer_json(alloc: Global, name: &Text, frame: i32) -> Result<Json, AllocError>
+    ensures { IfOk result (λ v. view v ≡ value_data (Value.Pointer name.now frame)) }
+{
+    json!(in alloc; { "ci": frame, "var": name.as_str() })
+}
+
+fn tag_json(alloc: Global, text: &Text) -> Result<Json, AllocError>
+    ensures { IfOk result (λ v. view v ≡ value_data (Value.Tag text.now)) }
+{
+    json!(in alloc; { "tag": text.as_str() })
+}
+
+// A path as it is written.
+fn path_text(alloc: Global, path: &Path) -> Result<String, AllocError>
+    ensures { IfOk result (λ text. string_bytes text ≡ written_path path.now) }
+{
+    let mut text = String::new(alloc);
+    if path.relative {
+        text.push('.')?;
+    }
+    push_parts(alloc, &mut text, path.parts.as_slice())?;
+    Ok(text)
+}
+
+// The components, joined by dots.
+fn push_parts(alloc: Global, text: &mut String, parts: &[Part]) -> Result<(), AllocError>
+    ensures { OnOk result (string_bytes text.new ≡ string_bytes text.old ++ joined 46 (map part_text parts.now)) }
+{
+    for (index, part) in parts.iter().enumerate() {
+        if index > 0 {
+            text.push('.')?;
+        }
+        push_part(alloc, text, part)?;
+    }
+    Ok(())
+}
+
+fn push_part(alloc: Global, text: &mut String, part: &Part) -> Result<(), AllocError>
+    ensures { OnOk result (string_bytes text.new ≡ string_bytes text.old ++ part_text part.now) }
+{
+    match part {
+        Part::Index(index) => {
+            let digits = index.to_string(alloc)?;
+            text.push_str(digits.as_str())
+        }
+        Part::Name(name) => text.push_str(name.as_str()),
+    }
+}
+
+fn halt_json(alloc: Global, halt: Halt) -> Result<Json, AllocError>
     ensures { IfOk result (λ v. view v ≡ reply_data (reply_of_halt halt)) }
 {
     match halt {
-        Halt::Refused(refusal) => refusal_value(alloc, refusal),
-        Halt::Fault { fault, events: _ } => fault_value(alloc, fault),
+        Halt::Refused(refusal) => refusal_json(alloc, refusal),
+        Halt::Fault { fault, events: _ } => fault_json(alloc, fault),
     }
 }
 
-fn passage_value(alloc: Global, passage: &Passage) -> Result<Value, AllocError>
+fn passage_json(alloc: Global, passage: &Passage) -> Result<Json, AllocError>
     ensures { IfOk result (λ v. view v ≡ passage_data passage.now) }
 {
-    let choices = choices_value(alloc, passage.choices.as_slice())?;
-    let tags = texts_value(alloc, passage.tags.as_slice())?;
+    let choices = choices_json(alloc, passage.choices.as_slice())?;
+    let tags = texts_json(alloc, passage.tags.as_slice())?;
     passage_object(alloc, passage, choices, tags)
 }
 
 fn passage_object(
     alloc: Global,
     passage: &Passage,
-    choices: Value,
-    tags: Value,
-) -> Result<Value, AllocError>
+    choices: Json,
+    tags: Json,
+) -> Result<Json, AllocError>
     ensures { IfOk result (λ v. view v ≡ passage_with passage.now (view choices) (view tags)) }
 {
     json!(in alloc; {
@@ -68,46 +174,48 @@ fn passage_object(
     })
 }
 
-fn choices_value(alloc: Global, choices: &[Shown]) -> Result<Value, AllocError>
+fn choices_json(alloc: Global, choices: &[Shown]) -> Result<Json, AllocError>
     ensures { IfOk result (λ v. view v ≡ shown_list choices.now) }
 {
     let mut values = Vec::new(alloc);
     for choice in choices {
-        values.push(shown_value(alloc, choice)?)?;
+        values.push(shown_json(alloc, choice)?)?;
     }
-    Ok(Value::Array(values))
+    Ok(Json::Array(values))
 }
 
-fn shown_value(alloc: Global, choice: &Shown) -> Result<Value, AllocError>
+fn shown_json(alloc: Global, choice: &Shown) -> Result<Json, AllocError>
     ensures { IfOk result (λ v. view v ≡ shown_data choice.now) }
 {
-    let tags = texts_value(alloc, choice.tags.as_slice())?;
+    let tags = texts_json(alloc, choice.tags.as_slice())?;
     json!(in alloc; { "tags": tags, "text": choice.text.as_str() })
 }
 
-fn texts_value(alloc: Global, texts: &[Text]) -> Result<Value, AllocError>
+fn texts_json(alloc: Global, texts: &[Text]) -> Result<Json, AllocError>
     ensures { IfOk result (λ v. view v ≡ texts_data texts.now) }
 {
     let mut values = Vec::new(alloc);
     for text in texts {
-        values.push(Value::String(String::from_str(alloc, text.as_str())?))?;
+        values.push(string_json(alloc, text)?)?;
     }
-    Ok(Value::Array(values))
+    Ok(Json::Array(values))
 }
 
-fn refusal_value(alloc: Global, refusal: Refusal) -> Result<Value, AllocError>
+fn refusal_json(alloc: Global, refusal: Refusal) -> Result<Json, AllocError>
     ensures { IfOk result (λ v. view v ≡ refusal_data refusal) }
 {
     let name = refusal_name(refusal);
     match refusal {
         Refusal::Broken(fault) => json!(in alloc; { "fault": fault_name(fault), "refused": name }),
-        Refusal::CannotContinue | Refusal::BadCommand | Refusal::OutOfMemory => {
-            json!(in alloc; { "refused": name })
-        }
+        Refusal::CannotContinue
+        | Refusal::NoSuchVariable
+        | Refusal::BadValue
+        | Refusal::BadCommand
+        | Refusal::OutOfMemory => json!(in alloc; { "refused": name }),
     }
 }
 
-fn fault_value(alloc: Global, fault: Fault) -> Result<Value, AllocError>
+fn fault_json(alloc: Global, fault: Fault) -> Result<Json, AllocError>
     ensures { IfOk result (λ v. view v ≡ reply_data (Breaks fault [])) }
 {
     json!(in alloc; { "events": [], "fault": fault_name(fault) })
@@ -117,6 +225,11 @@ fn fault_name(fault: Fault) -> &'static str
     ensures { result.now ≡ name_of_fault fault }
 {
     match fault {
+        Fault::StackEmpty => "StackEmpty",
+        Fault::BadOperands => "BadOperands",
+        Fault::Divide => "Divide",
+        Fault::BadMode => "BadMode",
+        Fault::NoTemp => "NoTemp",
         Fault::HostRefused => "HostRefused",
         Fault::TooDeep => "TooDeep",
         Fault::OutOfSteps => "OutOfSteps",
@@ -129,6 +242,8 @@ fn refusal_name(refusal: Refusal) -> &'static str
 {
     match refusal {
         Refusal::CannotContinue => "CannotContinue",
+        Refusal::NoSuchVariable => "NoSuchVariable",
+        Refusal::BadValue => "BadValue",
         Refusal::BadCommand => "BadCommand",
         Refusal::Broken(_) => "Broken",
         Refusal::OutOfMemory => "OutOfMemory",

@@ -1,27 +1,141 @@
 //! The commands that lines spell.
 
-ghost use Rattle.std.specs.Prelude.{◌≡◌};
-ghost use Rattle.ink_model.specs.Command.{command_of, command_word};
+ghost use Rattle.std.specs.Prelude.{◌≡◌, IfOk, OnErr, option_map, option_and_then, string_bytes};
+ghost use Rattle.serde_json.specs.Find.{as_integer};
+ghost use Rattle.serde_json.specs.View.{view, number_view};
+ghost use Rattle.ink_model.specs.Command.{command_of, command_word, after as after_word, at_space as parts_at_space, get_command as get_of, set_command as set_of, given_of as given_in, given_by as given_from, given_integer, given_text};
+ghost use Rattle.ink_player.specs.Commands.{NeedsMemory};
 
-use ink_model::Command;
+#[cfg(test)]
+mod tests;
+
+use ink_model::{Command, Given, Text};
+use serde_json::{Number, Value};
+use std::alloc::{AllocError, Global};
+
+/// The most bytes of a text that is set.
+const MAX_TEXT: usize = 1_048_576;
 
 /// The command of a line, without its newline (docs/PROTOCOL.md, "Command lines"). A line that is no text, or no
-/// command, has none.
-pub(crate) fn read_command(line: &[u8]) -> Option<Command>
-    ensures { result ≡ command_of line.now }
+/// command, has none. The one error is a refused request for memory, and only a line with a name makes one.
+pub(crate) fn read_command(alloc: Global, line: &[u8]) -> Result<Option<Command>, AllocError>
+    ensures command { IfOk result (λ command. command ≡ command_of line.now) }
+    ensures memory { OnErr result (NeedsMemory (command_of line.now)) }
 {
     match str::from_utf8(line) {
-        Ok(text) => command_in(text),
-        Err(_) => None,
+        Ok(text) => command_in(alloc, text),
+        Err(_) => Ok(None),
     }
 }
 
-fn command_in(text: &str) -> Option<Command>
-    ensures { result ≡ command_word text.now }
+fn command_in(alloc: Global, text: &str) -> Result<Option<Command>, AllocError>
+    ensures command { IfOk result (λ command. command ≡ command_word text.now) }
+    ensures memory { OnErr result (NeedsMemory (command_word text.now)) }
 {
     if text == "through" {
-        Some(Command::Through)
-    } else {
-        None
+        return Ok(Some(Command::Through));
     }
+    if text == "restart" {
+        return Ok(Some(Command::Restart));
+    }
+    if let Some(name) = after("get ", text) {
+        return get_command(alloc, name);
+    }
+    match after("set ", text) {
+        Some(rest) => set_line(alloc, rest),
+        None => Ok(None),
+    }
+}
+
+// What follows a word at a line's beginning.
+fn after<'a>(word: &str, text: &'a str) -> Option<&'a str>
+    ensures { option_map (λ rest. rest.now) result ≡ after_word word.now text.now }
+{
+    text.strip_prefix(word)
+}
+
+// What stands before the first space, and what stands after it.
+fn at_space(text: &str) -> Option<(&str, &str)>
+    ensures { option_map (λ r. (r.0.now, r.1.now)) result ≡ parts_at_space text.now }
+{
+    text.split_once(' ')
+}
+
+fn get_command(alloc: Global, name: &str) -> Result<Option<Command>, AllocError>
+    ensures command { IfOk result (λ command. command ≡ get_of name.now) }
+    ensures memory { OnErr result (NeedsMemory (get_of name.now)) }
+{
+    if name.is_empty() || at_space(name).is_some() {
+        return Ok(None);
+    }
+    let name = Text::from_str(alloc, name)?;
+    Ok(Some(Command::Get { name }))
+}
+
+fn set_line(alloc: Global, text: &str) -> Result<Option<Command>, AllocError>
+    ensures command { IfOk result (λ command. command ≡ option_and_then set_of (parts_at_space text.now)) }
+    ensures memory { OnErr result (NeedsMemory (option_and_then set_of (parts_at_space text.now))) }
+{
+    match at_space(text) {
+        Some((name, value)) => set_command(alloc, name, value),
+        None => Ok(None),
+    }
+}
+
+fn set_command(alloc: Global, name: &str, text: &str) -> Result<Option<Command>, AllocError>
+    ensures command { IfOk result (λ command. command ≡ set_of (name.now, text.now)) }
+    ensures memory { OnErr result (NeedsMemory (set_of (name.now, text.now))) }
+{
+    if name.is_empty() || text.is_empty() {
+        return Ok(None);
+    }
+    let name = Text::from_str(alloc, name)?;
+    let value = given_of(alloc, text)?;
+    Ok(Some(Command::Set { name, value }))
+}
+
+// The value that a text spells, if it spells one.
+fn given_of(alloc: Global, text: &str) -> Result<Option<Given>, AllocError>
+    ensures { IfOk result (λ given. given ≡ given_in text.now) }
+{
+    match Value::from_str(alloc, text) {
+        Ok(value) => Ok(given_by(value)),
+        Err(error) => {
+            if error.is_memory() {
+                return Err(AllocError);
+            }
+            Ok(None)
+        }
+    }
+}
+
+// An integer of 32 bits, a boolean, or a text within its limit.
+fn given_by(value: Value) -> Option<Given>
+    ensures { result ≡ given_from (view value) }
+{
+    match value {
+        Value::Bool(truth) => Some(Given::Bool(truth)),
+        Value::Number(number) => small_integer(number),
+        Value::String(text) => short_text(text),
+        Value::Null | Value::Array(_) | Value::Object(_) => None,
+    }
+}
+
+fn small_integer(number: Number) -> Option<Given>
+    ensures { result ≡ given_integer (as_integer (number_view number)) }
+{
+    let integer = number.as_i128()?;
+    if integer < i32::MIN as i128 || integer > i32::MAX as i128 {
+        return None;
+    }
+    Some(Given::Int(integer as i32))
+}
+
+fn short_text(text: String) -> Option<Given>
+    ensures { result ≡ given_text (string_bytes text) }
+{
+    if text.len() > MAX_TEXT {
+        return None;
+    }
+    Some(Given::Text(Text::from_string(text)))
 }

@@ -24,7 +24,8 @@ const MAX_STORY: usize = 16_777_216;
 /// limit of the input, 64 MiB, counts the story. The desk is handed back, at an error too.
 ///
 /// Errors: `Story`, where the story is refused, with nothing written; a story line over 16 MiB is refused with `Limit` at
-/// the root. `Start`, where memory was refused for opening it. `Run`, as of `run`; the reader may also fail within the story.
+/// the root. `Start`, where its declarations fault or memory was refused for opening it. `Run`, as of `run`; the reader may also
+/// fail within the story.
 pub fn play<R: Read, W: Write>(
     alloc: Global,
     reader: &mut R,

@@ -1,22 +1,23 @@
 //! Sessions over command lines (docs/PROTOCOL.md, "Sessions").
 
-ghost use Rattle.std.specs.Prelude.{◌≡◌, [], ◌||◌, ◌≤◌, ◌+◌, length};
-ghost use Rattle.ink_model.specs.Answer.{reply_of};
-ghost use Rattle.ink_model.specs.Session.{Does};
+ghost use Rattle.std.specs.Prelude.{◌≡◌, ℕ, List, [], ◌||◌, ◌≤◌, ◌+◌, length};
+ghost use Rattle.ink_model.specs.Answer.{Refuses};
+ghost use Rattle.ink_model.specs.Session.{Does, Serves, Set};
 ghost use Rattle.ink_model.specs.Step.{nothing_bound};
+ghost use Rattle.ink_player.specs.Replies.{reply_by};
 ghost use Rattle.ink_player.specs.Words.{state_of, story_of};
 ghost use Rattle.ink_player.specs.Lines.{reads_fail};
 ghost use Rattle.ink_player.specs.Serving.{Answers, Turns, Runs, max_input, writes_fail};
 
-use crate::answer::answer_text;
+use crate::answer::{Outcome, answer_text};
 use crate::command::read_command;
 use crate::end::RunFault;
 use crate::input::{Ahead, Reader, Source};
 use crate::lines::{Line, next_line};
 use crate::output::{Sink, WriteFailed, Writer, write_whole};
 use crate::player::Player;
-use ink_model::{Command, Halt, Passage, Refusal};
-use std::alloc::Global;
+use ink_model::{Command, Given, Refusal};
+use std::alloc::{AllocError, Global};
 use std::io::{Read, Write};
 
 /// The most bytes of a command line, without its newline.
@@ -159,7 +160,7 @@ fn answer_line<T: Sink>(
     ensures write_cause { T.has_failed sink.new ≡ (writes_fail result || T.has_failed sink.old) }
     ensures sink_name { T.name sink.new ≡ T.name sink.old }
 {
-    let outcome = perform(player, read_command(line));
+    let outcome = outcome_of(alloc, player, line);
     let Ok(text) = answer_text(alloc, outcome) else {
         return Err(RunFault::OutOfMemory);
     };
@@ -169,12 +170,47 @@ fn answer_line<T: Sink>(
     }
 }
 
-fn perform(player: &mut Player, command: Option<Command>) -> Result<Passage, Halt>
-    ensures does { Does (story_of player.old) nothing_bound command (state_of player.old) (reply_of result) (state_of player.new) }
+// Performs the command of a line, unless memory is refused for reading it.
+fn outcome_of(alloc: Global, player: &mut Player, line: &[u8]) -> Outcome
+    ensures serves { Serves (story_of player.old) nothing_bound line.now (state_of player.old) (reply_by result) (state_of player.new) }
+    ensures story { story_of player.new ≡ story_of player.old }
+{
+    match read_command(alloc, line) {
+        Ok(command) => perform(player, command),
+        Err(AllocError) => Outcome::Refused(Refusal::OutOfMemory),
+    }
+}
+
+fn perform(player: &mut Player, command: Option<Command>) -> Outcome
+    ensures does { Does (story_of player.old) nothing_bound command (state_of player.old) (reply_by result) (state_of player.new) }
     ensures story { story_of player.new ≡ story_of player.old }
 {
     match command {
-        Some(Command::Through) => player.through(),
-        None => Err(Halt::Refused(Refusal::BadCommand)),
+        Some(Command::Through) => Outcome::Passage(player.through()),
+        Some(Command::Set { name, value }) => set(player, name.as_str(), value),
+        Some(Command::Get { name }) => Outcome::Value(player.get(name.as_str())),
+        Some(Command::Restart) => Outcome::Events(player.restart()),
+        None => Outcome::Refused(Refusal::BadCommand),
+    }
+}
+
+// Sets a global, or refuses where the line has no value.
+fn set(player: &mut Player, name: &str, value: Option<Given>) -> Outcome
+    ensures does { Set name.now value (state_of player.old) (reply_by result) (state_of player.new) }
+    ensures story { story_of player.new ≡ story_of player.old }
+{
+    let Some(value) = value else {
+        return Outcome::Refused(no_value(player));
+    };
+    Outcome::Events(player.set(name, value))
+}
+
+// Why a line without a value is refused: a fault that broke the player is told first.
+fn no_value(player: &Player) -> Refusal
+    ensures { (name : List ℕ) → Set name None (state_of player.now) (Refuses result) (state_of player.now) }
+{
+    match player.fault() {
+        Some(fault) => Refusal::Broken(fault),
+        None => Refusal::BadValue,
     }
 }

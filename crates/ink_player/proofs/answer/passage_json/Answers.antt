@@ -3,7 +3,7 @@ use Rattle.serde_json.specs.View.{view}
 use Rattle.ink_model.specs.Answer.{texts_data}
 use Rattle.ink_player.specs.Answers.{shown_list}
 use Rattle.ink_player.proofs.Answering.{passage_parts, viewed_as}
-use Rattle.ink_player.proofs.answer.passage_value.Goals as goal
+use Rattle.ink_player.proofs.answer.passage_json.Goals as goal
 
 pub returns : goal.returns
 returns c = viewed_as c.passage_object.result _ _

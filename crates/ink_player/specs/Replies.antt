@@ -1,0 +1,10 @@
+-- What calls returned, as replies.
+use Rattle.ink_model.specs.Answer.{Reply, Refuses, reply_of, reply_of_events, reply_of_value}
+use Rattle.ink_player.specs.declared.answer.Outcome.{Outcome}
+use Rattle.ink_player.specs.declared.answer.Outcome.TheVariants as outcome
+
+abbrev pub reply_by : Outcome → Reply
+reply_by (outcome.Passage r) = reply_of r
+reply_by (outcome.Events r) = reply_of_events r
+reply_by (outcome.Value r) = reply_of_value r
+reply_by (outcome.Refused r) = Refuses r
