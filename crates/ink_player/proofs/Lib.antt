@@ -5,9 +5,3 @@ pub mod Moving
 pub mod Stepping
 pub mod Telling
 pub mod Running
-pub mod Commands
-pub mod Answering
-pub mod Writing
-pub mod Reading
-pub mod Sessions
-pub mod Playings

@@ -2,10 +2,3 @@ pub mod Words
 pub mod Cleaning
 pub mod Past
 pub mod Steps
-pub mod Answers
-pub mod Ends
-pub mod Buffered
-pub mod Input
-pub mod Lines
-pub mod Serving
-pub mod Playing

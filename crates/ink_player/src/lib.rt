@@ -1,26 +1,13 @@
 //! The player of a story, and the session over command lines.
 #![tactic(auto)]
 
-mod answer;
-mod command;
 mod desk;
-mod end;
-mod input;
-mod lines;
 mod machine;
 mod marks;
-mod output;
 mod player;
-mod playing;
-mod session;
 mod story;
 
 pub use desk::Desk;
-pub use end::{PlayEnd, PlayFault, RunFault};
 pub use ink_model::{Event, Fault, Halt, Passage, Refusal, Shown};
-pub use input::{ReadFailed, Source};
-pub use output::{Sink, WriteFailed};
 pub use player::{OpenFault, Player};
-pub use playing::{play, serve_story};
-pub use session::{run, serve};
 pub use story::{Story, accept};
