@@ -2,6 +2,9 @@ pub mod Cutting
 pub mod Showing
 pub mod Cleaning
 pub mod Moving
+pub mod Knots
+pub mod Stacks
+pub mod Storing
 pub mod Stepping
 pub mod Telling
 pub mod Running

@@ -2,6 +2,7 @@
 #![tactic(auto)]
 
 mod desk;
+mod globals;
 mod machine;
 mod marks;
 mod player;
