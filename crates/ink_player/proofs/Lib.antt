@@ -8,3 +8,4 @@ pub mod Storing
 pub mod Stepping
 pub mod Telling
 pub mod Running
+pub mod Opening

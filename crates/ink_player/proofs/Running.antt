@@ -79,5 +79,6 @@ module _ (s : StoryTree) (start : Configuration) where
       ] }
 
   -- the run needs one more step than it may take
-  pub run_out : (now : Configuration) → moment s nothing_bound start [] max_steps ≡ At now [] [] → RunFalls s start now.shared.globals OutOfSteps
-  run_out now h = record { before = now; kept = refl; why = inl (ap cut_off h) }
+  pub run_out : (n : ℕ) (now : Configuration) → max_steps ≡ n → moment s nothing_bound start [] n ≡ At now [] []
+      → RunFalls s start now.shared.globals OutOfSteps
+  run_out n now e h = record { before = now; kept = refl; why = inl (ap (λ k. cut_off (moment s nothing_bound start [] k)) e ∙ ap cut_off h) }

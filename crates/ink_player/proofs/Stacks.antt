@@ -1,9 +1,11 @@
 -- The top of a stack, and operators on it.
-use Rattle.std.proofs.Common.{◌≡◌, ◌∙◌, ap, sym, refl, ℕ, zero, suc, ◌+◌, ◌≤◌, List, [], ◌∷◌, ◌++◌, length, reverse, slice_get, Option, Some, None, option_map, Result, Ok, Err, arith}
+use Rattle.std.proofs.Common.{◌≡◌, ◌∙◌, ap, sym, subst, refl, inl, ℕ, zero, suc, ◌+◌, ◌≤◌, List, [], ◌∷◌, ◌++◌, length, reverse, slice_get, Option, Some, None, option_map, Result, Ok, Err, arith}
 use Rattle.std.proofs.lemmas.List.{reverse-reverse}
 use Rattle.std.proofs.lemmas.Grind.{reverse_onto}
 use Rattle.ink_model.specs.Stack.{popped}
+use Rattle.ink_model.specs.declared.fault.Fault.TheVariants.{OutOfMemory}
 use Rattle.ink_model.specs.declared.value.Value.{Value}
+use Rattle.ink_player.specs.Steps.{CopiesTop}
 
 -- one value on top
 pub top_of : (vs : List Value) (v : Value) → popped (vs ++ v ∷ []) ≡ Some (v, vs)
@@ -26,5 +28,12 @@ top_turned (u ∷ us) v h = (reverse us, ap popped (reverse_onto us u []) ∙ to
     some_same : Some u ≡ Some v → u ≡ v
     some_same e = cc
 
-pub top_seen : (vs : List Value) (v : Value) → slice_get (reverse vs) 0 ≡ Some v → (rest : List Value) × (popped vs ≡ Some (v, rest))
+top_seen : (vs : List Value) (v : Value) → slice_get (reverse vs) 0 ≡ Some v → (rest : List Value) × (popped vs ≡ Some (v, rest))
 top_seen vs v h = let t = top_turned (reverse vs) v h in (t.0, ap popped (sym (reverse-reverse vs)) ∙ t.1)
+
+module _ (vs : List Value) (v : Value) (seen : slice_get (reverse vs) 0 ≡ Some v) where
+  pub copied : (copy : Value) → copy ≡ v → CopiesTop (popped vs) (Ok copy)
+  copied copy same = subst (λ o. CopiesTop o (Ok copy)) (sym (top_seen vs v seen).1) (ap Ok (sym same))
+
+  pub not_copied : CopiesTop (popped vs) (Err OutOfMemory)
+  not_copied = subst (λ o. CopiesTop o (Err OutOfMemory)) (sym (top_seen vs v seen).1) (inl refl)

@@ -11,7 +11,11 @@ abbrev pub has_name : List ℕ → StoryTree → Bool
 has_name name (leaf l) = false
 has_name name (container own flags content named) = is_named name own
 
--- the first such container at the root, by its index
+-- the index of the first such container
+abbrev pub index_in : List ℕ → StoryTree → Option ℕ
+index_in name (leaf l) = None
+index_in name (container own flags content named) = named_index name 0 content
+
+-- its place, at the root
 abbrev pub listed : List ℕ → StoryTree → Option (List Part)
-listed name (leaf l) = None
-listed name (container own flags content named) = option_map (λ i. Index i ∷ []) (named_index name 0 content)
+listed name s = option_map (λ i. Index i ∷ []) (index_in name s)

@@ -1,12 +1,13 @@
 //! Knots, by name, and the place where globals are declared.
 
-ghost use Rattle.std.specs.Prelude.{◌≡◌, ◌<◌, ◌^◌, length, option_map, IfOk};
+ghost use Rattle.std.specs.Prelude.{◌≡◌, ◌<◌, ◌^◌, Some, option_map, IfOk};
 ghost use Rattle.ink_json.specs.Story.{tree};
 ghost use Rattle.ink_model.specs.Opening.{declarations};
 ghost use Rattle.ink_model.specs.Place.{landed, named_index};
 ghost use Rattle.ink_model.specs.Place as rules;
+ghost use Rattle.ink_model.specs.Tree.{width, count};
 ghost use Rattle.ink_model.specs.View.{view, trees_view};
-ghost use Rattle.ink_player.specs.Knots.{listed, has_name};
+ghost use Rattle.ink_player.specs.Knots.{listed, index_in, has_name};
 
 use crate::machine::places::width_of;
 use ink_json::RawStory;
@@ -50,10 +51,10 @@ fn knot(alloc: Global, story: &RawStory, name: &str) -> Result<Option<Place>, Al
 fn knot_in_list(alloc: Global, story: &RawStory, name: &str) -> Result<Option<Place>, AllocError>
     ensures { IfOk result (λ found. found ≡ listed name.now (tree story.now)) }
 {
-    let Some(Content::Container { content, .. }) = story.at(&[]) else {
+    let Some(root) = story.at(&[]) else {
         return Ok(None);
     };
-    let Some(index) = index_of(name, content) else {
+    let Some(index) = index_in(name, root) else {
         return Ok(None);
     };
     let mut place = Place::root(alloc);
@@ -61,9 +62,19 @@ fn knot_in_list(alloc: Global, story: &RawStory, name: &str) -> Result<Option<Pl
     Ok(Some(place))
 }
 
-/// The index of the first container that gives itself a name.
+/// The index in a container of the first container that gives itself a name.
+fn index_in(name: &str, container: &Content) -> Option<u32>
+    requires { width (Some (view container.now)) < 2 ^ 32 }
+    ensures { result ≡ index_in name.now (view container.now) }
+{
+    match container {
+        Content::Leaf(_) => None,
+        Content::Container { content, .. } => index_of(name, content),
+    }
+}
+
 fn index_of(name: &str, contents: &Vec<Content>) -> Option<u32>
-    requires { length contents.now.items < 2 ^ 32 }
+    requires { count (trees_view contents.now.items) < 2 ^ 32 }
     ensures { result ≡ named_index name.now 0 (trees_view contents.now.items) }
 {
     for (index, content) in contents.iter().enumerate() {

@@ -27,7 +27,9 @@ impl Machine {
             return Ok(machine);
         };
         let mut machine = Machine::fresh(alloc, place, Globals::new(alloc));
-        machine.run(story)?;
+        if let Err(fault) = machine.run(story) {
+            return Err(fault);
+        }
         let Machine { globals, .. } = machine;
         let machine = Machine::at_start(alloc, story, globals)?;
         Ok(machine)

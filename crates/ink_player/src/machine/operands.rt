@@ -24,7 +24,10 @@ pub(super) fn top_copy(alloc: Global, stack: &EvalStack) -> Result<Value, Fault>
     ensures { CopiesTop (popped stack.now.items) result }
 {
     let value = stack.peek(0)?;
-    Ok(value.clone_in(alloc)?)
+    match value.clone_in(alloc) {
+        Ok(copy) => Ok(copy),
+        Err(_) => Err(Fault::OutOfMemory),
+    }
 }
 
 /// What an operator makes of the values on top, which are taken off before it looks at them. `StackEmpty` where there are

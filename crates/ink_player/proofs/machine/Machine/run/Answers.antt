@@ -15,4 +15,4 @@ pub returns-in-Fault : goal.returns-in-Fault
 returns-in-Fault c = run_faulted _ _ c.loop-step._step _ _ _ (omega arith) c.loop-step.invariant c.in-Fault.ensures
 
 pub returns : goal.returns
-returns c = let h = c.loop-step in ?
+returns c = run_out _ _ c.loop-step._step _ (omega arith) c.loop-step.invariant
