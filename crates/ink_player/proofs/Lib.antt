@@ -12,3 +12,7 @@ pub mod Writing
 pub mod Reading
 pub mod Sessions
 pub mod Playings
+pub mod Knots
+pub mod Stacks
+pub mod Storing
+pub mod Opening

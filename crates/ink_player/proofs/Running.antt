@@ -5,33 +5,33 @@ use Rattle.ink_model.specs.Configuration.{Configuration}
 use Rattle.ink_model.specs.Step.{Outcome, Next, Stop, Wants, Faults, step, nothing_bound}
 use Rattle.ink_model.specs.Run.{Moment, At, Stopped, Faulted, came, next, run, moment, cut_off, max_steps}
 use Rattle.ink_model.specs.declared.fault.Fault.{Fault}
-use Rattle.ink_model.specs.declared.fault.Fault.TheVariants.{OutOfMemory}
-use Rattle.ink_player.specs.Steps.{Ends, GotTo}
+use Rattle.ink_model.specs.declared.fault.Fault.TheVariants.{OutOfMemory, OutOfSteps}
+use Rattle.ink_player.specs.Steps.{Ends, GotTo, RunFalls}
 use Rattle.ink_player.specs.declared.machine.StepEnd.TheVariants as ends
 
 -- ---- the moment after an outcome
 
-went : (s : StoryTree) (old new : Configuration) (o : Outcome) → Ends o old new ends.Went → came s old o [] [] ≡ At new [] []
+went : (s : StoryTree) (old new : Configuration) (o : Outcome) → Ends o old.shared.globals new ends.Went → came s old o [] [] ≡ At new [] []
 went s old new (Next c) h = ap (λ d. At d [] []) (sym h)
 went s old new (Stop c) h = absurd h
 went s old new (Wants name arguments c) h = absurd h
 went s old new (Faults f) h = absurd h
 
-stopped : (s : StoryTree) (old new : Configuration) (o : Outcome) → Ends o old new ends.Stopped → came s old o [] [] ≡ Stopped new [] []
+stopped : (s : StoryTree) (old new : Configuration) (o : Outcome) → Ends o old.shared.globals new ends.Stopped → came s old o [] [] ≡ Stopped new [] []
 stopped s old new (Next c) h = absurd h
 stopped s old new (Stop c) h = ap (λ d. Stopped d [] []) (sym h)
 stopped s old new (Wants name arguments c) h = absurd h
 stopped s old new (Faults f) h = absurd h
 
--- a fault of the story, or want of memory
-faulted : (s : StoryTree) (old new : Configuration) (f : Fault) (o : Outcome) → Ends o old new (ends.Fault f)
-    → (came s old o [] [] ≡ Faulted f new [] []) ⊎ ((f ≡ OutOfMemory) × (new ≡ old))
-faulted s old new f (Next c) h = inr h
-faulted s old new f (Stop c) h = inr h
-faulted s old new f (Wants name arguments c) h = inr h
+-- a fault of the story, or want of memory; the globals stay
+faulted : (s : StoryTree) (old new : Configuration) (f : Fault) (o : Outcome) → Ends o old.shared.globals new (ends.Fault f)
+    → ((came s old o [] [] ≡ Faulted f old [] []) ⊎ (f ≡ OutOfMemory)) × (new.shared.globals ≡ old.shared.globals)
+faulted s old new f (Next c) h = (inr h.0, h.1)
+faulted s old new f (Stop c) h = (inr h.0, h.1)
+faulted s old new f (Wants name arguments c) h = (inr h.0, h.1)
 faulted s old new f (Faults g) h = elim h.0 [
-  | inl same ↦ inl (ap (λ x. Faulted x old [] []) (sym same) ∙ ap (λ d. Faulted f d [] []) (sym h.1))
-  | inr short ↦ inr (short, h.1)
+  | inl same ↦ (inl (ap (λ x. Faulted x old [] []) (sym same)), h.1)
+  | inr short ↦ (inr short, h.1)
 ]
 
 -- ---- from moment to moment
@@ -60,20 +60,25 @@ module _ (s : StoryTree) (start : Configuration) where
   stays_to n k m ended le h = let e : k ≡ n + (k - n) = omega arith in stays (k - n) n k m ended e h
 
   pub run_went : (n : ℕ) (old new : Configuration) → moment s nothing_bound start [] n ≡ At old [] []
-      → Ends (step s nothing_bound old) old new ends.Went → moment s nothing_bound start [] (n + 1) ≡ At new [] []
+      → Ends (step s nothing_bound old) old.shared.globals new ends.Went → moment s nothing_bound start [] (n + 1) ≡ At new [] []
   run_went n old new h e = step_on n _ h ∙ went s old new (step s nothing_bound old) e
 
   pub run_stopped : (n k : ℕ) (old new : Configuration) → n < k → moment s nothing_bound start [] n ≡ At old [] []
-      → Ends (step s nothing_bound old) old new ends.Stopped → moment s nothing_bound start [] k ≡ Stopped new [] []
+      → Ends (step s nothing_bound old) old.shared.globals new ends.Stopped → moment s nothing_bound start [] k ≡ Stopped new [] []
   run_stopped n k old new below h e =
       stays_to (n + 1) k (Stopped new [] []) refl (omega arith) (step_on n _ h ∙ stopped s old new (step s nothing_bound old) e)
 
   pub run_faulted : (n : ℕ) (old new : Configuration) (f : Fault) → n < max_steps → moment s nothing_bound start [] n ≡ At old [] []
-      → Ends (step s nothing_bound old) old new (ends.Fault f)
-      → (cut_off (moment s nothing_bound start [] max_steps) ≡ Faulted f new [] []) ⊎ ((f ≡ OutOfMemory) × GotTo s start new)
-  run_faulted n old new f below h e = elim (faulted s old new f (step s nothing_bound old) e) [
-    | inl came_so ↦
-        inl (ap cut_off (stays_to (n + 1) max_steps (Faulted f new [] []) refl (omega arith) (step_on n _ h ∙ came_so)))
-    | inr short ↦
-        inr (short.0, record { steps = n; within = omega arith; got_there = h ∙ ap (λ d. At d [] []) (sym short.1) })
-  ]
+      → Ends (step s nothing_bound old) old.shared.globals new (ends.Fault f) → RunFalls s start new.shared.globals f
+  run_faulted n old new f below h e =
+      let ended = faulted s old new f (step s nothing_bound old) e in
+      record { before = old; kept = ended.1; why = elim ended.0 [
+        | inl came_so ↦
+            inl (ap cut_off (stays_to (n + 1) max_steps (Faulted f old [] []) refl (omega arith) (step_on n _ h ∙ came_so)))
+        | inr short ↦ inr (short, record { steps = n; within = omega arith; got_there = h })
+      ] }
+
+  -- the run needs one more step than it may take
+  pub run_out : (n : ℕ) (now : Configuration) → max_steps ≡ n → moment s nothing_bound start [] n ≡ At now [] []
+      → RunFalls s start now.shared.globals OutOfSteps
+  run_out n now e h = record { before = now; kept = refl; why = inl (ap (λ k. cut_off (moment s nothing_bound start [] k)) e ∙ ap cut_off h) }

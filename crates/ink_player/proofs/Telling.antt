@@ -65,12 +65,13 @@ module _ (s : StoryTree) (c begin : Configuration) (begins : begin ≡ begun c) 
 
   pub breaks : (new : Configuration) (f : Fault) → Runs s begin new (Err f)
       → RunsThrough s nothing_bound c (Breaks f []) (Broken f new.shared.globals)
-  breaks new f h = elim h [
-    | inl faults ↦ inl ([], subst (λ m. EndsAs m (Breaks f []) (Broken f new.shared.globals)) (sym (ended _ faults)) (refl, refl))
-    | inr short ↦
-        subst (λ g. RunsThrough s nothing_bound c (Breaks g []) (Broken g new.shared.globals)) (sym short.0)
-        (fell new short.1.steps short.1.within (inl short.1.got_there))
-  ]
+  breaks new f h =
+      subst (λ vs. RunsThrough s nothing_bound c (Breaks f []) (Broken f vs)) (sym h.kept) (elim h.why [
+        | inl faults ↦ inl ([], subst (λ m. EndsAs m (Breaks f []) (Broken f h.before.shared.globals)) (sym (ended _ faults)) (refl, refl))
+        | inr short ↦
+            subst (λ g. RunsThrough s nothing_bound c (Breaks g []) (Broken g h.before.shared.globals)) (sym short.0)
+            (fell h.before short.1.steps short.1.within (inl short.1.got_there))
+      ])
 
   pub breaks_after : (stop : Configuration) → moment s nothing_bound begin [] max_steps ≡ Stopped stop [] []
       → RunsThrough s nothing_bound c (Breaks OutOfMemory []) (Broken OutOfMemory stop.shared.globals)

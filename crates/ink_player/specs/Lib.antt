@@ -11,3 +11,5 @@ pub mod Input
 pub mod Lines
 pub mod Serving
 pub mod Playing
+pub mod Globals
+pub mod Knots

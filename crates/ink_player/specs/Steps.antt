@@ -1,13 +1,19 @@
 -- How the machine's steps and runs end, beside the definitions.
-use Rattle.std.specs.Prelude.{◌≡◌, [], ◌⊎◌, ◌≤◌, ℕ, Result, Ok, Err}
+use Rattle.std.specs.Prelude.{◌≡◌, List, [], ◌⊎◌, ◌≤◌, ℕ, Option, Some, None, Result, Ok, Err}
 use Rattle.ink_model.specs.Tree.{StoryTree}
+use Rattle.ink_model.specs.Operator.{apply}
+use Rattle.ink_model.specs.Stack.{popped}
+use Rattle.ink_model.specs.Store.{Values}
 use Rattle.ink_model.specs.Configuration.{Configuration}
 use Rattle.ink_model.specs.Step.{Outcome, Next, Stop, Faults, nothing_bound}
 use Rattle.ink_model.specs.Run.{At, Stopped, Faulted, moment, cut_off, max_steps}
 use Rattle.ink_model.specs.Answer.{Reply, Tells, Breaks}
 use Rattle.ink_model.specs.State.{Condition, Ready, Broken}
 use Rattle.ink_model.specs.declared.fault.Fault.{Fault}
-use Rattle.ink_model.specs.declared.fault.Fault.TheVariants.{OutOfMemory}
+use Rattle.ink_model.specs.declared.fault.Fault.TheVariants.{OutOfMemory, StackEmpty}
+use Rattle.ink_model.specs.declared.operator.Op.{Op}
+use Rattle.ink_model.specs.declared.value.Value.{Value}
+use Rattle.ink_value.specs.Words.{Gives}
 use Rattle.ink_model.specs.declared.passage.Passage.{Passage}
 use Rattle.ink_player.specs.declared.machine.StepEnd.{StepEnd}
 use Rattle.ink_player.specs.declared.machine.StepEnd.TheVariants as ends
@@ -18,14 +24,14 @@ Goes (Next c) new ends.Went = new ≡ c
 Goes (Stop c) new ends.Stopped = new ≡ c
 Goes outcome new end = ⊥
 
--- A step ends as its outcome says. A fault leaves the configuration as it was; only want of memory may come in the place
--- of an outcome.
-abbrev pub Ends : Outcome → Configuration → Configuration → StepEnd → Type 0
-Ends (Next c) old new ends.Went = new ≡ c
-Ends (Stop c) old new ends.Stopped = new ≡ c
-Ends (Faults g) old new (ends.Fault f) = ((f ≡ g) ⊎ (f ≡ OutOfMemory)) × (new ≡ old)
-Ends outcome old new (ends.Fault f) = (f ≡ OutOfMemory) × (new ≡ old)
-Ends outcome old new end = ⊥
+-- A step ends as its outcome says. A fault leaves the globals as they were; only want of memory may come in the place of an
+-- outcome.
+abbrev pub Ends : Outcome → Values → Configuration → StepEnd → Type 0
+Ends (Next c) globals new ends.Went = new ≡ c
+Ends (Stop c) globals new ends.Stopped = new ≡ c
+Ends (Faults g) globals new (ends.Fault f) = ((f ≡ g) ⊎ (f ≡ OutOfMemory)) × (new.shared.globals ≡ globals)
+Ends outcome globals new (ends.Fault f) = (f ≡ OutOfMemory) × (new.shared.globals ≡ globals)
+Ends outcome globals new end = ⊥
 
 -- a run got to a configuration and had not ended
 pub record GotTo (s : StoryTree) (start : Configuration) (now : Configuration) : Type 0 where
@@ -33,10 +39,31 @@ pub record GotTo (s : StoryTree) (start : Configuration) (now : Configuration) :
   pub within : steps ≤ max_steps
   pub got_there : moment s nothing_bound start [] steps ≡ At now [] []
 
--- A run to its stop, or to a fault, with what it leaves.
+-- a run ended with a fault, or lacked memory, at a configuration with these globals
+pub record RunFalls (s : StoryTree) (start : Configuration) (globals : Values) (f : Fault) : Type 0 where
+  pub before : Configuration
+  pub kept : globals ≡ before.shared.globals
+  pub why : (cut_off (moment s nothing_bound start [] max_steps) ≡ Faulted f before [] []) ⊎ ((f ≡ OutOfMemory) × GotTo s start before)
+
+-- A run to its stop, with what it leaves, or to a fault, with the globals that it leaves.
 abbrev pub Runs : StoryTree → Configuration → Configuration → Result (Unit {0}) Fault → Type 0
 Runs s old new (Ok u) = moment s nothing_bound old [] max_steps ≡ Stopped new [] []
-Runs s old new (Err f) = (cut_off (moment s nothing_bound old [] max_steps) ≡ Faulted f new [] []) ⊎ ((f ≡ OutOfMemory) × GotTo s old new)
+Runs s old new (Err f) = RunFalls s old new.shared.globals f
+
+-- what is taken off a stack
+abbrev pub Pops : List Value → List Value → Option Value → Type 0
+Pops old new None = (popped old ≡ None) × (new ≡ old)
+Pops old new (Some v) = popped old ≡ Some (v, new)
+
+-- a copy of what is at the top of a stack
+abbrev pub CopiesTop : Option (Value × List Value) → Result Value Fault → Type 0
+CopiesTop None result = result ≡ Err StackEmpty
+CopiesTop (Some r) result = Gives result (Ok r.0)
+
+-- what an operator makes of the values at the top of a stack, which are taken off before it looks at them
+abbrev pub Applies : Op → Option (List Value × List Value) → List Value → Result Value Fault → Type 0
+Applies operator None new result = result ≡ Err StackEmpty
+Applies operator (Some r) new result = Gives result (apply operator r.0) × (new ≡ r.1)
 
 -- what a running command returned, as a reply, and the condition that it leaves
 abbrev pub told : Result Passage Fault → Reply

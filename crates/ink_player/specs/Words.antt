@@ -17,12 +17,12 @@ story_tree s = tree s.raw
 abbrev pub config_of : Machine → Configuration
 config_of m = record {
   flow = record {
-    threads = record { thread = record { frame = base_frame m.place; below = []; previous = m.previous }; below = [] };
-    stack = [];
+    threads = record { thread = record { frame = record (base_frame m.place) { evaluating = m.evaluating }; below = []; previous = m.previous }; below = [] };
+    stack = m.stack.items;
     choices = [];
     safe = m.safe;
   };
-  shared = record { globals = []; visits = []; turns = []; turn = 0 };
+  shared = record { globals = m.globals; visits = []; turns = []; turn = 0 };
   page = record { line = m.marks.items; sections = []; next_enter = 0 };
 }
 

@@ -5,6 +5,7 @@ mod answer;
 mod command;
 mod desk;
 mod end;
+mod globals;
 mod input;
 mod lines;
 mod machine;

@@ -1,18 +1,26 @@
 //! The machine that runs a story forward.
 
 ghost use Rattle.std.specs.Prelude.{◌≡◌, IfOk};
-ghost use Rattle.ink_model.specs.Configuration.{start, begun, settled, can_go_on};
+ghost use Rattle.ink_model.specs.Configuration.{begun, settled, can_go_on};
 ghost use Rattle.ink_model.specs.Session.{passage, is_loose, RunsThrough};
 ghost use Rattle.ink_model.specs.Step.{nothing_bound};
 ghost use Rattle.ink_player.specs.Words.{story_tree, config_of};
 ghost use Rattle.ink_player.specs.Steps.{Runs, told, left_by};
 
+mod evaluating;
+mod knots;
+mod opening;
+mod operands;
 mod places;
 mod steps;
+mod storing;
+mod writing;
 
+use crate::globals::Globals;
 use crate::marks::{shown_tags, shown_text};
 use crate::story::Story;
 use ink_model::{Fault, Mark, Passage, Place, Seq};
+use ink_value::EvalStack;
 use std::alloc::{AllocError, Global};
 
 /// Steps that a command may take.
@@ -23,12 +31,15 @@ const MAX_STEPS: u32 = 1_000_000;
 pub struct Machine {
     pub(crate) place: Option<Place>,
     pub(crate) previous: Option<Place>,
+    pub(crate) evaluating: bool,
     pub(crate) safe: bool,
     pub(crate) marks: Vec<Mark>,
+    pub(crate) stack: EvalStack,
+    pub(crate) globals: Globals,
     pub(crate) alloc: Global,
 }
 
-/// How a step ended: flow went on, it stopped, or a fault came and nothing has changed.
+/// How a step ended: flow went on, it stopped, or a fault came and no global has changed.
 #[derive(Clone, Copy)]
 pub enum StepEnd {
     Went,
@@ -37,21 +48,6 @@ pub enum StepEnd {
 }
 
 impl Machine {
-    /// A machine at the story's start. The one error is a refused request for memory.
-    #[tactic(auto, unfolding(ink_model::specs::Configuration::start))]
-    pub(crate) fn new(alloc: Global, story: &Story) -> Result<Machine, AllocError>
-        ensures { IfOk result (λ m. config_of m ≡ start (story_tree story.now)) }
-    {
-        let place = places::first_place(alloc, &story.raw)?;
-        Ok(Machine {
-            place: Some(place),
-            previous: None,
-            safe: false,
-            marks: Vec::new(alloc),
-            alloc,
-        })
-    }
-
     /// Whether flow has not stopped.
     pub(crate) fn can_go_on(&self) -> bool
         ensures { result ≡ can_go_on (config_of self.now) }
@@ -66,7 +62,7 @@ impl Machine {
         !self.can_go_on() && !self.safe
     }
 
-    /// Runs to the stop and tells the passage. After a fault the machine is of no more use.
+    /// Runs to the stop and tells the passage. After a fault the machine is of no more use, but for its globals.
     pub(crate) fn through(&mut self, story: &Story) -> Result<Passage, Fault>
         ensures { RunsThrough (story_tree story.now) nothing_bound (config_of self.old) (told result) (left_by result (config_of self.new)) }
     {

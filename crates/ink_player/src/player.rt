@@ -4,7 +4,8 @@ ghost use Rattle.std.specs.Prelude.{◌≡◌, ◌⊎◌, Some, IfOk, IfErr, Ok,
 ghost use Rattle.ink_model.specs.Answer.{reply_of, reply_of_events, reply_of_value};
 ghost use Rattle.ink_model.specs.Configuration.{Configuration};
 ghost use Rattle.ink_model.specs.Opening.{opening, opened};
-ghost use Rattle.ink_model.specs.Session.{Through, Set, Get, Restart};
+ghost use Rattle.ink_model.specs.Session.{Through, Set, Get, Restart, settable};
+ghost use Rattle.ink_model.specs.Run as rules;
 ghost use Rattle.ink_model.specs.State.{is_running, fault_in};
 ghost use Rattle.ink_model.specs.Step.{nothing_bound};
 ghost use Rattle.ink_model.specs.declared.fault.Fault.TheVariants.{OutOfMemory};
@@ -17,6 +18,9 @@ use crate::machine::Machine;
 use crate::story::Story;
 use ink_model::{Event, Fault, Given, Halt, Passage, Refusal, Seq, Value};
 use std::alloc::Global;
+
+/// Bytes that a text may have.
+const MAX_TEXT: usize = 1_048_576;
 
 /// A story that is played: where it stands, and the desk of the host's objects.
 pub struct Player {
@@ -46,7 +50,7 @@ impl Player {
         ensures fault { IfErr result (λ e. (e.fault ≡ OutOfMemory) ⊎ (opening (story_tree story) ≡ Err e.fault)) }
         ensures kept { IfErr result (λ e. e.story ≡ story) }
     {
-        match Machine::new(alloc, &story) {
+        match Machine::open(alloc, &story) {
             Ok(machine) => Ok(Player {
                 story,
                 desk,
@@ -55,11 +59,7 @@ impl Player {
                 stamp: 0,
                 alloc,
             }),
-            Err(_) => Err(OpenFault {
-                fault: Fault::OutOfMemory,
-                story,
-                desk,
-            }),
+            Err(fault) => Err(OpenFault { fault, story, desk }),
         }
     }
 
@@ -99,9 +99,19 @@ impl Player {
         ensures does { Set name.now (Some value) (state_of self.old) (reply_of_events result) (state_of self.new) }
         ensures story { story_of self.new ≡ story_of self.old }
     {
-        let _ = name;
-        let _ = value;
-        Err(Halt::Refused(Refusal::OutOfMemory))
+        if let Some(fault) = self.broken {
+            return Err(Halt::Refused(Refusal::Broken(fault)));
+        }
+        if !is_settable(&value) {
+            return Err(Halt::Refused(Refusal::BadValue));
+        }
+        if !self.machine.globals.contains(name) {
+            return Err(Halt::Refused(Refusal::NoSuchVariable));
+        }
+        match self.machine.set(name, value_given(value)) {
+            Ok(()) => Ok(Seq::new(self.alloc)),
+            Err(_) => Err(Halt::Refused(Refusal::OutOfMemory)),
+        }
     }
 
     /// A global's value; of a broken player as it stood before the step that faulted. Refused with `NoSuchVariable` where
@@ -109,8 +119,13 @@ impl Player {
     pub fn get(&self, name: &str) -> Result<Value, Refusal>
         ensures { Get name.now (state_of self.now) (reply_of_value result) (state_of self.now) }
     {
-        let _ = name;
-        Err(Refusal::OutOfMemory)
+        let Some(value) = self.machine.globals.get(name) else {
+            return Err(Refusal::NoSuchVariable);
+        };
+        match value.clone_in(self.alloc) {
+            Ok(copy) => Ok(copy),
+            Err(_) => Err(Refusal::OutOfMemory),
+        }
     }
 
     /// Begins anew, as the story was opened; a broken player too. Refused with `OutOfMemory` alone; nothing has changed then.
@@ -118,7 +133,21 @@ impl Player {
         ensures does { Restart (story_of self.old) (state_of self.old) (reply_of_events result) (state_of self.new) }
         ensures story { story_of self.new ≡ story_of self.old }
     {
-        Err(Halt::Refused(Refusal::OutOfMemory))
+        match Machine::open(self.alloc, &self.story) {
+            Ok(machine) => {
+                self.machine = machine;
+                self.broken = None;
+                Ok(Seq::new(self.alloc))
+            }
+            Err(Fault::OutOfMemory) => Err(Halt::Refused(Refusal::OutOfMemory)),
+            Err(fault) => {
+                self.broken = Some(fault);
+                Err(Halt::Fault {
+                    fault,
+                    events: Seq::new(self.alloc),
+                })
+            }
+        }
     }
 
     /// The fault that broke the player, if one did. Takes no memory.
@@ -139,5 +168,27 @@ impl Player {
             alloc: _,
         } = self;
         desk
+    }
+}
+
+/// Whether a value may be set: it is no void, and no text over its limit.
+fn is_settable(value: &Given) -> bool
+    ensures { result ≡ settable value.now }
+{
+    match value {
+        Given::Int(_) | Given::Bool(_) => true,
+        Given::Text(text) => text.as_str().len() <= MAX_TEXT,
+        Given::Void => false,
+    }
+}
+
+fn value_given(value: Given) -> Value
+    ensures { result ≡ rules.value_given value }
+{
+    match value {
+        Given::Int(number) => Value::Int(number),
+        Given::Bool(truth) => Value::Bool(truth),
+        Given::Text(text) => Value::Text(text),
+        Given::Void => Value::Void,
     }
 }

@@ -44,6 +44,7 @@ impl EvalStack {
         ensures err { OnErr result (self.new.items ≡ self.old.items) }
         ensures too_deep { (result ≡ Err Fault.TooDeep) ↔ (length self.old.items ≡ max_stack) }
         ensures faults { IfErr result (λ f. (f ≡ Fault.TooDeep) ⊎ (f ≡ Fault.OutOfMemory)) }
+        ensures within { length self.new.items ≤ max_stack }
     {
         if self.items.len() >= MAX_STACK {
             return Err(Fault::TooDeep);

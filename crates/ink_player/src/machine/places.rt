@@ -12,7 +12,7 @@ use ink_model::{Content, Part, Place};
 use std::alloc::{AllocError, Global};
 
 /// How many contents stand by index in what was found.
-fn width_of(found: Option<&Content>) -> usize
+pub(super) fn width_of(found: Option<&Content>) -> usize
     ensures { result ≡ width (option_map (λ c. view c.now) found.entry) }
 {
     match found {

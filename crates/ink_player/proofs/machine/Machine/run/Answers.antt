@@ -1,5 +1,5 @@
 use Rattle.std.proofs.Common.{arith}
-use Rattle.ink_player.proofs.Running.{begins, run_went, run_stopped, run_faulted}
+use Rattle.ink_player.proofs.Running.{begins, run_went, run_stopped, run_faulted, run_out}
 use Rattle.ink_player.proofs.machine.Machine.run.Goals as goal
 
 pub loop-step-init : goal.loop-step-init
@@ -13,3 +13,6 @@ returns-in-Stopped c = run_stopped _ _ c.loop-step._step 1000000 _ _ (omega arit
 
 pub returns-in-Fault : goal.returns-in-Fault
 returns-in-Fault c = run_faulted _ _ c.loop-step._step _ _ _ (omega arith) c.loop-step.invariant c.in-Fault.ensures
+
+pub returns : goal.returns
+returns c = run_out _ _ c.loop-step._step _ (omega arith) c.loop-step.invariant

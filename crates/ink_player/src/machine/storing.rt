@@ -1,0 +1,81 @@
+//! Steps that read and change globals.
+
+ghost use Rattle.std.specs.Prelude.{◌≡◌, is_some, IfOk, OnOk, OnErr};
+ghost use Rattle.ink_model.specs.Configuration.{with_globals};
+ghost use Rattle.ink_model.specs.Stack.{popped};
+ghost use Rattle.ink_model.specs.Step.{go_on, pushes, declares, assigns, read_global};
+ghost use Rattle.ink_model.specs.Store.{stored, store};
+ghost use Rattle.ink_player.specs.Words.{story_tree, config_of};
+ghost use Rattle.ink_player.specs.Steps.{Ends};
+
+use crate::machine::operands::top;
+use crate::machine::places::place_after;
+use crate::machine::{Machine, StepEnd};
+use crate::story::Story;
+use ink_model::{Fault, Place, Text, Value};
+use std::alloc::AllocError;
+
+impl Machine {
+    /// What is popped becomes the value of a global, which need not be there.
+    pub(super) fn declare(&mut self, story: &Story, here: Place, name: &Text) -> StepEnd
+        ensures { Ends (declares (story_tree story.now) here name.now (popped self.old.stack.items) (config_of self.old)) self.old.globals (config_of self.new) result }
+    {
+        let Some(value) = top(&mut self.stack) else {
+            return StepEnd::Fault(Fault::StackEmpty);
+        };
+        self.put(story, here, name.as_str(), value)
+    }
+
+    /// What is popped becomes the value of a global that has to be there.
+    pub(super) fn assign(&mut self, story: &Story, here: Place, name: &Text) -> StepEnd
+        ensures { Ends (assigns (story_tree story.now) here name.now (popped self.old.stack.items) (config_of self.old)) self.old.globals (config_of self.new) result }
+    {
+        let Some(value) = top(&mut self.stack) else {
+            return StepEnd::Fault(Fault::StackEmpty);
+        };
+        if !self.globals.contains(name.as_str()) {
+            return StepEnd::Fault(Fault::NoTemp);
+        }
+        self.put(story, here, name.as_str(), value)
+    }
+
+    /// Gives a global a value and goes on. A global changes last: what can fail comes before.
+    fn put(&mut self, story: &Story, here: Place, name: &str, value: Value) -> StepEnd
+        ensures { Ends (go_on (story_tree story.now) here (with_globals (store name.now value self.old.globals) (config_of self.old))) self.old.globals (config_of self.new) result }
+    {
+        let Ok(next) = place_after(self.alloc, &story.raw, here.parts()) else {
+            return StepEnd::Fault(Fault::OutOfMemory);
+        };
+        if let Err(_) = self.globals.put(name, value) {
+            return StepEnd::Fault(Fault::OutOfMemory);
+        }
+        self.go(here, next)
+    }
+
+    pub(super) fn read(&mut self, story: &Story, here: Place, name: &Text) -> StepEnd
+        ensures { Ends (pushes (story_tree story.now) here (read_global name.now (config_of self.old)) (config_of self.old)) self.old.globals (config_of self.new) result }
+    {
+        let Ok(value) = self.value_of(name.as_str()) else {
+            return StepEnd::Fault(Fault::OutOfMemory);
+        };
+        self.push(story, here, value)
+    }
+
+    /// The value of a global, 0 where there is no such global. The one error is a refused request for memory.
+    fn value_of(&self, name: &str) -> Result<Value, AllocError>
+        ensures { IfOk result (λ value. value ≡ read_global name.now (config_of self.now)) }
+    {
+        match self.globals.get(name) {
+            Some(value) => value.clone_in(self.alloc),
+            None => Ok(Value::Int(0)),
+        }
+    }
+
+    /// Gives a global that is there a value. The one error is a refused request for memory, and leaves it as it was.
+    pub(crate) fn set(&mut self, name: &str, value: Value) -> Result<(), AllocError>
+        ensures ok { OnOk result (config_of self.new ≡ with_globals (store name.now value self.old.globals) (config_of self.old)) }
+        ensures err { OnErr result (config_of self.new ≡ config_of self.old) }
+    {
+        self.globals.put(name, value)
+    }
+}
