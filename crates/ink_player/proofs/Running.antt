@@ -72,11 +72,15 @@ module _ (s : StoryTree) (start : Configuration) where
       → Ends (step s nothing_bound old) old.shared.globals new (ends.Fault f) → RunFalls s start new.shared.globals f
   run_faulted n old new f below h e =
       let ended = faulted s old new f (step s nothing_bound old) e in
-      record { before = old; kept = ended.1; why = elim ended.0 [
-        | inl came_so ↦
-            inl (ap cut_off (stays_to (n + 1) max_steps (Faulted f old [] []) refl (omega arith) (step_on n _ h ∙ came_so)))
-        | inr short ↦ inr (short, record { steps = n; within = omega arith; got_there = h })
-      ] }
+      record {
+        before = old;
+        kept = ended.1;
+        why = elim ended.0 [
+          | inl came_so ↦
+              inl (ap cut_off (stays_to (n + 1) max_steps (Faulted f old [] []) refl (omega arith) (step_on n _ h ∙ came_so)))
+          | inr short ↦ inr (short, record { steps = n; within = omega arith; got_there = h })
+        ];
+      }
 
   -- the run needs one more step than it may take
   pub run_out : (n : ℕ) (now : Configuration) → max_steps ≡ n → moment s nothing_bound start [] n ≡ At now [] []

@@ -16,7 +16,7 @@ pub kept_value : (key : String Global) (v : Value) (es : List (String Global × 
 kept_value key v [] = refl
 kept_value key v (e ∷ es) =
     elim (bytes_eq (string_bytes key) (string_bytes e.0)) as (λ b. values_of (if b then (e.0, v) ∷ es else e ∷ insert_entry string_eq es key v)
-      ≡ (if b then (string_bytes e.0, v) ∷ values_of es else (string_bytes e.0, e.1) ∷ store (string_bytes key) v (values_of es))) [
+    ≡ (if b then (string_bytes e.0, v) ∷ values_of es else (string_bytes e.0, e.1) ∷ store (string_bytes key) v (values_of es))) [
       | true ↦ refl
       | false ↦ ap (λ vs. (string_bytes e.0, e.1) ∷ vs) (kept_value key v es)
     ]

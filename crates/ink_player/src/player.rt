@@ -99,8 +99,8 @@ impl Player {
         ensures does { Set name.now (Some value) (state_of self.old) (reply_of_events result) (state_of self.new) }
         ensures story { story_of self.new ≡ story_of self.old }
     {
-        if let Some(fault) = self.broken {
-            return Err(Halt::Refused(Refusal::Broken(fault)));
+        if let Some(cause) = self.broken {
+            return Err(Halt::Refused(Refusal::Broken(cause)));
         }
         if !is_settable(&value) {
             return Err(Halt::Refused(Refusal::BadValue));
@@ -140,10 +140,10 @@ impl Player {
                 Ok(Seq::new(self.alloc))
             }
             Err(Fault::OutOfMemory) => Err(Halt::Refused(Refusal::OutOfMemory)),
-            Err(fault) => {
-                self.broken = Some(fault);
+            Err(cause) => {
+                self.broken = Some(cause);
                 Err(Halt::Fault {
-                    fault,
+                    fault: cause,
                     events: Seq::new(self.alloc),
                 })
             }

@@ -15,7 +15,10 @@ use ink_model::{Content, Part, Place, Text};
 use std::alloc::{AllocError, Global};
 
 /// Where flow lands to declare the globals, none where the story declares none. The one error is a refused request for memory.
-pub(super) fn first_declaration(alloc: Global, story: &RawStory) -> Result<Option<Place>, AllocError>
+pub(super) fn first_declaration(
+    alloc: Global,
+    story: &RawStory,
+) -> Result<Option<Place>, AllocError>
     ensures { IfOk result (λ found. found ≡ option_map (landed (tree story.now)) (declarations (tree story.now))) }
 {
     let Some(mut place) = knot(alloc, story, "global decl")? else {
@@ -90,7 +93,8 @@ fn has_name(name: &str, content: &Content) -> bool
 {
     match content {
         Content::Container {
-            name: Some(own), ..
+            name: Some(own),
+            ..
         } => name == own.as_str(),
         _ => false,
     }
