@@ -1,13 +1,12 @@
 -- Taking bytes of what was read ahead.
-use Rattle.std.proofs.Common.{◌≡◌, ◌≢◌, ℕ, ◌+◌, ◌-◌, ◌<◌, ◌≤◌, max, List, [], ◌∷◌, ◌++◌, length, take, drop, Bool, true, false, ◌||◌, Option, Result, Ok, Err, ap, ◌∙◌, sym, refl, subst, inl, arith, append_assoc, append-nil, length-append, length-drop, length-take}
+use Rattle.std.proofs.Common.{◌≡◌, ◌≢◌, ℕ, ◌+◌, ◌-◌, ◌<◌, ◌≤◌, max, List, [], ◌∷◌, ◌++◌, length, take, drop, Bool, true, false, ◌||◌, Option, Err, ap, ◌∙◌, sym, refl, subst, inl, arith, append_assoc, append-nil, length-append, length-drop, length-take}
 use Rattle.std.proofs.lemmas.Bool.{ne_eqb}
 use Rattle.std.proofs.KnownBytes.{Consumes-nil, Consumes-trans}
 use Rattle.ink_player.specs.Buffered.{Buffered}
 use Rattle.ink_player.specs.Input.{Takes}
-use Rattle.ink_player.specs.Lines.{has_newline, TakesLine, TakesPart, IsTooLong, GivesLine, Pushes}
+use Rattle.ink_player.specs.Lines.{has_newline, TakesLine, GivesLine, Pushes}
 use Rattle.ink_player.specs.declared.end.RunFault.{RunFault}
 use Rattle.ink_player.specs.declared.end.RunFault.TheVariants as fault
-use Rattle.ink_player.specs.declared.lines.Line.{Line}
 
 -- there is a byte from `at` to `end`
 pub some_there : (at end : ℕ) (chunk : List ℕ) → at < end → end ≤ length chunk → drop at (take end chunk) ≡ [] → ⊥

@@ -1,5 +1,5 @@
 -- How far a sink has come with bytes.
-use Rattle.std.proofs.Common.{◌≡◌, ◌≢◌, ℕ, List, ◌++◌, Bool, true, false, ◌||◌, ◌&&◌, ◌∙◌, ap, sym, append_assoc, take, drop, take-append-drop, Option, Result, Ok}
+use Rattle.std.proofs.Common.{◌≡◌, ◌≢◌, ℕ, List, ◌++◌, Bool, false, ◌||◌, ◌&&◌, ◌∙◌, ap, sym, append_assoc, take, drop, take-append-drop, Option, Ok}
 use Rattle.std.proofs.lemmas.Bool.{ne_eqb}
 use Rattle.ink_player.specs.Ends.{takes_nothing, is_some_byte}
 use Rattle.std.specs.Io.KnownBytes.{Appends}
