@@ -1,4 +1,4 @@
--- The command of a line that is a text, and of one that isn't; and of a text by its first word.
+-- Lines that are texts, words and spaces in them, and the values that they spell.
 use Rattle.std.proofs.Common.{◌≡◌, ◌≢◌, ℕ, suc, ◌+◌, ◌<◌, Bool, true, false, not, ◌==◌, List, [], ◌∷◌, ◌++◌, length, take, drop, Bor, Option, None, Some, MatchOption, ap, ◌∙◌, sym, cond, refl, inl, inr, arith, IsTrue, ◌↔◌, IsUtf8}
 use Rattle.std.specs.List.{position_or_len, before_first, after_first}
 use Rattle.std.specs.Option.{option_map, option_and_then}
