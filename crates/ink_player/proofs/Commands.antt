@@ -1,7 +1,7 @@
--- The command of a line that is a text, and of one that isn't; and of a text by its first word.
-use Rattle.std.proofs.Common.{◌≡◌, ◌≢◌, ℕ, suc, ◌+◌, ◌<◌, Bool, true, false, not, ◌==◌, List, [], ◌∷◌, ◌++◌, length, take, drop, codes, Bor, Option, None, Some, MatchOption, ap, ◌∙◌, sym, subst, cond, refl, inl, inr, arith, IsTrue, ◌↔◌, IsUtf8}
+-- Lines that are texts, words and spaces in them, and the values that they spell.
+use Rattle.std.proofs.Common.{◌≡◌, ◌≢◌, ℕ, suc, ◌+◌, ◌<◌, Bool, true, false, not, ◌==◌, List, [], ◌∷◌, ◌++◌, length, take, drop, Bor, Option, None, Some, MatchOption, ap, ◌∙◌, sym, cond, refl, inl, inr, arith, IsTrue, ◌↔◌, IsUtf8}
 use Rattle.std.specs.List.{position_or_len, before_first, after_first}
-use Rattle.std.specs.Option.{option_map, option_or, option_and_then}
+use Rattle.std.specs.Option.{option_map, option_and_then}
 use Rattle.std.specs.Str.{is_utf8}
 use Rattle.std.specs.Str.Pattern.{LacksTextAt, FindsTextPrefix, StripsPrefix}
 use Rattle.serde_json.specs.Data.{Data}
@@ -9,8 +9,7 @@ use Rattle.serde_json.specs.Read.{read}
 use Rattle.std.proofs.lemmas.Bool.{eq-eqb, true≢false, false≢true}
 use Rattle.std.proofs.lemmas.Bool.Decides.{eqb_tells}
 use Rattle.std.proofs.lemmas.Str.{IsUtf8-from_is_utf8, is_utf8-from_IsUtf8}
-use Rattle.ink_model.specs.Command.{command_of, command_word, plain_command, get_command, set_command, after, at_space, given_of, given_by}
-use Rattle.ink_model.specs.declared.command.Command.{Command}
+use Rattle.ink_model.specs.Command.{command_of, command_word, after, at_space, given_of, given_by}
 
 pub command_of_text : (line : List ℕ) → IsUtf8 line → command_of line ≡ command_word line
 unfolding command_of

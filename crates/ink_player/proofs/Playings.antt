@@ -1,15 +1,14 @@
 -- How a play goes on from its story's line.
-use Rattle.std.proofs.Common.{◌≡◌, ℕ, ◌+◌, ◌-◌, ◌<◌, ◌≤◌, max, List, [], ◌∷◌, ◌++◌, length, Bool, true, false, Option, Result, Ok, Err, ap, ◌∙◌, sym, refl, subst, inl, inr, arith, append_assoc, append-nil, length-append}
-use Rattle.std.specs.Io.KnownBytes.{Appends, Consumes, IsAtEnd}
+use Rattle.std.proofs.Common.{◌≡◌, ℕ, ◌+◌, ◌-◌, ◌<◌, ◌≤◌, List, [], ◌∷◌, ◌++◌, length, false, Option, Result, Ok, Err, ap, ◌∙◌, sym, refl, subst, inl, inr, arith, append_assoc, append-nil, length-append}
+use Rattle.std.specs.Io.KnownBytes.{IsAtEnd}
 use Rattle.std.proofs.KnownBytes.{Appends-nil, Consumes-trans}
-use Rattle.ink_model.specs.Grammar.{here, story, max_story}
+use Rattle.ink_model.specs.Grammar.{max_story}
 use Rattle.ink_model.specs.Opening.{opened}
 use Rattle.ink_model.specs.State.{State}
-use Rattle.ink_model.specs.Tree.{StoryTree}
 use Rattle.ink_player.specs.Buffered.{Buffered}
 use Rattle.ink_player.specs.Input.{Takes}
-use Rattle.ink_player.specs.Lines.{has_newline, TakesLine, TakesPart, IsTooLong, GivesLine}
-use Rattle.ink_player.specs.Playing.{IsStoryLine, PlaysOn, EndsEarly, IsRefused, IsUnopened, PlayFails, PlayEnds, Plays, play_fault, OpenFails, Opens}
+use Rattle.ink_player.specs.Lines.{has_newline, TakesLine, GivesLine}
+use Rattle.ink_player.specs.Playing.{IsStoryLine, PlaysOn, EndsEarly, PlayFails, PlayEnds, Plays, play_fault, OpenFails, Opens}
 use Rattle.ink_player.specs.Serving.{RunEnds, Runs, max_input}
 use Rattle.ink_player.specs.Words.{state_of, story_of}
 use Rattle.ink_player.specs.declared.desk.Desk.{Desk}

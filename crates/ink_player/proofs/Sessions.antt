@@ -1,7 +1,7 @@
 -- How a session goes on by a line, and how it ends.
-use Rattle.std.proofs.Common.{◌≡◌, ℕ, ◌+◌, ◌<◌, ◌≤◌, List, [], ◌∷◌, ◌++◌, length, Bool, true, false, cond, ◌==◌, Option, Some, None, Result, Ok, Err, ap, ◌∙◌, sym, refl, subst, inl, inr, arith, append_assoc, append-nil, length-append}
+use Rattle.std.proofs.Common.{◌≡◌, ℕ, ◌+◌, ◌<◌, ◌≤◌, List, [], ◌∷◌, ◌++◌, length, false, cond, ◌==◌, Option, Some, None, Result, Ok, Err, ap, ◌∙◌, sym, refl, subst, inl, inr, arith, append_assoc, append-nil, length-append}
 use Rattle.std.specs.List.{AllByRecursion}
-use Rattle.std.specs.Io.KnownBytes.{Appends, Consumes, IsAtEnd}
+use Rattle.std.specs.Io.KnownBytes.{Appends, IsAtEnd}
 use Rattle.std.proofs.KnownBytes.{Appends-nil, Appends-trans, Consumes-trans}
 use Rattle.ink_model.specs.Answer.{Reply, Refuses, answer}
 use Rattle.ink_model.specs.Clean.{onto}
@@ -17,8 +17,8 @@ use Rattle.ink_player.specs.Buffered.{Buffered}
 use Rattle.ink_player.specs.Commands.{NeedsMemory}
 use Rattle.ink_player.specs.Ends.{Falls}
 use Rattle.ink_player.specs.Input.{Takes}
-use Rattle.ink_player.specs.Lines.{has_newline, TakesLine, TakesPart, IsTooLong, GivesLine}
-use Rattle.ink_player.specs.Serving.{max_line, IsLine, spelled, Splits, IsFirst, ServesAll, LosesReader, IsLongLine, IsLongInput, GoesOver, ServesFirst, LacksMemory, LosesWriter, RunEnds, Runs, Answered, Unanswered, HalfAnswered, Answers, ServesLine}
+use Rattle.ink_player.specs.Lines.{has_newline, TakesLine, GivesLine}
+use Rattle.ink_player.specs.Serving.{max_line, IsLine, spelled, Splits, IsFirst, IsLongInput, RunEnds, Runs, Answered, Answers, ServesLine}
 use Rattle.ink_player.specs.declared.end.RunFault.{RunFault}
 use Rattle.ink_player.specs.declared.end.RunFault.TheVariants as fault
 use Rattle.ink_player.proofs.Reading.{neither}

@@ -1,4 +1,4 @@
-use Rattle.std.proofs.Common.{string_bytes, ◌++◌, sym, ap, ◌∙◌, lit<}
+use Rattle.std.proofs.Common.{string_bytes, ◌++◌, ap, ◌∙◌, lit<}
 use Rattle.ink_player.proofs.Paths.{first_written, next_written}
 use Rattle.ink_player.proofs.answer.push_parts.Goals as goal
 use Rattle.ink_player.proofs.answer.push_parts.Goals.{then-index-gt0+in_ok-push, else-index-gt0}

@@ -1,4 +1,4 @@
-use Rattle.std.proofs.Common.{Ok, sym, ap, ◌∙◌}
+use Rattle.std.proofs.Common.{sym, ap, ◌∙◌}
 use Rattle.ink_model.specs.Answer.{reply_data}
 use Rattle.ink_player.specs.Replies.{reply_by}
 use Rattle.ink_player.specs.declared.answer.Outcome.TheVariants.{Events}

@@ -1,7 +1,5 @@
-use Rattle.std.proofs.Common.{ap, ◌∙◌, subst}
+use Rattle.std.proofs.Common.{◌∙◌}
 use Rattle.std.proofs.KnownBytes.{Appends-nil}
-use Rattle.std.specs.Io.KnownBytes.{Appends}
-use Rattle.ink_player.specs.Ends.{Falls}
 use Rattle.ink_player.specs.Replies.{reply_by}
 use Rattle.ink_player.proofs.Sessions.{written_as, cut_as}
 use Rattle.ink_player.proofs.session.answer_line.Goals as goal
