@@ -1,25 +1,34 @@
 -- Small worked examples of the rules, each proved by computation.
-use Rattle.std.specs.Prelude.{◌≡◌, ℕ, zero, suc, ◌+◌, List, [], ◌∷◌, ◌++◌, refl, codes, true, false, Option, Some, None, Ok, Err}
+use Rattle.std.specs.Prelude.{◌≡◌, ℤ, pos, negsuc, ℕ, zero, suc, ◌+◌, List, [], ◌∷◌, ◌++◌, refl, codes, true, false, Option, Some, None, Ok, Err}
 use Rattle.std.proofs.Common.{inl, inr, ap, arith, zero-add, suc-add}
 use Rattle.std.proofs.lemmas.Str.{is_utf8-from_IsUtf8}
 use Rattle.std.specs.Char.{encode_utf8}
 use Rattle.serde_json.specs.Data.{unsigned, Data, null, number, string, array, object, no_items, item, no_members, member}
 use Rattle.serde_json.proofs.OnLiterals.{serde_json_on_literals}
 use Rattle.ink_model.specs.Tree.{StoryTree, leaf, container, Trees, no_trees, tree, no_keys, key, at}
-use Rattle.ink_model.specs.Place.{entered, next_place}
+use Rattle.ink_model.specs.Place.{entered, next_place, landed, knot}
 use Rattle.ink_model.specs.Grammar as grammar
 use Rattle.ink_model.specs.Grammar.{here, of_json, of_value, string_leaf, word}
 use Rattle.ink_model.specs.Mark.{cut, shown}
 use Rattle.ink_model.specs.Clean.{clean}
-use Rattle.ink_model.specs.Configuration.{Configuration, start, fresh_at, ended, with_safe, put_at, moved, settled, begun}
-use Rattle.ink_model.specs.Step.{Bound, step, go_on, writes, nothing_bound, Next, Stop, with_page}
+use Rattle.ink_model.specs.Configuration.{Configuration, with_mode, with_stack, with_globals, start, fresh_at, ended, with_safe, put_at, moved, settled, begun}
+use Rattle.ink_model.specs.Step.{Bound, Faults, pushes, step, go_on, writes, nothing_bound, Next, Stop, with_page}
 use Rattle.ink_model.specs.Run.{Made, moment, next, run, through, cut_off, At, Stopped}
 use Rattle.ink_model.specs.Command.{lines_of, command_of}
-use Rattle.ink_model.specs.Answer.{answer, Tells, Refuses, Breaks}
-use Rattle.ink_model.specs.Session.{Session, Serves, passage}
+use Rattle.ink_model.specs.Answer.{answer, Tells, Acts, Shows, Refuses, Breaks}
+use Rattle.ink_model.specs.Session.{Session, Serves, Set, Get, Restart, passage}
 use Rattle.ink_model.specs.State.{State, Ready, Broken}
-use Rattle.ink_model.specs.Opening.{opened}
+use Rattle.ink_model.specs.Opening.{opened, opened_by, opening}
+use Rattle.ink_model.specs.Store.{store}
+use Rattle.ink_model.specs.Value.{printed}
+use Rattle.ink_model.specs.Operator.{apply}
 use Rattle.ink_model.specs.declared.host.Given.{Given}
+use Rattle.ink_model.specs.declared.host.Given.TheVariants as given
+use Rattle.ink_model.specs.declared.operator.Op.TheVariants as op
+use Rattle.ink_model.specs.declared.value.Value.{Value}
+use Rattle.ink_model.specs.declared.value.Value.TheVariants as value
+use Rattle.ink_model.specs.declared.content.Control.{Control}
+use Rattle.ink_model.specs.declared.content.Control.TheVariants as control
 use Rattle.ink_model.specs.declared.command.Command.TheVariants.{Through}
 use Rattle.ink_model.specs.declared.content.Leaf.TheVariants as leaves
 use Rattle.ink_model.specs.declared.content.Control.TheVariants.{Done, End}
@@ -300,3 +309,134 @@ a_short_session = (
   refl,
   (Refuses refusal.BadCommand, no_memory, [], rw other_line (refl, refl), refl, (refl, refl)),
 )
+
+-- ---- evaluation, globals and opening
+
+abbrev number_content : ℤ → StoryTree
+number_content z = leaf (leaves.Int z)
+
+abbrev control_content : Control → StoryTree
+control_content o = leaf (leaves.Control o)
+
+-- a story of one list, from which the steps below begin
+abbrev story_of : Trees → StoryTree
+story_of content = list content
+
+abbrev evaluating : Configuration → Configuration
+evaluating c = with_mode true c
+
+abbrev at_first : List Value → Configuration
+at_first vs = with_stack vs (fresh_at (Index 0 ∷ []))
+
+-- in evaluation mode a text is pushed and not written
+a_text_pushed : step (story_of (tree (text (codes "x")) (tree newline no_trees))) nothing_bound (evaluating (at_first []))
+    ≡ Next (with_stack (value.Text (codes "x") ∷ []) (moved (Index 0 ∷ []) (Some (Index 1 ∷ [])) (evaluating (at_first []))))
+unfolding step fresh_at entered pushes go_on next_place cut
+a_text_pushed = refl
+
+-- outside it an integer does nothing
+a_number_passed : step (story_of (tree (number_content (pos 5)) (tree newline no_trees))) nothing_bound (at_first [])
+    ≡ Next (moved (Index 0 ∷ []) (Some (Index 1 ∷ [])) (at_first []))
+unfolding step fresh_at entered go_on next_place
+a_number_passed = refl
+
+-- `ev` in evaluation mode, and `/ev` outside it
+begun_twice : step (story_of (tree (control_content control.BeginEval) no_trees)) nothing_bound (evaluating (at_first [])) ≡ Faults fault.BadMode
+unfolding step fresh_at entered
+begun_twice = refl
+
+ended_twice : step (story_of (tree (control_content control.EndEval) no_trees)) nothing_bound (at_first []) ≡ Faults fault.BadMode
+unfolding step fresh_at entered
+ended_twice = refl
+
+-- `out` writes what it pops, and on an empty stack does nothing; `pop` faults there
+an_out : step (story_of (tree (control_content control.Out) (tree newline no_trees))) nothing_bound (at_first (value.Bool true ∷ []))
+    ≡ Next (with_page (record { line = Text (codes "true") ∷ []; sections = []; next_enter = 0 }) (moved (Index 0 ∷ []) (Some (Index 1 ∷ [])) (at_first [])))
+unfolding step fresh_at entered printed writes go_on next_place cut
+an_out = refl
+
+an_empty_out : step (story_of (tree (control_content control.Out) (tree newline no_trees))) nothing_bound (at_first [])
+    ≡ Next (moved (Index 0 ∷ []) (Some (Index 1 ∷ [])) (at_first []))
+unfolding step fresh_at entered go_on next_place
+an_empty_out = refl
+
+an_empty_pop : step (story_of (tree (control_content control.Pop) no_trees)) nothing_bound (at_first []) ≡ Faults fault.StackEmpty
+unfolding step fresh_at entered
+an_empty_pop = refl
+
+-- a lone operand is popped, and its kind is never looked at
+lacking_an_operand : step (story_of (tree (leaf (leaves.Op op.Add)) no_trees)) nothing_bound (at_first (value.Void ∷ [])) ≡ Faults fault.StackEmpty
+unfolding step fresh_at entered
+lacking_an_operand = refl
+
+a_quotient : step (story_of (tree (leaf (leaves.Op op.Divide)) (tree newline no_trees))) nothing_bound (at_first (value.Int (negsuc 6) ∷ value.Int (pos 2) ∷ []))
+    ≡ Next (with_stack (value.Int (negsuc 2) ∷ []) (moved (Index 0 ∷ []) (Some (Index 1 ∷ [])) (at_first [])))
+unfolding step fresh_at entered apply pushes go_on next_place
+a_quotient = refl
+
+-- a global is declared; one that is there keeps its place when it is declared again
+declared_again : store (codes "x") (value.Int (pos 2)) ((codes "x", value.Int (pos 1)) ∷ (codes "y", value.Void) ∷ []) ≡ (codes "x", value.Int (pos 2)) ∷ (codes "y", value.Void) ∷ []
+declared_again = refl
+
+declared_last : store (codes "z") value.Void ((codes "x", value.Void) ∷ []) ≡ (codes "x", value.Void) ∷ (codes "z", value.Void) ∷ []
+declared_last = refl
+
+-- assigning to a global that is absent faults, and reading one gives 0
+assigned_absent : step (story_of (tree (leaf (leaves.Assign (codes "x"))) no_trees)) nothing_bound (at_first (value.Void ∷ [])) ≡ Faults fault.NoTemp
+unfolding step fresh_at entered
+assigned_absent = refl
+
+read_absent : step (story_of (tree (leaf (leaves.Variable (codes "x"))) (tree newline no_trees))) nothing_bound (at_first [])
+    ≡ Next (with_stack (value.Int (pos 0) ∷ []) (moved (Index 0 ∷ []) (Some (Index 1 ∷ [])) (at_first [])))
+unfolding step fresh_at entered pushes go_on next_place
+read_absent = refl
+
+-- ["ev",1,{"VAR=":"x"},"end",null] as the knot `global decl`
+abbrev declaring : StoryTree
+declaring = container None 0 (tree (leaf (leaves.Control Done)) no_trees)
+    (key (codes "global decl") (list (tree (control_content control.BeginEval) (tree (number_content (pos 1)) (tree (leaf (leaves.Declare (codes "x"))) (tree (leaf (leaves.Control End)) no_trees))))) no_keys)
+
+a_knot : knot (codes "global decl") declaring ≡ Some (Name (codes "global decl") ∷ [])
+unfolding knot
+a_knot = refl
+
+no_knot : knot (codes "h") small ≡ None
+unfolding knot
+no_knot = refl
+
+-- the containers of the root's list are knots too, by their names
+a_listed_knot : knot (codes "g") small ≡ Some (Index 2 ∷ [])
+unfolding knot
+a_listed_knot = refl
+
+abbrev declared_end : Configuration
+declared_end = ended (with_globals ((codes "x", value.Int (pos 1)) ∷ []) (fresh_at (Name (codes "global decl") ∷ Index 0 ∷ [])))
+
+declarations_run : moment declaring nothing_bound (fresh_at (Name (codes "global decl") ∷ Index 0 ∷ [])) [] 4 ≡ Stopped declared_end [] []
+unfolding run step fresh_at entered pushes go_on next_place
+declarations_run = refl
+
+-- a story is opened with the globals that it declares
+an_opening : opening declaring ≡ Ok (start declaring ((codes "x", value.Int (pos 1)) ∷ []))
+unfolding opening knot landed fresh_at
+an_opening = ap (λ m. opened_by declaring (cut_off m))
+    (stays declaring nothing_bound (fresh_at (Name (codes "global decl") ∷ Index 0 ∷ [])) declared_end 4 999996 [] [] [] declarations_run)
+
+abbrev with_x : State
+with_x = opened (start declaring ((codes "x", value.Int (pos 1)) ∷ []))
+
+-- a bad value is told before an absent variable
+a_bad_value : Set (codes "y") None with_x (Refuses refusal.BadValue) with_x
+a_bad_value = inl (refl, refl)
+
+an_absent_variable : Set (codes "y") (Some (given.Int (pos 1))) with_x (Refuses refusal.NoSuchVariable) with_x
+unfolding start fresh_at
+an_absent_variable = inl (refl, refl)
+
+-- a broken player still shows its globals, and begins anew
+a_broken_get : Get (codes "x") (record { condition = Broken fault.Divide ((codes "x", value.Int (pos 3)) ∷ []); stamp = 0 }) (Shows (value.Int (pos 3)))
+    (record { condition = Broken fault.Divide ((codes "x", value.Int (pos 3)) ∷ []); stamp = 0 })
+a_broken_get = inl (refl, refl)
+
+a_restart : Restart declaring (record { condition = Broken fault.Divide []; stamp = 0 }) (Acts []) with_x
+a_restart = inl (rw an_opening (refl, refl))
