@@ -1,5 +1,5 @@
 #!/usr/bin/env python3
-"""Times reading and running on stories of 1, 4 and 16 MiB, and prints the times side by side.
+"""Times reading and running on stories of 1, 4 and 16 MiB, and long arithmetic, and prints the times side by side.
 
     bench/bench.py [PROGRAM]      the program is ./inkplay unless another is named
 
@@ -43,6 +43,14 @@ def huge_texts(size):
     return flat(size, '"^' + "x" * (MIB - 64) + '"')
 
 
+ARITHMETIC = '"ev",7,3,"*",5,"+",4,"%",{"VAR=":"x"},{"VAR?":"x"},2,"<","pop","/ev"'
+
+
+def arithmetic(steps):
+    """A long list of arithmetic on integers and a global, with nothing written."""
+    return HEAD + ",".join([ARITHMETIC] * (steps // 14)) + TAIL
+
+
 def best(program, lines):
     """The least time of three runs, and what was written."""
     times, written = [], b""
@@ -78,6 +86,17 @@ def main():
                     sys.exit("bench: %r" % written[:200])
                 ran.append(took)
             row("  .. and run through", ran)
+
+
+    print()
+    print("%-34s %9s %9s %9s" % ("arithmetic, run through", "steps", "ms", "ns a step"))
+    for steps in (14 * 15000, 14 * 60000):
+        story = arithmetic(steps)
+        reading = best(program, story + "\n")[0]
+        took, written = best(program, story + "\nthrough\n")
+        if b'"text":""' not in written:
+            sys.exit("bench: %r" % written[:200])
+        print("%-34s %9d %9.1f %9.0f" % ("", steps, took - reading, (took - reading) * 1e6 / steps))
 
 
 if __name__ == "__main__":

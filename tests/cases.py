@@ -66,6 +66,52 @@ PLAYED = [
     ("a text at its limit", story("^" + "x" * MIB, "end") + "\nthrough\n", [passage("x" * MIB)]),
 ]
 
+G = json.dumps({"inkVersion": 21, "root": [["^A", "\n", "ev", {"VAR?": "x"}, "out", "/ev", "\n", "done", None], "done",
+                                           {"global decl": ["ev", 1, {"VAR=": "x"}, "/ev", "end", None]}]})
+DONE = '{"events":[]}'
+
+
+def value(v):
+    return json.dumps({"value": v}, separators=(",", ":"), ensure_ascii=False)
+
+
+def refused(name):
+    return '{"refused":"%s"}' % name
+
+
+def written(*content):
+    """A story that evaluates and writes."""
+    return story("ev", *(content + ("/ev", "end"))) + "\nthrough\n"
+
+
+PLAYED += [
+    ("globals", G + "\nget x\nset x 7\nthrough\nget x\nrestart\nget x\n", [value(1), DONE, passage("A\n7\n"), value(7), DONE, value(1)]),
+    ("kinds of values", G + '\nset x true\nget x\nset x "é"\nget x\nset x -2147483648\nget x\n', [DONE, value(True), DONE, value("é"), DONE, value(-2147483648)]),
+    ("values that are none", G + "\nset x null\nset x 1.0\nset x 2147483648\nset x [1]\nset x {\nset y {\nget x\n", [refused("BadValue")] * 6 + [value(1)]),
+    ("variables that are none", G + "\nset y 1\nget y\n", [refused("NoSuchVariable")] * 2),
+    ("lines near commands on globals", G + "\nset\nset x\nset x \nset  x 1\nget\nget \nget x y\nrestart \n", [BAD] * 8),
+    ("JSON may begin with spaces", G + "\nset x  5 \nget x\n", [DONE, value(5)]),
+    ("arithmetic", written(-7, 2, "/", "out", -7, 2, "%", "out", 2147483647, 1, "+", "out", -2147483648, "_", "out"), [passage("-3-1-2147483648-2147483648")]),
+    ("comparison and logic", written(1, True, "==", "out", "^ ", "out", 2, "^2", "!=", "out", "^ ", "out", 0, "!", 3, "&&", "out"), [passage("true false true")]),
+    ("texts", written("^ab", 1, "+", "out", "^abc", "^bc", "?", "out", "^abc", "^cb", "!?", "out"), [passage("ab1truetrue")]),
+    ("extremes and rounding", written(3, -4, "MIN", "out", 3, -4, "MAX", "out", 5, "FLOOR", "out", True, "INT", "out"), [passage("-4351")]),
+    ("void is written as nothing", written("void", "out", 1, "out"), [passage("1")]),
+    ("out on an empty stack", written("out"), [passage("")]),
+    ("a value outside evaluation mode", story(5, True, "void", "^a", "end") + "\nthrough\n", [passage("a")]),
+    ("divisor 0, and begun anew", story("^a", "ev", 1, 0, "/", "/ev", "end") + "\nthrough\nthrough\nset x 1\nget x\nrestart\nthrough\n",
+     [fault("Divide"), broken("Divide"), broken("Divide"), refused("NoSuchVariable"), DONE, fault("Divide")]),
+    ("the least integer by -1", written(-2147483648, -1, "/"), [fault("Divide")]),
+    ("operands of other kinds", written("void", 1, "+"), [fault("BadOperands")]),
+    ("an operand too few", written(1, "+"), [fault("StackEmpty")]),
+    ("modes", story("ev", "ev") + "\nthrough\n", [fault("BadMode")]),
+    ("assigning what is absent", written(1, {"VAR=": "x", "re": True}), [fault("NoTemp")]),
+    ("reading what is absent", written({"VAR?": "x"}, "out"), [passage("0")]),
+    ("a stack at its limit", story("ev", *[1] * 10000 + ["/ev", "end"]) + "\nthrough\n", [passage("")]),
+    ("a value too many", story("ev", *[1] * 10001) + "\nthrough\n", [fault("TooDeep")]),
+    ("declared in the root's list", '{"inkVersion":21,"root":["^a",["ev",2,{"VAR=":"x"},"/ev",{"#n":"global decl"}],"end",null]}\nget x\n', [value(2)]),
+    ("as before the step that faulted", story("ev", 1, {"VAR=": "x"}, 2, {"VAR=": "x"}, "pop") + "\nthrough\nget x\n", [fault("StackEmpty"), value(2)]),
+]
+
 # name, input, what standard error says behind "inkplay: story refused: "
 REFUSED = [
     ("nothing", "", "NotJson"),
@@ -78,6 +124,11 @@ REFUSED = [
     ("a root that is no container", '{"inkVersion":21,"root":["done"]}\n', "Shape at root"),
     ("flags out of range", '{"inkVersion":21,"root":["done",{"#f":8}]}\n', "Shape at root"),
     ("null among the content", story("done", None) + "\n", "Shape at 1"),
+    ("an integer too large", story(["ev", 2147483648, None]) + "\n", "Limit at 0.1"),
+    ("a number that is not whole", story(["ev", 1.5, None]) + "\n", "Unsupported at 0.1"),
+    ("a name that is no text", story({"VAR=": 1}) + "\n", "Shape at 0"),
+    ("an option that is no boolean", story({"VAR=": "x", "re": 1}) + "\n", "Shape at 0"),
+    ("two heads", story({"VAR=": "x", "VAR?": "x"}) + "\n", "Shape at 0"),
     ("another word", story(["rnd", None]) + "\n", "Unsupported at 0.0"),
     ("a divert", story(["^a", {"->": "0"}, None]) + "\n", "Unsupported at 0.1"),
     ("no container at a key", '{"inkVersion":21,"root":["done",{"b":[null],"k":1}]}\n', "Shape at k"),
@@ -109,10 +160,12 @@ def main():
             good += 1
         else:
             print("%s: status %d, %r, %r" % (name, got[2], got[0][:200], got[1][:200]))
+    declared = '{"inkVersion":21,"root":["done",{"global decl":["pop",null]}]}\nthrough\n'
+    good += run(program, declared) == ("", "inkplay: story fault: StackEmpty\n", 2)
     words = subprocess.run([program, "--help"], stdin=subprocess.DEVNULL, stdout=subprocess.PIPE, stderr=subprocess.PIPE)
     good += (words.stdout, words.stderr, words.returncode) == (b"", b"inkplay: words refused\n", 2)
-    print("%d of %d hold" % (good, len(cases) + 1))
-    return 0 if good == len(cases) + 1 else 1
+    print("%d of %d hold" % (good, len(cases) + 2))
+    return 0 if good == len(cases) + 2 else 1
 
 
 if __name__ == "__main__":

@@ -47,7 +47,13 @@ STORIES = (
     ('{"inkVersion":21,"root":["^A",null],"listDefs":{}}', ("through",)),
     ('{"inkVersion":21,"root":[["^  a  b","\\n","\\n","^\\tc ","\\n",["done",{"#n":"g-0"}],null],"done",null],"listDefs":{}}', ("through",)),
     ('{"inkVersion":21,"root":[["\\n","^\\n\\nA\\n \\n",["done",{"#n":"g-0"}],{"k":["^never",null]}],"done",null],"listDefs":{}}', ("through",)),
-    ('{"inkVersion":21,"root":[[1,["done",{"#n":"g-0"}],null],"done",null],"listDefs":{}}', ("through",)),
+    ('{"inkVersion":21,"root":[[1.5,["done",{"#n":"g-0"}],null],"done",null],"listDefs":{}}', ("through",)),
+    ('{"inkVersion":21,"root":[["^A","\\n","ev",{"VAR?":"x"},"out","/ev","\\n",["done",{"#n":"g-0"}],null],"done",{"global decl":["ev",1,{"VAR=":"x"},"/ev","end",null]}]}',
+     ("set x 7", "through", "get x", "get y", "set y 1", "set y 1.5", "restart", "get x", 'set x "a b"', "through", "get x")),
+    ('{"inkVersion":21,"root":[["ev","^ab","^c","+","du",{"VAR=":"t"},"out",-7,2,"/","out",true,"^x","+","out","/ev","\\n",["done",{"#n":"g"}],null],"done",null]}',
+     ("through", "get t", "restart", "get t")),
+    ('{"inkVersion":21,"root":[["^A","\\n","ev",1,0,"/","out","/ev","\\n",["done",{"#n":"g-0"}],null],"done",null]}',
+     ("through", "through", "restart", "through")),
 )
 
 TEST = "player::tests::want_of_memory_is_told"
@@ -76,25 +82,51 @@ def test_binary(top):
     return binary
 
 
-def after_fault(commands):
-    return [BROKEN if c == "through" else BAD_COMMAND for c in commands]
+NO_MEMORY = b'{"refused":"OutOfMemory"}'
 
 
-def is_right(commands, ample, status, lines, error):
+def is_right(program, story, commands, ample, status, lines, error):
     """Is this what the program may answer where one request was refused?"""
     ample_status, ample_lines, ample_error = ample
     if status == 2 and not lines:
         return error in (b"inkplay: words refused\n", b"inkplay: story refused: OutOfMemory\n", b"inkplay: story fault: OutOfMemory\n")
     if status == 1:
-        return error == b"inkplay: run fault: OutOfMemory\n" and is_run(commands[:len(lines)], ample_lines, lines)
-    return (status, error) == (ample_status, ample_error) and len(lines) == len(ample_lines) and is_run(commands, ample_lines, lines)
+        return error == b"inkplay: run fault: OutOfMemory\n" and is_run(program, story, commands[:len(lines)], ample_lines, lines)
+    return (status, error) == (ample_status, ample_error) and len(lines) == len(ample_lines) and is_run(program, story, commands, ample_lines, lines)
 
 
-def is_run(commands, ample_lines, lines):
+def is_run(program, story, commands, ample_lines, lines):
+    """The answers with ample memory, but for one that tells of the want of memory, and then those of a player from there."""
     for k, line in enumerate(lines):
         if line != ample_lines[k]:
-            return line == FAULT and commands[k] == "through" and lines[k + 1:] == after_fault(commands[k + 1:])
+            before, command, after = commands[:k], commands[k], commands[k + 1:]
+            if line == FAULT and command == "through":
+                rest = broken_from(program, story, before, after)
+            elif line == NO_MEMORY and command.split()[0] in ("set", "get", "restart"):
+                rest = [(line,) for line in answers(program, story, before + after)[k:]]
+            else:
+                return False
+            return all(line in allowed for line, allowed in zip(lines[k + 1:], rest))
     return True
+
+
+def answers(program, story, commands):
+    return play([program], "\n".join((story,) + commands) + "\n")[1]
+
+
+def broken_from(program, story, before, after):
+    """What a player may answer that a `through` after some commands has broken. Its globals are those of some moment of the
+    run: in these stories as they were before it or as they are after it."""
+    rest = []
+    for k, command in enumerate(after):
+        word = command.split()[0]
+        if word == "restart":
+            return rest + [(line,) for line in answers(program, story, after[k:])]
+        if word == "get":
+            rest.append((answers(program, story, before + (command,))[-1], answers(program, story, before + ("through", command))[-1]))
+        else:
+            rest.append((BROKEN,) if word in ("through", "set") else (BAD_COMMAND,))
+    return rest
 
 
 def main():
@@ -115,7 +147,7 @@ def main():
                 if not refused:
                     break
                 runs += 1
-                if not is_right(commands, ample, status, lines, error):
+                if not is_right(program, story, commands, ample, status, lines, error):
                     wrong += 1
                     print("request %d of %s: status %d, %r, %r" % (n, story[:60], status, lines, error))
         for n in range(1, 100000):
