@@ -1,11 +1,11 @@
 -- Opening a story, from the run of its declarations.
-use Rattle.std.proofs.Common.{◌≡◌, ◌∙◌, ◌⊎◌, ap, sym, refl, subst, inl, inr, List, [], Option, Some, None, option_map, Result, Ok, Err}
+use Rattle.std.proofs.Common.{◌≡◌, ◌∙◌, ◌⊎◌, ap, sym, refl, inl, inr, List, [], Option, Some, None, option_map, Ok, Err}
 use Rattle.ink_model.specs.Tree.{StoryTree}
 use Rattle.ink_model.specs.Place.{landed}
 use Rattle.ink_model.specs.Configuration.{Configuration, fresh_at, start, begun, with_globals}
 use Rattle.ink_model.specs.Step.{nothing_bound}
 use Rattle.ink_model.specs.Store.{Values}
-use Rattle.ink_model.specs.Run.{Moment, Stopped, Faulted, moment, cut_off, max_steps}
+use Rattle.ink_model.specs.Run.{Moment, Stopped, moment, cut_off, max_steps}
 use Rattle.ink_model.specs.Opening.{declarations, opening, opened_by, opened_from}
 use Rattle.ink_model.specs.declared.fault.Fault.{Fault}
 use Rattle.ink_model.specs.declared.fault.Fault.TheVariants.{OutOfMemory}

@@ -6,7 +6,7 @@ use Rattle.ink_model.specs.Step.{Outcome, Next, Stop, Wants, Faults, step, nothi
 use Rattle.ink_model.specs.Run.{Moment, At, Stopped, Faulted, came, next, run, moment, cut_off, max_steps}
 use Rattle.ink_model.specs.declared.fault.Fault.{Fault}
 use Rattle.ink_model.specs.declared.fault.Fault.TheVariants.{OutOfMemory, OutOfSteps}
-use Rattle.ink_player.specs.Steps.{Ends, GotTo, RunFalls}
+use Rattle.ink_player.specs.Steps.{Ends, RunFalls}
 use Rattle.ink_player.specs.declared.machine.StepEnd.TheVariants as ends
 
 -- ---- the moment after an outcome

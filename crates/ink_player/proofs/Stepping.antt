@@ -1,10 +1,9 @@
 -- How a step ends, from how its parts end.
-use Rattle.std.proofs.Common.{◌≡◌, ◌≢◌, ◌⊎◌, ◌↔◌, ◌+◌, ◌<◌, ◌≤◌, sym, refl, subst, inl, inr, ap, List, [], ◌∷◌, ◌++◌, length, Option, Some, None, Result, Ok, Err, true, false, nat_lt, length-append, arith}
+use Rattle.std.proofs.Common.{◌≡◌, ◌⊎◌, ◌+◌, ◌<◌, ◌≤◌, sym, refl, subst, inl, inr, List, [], ◌∷◌, ◌++◌, length, Option, Some, None, Err, true, false, nat_lt, length-append, arith}
 use Rattle.std.proofs.lemmas.Bool.Decides.{nat_tests}
 use Rattle.ink_model.specs.Tree.{StoryTree, at}
 use Rattle.ink_model.specs.Place.{entered, next_place}
 use Rattle.ink_model.specs.Configuration.{Configuration, place_of, with_stack}
-use Rattle.ink_model.specs.Operator.{apply}
 use Rattle.ink_model.specs.Step.{Outcome, Next, Stop, Wants, Faults, goes, go_on, writes, pushes, operates, performs, step, step_at, nothing_bound, with_page, noted}
 use Rattle.ink_model.specs.Store.{Values}
 use Rattle.ink_model.specs.declared.fault.Fault.{Fault}

@@ -1,4 +1,4 @@
-use Rattle.std.proofs.Common.{◌∙◌, ap, refl}
+use Rattle.std.proofs.Common.{◌∙◌, ap}
 use Rattle.ink_model.specs.Store.{stored}
 use Rattle.ink_player.proofs.Storing.{found_value}
 use Rattle.ink_player.proofs.globals.Globals.get.Goals as goal

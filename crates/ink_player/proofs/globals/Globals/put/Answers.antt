@@ -1,4 +1,4 @@
-use Rattle.std.proofs.Common.{◌∙◌, ap, string_bytes}
+use Rattle.std.proofs.Common.{◌∙◌, ap}
 use Rattle.ink_model.specs.Store.{store}
 use Rattle.ink_player.specs.Globals.{values_of}
 use Rattle.ink_player.proofs.Storing.{kept_value}

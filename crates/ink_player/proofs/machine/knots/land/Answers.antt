@@ -1,4 +1,4 @@
-use Rattle.std.proofs.Common.{◌∙◌, ap, sym}
+use Rattle.std.proofs.Common.{◌∙◌, ap}
 use Rattle.ink_json.specs.Story.{tree}
 use Rattle.ink_model.specs.Tree.{at, width}
 use Rattle.ink_player.proofs.Knots.{landed_in, landed_on}
