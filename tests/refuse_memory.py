@@ -7,7 +7,7 @@ calls of the library.
 A small library, built here with cc and loaded in front of the C library, refuses the n-th request. For each story below n
 goes from 1 on until no request is left to refuse. Each run has to end as docs/PROTOCOL.md says: the named error for want of
 memory, or the same answers as with ample memory up to the command that found none, the fault OutOfMemory there, and what a
-broken player answers to the lines after it. A test of the library that holds under any refusal is run in the same way. The
+broken player answers to the lines after it. Two tests of the library that hold under any refusal are run in the same way. The
 last line tells the number of runs; the status is 0 only where all hold.
 """
 import os
@@ -56,7 +56,7 @@ STORIES = (
      ("through", "through", "restart", "through")),
 )
 
-TEST = "player::tests::want_of_memory_is_told"
+TESTS = ("player::tests::want_of_memory_is_told", "player::tests::want_of_memory_leaves_globals")
 
 BROKEN = b'{"fault":"OutOfMemory","refused":"Broken"}'
 BAD_COMMAND = b'{"refused":"BadCommand"}'
@@ -150,14 +150,15 @@ def main():
                 if not is_right(program, story, commands, ample, status, lines, error):
                     wrong += 1
                     print("request %d of %s: status %d, %r, %r" % (n, story[:60], status, lines, error))
-        for n in range(1, 100000):
-            status, lines, error, refused = play([test_binary(top), TEST], "", shim, n)
-            if not refused:
-                break
-            runs += 1
-            if status != 0:
-                wrong += 1
-                print("request %d of %s: status %d, %r, %r" % (n, TEST, status, lines, error))
+        for test in TESTS:
+            for n in range(1, 100000):
+                status, lines, error, refused = play([test_binary(top), test], "", shim, n)
+                if not refused:
+                    break
+                runs += 1
+                if status != 0:
+                    wrong += 1
+                    print("request %d of %s: status %d, %r, %r" % (n, test, status, lines, error))
     print("%d runs, %d wrong" % (runs, wrong))
     return 1 if wrong or not runs else 0
 
