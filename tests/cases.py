@@ -153,6 +153,13 @@ def main():
     cases += [(name, text, "", "inkplay: story refused: %s\n" % why, 2) for name, text, why in REFUSED]
     too_long = story("done") + "\nbye\n" + "x" * (MIB + 1) + "\nthrough\n"
     cases.append(("a line too long", too_long, BAD + "\n", "inkplay: run fault: TooLong\n", 1))
+    first = story("done")
+    full = first + "\n" + ("x" * (MIB - 1) + "\n") * 63
+    full += "y" * (64 * MIB - len(full))
+    cases.append(("an input at its limit", full, (BAD + "\n") * 64, "", 0))
+    cases.append(("an input too long", full + "y", (BAD + "\n") * 63, "inkplay: run fault: TooLong\n", 1))
+    cases.append(("a story at its limit", first + " " * (16 * MIB - len(first)) + "\nthrough\n", passage("") + "\n", "", 0))
+    cases.append(("a story too long", first + " " * (16 * MIB + 1 - len(first)), "", "inkplay: story refused: Limit at root\n", 2))
     good = 0
     for name, text, out, err, status in cases:
         got = run(program, text)
@@ -162,10 +169,17 @@ def main():
             print("%s: status %d, %r, %r" % (name, got[2], got[0][:200], got[1][:200]))
     declared = '{"inkVersion":21,"root":["done",{"global decl":["pop",null]}]}\nthrough\n'
     good += run(program, declared) == ("", "inkplay: story fault: StackEmpty\n", 2)
+    with open("/dev/full", "wb") as full_disk:
+        done = subprocess.run([program], input=(first + "\nthrough\n").encode(), stdout=full_disk, stderr=subprocess.PIPE)
+    good += (done.stderr, done.returncode) == (b"inkplay: run fault: Write\n", 1)
+    folder = os.open(top, os.O_RDONLY)  # which cannot be read
+    done = subprocess.run([program], stdin=folder, stdout=subprocess.PIPE, stderr=subprocess.PIPE)
+    os.close(folder)
+    good += (done.stdout, done.stderr, done.returncode) == (b"", b"inkplay: run fault: Read\n", 1)
     words = subprocess.run([program, "--help"], stdin=subprocess.DEVNULL, stdout=subprocess.PIPE, stderr=subprocess.PIPE)
     good += (words.stdout, words.stderr, words.returncode) == (b"", b"inkplay: words refused\n", 2)
-    print("%d of %d hold" % (good, len(cases) + 2))
-    return 0 if good == len(cases) + 2 else 1
+    print("%d of %d hold" % (good, len(cases) + 4))
+    return 0 if good == len(cases) + 4 else 1
 
 
 if __name__ == "__main__":
