@@ -6,6 +6,8 @@ pub mod Grammar
 pub mod Mark
 pub mod Clean
 pub mod Value
+pub mod Path
+pub mod Entered
 pub mod Operator
 pub mod Store
 pub mod Stack
@@ -19,4 +21,5 @@ pub mod Answer
 pub mod State
 pub mod Session
 pub mod Memory
+pub mod PathExamples
 pub mod Examples

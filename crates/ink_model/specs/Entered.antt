@@ -1,0 +1,46 @@
+-- Which containers a landing enters (docs/RUNNING.md, "Visits").
+use Rattle.std.specs.Prelude.{ℕ, ◌/◌, ◌%◌, List, [], ◌∷◌, reverse, Bool, true, false, not, ◌&&◌, ◌||◌, ◌==◌, if◌then◌else◌, Option, Some, None}
+use Rattle.ink_model.specs.Tree.{StoryTree, leaf, container, at}
+use Rattle.ink_model.specs.Value.{same_part}
+use Rattle.ink_model.specs.declared.place.Part.{Part}
+use Rattle.ink_model.specs.declared.place.Part.TheVariants.{Index, Name}
+
+-- a place is around another, or is that place
+abbrev pub is_around : List Part → List Part → Bool
+is_around [] o = true
+is_around (p ∷ ps) [] = false
+is_around (p ∷ ps) (q ∷ qs) = same_part p q && is_around ps qs
+
+abbrev pub was_inside : List Part → Option (List Part) → Bool
+was_inside p None = false
+was_inside p (Some o) = is_around p o
+
+abbrev pub flags_at : Option StoryTree → ℕ
+flags_at None = 0
+flags_at (Some (leaf l)) = 0
+flags_at (Some (container own flags content named)) = flags
+
+-- the flag 4: only entry at the start counts
+abbrev pub starts_only : StoryTree → List Part → Bool
+starts_only s p = (flags_at (at s p) / 4) % 2 == 1
+
+abbrev pub is_first : Part → Bool
+is_first (Index i) = i == 0
+is_first (Name n) = false
+
+abbrev pub listed_if : Bool → List Part → List (List Part) → List (List Part)
+listed_if b p ps = if b then p ∷ ps else ps
+
+-- from the landing place upwards, given from its end: at_start, whether only zeros led down so far
+abbrev pub entered_above : StoryTree → Option (List Part) → Bool → List Part → List (List Part)
+entered_above s o at_start [] = []
+entered_above s o at_start (x ∷ up) = if was_inside (reverse up) o && not (starts_only s (reverse up)) then []
+    else listed_if (not (starts_only s (reverse up)) || (at_start && is_first x)) (reverse up) (entered_above s o (at_start && is_first x) up)
+
+-- the containers around a landing place that it enters, the nearest first, from the place before; where nothing stands, none
+abbrev pub entered_around : Option StoryTree → StoryTree → Option (List Part) → List Part → List (List Part)
+entered_around None s o n = []
+entered_around (Some t) s o n = entered_above s o true (reverse n)
+
+unfoldable pub entered_places : StoryTree → Option (List Part) → List Part → List (List Part)
+entered_places s o n = entered_around (at s n) s o n

@@ -1,0 +1,26 @@
+use Rattle.std.proofs.Common.{ℕ, Ok, Err, inl, inr, arith}
+use Rattle.std.proofs.lemmas.Bool.{cases_lt}
+use Rattle.std.proofs.lemmas.Str.Parse.{parse_digits}
+use Rattle.ink_model.specs.Path.{number_from}
+use Rattle.ink_tree.proofs.Reading.{numerals, small_index, large_index}
+use Rattle.ink_tree.proofs.path.index_part.Goals as goal
+use Rattle.ink_tree.proofs.path.index_part.Goals.{in_default-via-in-Ok+else-index-le-MAX_INDEX, in_default-via-in_default}
+
+pub returns-in-Ok : goal.returns-in-Ok
+returns-in-Ok c =
+    let (_, same) = parse_digits numerals {E = ℕ} 32 c.args.digits.now (Ok c.in-Ok.index) c.in-Ok.ensures.value.0 c.requires.digits in
+    small_index c.args.digits.now c.in-Ok.index same (omega arith)
+
+pub returns-in_default : goal.returns-in_default
+returns-in_default c =
+    elim c.in_default.branch [
+      | in_default-via-in-Ok+else-index-le-MAX_INDEX w ↦
+          let (_, same) = parse_digits numerals {E = ℕ} 32 c.args.digits.now (Ok w.in-Ok.index) w.in-Ok.ensures.value.0 c.requires.digits in
+          large_index c.args.digits.now (omega arith)
+      | in_default-via-in_default w ↦
+          let no = parse_digits numerals {E = ℕ} 32 c.args.digits.now (Err 0) w.in_default.ensures.value.0 c.requires.digits in
+          elim (cases_lt (number_from 0 c.args.digits.now) 2147483648) [
+            | inl small ↦ absurd (no (c.requires.filled, omega arith))
+            | inr large ↦ large_index c.args.digits.now large
+          ]
+    ]
