@@ -5,7 +5,8 @@ use Rattle.std.specs.Str.{is_utf8}
 use Rattle.serde_json.specs.Data.{Data, null, boolean, number, string, array, object}
 use Rattle.serde_json.specs.Find.{as_integer}
 use Rattle.serde_json.specs.Read.{read}
-use Rattle.ink_model.specs.Grammar.{max_text, is_small}
+use Rattle.ink_model.specs.Leaves.{is_small}
+use Rattle.ink_model.specs.Limits.{max_text}
 use Rattle.ink_model.specs.Value.{is_filled}
 use Rattle.ink_model.specs.Clean.{onto}
 use Rattle.ink_model.specs.declared.command.Command.{Command}

@@ -8,7 +8,9 @@ use Rattle.serde_json.proofs.OnLiterals.{serde_json_on_literals}
 use Rattle.ink_model.specs.Tree.{StoryTree, leaf, container, Trees, no_trees, tree, no_keys, key, at}
 use Rattle.ink_model.specs.Place.{entered, next_place, landed, knot}
 use Rattle.ink_model.specs.Grammar as grammar
-use Rattle.ink_model.specs.Grammar.{here, of_json, of_value, string_leaf, word}
+use Rattle.ink_model.specs.Grammar.{here, of_json, of_value}
+use Rattle.ink_model.specs.Leaves.{string_leaf}
+use Rattle.ink_model.specs.Word.{word, operator_word}
 use Rattle.ink_model.specs.Mark.{cut, shown}
 use Rattle.ink_model.specs.Clean.{clean}
 use Rattle.ink_model.specs.Configuration.{Configuration, with_mode, with_stack, with_globals, start, fresh_at, ended, with_safe, put_at, moved, settled, begun}
@@ -171,9 +173,9 @@ root_is_no_list : of_value (file version_21 null) ≡ Err (here Shape)
 root_is_no_list = refl
 
 -- elements by index come before the containers by key, and content of which nothing is known yet is refused where it stands
-unsupported : of_value (file version_21 (array (item (array (item done_word (item (string (codes "str")) (item null no_items)))) (item (object (member (codes "k") null no_members)) no_items))))
+unsupported : of_value (file version_21 (array (item (array (item done_word (item (string (codes "POW")) (item null no_items)))) (item (object (member (codes "k") null no_members)) no_items))))
     ≡ Err (record { cause = Unsupported; place = Index 0 ∷ Index 1 ∷ [] })
-unfolding string_leaf word
+unfolding string_leaf word operator_word
 unsupported = refl
 
 no_container_at_key : of_value (file version_21 (array (item (object (member (codes "k") null no_members)) no_items))) ≡ Err (record { cause = Shape; place = Name (codes "k") ∷ [] })

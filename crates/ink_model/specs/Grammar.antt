@@ -1,32 +1,21 @@
 -- The story that bytes spell, and what is wrong with them, first things first (docs/STORY_FORMAT.md).
-use Rattle.std.specs.Prelude.{ℕ, ◌^◌, ℤ, pos, negsuc, ◌+◌, List, [], ◌∷◌, ◌++◌, map, length, Bool, true, false, not, ◌||◌, ◌&&◌, ◌==◌, bytes_eq, codes, nat_lt, if◌then◌else◌, Option, Some, None, option_and_then, is_some, unwrap_or, Result, Ok, Err}
+use Rattle.std.specs.Prelude.{ℕ, ◌+◌, List, [], ◌∷◌, ◌++◌, map, length, Bool, true, false, not, ◌||◌, ◌&&◌, ◌==◌, bytes_eq, codes, nat_lt, if◌then◌else◌, Option, Some, None, option_and_then, is_some, unwrap_or, Result, Ok, Err}
 use Rattle.std.specs.List.{list_any}
-use Rattle.std.specs.Option.{option_or, ok_or}
 use Rattle.std.specs.Str.{is_utf8}
 use Rattle.std.specs.Result.{result_unwrap_or}
 use Rattle.serde_json.specs.Data.{Data, null, boolean, number, string, array, object, Items, no_items, item, Members, no_members, member}
 use Rattle.serde_json.specs.Read.{read}
-use Rattle.serde_json.specs.Find.{get, as_bool, as_str, as_number, as_u64, as_integer, as_array}
+use Rattle.serde_json.specs.Find.{get, as_str, as_array}
 use Rattle.ink_model.specs.Tree.{StoryTree, leaf, container, Trees, no_trees, tree, Keyed, no_keys, key}
+use Rattle.ink_model.specs.Limits.{max_story, max_nesting}
+use Rattle.ink_model.specs.Leaves.{leaf_of, whole}
 use Rattle.ink_model.specs.declared.content.Leaf.{Leaf}
 use Rattle.ink_model.specs.declared.content.Leaf.TheVariants as leaves
-use Rattle.ink_model.specs.declared.content.Control.TheVariants.{BeginEval, EndEval, Out, Pop, Duplicate, Nop, Done, End}
-use Rattle.ink_model.specs.declared.operator.Op.TheVariants as op
 use Rattle.ink_model.specs.declared.fault.Cause.{Cause}
 use Rattle.ink_model.specs.declared.fault.Cause.TheVariants.{NotJson, Version, Shape, Unsupported, Limit}
 use Rattle.ink_model.specs.declared.fault.ReadRefusal.{ReadRefusal}
 use Rattle.ink_model.specs.declared.place.Part.{Part}
 use Rattle.ink_model.specs.declared.place.Part.TheVariants.{Index, Name}
-
--- limits: bytes of a story, containers around one another, bytes of a text
-abbrev pub max_story : ℕ
-max_story = 16777216
-
-abbrev pub max_nesting : ℕ
-max_nesting = 120
-
-abbrev pub max_text : ℕ
-max_text = 1048576
 
 -- ---- refusals
 
@@ -47,107 +36,6 @@ first [] a = Ok a
 first (r ∷ rs) a = Err r
 
 -- ---- leaves
-
--- a text's first byte, `^`, says that the rest is written as it stands
-abbrev pub written_leaf : List ℕ → Option (Result Leaf Cause)
-written_leaf [] = None
-written_leaf (c ∷ cs) = if c == 94 then Some (if nat_lt max_text (length cs) then Err Limit else Ok (leaves.Text cs)) else None
-
--- ---- words
-
--- what a word stands for in a table
-abbrev pub meant : List ℕ → List (List ℕ × Leaf) → Option Leaf
-meant s [] = None
-meant s (e ∷ es) = if bytes_eq s e.0 then Some e.1 else meant s es
-
-abbrev pub flow_words : List (List ℕ × Leaf)
-flow_words = (codes "\n", leaves.Newline) ∷ (codes "done", leaves.Control Done) ∷ (codes "end", leaves.Control End)
-    ∷ (codes "nop", leaves.Control Nop) ∷ (codes "void", leaves.Void) ∷ []
-
-abbrev pub evaluation_words : List (List ℕ × Leaf)
-evaluation_words = (codes "ev", leaves.Control BeginEval) ∷ (codes "/ev", leaves.Control EndEval) ∷ (codes "out", leaves.Control Out)
-    ∷ (codes "pop", leaves.Control Pop) ∷ (codes "du", leaves.Control Duplicate) ∷ []
-
-abbrev pub arithmetic_words : List (List ℕ × Leaf)
-arithmetic_words = (codes "+", leaves.Op op.Add) ∷ (codes "-", leaves.Op op.Subtract) ∷ (codes "/", leaves.Op op.Divide)
-    ∷ (codes "*", leaves.Op op.Multiply) ∷ (codes "%", leaves.Op op.Remainder) ∷ (codes "_", leaves.Op op.Negate) ∷ []
-
-abbrev pub comparison_words : List (List ℕ × Leaf)
-comparison_words = (codes "==", leaves.Op op.Equal) ∷ (codes ">", leaves.Op op.Greater) ∷ (codes "<", leaves.Op op.Less)
-    ∷ (codes ">=", leaves.Op op.AtLeast) ∷ (codes "<=", leaves.Op op.AtMost) ∷ (codes "!=", leaves.Op op.NotEqual) ∷ []
-
-abbrev pub logic_words : List (List ℕ × Leaf)
-logic_words = (codes "!", leaves.Op op.Not) ∷ (codes "&&", leaves.Op op.And) ∷ (codes "||", leaves.Op op.Or)
-    ∷ (codes "?", leaves.Op op.Has) ∷ (codes "!?", leaves.Op op.HasNot) ∷ []
-
-abbrev pub number_words : List (List ℕ × Leaf)
-number_words = (codes "MIN", leaves.Op op.Min) ∷ (codes "MAX", leaves.Op op.Max) ∷ (codes "FLOOR", leaves.Op op.Floor)
-    ∷ (codes "CEILING", leaves.Op op.Ceiling) ∷ (codes "INT", leaves.Op op.Int) ∷ []
-
--- the leaf that a word is
-unfoldable pub word : List ℕ → Option Leaf
-word s = option_or (meant s flow_words) (option_or (meant s evaluation_words) (option_or (meant s arithmetic_words)
-    (option_or (meant s comparison_words) (option_or (meant s logic_words) (meant s number_words)))))
-
-unfoldable pub string_leaf : List ℕ → Result Leaf Cause
-string_leaf s = unwrap_or (written_leaf s) (ok_or (word s) Unsupported)
-
--- ---- numbers and objects
-
--- the integers of 32 bits
-abbrev pub is_small : ℤ → Bool
-is_small (pos n) = nat_lt n (2 ^ 31)
-is_small (negsuc n) = nat_lt n (2 ^ 31)
-
-abbrev pub integer_leaf : Option ℤ → Result Leaf Cause
-integer_leaf None = Err Unsupported
-integer_leaf (Some z) = if is_small z then Ok (leaves.Int z) else Err Limit
-
--- an option that is absent is off
-abbrev pub switch : Option Data → Option Bool
-switch None = Some false
-switch (Some d) = as_bool d
-
--- a global is declared, or assigned where `re` is on
-abbrev pub stores : Option (List ℕ) → Option Bool → Result Leaf Cause
-stores (Some name) (Some again) = Ok (if again then leaves.Assign name else leaves.Declare name)
-stores name again = Err Shape
-
-abbrev pub reads : Option (List ℕ) → Result Leaf Cause
-reads None = Err Shape
-reads (Some name) = Ok (leaves.Variable name)
-
--- an object has exactly one head
-abbrev pub headed : Option Data → Option Data → Option Data → Result Leaf Cause
-headed (Some d) None re = stores (as_str d) (switch re)
-headed None (Some d) re = reads (as_str d)
-headed None None re = Err Shape
-headed (Some d) (Some e) re = Err Shape
-
--- the heads of content that is not played yet, and those that ink has beyond what is played
-abbrev pub flow_heads : List (List ℕ)
-flow_heads = codes "->" ∷ codes "f()" ∷ codes "->t->" ∷ codes "x()" ∷ codes "*" ∷ []
-
-abbrev pub value_heads : List (List ℕ)
-value_heads = codes "^->" ∷ codes "^var" ∷ codes "temp=" ∷ codes "CNT?" ∷ codes "list" ∷ codes "#" ∷ []
-
-abbrev pub has_key : Data → List ℕ → Bool
-has_key d k = is_some (get k d)
-
-abbrev pub has_later : Data → Bool
-has_later d = list_any (has_key d) flow_heads || list_any (has_key d) value_heads
-
-unfoldable pub object_leaf : Data → Result Leaf Cause
-object_leaf d = if has_later d then Err Unsupported else headed (get (codes "VAR=") d) (get (codes "VAR?") d) (get (codes "re") d)
-
--- the leaf that JSON spells in a story of this version
-abbrev pub leaf_of : ℕ → Data → Result Leaf Cause
-leaf_of version null = Err Shape
-leaf_of version (boolean b) = Ok (leaves.Bool b)
-leaf_of version (number n) = integer_leaf (as_integer n)
-leaf_of version (string s) = string_leaf s
-leaf_of version (array ds) = Err Shape
-leaf_of version (object ms) = object_leaf (object ms)
 
 -- what is wrong with a leaf
 abbrev pub leaf_faults : Result Leaf Cause → List ReadRefusal
@@ -192,10 +80,7 @@ is_last (Some (object ms)) = true
 abbrev pub member_of : List ℕ → Option Data → Option Data
 member_of k last = option_and_then (get k) last
 
--- the flags, where they are a whole number
-abbrev pub whole : Option Data → Option ℕ
-whole d = option_and_then as_u64 (option_and_then as_number d)
-
+-- flags are a whole number below 8
 abbrev pub are_flags : Option Data → Bool
 are_flags None = true
 are_flags (Some d) = nat_lt (unwrap_or (whole (Some d)) 8) 8

@@ -3,7 +3,7 @@ use Rattle.std.specs.Prelude.{ℕ, ℤ, pos, negsuc, List, [], ◌∷◌, ◌++�
 use Rattle.std.specs.Fmt.{signed_decimal}
 use Rattle.std.specs.Int.{w32, int_wrapping_add, int_wrapping_sub, int_wrapping_mul, int_wrapping_neg, int_min, int_max}
 use Rattle.std.specs.Ordering.{int_eq}
-use Rattle.ink_model.specs.Grammar.{max_text}
+use Rattle.ink_model.specs.Limits.{max_text}
 use Rattle.ink_model.specs.Value.{truth_text, is_filled, same_path}
 use Rattle.ink_model.specs.declared.fault.Fault.{Fault}
 use Rattle.ink_model.specs.declared.fault.Fault.TheVariants.{BadOperands, Divide, TooDeep}

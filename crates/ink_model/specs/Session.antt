@@ -12,7 +12,7 @@ use Rattle.ink_model.specs.Answer.{Reply, Tells, Acts, Shows, Refuses, Breaks, a
 use Rattle.ink_model.specs.State.{State, Condition, Ready, Broken, globals_of}
 use Rattle.ink_model.specs.Store.{stored, store}
 use Rattle.ink_model.specs.Opening.{opening}
-use Rattle.ink_model.specs.Grammar.{max_text}
+use Rattle.ink_model.specs.Limits.{max_text}
 use Rattle.ink_model.specs.declared.command.Command.{Command}
 use Rattle.ink_model.specs.declared.command.Command.TheVariants as command
 use Rattle.ink_model.specs.declared.fault.Refusal.TheVariants as refusal

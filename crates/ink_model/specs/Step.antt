@@ -1,24 +1,29 @@
 -- The outcome of one step (docs/RUNNING.md, "Steps").
-use Rattle.std.specs.Prelude.{false, ℕ, ◌+◌, List, [], ◌∷◌, ◌++◌, length, true, Option, Some, None, Result, Ok, Err, is_some, unwrap_or, pos, nat_lt, if◌then◌else◌}
+use Rattle.std.specs.Prelude.{Bool, false, ℕ, ◌+◌, List, [], ◌∷◌, ◌++◌, length, true, Option, Some, None, Result, Ok, Err, is_some, unwrap_or, pos, nat_lt, if◌then◌else◌}
 use Rattle.ink_model.specs.Tree.{StoryTree, leaf, container, at}
 use Rattle.ink_model.specs.Place.{entered, next_place}
+use Rattle.ink_model.specs.Acceptance.{lands}
+use Rattle.ink_model.specs.Path.{read_path, target}
 use Rattle.ink_model.specs.Mark.{cut}
 use Rattle.ink_model.specs.Configuration.{Configuration, Page, place_of, put_at, moved, with_safe, with_stack, with_globals, with_mode, is_evaluating, ended}
 use Rattle.ink_model.specs.declared.content.Leaf.TheVariants as leaves
 use Rattle.ink_model.specs.Operator.{takes, apply}
 use Rattle.ink_model.specs.Stack.{max_stack, popped, taken}
 use Rattle.ink_model.specs.Store.{stored, store}
-use Rattle.ink_model.specs.Value.{printed}
+use Rattle.ink_model.specs.Value.{printed, is_true}
 use Rattle.ink_model.specs.declared.content.Control.{Control}
 use Rattle.ink_model.specs.declared.content.Control.TheVariants as control
+use Rattle.ink_model.specs.declared.content.Destination.{Destination}
+use Rattle.ink_model.specs.declared.content.Destination.TheVariants as destination
 use Rattle.ink_model.specs.declared.operator.Op.{Op}
 use Rattle.ink_model.specs.declared.value.Value.TheVariants as value
 use Rattle.ink_model.specs.declared.fault.Fault.{Fault}
-use Rattle.ink_model.specs.declared.fault.Fault.TheVariants.{StackEmpty, BadMode, NoTemp, TooDeep}
+use Rattle.ink_model.specs.declared.fault.Fault.TheVariants.{StackEmpty, BadMode, BadTarget, NoTemp, TooDeep}
 use Rattle.ink_model.specs.declared.host.Given.{Given}
 use Rattle.ink_model.specs.declared.mark.Mark.{Mark}
 use Rattle.ink_model.specs.declared.mark.Mark.TheVariants.{Newline}
 use Rattle.ink_model.specs.declared.place.Part.{Part}
+use Rattle.ink_model.specs.declared.place.Path.{Path}
 use Rattle.ink_model.specs.declared.value.Value.{Value}
 
 -- ---- what is bound
@@ -140,6 +145,39 @@ assigns s p name (Some r) c = if is_some (stored name c.shared.globals)
 abbrev pub read_global : List ℕ → Configuration → Value
 read_global name c = unwrap_or (stored name c.shared.globals) (value.Int (pos 0))
 
+-- ---- diverts
+
+-- flow lands at a place
+abbrev pub lands_at : List Part → Option (List Part) → Configuration → Outcome
+lands_at p None c = Faults BadTarget
+lands_at p (Some q) c = Next (moved p (Some q) c)
+
+-- a target that was read from a variable: flow lands on the very place to which it leads
+abbrev pub lands_by : StoryTree → List Part → Value → Configuration → Outcome
+lands_by s p (value.Target path) c = lands_at p (target s [] path) c
+lands_by s p v c = Faults BadTarget
+
+-- by a written path, or by what a variable holds
+abbrev pub leaps : StoryTree → List Part → Destination → Configuration → Outcome
+leaps s p (destination.Path text) c = lands_at p (lands s p text) c
+leaps s p (destination.Variable name) c = lands_by s p (read_global name c) c
+
+abbrev pub leaps_where : StoryTree → List Part → Destination → Result Bool Fault → Configuration → Outcome
+leaps_where s p to (Ok b) c = if b then leaps s p to c else go_on s p c
+leaps_where s p to (Err f) c = Faults f
+
+-- a condition is popped and looked at before all else; where it is false flow goes on
+abbrev pub leaps_if : StoryTree → List Part → Destination → Option (Value × List Value) → Configuration → Outcome
+leaps_if s p to None c = Faults StackEmpty
+leaps_if s p to (Some r) c = leaps_where s p to (is_true r.0) (with_stack r.1 c)
+
+abbrev pub diverts : StoryTree → List Part → Destination → Bool → Configuration → Outcome
+diverts s p to conditional c = if conditional then leaps_if s p to (popped c.flow.stack) c else leaps s p to c
+
+-- the path that a text spells; in an accepted story it spells one
+abbrev pub path_of : List ℕ → Path
+path_of text = unwrap_or (read_path text) (record { relative = false; parts = [] })
+
 -- ---- the step
 
 abbrev pub controls : StoryTree → List Part → Control → Configuration → Outcome
@@ -151,8 +189,9 @@ controls s p control.Duplicate c = doubles s p (popped c.flow.stack) c
 controls s p control.Nop c = go_on s p c
 controls s p control.Done c = done c
 controls s p control.End c = Stop (ended c)
+controls s p o c = go_on s p c
 
--- what stands at a place is performed
+-- what stands at a place is performed; content that is not played yet is passed over here, and kept out by `unplayed`
 abbrev pub performs : StoryTree → Bound → List Part → Option StoryTree → Configuration → Outcome
 performs s b p None c = go_on s p c
 performs s b p (Some (container name flags content named)) c = go_on s p c
@@ -161,11 +200,14 @@ performs s b p (Some (leaf leaves.Newline)) c = says s p (10 ∷ []) (Newline �
 performs s b p (Some (leaf (leaves.Int z))) c = values s p (value.Int z) c
 performs s b p (Some (leaf (leaves.Bool t))) c = values s p (value.Bool t) c
 performs s b p (Some (leaf leaves.Void)) c = values s p value.Void c
+performs s b p (Some (leaf (leaves.Target text))) c = values s p (value.Target (path_of text)) c
 performs s b p (Some (leaf (leaves.Control o))) c = controls s p o c
 performs s b p (Some (leaf (leaves.Op o))) c = operates s p o (taken (takes o) c.flow.stack []) c
+performs s b p (Some (leaf (leaves.Divert to conditional))) c = diverts s p to conditional c
 performs s b p (Some (leaf (leaves.Declare name))) c = declares s p name (popped c.flow.stack) c
 performs s b p (Some (leaf (leaves.Assign name))) c = assigns s p name (popped c.flow.stack) c
 performs s b p (Some (leaf (leaves.Variable name))) c = pushes s p (read_global name c) c
+performs s b p (Some (leaf l)) c = go_on s p c
 
 abbrev pub step_at : StoryTree → Bound → Option (List Part) → Configuration → Outcome
 step_at s b None c = Stop c

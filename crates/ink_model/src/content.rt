@@ -4,8 +4,8 @@ use crate::operator::Op;
 use crate::text::Text;
 use std::collections::BTreeMap;
 
-/// A command of the story. `BeginEval` and `EndEval` enter and leave evaluation mode; `Out` writes the top of the evaluation
-/// stack, `Pop` drops it, `Duplicate` copies it, and `Nop` does nothing.
+/// A command of the story (docs/STORY_FORMAT.md, "Content"; what each does is told in docs/RUNNING.md). `Return` is that of
+/// a function; `Turns` are those since a target was entered.
 #[derive(Clone, Copy, Debug, PartialEq, Eq)]
 pub enum Control {
     BeginEval,
@@ -14,23 +14,55 @@ pub enum Control {
     Pop,
     Duplicate,
     Nop,
+    BeginString,
+    EndString,
+    BeginTag,
+    EndTag,
+    Return,
+    ReturnTunnel,
+    Thread,
+    ChoiceCount,
+    Turn,
+    Turns,
+    ReadCount,
+    Visit,
     Done,
     End,
 }
 
-/// Content that holds no other. `Declare` and `Assign` pop a value for a global of that name, `Variable` pushes a global's.
+/// Where a divert, a call or a tunnel leads: by a path as it is spelled, or to what a variable holds.
+#[derive(Drop)]
+pub enum Destination {
+    Path(Text),
+    Variable(Text),
+}
+
+/// Content that holds no other, one variant for each form (docs/STORY_FORMAT.md, "Content"). Paths are kept as they are
+/// spelled. `Declare` and `Assign` pop a value for a variable of that name, which is a temporary in the two after them;
+/// `Variable` pushes what a variable holds, and `Count` the visits of a container.
 #[derive(Drop)]
 pub enum Leaf {
     Text(Text),
     Newline,
+    Glue,
     Int(i32),
     Bool(bool),
     Void,
+    Target(Text),
+    Pointer(Text, i32),
     Control(Control),
     Op(Op),
+    Divert { to: Destination, conditional: bool },
+    Call { to: Destination, conditional: bool },
+    Tunnel { to: Destination, conditional: bool },
+    External { name: Text, arguments: u32, conditional: bool },
     Declare(Text),
     Assign(Text),
+    DeclareTemp(Text),
+    AssignTemp(Text),
     Variable(Text),
+    Count(Text),
+    Choice { target: Text, flags: u8 },
 }
 
 /// Content: a leaf, or a container with the content in it by index and the containers given by key. `name` is the

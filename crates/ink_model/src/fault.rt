@@ -45,10 +45,14 @@ pub enum Fault {
     Divide,
     #[error("BadMode")]
     BadMode,
+    #[error("BadTarget")]
+    BadTarget,
     #[error("NoTemp")]
     NoTemp,
     #[error("HostRefused")]
     HostRefused,
+    #[error("StopInString")]
+    StopInString,
     #[error("TooDeep")]
     TooDeep,
     #[error("OutOfSteps")]

@@ -15,7 +15,7 @@ mod text;
 mod value;
 
 pub use command::Command;
-pub use content::{Content, Control, Leaf};
+pub use content::{Content, Control, Destination, Leaf};
 pub use fault::{Cause, Fault, Halt, ReadRefusal, Refusal};
 pub use frame::FrameKind;
 pub use host::{Event, Given};

@@ -1,0 +1,45 @@
+-- What is played so far (docs/STORY_FORMAT.md, "What is played").
+use Rattle.std.specs.Prelude.{List, filter, Bool, true, false, not, Option, Some, None}
+use Rattle.ink_model.specs.Tree.{StoryTree, leaf, container, at}
+use Rattle.ink_model.specs.Places.{places}
+use Rattle.ink_model.specs.declared.content.Control.{Control}
+use Rattle.ink_model.specs.declared.content.Control.TheVariants as control
+use Rattle.ink_model.specs.declared.content.Leaf.{Leaf}
+use Rattle.ink_model.specs.declared.content.Leaf.TheVariants as leaves
+use Rattle.ink_model.specs.declared.place.Part.{Part}
+
+abbrev pub plays_control : Control → Bool
+plays_control control.BeginEval = true
+plays_control control.EndEval = true
+plays_control control.Out = true
+plays_control control.Pop = true
+plays_control control.Duplicate = true
+plays_control control.Nop = true
+plays_control control.Done = true
+plays_control control.End = true
+plays_control o = false
+
+abbrev pub plays : Leaf → Bool
+plays leaves.Glue = false
+plays (leaves.Pointer name frame) = false
+plays (leaves.Call to conditional) = false
+plays (leaves.Tunnel to conditional) = false
+plays (leaves.External name arguments conditional) = false
+plays (leaves.DeclareTemp name) = false
+plays (leaves.AssignTemp name) = false
+plays (leaves.Count text) = false
+plays (leaves.Choice text flags) = false
+plays (leaves.Control o) = plays_control o
+plays l = true
+
+abbrev pub is_played : Option StoryTree → Bool
+is_played None = true
+is_played (Some (container name flags content named)) = true
+is_played (Some (leaf l)) = plays l
+
+abbrev pub is_unplayed : StoryTree → List Part → Bool
+is_unplayed s p = not (is_played (at s p))
+
+-- the places of content that is not played yet, in reading order
+unfoldable pub unplayed : StoryTree → List (List Part)
+unplayed s = filter (is_unplayed s) (places s)
