@@ -1,5 +1,5 @@
 -- Paths: their spelling, and where they lead (docs/STORY_FORMAT.md, "Paths").
-use Rattle.std.specs.Prelude.{ℕ, ◌+◌, ◌-◌, ◌*◌, ◌^◌, List, [], ◌∷◌, ◌++◌, reverse, Bool, true, false, not, ◌&&◌, ◌==◌, bytes_eq, codes, nat_lt, nat_le, is_some, if◌then◌else◌, Option, Some, None, option_and_then}
+use Rattle.std.specs.Prelude.{ℕ, ◌+◌, ◌-◌, ◌*◌, ◌^◌, List, [], ◌∷◌, ◌++◌, reverse, Bool, true, false, not, ◌&&◌, ◌==◌, bytes_eq, codes, ◌||◌, nat_eq, nat_lt, nat_le, is_some, if◌then◌else◌, Option, Some, None, option_and_then}
 use Rattle.std.specs.List.{list_all}
 use Rattle.std.specs.Option.{option_map}
 use Rattle.ink_model.specs.Tree.{StoryTree, leaf, container, at, width}
@@ -97,3 +97,15 @@ ends_in_index (c ∷ d ∷ cs) = ends_in_index (d ∷ cs)
 -- variable lands on the container itself, which is the target.
 abbrev pub landing : StoryTree → Path → List Part → List Part
 landing s path p = if ends_in_index path.parts then p else landed s p
+
+-- ---- places of a story
+
+-- a container's end, given from its last part
+abbrev pub ends_at : StoryTree → List Part → Bool
+ends_at s [] = false
+ends_at s (Name n ∷ up) = false
+ends_at s (Index i ∷ up) = is_container (at s (reverse up)) && nat_eq i (width (at s (reverse up)))
+
+-- a place of the story: of content, or a container's end
+unfoldable pub is_place : StoryTree → List Part → Bool
+is_place s p = is_some (at s p) || ends_at s (reverse p)

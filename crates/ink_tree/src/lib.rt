@@ -1,9 +1,15 @@
-//! The story tree: paths as they are read and written.
+//! The story tree: nodes, paths, and the order of content.
 #![tactic(auto)]
 
+mod moving;
 mod path;
+mod resolving;
+mod spot;
+mod tree;
 
 pub use path::{print_path, read_path};
+pub use spot::{NodeId, Spot};
+pub use tree::Tree;
 
 #[cfg(test)]
 mod tests;

@@ -1,0 +1,15 @@
+//! Nodes and spots: places of a story by number.
+
+/// Content of a story, by its number in reading order, the root's being 0 (docs/STORY_FORMAT.md, "Places"). Every call takes
+/// a number beyond the story's content for the root.
+#[derive(Clone, Copy, Debug, PartialEq, Eq)]
+pub struct NodeId {
+    pub number: usize,
+}
+
+/// A place of a story: an index in a container, which may be the container's end, or without an index the container itself.
+#[derive(Clone, Copy, Debug, PartialEq, Eq)]
+pub struct Spot {
+    pub holder: NodeId,
+    pub index: Option<u32>,
+}
