@@ -2,7 +2,7 @@
 
 /// Content of a story, by its number in reading order, the root's being 0 (docs/STORY_FORMAT.md, "Places"). Every call takes
 /// a number beyond the story's content for the root.
-#[derive(Clone, Copy, Debug, PartialEq, Eq)]
+#[derive(Clone, Copy, Debug, Default, PartialEq, Eq)]
 pub struct NodeId {
     pub number: usize,
 }

@@ -1,0 +1,6 @@
+//! Which stories are accepted.
+#![tactic(auto)]
+
+mod story;
+
+pub use story::{Story, check};
