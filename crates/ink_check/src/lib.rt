@@ -1,6 +1,8 @@
 //! Which stories are accepted.
 #![tactic(auto)]
 
+mod checking;
 mod story;
 
-pub use story::{Story, check};
+pub use checking::check;
+pub use story::Story;

@@ -1,37 +1,21 @@
 //! Accepted stories (docs/STORY_FORMAT.md, "Paths").
 
-ghost use Rattle.std.specs.Prelude.{◌≡◌, ◌⊎◌, [], IfOk, IfErr, Ok, Err, option_map};
-ghost use Rattle.ink_json.specs.Story.{tree};
-ghost use Rattle.ink_model.specs.Acceptance.{accepted, bad_places, written_target};
-ghost use Rattle.ink_model.specs.Grammar.{here};
-ghost use Rattle.ink_model.specs.declared.fault.Cause.TheVariants.{OutOfMemory};
+ghost use Rattle.std.specs.Prelude.{◌≡◌, [], option_map};
+ghost use Rattle.ink_model.specs.Acceptance.{bad_places, written_target};
 ghost use Rattle.ink_tree.specs.Nodes as nodes;
-ghost use Rattle.ink_check.specs.Words.{story_tree};
 
-use ink_json::RawStory;
-use ink_model::{Cause, Place, ReadRefusal};
 use ink_tree::{NodeId, Spot, Tree};
-use std::alloc::Global;
 
 /// An accepted story: each written path in it leads somewhere. It never changes.
 #[derive(Drop)]
 pub struct Story {
-    tree: Tree,
-    targets: Vec<Option<Spot>>,
-}
-
-/// Accepts a story that was read.
-///
-/// `BadPath` at the first content, in reading order, whose path does not lead where it has to; `OutOfMemory` at the root for
-/// a refused request for memory.
-pub fn check(alloc: Global, raw: RawStory) -> Result<Story, ReadRefusal>
-    ensures ok { IfOk result (λ s. accepted (tree raw) ≡ Ok (story_tree s)) }
-    ensures err { IfErr result (λ r. (r ≡ here OutOfMemory) ⊎ (accepted (tree raw) ≡ Err r)) }
-{
-    Err(ReadRefusal { cause: Cause::OutOfMemory, place: Place::root(alloc) })
+    pub(crate) tree: Tree,
+    pub(crate) targets: Vec<Option<Spot>>,
 }
 
 impl Story {
+    ghost use Rattle.ink_check.specs.Words.{story_tree};
+
     /// The story's content, by number. Takes no memory.
     pub fn tree(&self) -> &Tree
         ensures tree { nodes.story_tree result.now ≡ story_tree self.now }
