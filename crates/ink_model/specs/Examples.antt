@@ -11,10 +11,10 @@ use Rattle.ink_model.specs.Grammar as grammar
 use Rattle.ink_model.specs.Grammar.{here, of_json, of_value}
 use Rattle.ink_model.specs.Leaves.{string_leaf}
 use Rattle.ink_model.specs.Word.{word, operator_word}
-use Rattle.ink_model.specs.Mark.{cut, shown}
+use Rattle.ink_model.specs.Mark.{cut}
 use Rattle.ink_model.specs.Clean.{clean}
 use Rattle.ink_model.specs.Configuration.{Configuration, with_mode, with_stack, with_globals, start, fresh_at, ended, with_safe, put_at, moved, settled, begun}
-use Rattle.ink_model.specs.Step.{Bound, Faults, pushes, step, go_on, writes, nothing_bound, Next, Stop, with_page}
+use Rattle.ink_model.specs.Step.{Bound, Faults, pushes, step, go_on, nothing_bound, Next, Stop, with_page}
 use Rattle.ink_model.specs.Run.{Made, moment, next, run, through, cut_off, At, Stopped}
 use Rattle.ink_model.specs.Command.{lines_of, command_of}
 use Rattle.ink_model.specs.Answer.{answer, Tells, Acts, Shows, Refuses, Breaks}
@@ -82,7 +82,7 @@ stays_in_name = refl
 -- a text is written, and flow moves on
 a_step : step small nothing_bound (start small [])
     ≡ Next (with_page (record { line = Text (codes "Hi") ∷ []; sections = []; next_enter = 0 }) (moved (Index 0 ∷ []) (Some (Index 1 ∷ [])) (start small [])))
-unfolding step start fresh_at entered writes go_on next_place cut
+unfolding step start fresh_at entered go_on next_place cut
 a_step = refl
 
 -- `done` stops flow safely, and the previous place stays
@@ -104,17 +104,17 @@ off_the_end = refl
 a_run : moment small nothing_bound (start small []) [] 3
     ≡ Stopped (with_safe true (put_at None (with_page (record { line = Text (codes "Hi") ∷ Newline ∷ []; sections = []; next_enter = 0 })
     (moved (Index 1 ∷ []) (Some (Index 2 ∷ [])) (start small []))))) [] []
-unfolding run step start fresh_at entered writes go_on next_place cut
+unfolding run step start fresh_at entered go_on next_place cut
 a_run = refl
 
 a_passage : (passage (with_safe true (put_at None (with_page (record { line = Text (codes "Hi") ∷ Newline ∷ []; sections = []; next_enter = 0 }) (start small [])))))
     ≡ record { text = codes "Hi\n"; tags = []; choices = []; events = []; more = false; loose = false }
-unfolding passage start fresh_at shown clean
+unfolding passage start fresh_at clean
 a_passage = refl
 
 -- a stop off the end is a loose one
 a_loose_passage : (passage (put_at None (start small []))) ≡ record { text = []; tags = []; choices = []; events = []; more = false; loose = true }
-unfolding passage start fresh_at shown clean
+unfolding passage start fresh_at clean
 a_loose_passage = refl
 
 -- ---- text
@@ -131,11 +131,6 @@ cut_blanks = refl
 not_cut_inside : cut (codes "a\nb ") ≡ Text (codes "a\nb ") ∷ []
 unfolding cut
 not_cut_inside = refl
-
--- a leading newline is hidden, and of two in a row the second
-hidden_newlines : shown (Newline ∷ Text (codes "A") ∷ Newline ∷ Newline ∷ Text (codes "B") ∷ []) ≡ codes "A\nB"
-unfolding shown
-hidden_newlines = refl
 
 cleaned : clean (codes "  a \t b \n\t\n c") ≡ codes "a b\n\nc"
 unfolding clean
@@ -271,7 +266,7 @@ abbrev small_passage : List ℕ
 small_passage = codes "{\"choices\":[],\"events\":[],\"loose\":false,\"more\":false,\"tags\":[],\"text\":\"Hi\\n\"}\n"
 
 a_told_answer : answer (Tells (passage small_end)) ≡ small_passage
-unfolding answer serde_json_on_literals passage start fresh_at shown clean
+unfolding answer serde_json_on_literals passage start fresh_at clean
 a_told_answer = refl
 
 abbrev after_small : State
@@ -354,7 +349,7 @@ ended_twice = refl
 -- `out` writes what it pops, and on an empty stack does nothing; `pop` faults there
 an_out : step (story_of (tree (control_content control.Out) (tree newline no_trees))) nothing_bound (at_first (value.Bool true ∷ []))
     ≡ Next (with_page (record { line = Text (codes "true") ∷ []; sections = []; next_enter = 0 }) (moved (Index 0 ∷ []) (Some (Index 1 ∷ [])) (at_first [])))
-unfolding step fresh_at entered printed writes go_on next_place cut
+unfolding step fresh_at entered printed go_on next_place cut
 an_out = refl
 
 an_empty_out : step (story_of (tree (control_content control.Out) (tree newline no_trees))) nothing_bound (at_first [])

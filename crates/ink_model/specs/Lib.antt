@@ -7,6 +7,8 @@ pub mod Word
 pub mod Leaves
 pub mod Grammar
 pub mod Mark
+pub mod Shown
+pub mod ShownExamples
 pub mod Clean
 pub mod Value
 pub mod Path
@@ -19,6 +21,7 @@ pub mod Store
 pub mod Stack
 pub mod OperatorExamples
 pub mod Configuration
+pub mod Output
 pub mod Step
 pub mod Run
 pub mod Opening
@@ -28,4 +31,6 @@ pub mod State
 pub mod Session
 pub mod Memory
 pub mod PathExamples
+pub mod StoryExamples
+pub mod OutputExamples
 pub mod Examples

@@ -1,4 +1,4 @@
--- Which marks a written text leaves, and which marks are shown (docs/TEXT.md).
+-- Which marks a written text leaves, and the tags among marks (docs/TEXT.md).
 use Rattle.std.specs.Prelude.{ℕ, List, [], ◌∷◌, ◌++◌, reverse, Bool, true, false, not, ◌||◌, ◌&&◌, ◌==◌, if◌then◌else◌}
 use Rattle.std.specs.List.{list_any}
 use Rattle.ink_model.specs.declared.mark.Mark.{Mark}
@@ -53,42 +53,7 @@ cut cs = if has_newline (leading is_white cs)
     then piece (leading is_blank cs) ++ Newline ∷ cut_end (trailing is_blank (leading is_white cs) ++ without is_white cs)
     else cut_end cs
 
--- ---- what is shown
-
--- A mark is told by the marks before it, the nearest first. Each text and each blank is shown.
-
--- some text or blank stands before
-abbrev pub has_text : List Mark → Bool
-has_text [] = false
-has_text (Text t ∷ before) = true
-has_text (Blank t ∷ before) = true
-has_text (m ∷ before) = has_text before
-
--- the last shown text or newline before is a newline; one that is hidden only by an earlier newline has that before it
-abbrev pub after_newline : List Mark → Bool
-after_newline [] = false
-after_newline (Text t ∷ before) = false
-after_newline (Newline ∷ before) = has_text before || after_newline before
-after_newline (m ∷ before) = after_newline before
-
--- a newline is shown where a text or blank is shown before it, and where it does not follow a newline
-abbrev pub newline_shown : List Mark → Bool
-newline_shown before = has_text before && not (after_newline before)
-
--- what one mark shows after these
-abbrev pub shown_after : List Mark → Mark → List ℕ
-shown_after before (Text t) = t
-shown_after before (Blank t) = t
-shown_after before Newline = if newline_shown before then 10 ∷ [] else []
-shown_after before m = []
-
-abbrev pub shown_from : List Mark → List Mark → List ℕ
-shown_from before [] = []
-shown_from before (m ∷ ms) = shown_after before m ++ shown_from (m ∷ before) ms
-
--- the text that marks show, before it is cleaned
-unfoldable pub shown : List Mark → List ℕ
-shown ms = shown_from [] ms
+-- ---- tags
 
 -- the tags, in order
 abbrev pub tags : List Mark → List (List ℕ)

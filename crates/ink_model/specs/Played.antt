@@ -15,12 +15,15 @@ plays_control control.Out = true
 plays_control control.Pop = true
 plays_control control.Duplicate = true
 plays_control control.Nop = true
+plays_control control.BeginString = true
+plays_control control.EndString = true
+plays_control control.BeginTag = true
+plays_control control.EndTag = true
 plays_control control.Done = true
 plays_control control.End = true
 plays_control o = false
 
 abbrev pub plays : Leaf → Bool
-plays leaves.Glue = false
 plays (leaves.Pointer name frame) = false
 plays (leaves.Call to conditional) = false
 plays (leaves.Tunnel to conditional) = false

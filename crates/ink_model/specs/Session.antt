@@ -1,7 +1,8 @@
 -- What a player answers to command lines (docs/PROTOCOL.md, "Sessions").
 use Rattle.std.specs.Prelude.{length, nat_lt, is_some, Result, Ok, Err, ◌≡◌, ℕ, List, [], ◌∷◌, ◌++◌, Bool, true, false, not, ◌&&◌, ◌⊎◌, Option, Some, None, if◌then◌else◌, MatchBool}
 use Rattle.ink_model.specs.Tree.{StoryTree}
-use Rattle.ink_model.specs.Mark.{shown, tags}
+use Rattle.ink_model.specs.Mark.{tags}
+use Rattle.ink_model.specs.Shown.{shown_text}
 use Rattle.ink_model.specs.Clean.{clean}
 use Rattle.ink_model.specs.Configuration.{Configuration, ChoiceOf, can_go_on, settled, with_globals}
 use Rattle.ink_model.specs.Step.{Bound}
@@ -43,7 +44,7 @@ is_loose c = not (can_go_on c) && (has_none c.flow.choices && not c.flow.safe)
 -- what is told of a configuration when a running command ends
 unfoldable pub passage : Configuration → Passage
 passage c = record {
-  text = clean (shown c.page.line);
+  text = clean (shown_text c.page.line);
   tags = tags c.page.line;
   choices = if can_go_on c then [] else visible c.flow.choices;
   events = [];

@@ -1,16 +1,16 @@
 -- The outcome of one step (docs/RUNNING.md, "Steps").
-use Rattle.std.specs.Prelude.{Bool, false, ℕ, ◌+◌, List, [], ◌∷◌, ◌++◌, length, true, Option, Some, None, Result, Ok, Err, is_some, unwrap_or, pos, nat_lt, if◌then◌else◌}
+use Rattle.std.specs.Prelude.{Bool, false, ℕ, ◌+◌, List, [], ◌∷◌, ◌++◌, length, true, not, ◌&&◌, nat_eq, Option, Some, None, Result, Ok, Err, is_some, unwrap_or, pos, nat_lt, if◌then◌else◌}
 use Rattle.ink_model.specs.Tree.{StoryTree, leaf, container, at}
 use Rattle.ink_model.specs.Place.{entered, next_place}
 use Rattle.ink_model.specs.Acceptance.{lands}
 use Rattle.ink_model.specs.Path.{read_path, target}
-use Rattle.ink_model.specs.Mark.{cut}
-use Rattle.ink_model.specs.Configuration.{Configuration, Page, place_of, put_at, moved, with_safe, with_stack, with_globals, with_mode, is_evaluating, ended}
+use Rattle.ink_model.specs.Output.{is_line, is_string, writes_text, writes_newline, writes_glue, writes_value, opens, closes_string, closes_tag}
+use Rattle.ink_model.specs.Configuration.{FrameOf, Section, string_section, tag_section, Configuration, Page, place_of, put_at, moved, with_safe, with_stack, with_globals, with_mode, is_evaluating, ended}
 use Rattle.ink_model.specs.declared.content.Leaf.TheVariants as leaves
 use Rattle.ink_model.specs.Operator.{takes, apply}
 use Rattle.ink_model.specs.Stack.{max_stack, popped, taken}
 use Rattle.ink_model.specs.Store.{stored, store}
-use Rattle.ink_model.specs.Value.{printed, is_true}
+use Rattle.ink_model.specs.Value.{is_true}
 use Rattle.ink_model.specs.declared.content.Control.{Control}
 use Rattle.ink_model.specs.declared.content.Control.TheVariants as control
 use Rattle.ink_model.specs.declared.content.Destination.{Destination}
@@ -18,10 +18,10 @@ use Rattle.ink_model.specs.declared.content.Destination.TheVariants as destinati
 use Rattle.ink_model.specs.declared.operator.Op.{Op}
 use Rattle.ink_model.specs.declared.value.Value.TheVariants as value
 use Rattle.ink_model.specs.declared.fault.Fault.{Fault}
-use Rattle.ink_model.specs.declared.fault.Fault.TheVariants.{StackEmpty, BadMode, BadTarget, NoTemp, TooDeep}
+use Rattle.ink_model.specs.declared.fault.Fault.TheVariants.{StackEmpty, BadMode, BadTarget, NoTemp, StopInString, TooDeep}
 use Rattle.ink_model.specs.declared.host.Given.{Given}
-use Rattle.ink_model.specs.declared.mark.Mark.{Mark}
-use Rattle.ink_model.specs.declared.mark.Mark.TheVariants.{Newline}
+use Rattle.ink_model.specs.declared.frame.FrameKind.{FrameKind}
+use Rattle.ink_model.specs.declared.frame.FrameKind.TheVariants.{Base, Function, Tunnel}
 use Rattle.ink_model.specs.declared.place.Part.{Part}
 use Rattle.ink_model.specs.declared.place.Path.{Path}
 use Rattle.ink_model.specs.declared.value.Value.{Value}
@@ -49,35 +49,45 @@ pub data Outcome : Type 0 where
   Wants : (name : List ℕ) → (arguments : List Value) → (waiting : Configuration) → Outcome
   Faults : (fault : Fault) → Outcome
 
--- marks that a section may have
-abbrev pub max_marks : ℕ
-max_marks = 100000
-
 -- ---- parts of a step
+
+-- flow stops, which it may not do while a string or a tag is open
+abbrev pub halts : Configuration → Outcome
+halts c = if is_line c.page.sections then Stop c else Faults StopInString
 
 -- flow goes on after a place, or stops
 abbrev pub goes : List Part → Option (List Part) → Configuration → Outcome
-goes p None c = Stop (moved p None c)
+goes p None c = halts (moved p None c)
 goes p (Some q) c = Next (moved p (Some q) c)
 
 unfoldable pub go_on : StoryTree → List Part → Configuration → Outcome
 go_on s p c = goes p (next_place s p) c
 
--- marks at the end of the section that is open
-abbrev pub noted : List Mark → Page → Page
-noted ms page = record page { line = page.line ++ ms }
+-- `done` in the last thread: flow stops safely where it is
+abbrev pub done : Configuration → Outcome
+done c = halts (with_safe true (put_at None c))
+
+-- ---- text
 
 abbrev pub with_page : Page → Configuration → Configuration
 with_page page c = record c { page = page }
 
--- content that writes marks and then moves on
-unfoldable pub writes : StoryTree → List Part → List Mark → Configuration → Outcome
-writes s p ms c = if nat_lt max_marks (length c.page.line + length ms) then Faults TooDeep
-    else go_on s p (with_page (noted ms c.page) c)
+-- the top frame is a function fresh in the open section, which is told by its depth
+abbrev pub is_function : FrameKind → Bool
+is_function Base = false
+is_function Function = true
+is_function Tunnel = false
 
--- `done` in the last thread: flow stops safely where it is
-abbrev pub done : Configuration → Outcome
-done c = Stop (with_safe true (put_at None c))
+abbrev pub is_fresh_in : ℕ → FrameOf (List Part) → Bool
+is_fresh_in depth f = is_function f.kind && (f.fresh && nat_eq f.depth depth)
+
+abbrev pub is_fresh : Configuration → Bool
+is_fresh c = is_fresh_in (length c.page.sections) c.flow.threads.thread.frame
+
+-- what content writes into the text, and flow goes on
+abbrev pub outputs : StoryTree → List Part → Result Page Fault → Configuration → Outcome
+outputs s p (Ok page) c = go_on s p (with_page page c)
+outputs s p (Err f) c = Faults f
 
 -- ---- evaluation
 
@@ -89,9 +99,16 @@ pushes s p v c = if nat_lt (length c.flow.stack) max_stack then go_on s p (with_
 abbrev pub values : StoryTree → List Part → Value → Configuration → Outcome
 values s p v c = if is_evaluating c then pushes s p v c else go_on s p c
 
--- text is pushed in evaluation mode, and written outside it
-abbrev pub says : StoryTree → List Part → List ℕ → List Mark → Configuration → Outcome
-says s p t ms c = if is_evaluating c then pushes s p (value.Text t) c else writes s p ms c
+-- a text is pushed in evaluation mode, and written outside it
+abbrev pub says : StoryTree → List Part → List ℕ → Configuration → Outcome
+says s p t c = if is_evaluating c then pushes s p (value.Text t) c else outputs s p (writes_text (is_fresh c) t c.page) c
+
+abbrev pub says_newline : StoryTree → List Part → Configuration → Outcome
+says_newline s p c = if is_evaluating c then pushes s p (value.Text (10 ∷ [])) c else outputs s p (writes_newline (is_fresh c) c.page) c
+
+-- glue is no value
+abbrev pub glues : StoryTree → List Part → Configuration → Outcome
+glues s p c = if is_evaluating c then Faults BadMode else outputs s p (writes_glue c.page) c
 
 -- evaluation mode begins, or ends
 abbrev pub begins : StoryTree → List Part → Configuration → Outcome
@@ -100,15 +117,10 @@ begins s p c = if is_evaluating c then Faults BadMode else go_on s p (with_mode 
 abbrev pub leaves_off : StoryTree → List Part → Configuration → Outcome
 leaves_off s p c = if is_evaluating c then go_on s p (with_mode false c) else Faults BadMode
 
--- the printed text of a value is written
-abbrev pub prints : StoryTree → List Part → Result (List ℕ) Fault → Configuration → Outcome
-prints s p (Ok t) c = writes s p (cut t) c
-prints s p (Err f) c = Faults f
-
--- `out` with what is popped; on an empty stack it does nothing
+-- `out` with what is popped, whose printed text is written; on an empty stack it does nothing
 abbrev pub outs : StoryTree → List Part → Option (Value × List Value) → Configuration → Outcome
 outs s p None c = go_on s p c
-outs s p (Some r) c = prints s p (printed r.0) (with_stack r.1 c)
+outs s p (Some r) c = outputs s p (writes_value (is_fresh c) r.0 c.page) (with_stack r.1 c)
 
 abbrev pub pops : StoryTree → List Part → Option (Value × List Value) → Configuration → Outcome
 pops s p None c = Faults StackEmpty
@@ -127,6 +139,50 @@ pushes_result s p (Err f) c = Faults f
 abbrev pub operates : StoryTree → List Part → Op → Option (List Value × List Value) → Configuration → Outcome
 operates s p o None c = Faults StackEmpty
 operates s p o (Some r) c = pushes_result s p (apply o r.0) (with_stack r.1 c)
+
+-- ---- strings and tags
+
+-- a string begins, and its content is written as text
+abbrev pub begins_string : StoryTree → List Part → Configuration → Outcome
+begins_string s p c = if is_evaluating c then outputs s p (opens string_section c.page) (with_mode false c) else Faults BadMode
+
+-- the text of a string that ends is pushed, and evaluation goes on
+abbrev pub pushes_string : StoryTree → List Part → Result (List ℕ × Page) Fault → Configuration → Outcome
+pushes_string s p (Ok r) c = pushes s p (value.Text r.0) (with_mode true (with_page r.1 c))
+pushes_string s p (Err f) c = Faults f
+
+abbrev pub ends_string : StoryTree → List Part → Configuration → Outcome
+ends_string s p c = pushes_string s p (closes_string c.page) c
+
+-- a value on top of the stack, while there is room
+abbrev pub stacked : Value → Configuration → Result Configuration Fault
+stacked v c = if nat_lt (length c.flow.stack) max_stack then Ok (with_stack (c.flow.stack ++ v ∷ []) c) else Err TooDeep
+
+-- a tag that was closed in a string is pushed
+abbrev pub keeps_tag : Result (Option (List ℕ) × Page) Fault → Configuration → Result Configuration Fault
+keeps_tag (Ok (None, page)) c = Ok (with_page page c)
+keeps_tag (Ok (Some t, page)) c = stacked (value.Tag t) (with_page page c)
+keeps_tag (Err f) c = Err f
+
+abbrev pub tag_closed : Configuration → Result Configuration Fault
+tag_closed c = keeps_tag (closes_tag c.page) c
+
+abbrev pub goes_with : StoryTree → List Part → Result Configuration Fault → Outcome
+goes_with s p (Ok c) = go_on s p c
+goes_with s p (Err f) = Faults f
+
+abbrev pub opens_tag : StoryTree → List Part → Result Configuration Fault → Outcome
+opens_tag s p (Ok c) = outputs s p (opens tag_section c.page) c
+opens_tag s p (Err f) = Faults f
+
+-- a tag is on top
+abbrev pub in_tag : List Section → Bool
+in_tag [] = false
+in_tag (x ∷ rest) = not (is_string x)
+
+-- a tag begins; one that is on top is closed first
+abbrev pub begins_tag : StoryTree → List Part → Configuration → Outcome
+begins_tag s p c = opens_tag s p (if in_tag c.page.sections then tag_closed c else Ok c)
 
 -- ---- globals
 
@@ -187,16 +243,21 @@ controls s p control.Out c = outs s p (popped c.flow.stack) c
 controls s p control.Pop c = pops s p (popped c.flow.stack) c
 controls s p control.Duplicate c = doubles s p (popped c.flow.stack) c
 controls s p control.Nop c = go_on s p c
+controls s p control.BeginString c = begins_string s p c
+controls s p control.EndString c = ends_string s p c
+controls s p control.BeginTag c = begins_tag s p c
+controls s p control.EndTag c = goes_with s p (tag_closed c)
 controls s p control.Done c = done c
-controls s p control.End c = Stop (ended c)
+controls s p control.End c = halts (ended c)
 controls s p o c = go_on s p c
 
 -- what stands at a place is performed; content that is not played yet is passed over here, and kept out by `unplayed`
 abbrev pub performs : StoryTree → Bound → List Part → Option StoryTree → Configuration → Outcome
 performs s b p None c = go_on s p c
 performs s b p (Some (container name flags content named)) c = go_on s p c
-performs s b p (Some (leaf (leaves.Text t))) c = says s p t (cut t) c
-performs s b p (Some (leaf leaves.Newline)) c = says s p (10 ∷ []) (Newline ∷ []) c
+performs s b p (Some (leaf (leaves.Text t))) c = says s p t c
+performs s b p (Some (leaf leaves.Newline)) c = says_newline s p c
+performs s b p (Some (leaf leaves.Glue)) c = glues s p c
 performs s b p (Some (leaf (leaves.Int z))) c = values s p (value.Int z) c
 performs s b p (Some (leaf (leaves.Bool t))) c = values s p (value.Bool t) c
 performs s b p (Some (leaf leaves.Void)) c = values s p value.Void c

@@ -1,0 +1,143 @@
+-- Which marks are shown, by the marks that stand before and after them (docs/TEXT.md, "What is shown").
+use Rattle.std.specs.Prelude.{ℕ, ◌+◌, ◌==◌, List, [], ◌∷◌, ◌++◌, length, drop, reverse, Option, None, Some, Bool, true, false, not, ◌||◌, ◌&&◌, if◌then◌else◌}
+use Rattle.ink_model.specs.declared.mark.Mark.{Mark}
+use Rattle.ink_model.specs.declared.mark.Mark.TheVariants.{Text, Blank, Newline, Glue, Tag, Enter, Leave}
+
+-- Marks before are listed nearest first, marks after in order.
+
+-- ---- glue
+
+-- a Glue stands before, with no Text between
+abbrev pub glued : List Mark → Bool
+glued [] = false
+glued (Text t ∷ before) = false
+glued (Glue ∷ before) = true
+glued (m ∷ before) = glued before
+
+-- a Newline stands before, with no Text between
+abbrev pub broken : List Mark → Bool
+broken [] = false
+broken (Text t ∷ before) = false
+broken (Newline ∷ before) = true
+broken (m ∷ before) = broken before
+
+-- a Glue follows, with no Text between
+abbrev pub joins : List Mark → Bool
+joins [] = false
+joins (Text t ∷ after) = false
+joins (Glue ∷ after) = true
+joins (m ∷ after) = joins after
+
+-- a Glue follows, with no Text or Tag between
+abbrev pub glues : List Mark → Bool
+glues [] = false
+glues (Text t ∷ after) = false
+glues (Tag t ∷ after) = false
+glues (Glue ∷ after) = true
+glues (m ∷ after) = glues after
+
+-- ---- the end of a function's text
+
+abbrev pub entered : ℕ → List Mark → Bool
+entered n [] = false
+entered n (Enter k ∷ ms) = n == k || entered n ms
+entered n (m ∷ ms) = entered n ms
+
+-- a Leave reaches back past these marks: its Enter is not among them
+abbrev pub passes : Option ℕ → List Mark → Bool
+passes None between = true
+passes (Some n) between = not (entered n between)
+
+-- a Leave follows, with no Text before it, that reaches back past all marks between
+abbrev pub covered : List Mark → List Mark → Bool
+covered between [] = false
+covered between (Text t ∷ after) = false
+covered between (Leave n ∷ after) = passes n between || covered (Leave n ∷ between) after
+covered between (m ∷ after) = covered (m ∷ between) after
+
+-- ---- blanks
+
+-- a Blank is hidden by a function's end, and between a Newline and a Glue
+abbrev pub blank_shown : List Mark → List Mark → Bool
+blank_shown before after = not (covered [] after || (broken before && joins after))
+
+-- some Text or Blank before is shown
+abbrev pub some : List Mark → List Mark → Bool
+some [] after = false
+some (Text t ∷ before) after = true
+some (Blank t ∷ before) after = blank_shown before after || some before (Blank t ∷ after)
+some (m ∷ before) after = some before (m ∷ after)
+
+-- ---- newlines
+
+-- neither glue nor a function's end hides a Newline that stands here
+abbrev pub clear : List Mark → List Mark → Bool
+clear before after = not (glued before || (glues after || covered [] after))
+
+-- The last shown Text or Newline before is a Newline. One that only an earlier shown Newline hides has that one before it.
+abbrev pub ends : List Mark → List Mark → Bool
+ends [] after = false
+ends (Text t ∷ before) after = false
+ends (Newline ∷ before) after = (clear before after && some before (Newline ∷ after)) || ends before (Newline ∷ after)
+ends (m ∷ before) after = ends before (m ∷ after)
+
+abbrev pub newline_shown : List Mark → List Mark → Bool
+newline_shown before after = clear before after && (some before (Newline ∷ after) && not (ends before (Newline ∷ after)))
+
+-- ---- the text
+
+-- what one mark shows
+abbrev pub written : List Mark → Mark → List Mark → List ℕ
+written before (Text t) after = t
+written before (Blank t) after = if blank_shown before after then t else []
+written before Newline after = if newline_shown before after then 10 ∷ [] else []
+written before m after = []
+
+-- what the marks before show
+abbrev pub text_before : List Mark → List Mark → List ℕ
+text_before [] after = []
+text_before (m ∷ before) after = text_before before (m ∷ after) ++ written before m after
+
+-- the text that marks show, before it is cleaned
+abbrev pub shown_text : List Mark → List ℕ
+shown_text ms = text_before (reverse ms) []
+
+-- ---- shown newlines by their indexes
+
+-- the indexes of the shown Newlines before, the nearest first
+abbrev pub newlines_before : List Mark → List Mark → List ℕ
+newlines_before [] after = []
+newlines_before (Newline ∷ before) after =
+    if newline_shown before after then length before ∷ newlines_before before (Newline ∷ after) else newlines_before before (Newline ∷ after)
+newlines_before (m ∷ before) after = newlines_before before (m ∷ after)
+
+abbrev pub is_among : ℕ → List ℕ → Bool
+is_among i [] = false
+is_among i (k ∷ ks) = i == k || is_among i ks
+
+-- a shown Newline stands at an index
+abbrev pub is_shown : List Mark → ℕ → Bool
+is_shown ms i = is_among i (newlines_before (reverse ms) [])
+
+-- the nearest shown Newline before, with no Text or Tag between
+abbrev pub open_before : List Mark → List Mark → Option ℕ
+open_before [] after = None
+open_before (Text t ∷ before) after = None
+open_before (Tag t ∷ before) after = None
+open_before (Newline ∷ before) after = if newline_shown before after then Some (length before) else open_before before (Newline ∷ after)
+open_before (m ∷ before) after = open_before before (m ∷ after)
+
+-- the index of the shown Newline that no Text or Tag follows
+abbrev pub open_newline : List Mark → Option ℕ
+open_newline ms = open_before (reverse ms) []
+
+-- a Text or Tag stands among these
+abbrev pub has_more : List Mark → Bool
+has_more [] = false
+has_more (Text t ∷ ms) = true
+has_more (Tag t ∷ ms) = true
+has_more (m ∷ ms) = has_more ms
+
+-- a Text or Tag stands at an index or behind it
+abbrev pub more_from : List Mark → ℕ → Bool
+more_from ms i = has_more (drop i ms)
