@@ -28,4 +28,5 @@ pub mod State
 pub mod Session
 pub mod Memory
 pub mod PathExamples
+pub mod StoryExamples
 pub mod Examples

@@ -1,0 +1,207 @@
+-- Small stories that are refused, and diverts, each proved by computation.
+use Rattle.std.specs.Prelude.{◌≡◌, ℤ, pos, negsuc, ℕ, List, [], ◌∷◌, refl, codes, Bool, true, false, Option, Some, None, Ok, Err}
+use Rattle.serde_json.specs.Data.{unsigned, Data, null, boolean, number, string, array, object, Items, no_items, item, Members, no_members, member}
+use Rattle.ink_model.specs.Tree.{StoryTree, leaf, container, Trees, no_trees, tree, Keyed, no_keys, key}
+use Rattle.ink_model.specs.Acceptance.{accepted, bad_places, bad_path, written_target}
+use Rattle.ink_model.specs.Grammar.{content, here}
+use Rattle.ink_model.specs.Leaves.{object_leaf, jump_readings, value_readings, store_readings}
+use Rattle.ink_model.specs.Path.{read_path, target, is_place}
+use Rattle.ink_model.specs.Place.{entered, landed, next_place}
+use Rattle.ink_model.specs.Places.{places}
+use Rattle.ink_model.specs.Played.{unplayed}
+use Rattle.ink_model.specs.Configuration.{Configuration, with_stack, with_globals, fresh_at, moved}
+use Rattle.ink_model.specs.Step.{step, nothing_bound, Next, Faults, pushes, go_on}
+use Rattle.ink_model.specs.Value.{is_true}
+use Rattle.ink_model.specs.declared.content.Destination.{Destination}
+use Rattle.ink_model.specs.declared.content.Destination.TheVariants as destination
+use Rattle.ink_model.specs.declared.content.Leaf.TheVariants as leaves
+use Rattle.ink_model.specs.declared.fault.Cause.TheVariants.{Shape, Unsupported, Limit}
+use Rattle.ink_model.specs.declared.fault.Fault.TheVariants as fault
+use Rattle.ink_model.specs.declared.place.Part.{Part}
+use Rattle.ink_model.specs.declared.place.Part.TheVariants.{Index, Name}
+use Rattle.ink_model.specs.declared.value.Value.{Value}
+use Rattle.ink_model.specs.declared.value.Value.TheVariants as value
+
+-- ---- causes at one place, in their order
+
+abbrev of : List ℕ → Data → Members → Members
+of k d rest = member k d rest
+
+abbrev text : List ℕ → Data
+text t = string t
+
+abbrev count : ℕ → Data
+count n = number (unsigned n)
+
+-- nesting is told before what is wrong with the container itself
+nesting_first : content 21 121 false true (array (item (object (of (codes "#f") (count 8) no_members)) no_items)) ≡ Err (here Limit)
+nesting_first = refl
+
+-- what ink has beyond is told before the shape
+beyond_first : object_leaf (object (of (codes "->") (count 1) (of (codes "list") null no_members))) ≡ Err Unsupported
+unfolding object_leaf
+beyond_first = refl
+
+-- the shape before the limit
+shape_first : object_leaf (object (of (codes "exArgs") (count 2147483648) (of (codes "x()") (count 1) no_members))) ≡ Err Shape
+unfolding object_leaf jump_readings value_readings store_readings
+shape_first = refl
+
+too_many_arguments : object_leaf (object (of (codes "exArgs") (count 2147483648) (of (codes "x()") (text (codes "f")) no_members))) ≡ Err Limit
+unfolding object_leaf jump_readings value_readings store_readings
+too_many_arguments = refl
+
+two_heads : object_leaf (object (of (codes "->") (text (codes "k")) (of (codes "f()") (text (codes "k")) no_members))) ≡ Err Shape
+unfolding object_leaf jump_readings value_readings store_readings
+two_heads = refl
+
+no_head : object_leaf (object (of (codes "var") (boolean true) no_members)) ≡ Err Shape
+unfolding object_leaf jump_readings value_readings store_readings
+no_head = refl
+
+-- ---- objects that are read
+
+a_divert : object_leaf (object (of (codes "->") (text (codes "k")) (of (codes "c") (boolean true) no_members)))
+    ≡ Ok (leaves.Divert (destination.Path (codes "k")) true)
+unfolding object_leaf jump_readings value_readings store_readings
+a_divert = refl
+
+by_a_variable : object_leaf (object (of (codes "->t->") (text (codes "v")) (of (codes "var") (boolean true) no_members)))
+    ≡ Ok (leaves.Tunnel (destination.Variable (codes "v")) false)
+unfolding object_leaf jump_readings value_readings store_readings
+by_a_variable = refl
+
+-- an option is looked at only at its own head
+another_heads_option : object_leaf (object (of (codes "VAR?") (text (codes "x")) (of (codes "re") (count 1) no_members)))
+    ≡ Ok (leaves.Variable (codes "x"))
+unfolding object_leaf jump_readings value_readings store_readings
+another_heads_option = refl
+
+a_choice : object_leaf (object (of (codes "*") (text (codes "k")) no_members)) ≡ Ok (leaves.Choice (codes "k") 16)
+unfolding object_leaf jump_readings value_readings store_readings
+a_choice = refl
+
+-- ---- a story: [x, ["-> k" by a condition, x, null], {"k": [x, null], "n": [x, {"#f": 1}]}]
+
+abbrev x : StoryTree
+x = leaf leaves.Newline
+
+abbrev divert : Destination → Bool → StoryTree
+divert to conditional = leaf (leaves.Divert to conditional)
+
+abbrev to : List ℕ → Destination
+to path = destination.Path path
+
+abbrev with_divert : Destination → Bool → StoryTree
+with_divert way conditional = container None 0
+    (tree x (tree (container None 0 (tree (divert way conditional) (tree x no_trees)) no_keys) no_trees))
+    (key (codes "k") (container None 0 (tree x no_trees) no_keys) (key (codes "n") (container None 1 (tree x no_trees) no_keys) no_keys))
+
+abbrev to_k : StoryTree
+to_k = with_divert (to (codes "k")) false
+
+all_places : places to_k ≡ [] ∷ (Index 0 ∷ []) ∷ (Index 1 ∷ []) ∷ (Index 1 ∷ Index 0 ∷ []) ∷ (Index 1 ∷ Index 1 ∷ [])
+    ∷ (Name (codes "k") ∷ []) ∷ (Name (codes "k") ∷ Index 0 ∷ []) ∷ (Name (codes "n") ∷ []) ∷ (Name (codes "n") ∷ Index 0 ∷ []) ∷ []
+all_places = refl
+
+an_accepted_story : accepted to_k ≡ Ok to_k
+unfolding accepted bad_places read_path target
+an_accepted_story = refl
+
+a_path_to_nowhere : accepted (with_divert (to (codes "m")) false) ≡ Err (bad_path (Index 1 ∷ Index 0 ∷ []))
+unfolding accepted bad_places read_path target
+a_path_to_nowhere = refl
+
+no_path_at_all : accepted (with_divert (to (codes "k..0")) false) ≡ Err (bad_path (Index 1 ∷ Index 0 ∷ []))
+unfolding accepted bad_places read_path target
+no_path_at_all = refl
+
+-- a variable's name is no path
+a_variables_name : accepted (with_divert (destination.Variable (codes "m")) false) ≡ Ok (with_divert (destination.Variable (codes "m")) false)
+unfolding accepted bad_places read_path target
+a_variables_name = refl
+
+abbrev counting : List ℕ → StoryTree
+counting path = container None 0 (tree (leaf (leaves.Count path)) no_trees) (key (codes "k") (container None 0 no_trees no_keys) (key (codes "n") (container None 1 no_trees no_keys) no_keys))
+
+a_count : accepted (counting (codes "n")) ≡ Ok (counting (codes "n"))
+unfolding accepted bad_places read_path target
+a_count = refl
+
+a_count_of_what_is_not_counted : accepted (counting (codes "k")) ≡ Err (bad_path (Index 0 ∷ []))
+unfolding accepted bad_places read_path target
+a_count_of_what_is_not_counted = refl
+
+-- a value's path is not relative
+a_relative_value : accepted (container None 0 (tree (leaf (leaves.Target (codes ".^"))) no_trees) no_keys) ≡ Err (bad_path (Index 0 ∷ []))
+unfolding accepted bad_places read_path target
+a_relative_value = refl
+
+the_first_unplayed : unplayed (counting (codes "n")) ≡ (Index 0 ∷ []) ∷ []
+unfolding unplayed
+the_first_unplayed = refl
+
+-- ---- places
+
+an_end_is_a_place : is_place to_k (Index 1 ∷ Index 2 ∷ []) ≡ true
+unfolding is_place
+an_end_is_a_place = refl
+
+behind_an_end_is_none : is_place to_k (Index 1 ∷ Index 3 ∷ []) ≡ false
+unfolding is_place
+behind_an_end_is_none = refl
+
+up_and_out : next_place to_k (Index 1 ∷ Index 1 ∷ []) ≡ None
+unfolding next_place
+up_and_out = refl
+
+out_of_a_name : next_place to_k (Name (codes "k") ∷ Index 0 ∷ []) ≡ None
+unfolding next_place
+out_of_a_name = refl
+
+lands_inside : written_target to_k (Index 1 ∷ Index 0 ∷ []) ≡ Some (Name (codes "k") ∷ Index 0 ∷ [])
+unfolding written_target read_path target landed
+lands_inside = refl
+
+-- ---- diverts
+
+abbrev here_with : List Value → List (List ℕ × Value) → Configuration
+here_with vs globals = with_globals globals (with_stack vs (fresh_at (Index 1 ∷ Index 0 ∷ [])))
+
+diverted : step to_k nothing_bound (here_with [] []) ≡ Next (moved (Index 1 ∷ Index 0 ∷ []) (Some (Name (codes "k") ∷ Index 0 ∷ [])) (here_with [] []))
+unfolding step fresh_at entered read_path target landed
+diverted = refl
+
+abbrev if_k : StoryTree
+if_k = with_divert (to (codes "k")) true
+
+where_true : step if_k nothing_bound (here_with (value.Bool true ∷ []) [])
+    ≡ Next (moved (Index 1 ∷ Index 0 ∷ []) (Some (Name (codes "k") ∷ Index 0 ∷ [])) (here_with [] []))
+unfolding step fresh_at entered read_path target landed is_true
+where_true = refl
+
+where_false : step if_k nothing_bound (here_with (value.Int (pos 0) ∷ []) [])
+    ≡ Next (moved (Index 1 ∷ Index 0 ∷ []) (Some (Index 1 ∷ Index 1 ∷ [])) (here_with [] []))
+unfolding step fresh_at entered go_on next_place is_true
+where_false = refl
+
+without_a_condition : step if_k nothing_bound (here_with [] []) ≡ Faults fault.StackEmpty
+unfolding step fresh_at entered
+without_a_condition = refl
+
+-- the condition is looked at before the target
+bad_condition_first : step (with_divert (destination.Variable (codes "v")) true) nothing_bound (here_with (value.Tag [] ∷ []) []) ≡ Faults fault.BadOperands
+unfolding step fresh_at entered is_true
+bad_condition_first = refl
+
+no_target : step (with_divert (destination.Variable (codes "v")) false) nothing_bound (here_with [] []) ≡ Faults fault.BadTarget
+unfolding step fresh_at entered
+no_target = refl
+
+-- a variable's target is the container itself
+by_a_variable_to_k : step (with_divert (destination.Variable (codes "v")) false) nothing_bound
+    (here_with [] ((codes "v", value.Target (record { relative = false; parts = Name (codes "k") ∷ [] })) ∷ []))
+    ≡ Next (moved (Index 1 ∷ Index 0 ∷ []) (Some (Name (codes "k") ∷ []))
+    (here_with [] ((codes "v", value.Target (record { relative = false; parts = Name (codes "k") ∷ [] })) ∷ [])))
+unfolding step fresh_at entered target
+by_a_variable_to_k = refl
