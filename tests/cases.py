@@ -9,6 +9,7 @@ import json
 import os
 import subprocess
 import sys
+import tempfile
 
 MIB = 1 << 20
 
@@ -18,8 +19,8 @@ def story(*root, **other):
     return json.dumps(dict({"inkVersion": 21, "root": list(root) + [None], "listDefs": {}}, **other), ensure_ascii=False)
 
 
-def passage(text, loose=False):
-    return json.dumps({"choices": [], "events": [], "loose": loose, "more": False, "tags": [], "text": text},
+def passage(text, loose=False, tags=()):
+    return json.dumps({"choices": [], "events": [], "loose": loose, "more": False, "tags": list(tags), "text": text},
                       separators=(",", ":"), ensure_ascii=False)
 
 
@@ -112,6 +113,62 @@ PLAYED += [
     ("as before the step that faulted", story("ev", 1, {"VAR=": "x"}, 2, {"VAR=": "x"}, "pop") + "\nthrough\nget x\n", [fault("StackEmpty"), value(2)]),
 ]
 
+def keyed(root, **containers):
+    """A story with containers by key."""
+    return json.dumps({"inkVersion": 21, "root": list(root) + [containers]})
+
+
+PLAYED += [
+    ("by a name in a list", story([{"->": ".^.hello.1"}, ["^no", "^yes", "\n", "done", {"#n": "hello"}], None]) + "\nthrough\n", [passage("yes\n")]),
+    ("to the root's end", story("^A", {"->": "2"}) + "\nthrough\n", [passage("A", True)]),
+    ("to a container by key", keyed([{"->": "k"}, "^x"], k=["^in", ["^deep", None], "end", None]) + "\nthrough\n", [passage("indeep")]),
+    ("to an empty container", keyed([{"->": "k"}, "^x"], k=[None]) + "\nthrough\n", [passage("", True)]),
+    ("up and over", story(["^a", {"->": ".^.^.1"}, "^no", None], "^b", "end") + "\nthrough\n", [passage("ab")]),
+    ("a key before a name in the list", keyed([{"->": "k"}, ["^no", {"#n": "j"}]], k=["^key", "end", None]) + "\nthrough\n", [passage("key")]),
+    ("where a condition is true", story("ev", 2, "/ev", {"->": "5", "c": True}, "^no", "^yes", "end") + "\nthrough\n", [passage("yes")]),
+    ("where it is false", story("ev", 0, "/ev", {"->": "5", "c": True}, "^no ", "^yes", "end") + "\nthrough\n", [passage("no yes")]),
+    ("without its condition", story({"->": "0", "c": True}) + "\nthrough\n", [fault("StackEmpty")]),
+    ("a condition that is a target", story("ev", {"^->": "0"}, "/ev", {"->": "0", "c": True}) + "\nthrough\n", [fault("BadOperands")]),
+    ("by a variable", keyed(["ev", {"^->": "k"}, {"VAR=": "v"}, "/ev", {"->": "v", "var": True}], k=["^in", "end", None]) + "\nthrough\nget v\n",
+     [passage("in"), '{"value":{"->":"k"}}']),
+    ("by a variable without a target", story({"->": "v", "var": True}) + "\nthrough\n", [fault("BadTarget")]),
+    ("a false condition before a bad target", story("ev", False, "/ev", {"->": "v", "var": True, "c": True}, "^on", "end") + "\nthrough\n", [passage("on")]),
+    ("a bad condition before a bad target", story("ev", {"^->": "0"}, "/ev", {"->": "v", "var": True, "c": True}) + "\nthrough\n", [fault("BadOperands")]),
+    ("round and round", story({"->": "0"}) + "\nthrough\n", [fault("OutOfSteps")]),
+    ("equal targets", written({"^->": "0"}, {"^->": "00"}, "==", "out", {"^->": "0"}, {"^->": "1"}, "!=", "out"), [passage("truetrue")]),
+    ("a target is not written", written({"^->": "0"}, "out"), [fault("BadOperands")]),
+    ("a target outside evaluation mode", story({"^->": "0"}, "^a", "end") + "\nthrough\n", [passage("a")]),
+    ("glue after a newline", story("^Hello", "\n", "<>", "^ world", "\n", "end") + "\nthrough\n", [passage("Hello world\n")]),
+    ("glue before a newline", story("^A", "<>", "\n", "^B", "\n", "end") + "\nthrough\n", [passage("AB\n")]),
+    ("glue past a text", story("^A", "<>", "^B", "\n", "^C", "end") + "\nthrough\n", [passage("AB\nC")]),
+    ("glue after a tag", story("^A", "\n", "#", "^t", "/#", "<>", "^B", "end") + "\nthrough\n", [passage("A\nB", tags=["t"])]),
+    ("glue, a tag and a newline", story("^A", "<>", "#", "^t", "/#", "\n", "^B", "end") + "\nthrough\n", [passage("AB", tags=["t"])]),
+    ("a blank that glue hides", story("\n", "^ ", "\n", "#", "^t", "/#", "<>", "^A", "end") + "\nthrough\n", [passage("A", tags=["t"])]),
+    ("the same without glue", story("\n", "^ ", "\n", "#", "^t", "/#", "^A", "end") + "\nthrough\n", [passage("\nA", tags=["t"])]),
+    ("a tag closed by the next", story("^A", "#", "^x", "#", "^y", "/#", "\n", "end") + "\nthrough\n", [passage("A\n", tags=["x", "y"])]),
+    ("a tag is cleaned", story("#", "^ calm  sea ", "/#", "end") + "\nthrough\n", [passage("", tags=["calm sea"])]),
+    ("strings are joined", written("str", "^a", "/str", "str", "^b", "/str", "+", "out"), [passage("ab")]),
+    ("a string is not cleaned", written("str", "^ a  b ", "\n", "/str", "^ a  b \n", "==", "out"), [passage("true")]),
+    ("glue in a string", written("str", "^a", "\n", "<>", "^b", "/str", "^ab", "==", "out"), [passage("true")]),
+    ("a string is no text of the line", written("str", "^a", "/str", "pop"), [passage("")]),
+    ("a tag in a string is a value", written("str", "^a", "#", "^t", "/#", "/str", "out", "out"), [fault("BadOperands")]),
+    ("a tag's value told", story("ev", "str", "#", "^ t ", "/#", "/str", "pop", {"VAR=": "v"}, "/ev", "end") + "\nthrough\nget v\n",
+     [passage(""), '{"value":{"tag":"t"}}']),
+    ("a stop in a string", story("ev", "str", "^a", "done") + "\nthrough\nthrough\n", [fault("StopInString"), broken("StopInString")]),
+    ("a stop in a tag", story("#", "^a") + "\nthrough\n", [fault("StopInString")]),
+    ("a string outside evaluation mode", story("str") + "\nthrough\n", [fault("BadMode")]),
+    ("a string that is not open", story("/str") + "\nthrough\n", [fault("BadMode")]),
+    ("a tag that is not open", story("/#") + "\nthrough\n", [fault("BadMode")]),
+    ("a string closed over a tag", written("str", "#", "/str"), [fault("BadMode")]),
+    ("glue in evaluation mode", written("<>"), [fault("BadMode")]),
+    ("sections to the limit", story(*(["ev"] + ["str", "ev"] * 999 + ["str"] + ["/str", "pop", "/ev"] * 1000 + ["end"])) + "\nthrough\n", [passage("")]),
+    ("a section too many", story(*(["ev"] + ["str", "ev"] * 1001)) + "\nthrough\n", [fault("TooDeep")]),
+    ("marks of a string are not limited", story("ev", "str", *(["^x"] * 100001 + ["/str", "pop", "/ev", "end"])) + "\nthrough\n", [passage("")]),
+    ("a string too long", story("ev", "str", "^" + "x" * MIB, "^x", "/str") + "\nthrough\n", [fault("TooDeep")]),
+    ("a tag at its limit", story("#", "^" + "x" * (MIB - 1), "^  y", "/#", "end") + "\nthrough\n", [fault("TooDeep")]),
+    ("a tag within its limit by cleaning", story("#", "^" + "x" * (MIB - 2), "^  y ", "/#", "end") + "\nthrough\n", [passage("", tags=["x" * (MIB - 2) + " y"])]),
+]
+
 # name, input, what standard error says behind "inkplay: story refused: "
 REFUSED = [
     ("nothing", "", "NotJson"),
@@ -130,7 +187,37 @@ REFUSED = [
     ("an option that is no boolean", story({"VAR=": "x", "re": 1}) + "\n", "Shape at 0"),
     ("two heads", story({"VAR=": "x", "VAR?": "x"}) + "\n", "Shape at 0"),
     ("another word", story(["rnd", None]) + "\n", "Unsupported at 0.0"),
-    ("a divert", story(["^a", {"->": "0"}, None]) + "\n", "Unsupported at 0.1"),
+    ("content that is not played", story(["^a", {"x()": "f"}, None]) + "\n", "Unsupported at 0.1"),
+    ("a path before what is not played", story({"x()": "f"}, {"->": "m"}) + "\n", "BadPath at 1"),
+    ("content before a path", story({"->": "m"}, 1.5) + "\n", "Unsupported at 1"),
+    ("a path to nowhere", story(["^a", {"->": "m"}, None]) + "\n", "BadPath at 0.1"),
+    ("paths in reading order", keyed([["^a", {"->": "m"}, None]], a=[{"->": "m"}, None]) + "\n", "BadPath at 0.1"),
+    ("a path by key", keyed([["^a", None]], b=[["^b", {"f()": "m"}, None], None]) + "\n", "BadPath at b.0.1"),
+    ("past an end", story({"->": "2"}) + "\n", "BadPath at 0"),
+    ("on past an end", story({"->": "1.^"}) + "\n", "BadPath at 0"),
+    ("through what is no container", story({"->": "0.x"}) + "\n", "BadPath at 0"),
+    ("a number is no name", keyed([{"->": "1"}], **{"1": ["end", None]}) + "\nthrough\n", None),
+    ("above the root", story({"->": ".^.^"}) + "\n", "BadPath at 0"),
+    ("relative without a way up", story({"->": ".0"}) + "\n", "BadPath at 0"),
+    ("an empty component", story({"->": "0..1"}) + "\n", "BadPath at 0"),
+    ("an empty path", story({"->t->": ""}) + "\n", "BadPath at 0"),
+    ("a dot alone", story({"->": "."}) + "\n", "BadPath at 0"),
+    ("an index too large", story({"->": "2147483648"}) + "\n", "BadPath at 0"),
+    ("a relative value", story({"^->": ".^"}) + "\n", "BadPath at 0"),
+    ("a count of what is not counted", keyed([{"CNT?": "k"}], k=["end", {"#f": 2}]) + "\n", "BadPath at 0"),
+    ("a count of no container", story({"CNT?": "0"}) + "\n", "BadPath at 0"),
+    ("a choice once only that is not counted", keyed([{"*": "k"}], k=["end", None]) + "\n", "BadPath at 0"),
+    ("a choice again and again", keyed([{"*": "k", "flg": 0}], k=["end", None]) + "\n", "Unsupported at 0"),
+    ("a variable's name is no path", story({"f()": "m", "var": True}) + "\n", "Unsupported at 0"),
+    ("lists beside another head", story({"->": 1, "list": {}}) + "\n", "Unsupported at 0"),
+    ("a tag's object", story({"#": "t"}) + "\n", "Unsupported at 0"),
+    ("arguments too many, of no name", story({"x()": 1, "exArgs": 2147483648}) + "\n", "Shape at 0"),
+    ("arguments too many", story({"x()": "f", "exArgs": 2147483648}) + "\n", "Limit at 0"),
+    ("arguments below 0", story({"x()": "f", "exArgs": -1}) + "\n", "Shape at 0"),
+    ("a frame below -1", story({"^var": "a", "ci": -2}) + "\n", "Shape at 0"),
+    ("a frame too large", story({"^var": "a", "ci": 2147483648}) + "\n", "Limit at 0"),
+    ("flags of a choice", story({"*": "0", "flg": 32}) + "\n", "Shape at 0"),
+    ("another head's option", story({"VAR?": "a", "re": 1, "flg": 99}, "\n", 1.5) + "\n", "Unsupported at 2"),
     ("no container at a key", '{"inkVersion":21,"root":["done",{"b":[null],"k":1}]}\n', "Shape at k"),
     ("a name twice", story([{"#n": "a"}], [{"#n": "a"}]) + "\n", "Shape at 1"),
     ("a name by key and in the list", '{"inkVersion":21,"root":[[{"#n":"k"}],{"k":["rnd",null]}]}\n', "Shape at k"),
@@ -140,8 +227,8 @@ REFUSED = [
 ]
 
 
-def run(program, text):
-    done = subprocess.run([program], input=text.encode(), stdout=subprocess.PIPE, stderr=subprocess.PIPE)
+def run(program, text, words=()):
+    done = subprocess.run([program] + list(words), input=text.encode(), stdout=subprocess.PIPE, stderr=subprocess.PIPE)
     return done.stdout.decode(), done.stderr.decode(), done.returncode
 
 
@@ -151,6 +238,8 @@ def main():
     run(program, story("done") + "\n")  # built
     cases = [(name, text, "".join(line + "\n" for line in lines), "", 0) for name, text, lines in PLAYED]
     cases += [(name, text, "", "inkplay: story refused: %s\n" % why, 2) for name, text, why in REFUSED]
+    number = keyed([{"->": "1"}], **{"1": ["end", None]}) + "\nthrough\n"
+    cases.append(("a number is no name", number, passage("", True) + "\n", "", 0))
     too_long = story("done") + "\nbye\n" + "x" * (MIB + 1) + "\nthrough\n"
     cases.append(("a line too long", too_long, BAD + "\n", "inkplay: run fault: TooLong\n", 1))
     first = story("done")
@@ -176,10 +265,25 @@ def main():
     done = subprocess.run([program], stdin=folder, stdout=subprocess.PIPE, stderr=subprocess.PIPE)
     os.close(folder)
     good += (done.stdout, done.stderr, done.returncode) == (b"", b"inkplay: run fault: Read\n", 1)
-    words = subprocess.run([program, "--help"], stdin=subprocess.DEVNULL, stdout=subprocess.PIPE, stderr=subprocess.PIPE)
-    good += (words.stdout, words.stderr, words.returncode) == (b"", b"inkplay: words refused\n", 2)
-    print("%d of %d hold" % (good, len(cases) + 4))
-    return 0 if good == len(cases) + 4 else 1
+    with tempfile.TemporaryDirectory() as where:
+        held, longer = os.path.join(where, "story"), os.path.join(where, "-longer")
+        with open(held, "w") as file:
+            file.write(first)
+        with open(longer, "w") as file:
+            file.write(first + " " * (16 * MIB + 1 - len(first)))
+        for words, text, answer in (
+                ([held], "through\n", (passage("") + "\n", "", 0)),
+                ([held, held], "", ("", "inkplay: words refused\n", 2)),
+                (["--help"], "", ("", "inkplay: words refused\n", 2)),
+                (["--", longer], "", ("", "inkplay: story refused: Limit at root\n", 2)),
+                ([os.path.join(where, "none")], "", ("", "inkplay: file not read\n", 2)),
+                ([where], "", ("", "inkplay: file not read\n", 2))):
+            got = run(program, text, words)
+            good += got == answer
+            if got != answer:
+                print("%s: %s" % (words, got))
+    print("%d of %d hold" % (good, len(cases) + 9))
+    return 0 if good == len(cases) + 9 else 1
 
 
 if __name__ == "__main__":
