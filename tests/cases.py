@@ -196,7 +196,6 @@ REFUSED = [
     ("past an end", story({"->": "2"}) + "\n", "BadPath at 0"),
     ("on past an end", story({"->": "1.^"}) + "\n", "BadPath at 0"),
     ("through what is no container", story({"->": "0.x"}) + "\n", "BadPath at 0"),
-    ("a number is no name", keyed([{"->": "1"}], **{"1": ["end", None]}) + "\nthrough\n", None),
     ("above the root", story({"->": ".^.^"}) + "\n", "BadPath at 0"),
     ("relative without a way up", story({"->": ".0"}) + "\n", "BadPath at 0"),
     ("an empty component", story({"->": "0..1"}) + "\n", "BadPath at 0"),
