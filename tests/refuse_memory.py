@@ -10,6 +10,7 @@ memory, or the same answers as with ample memory up to the command that found no
 broken player answers to the lines after it. Two tests of the library that hold under any refusal are run in the same way. The
 last line tells the number of runs; the status is 0 only where all hold.
 """
+import json
 import os
 import shutil
 import subprocess
@@ -40,7 +41,21 @@ void *realloc(void *at, size_t size) {
 """
 
 HELLO = '{"inkVersion":21,"root":[["^Hello, world!","\\n",["done",{"#n":"g-0"}],null],"done",null],"listDefs":{}}'
+EVERY_FORM = json.dumps({"inkVersion": 21, "root": [
+    "^t", "\n", "<>", 1, True, "void", "ev", "/ev", "out", "pop", "->->", "~ret", "du", "str", "/str", "nop", "choiceCnt", "turn", "turns",
+    "readc", "visit", "thread", "done", "end", "#", "/#", "+", "-", "/", "*", "%", "_", "==", ">", "<", ">=", "<=", "!=", "!", "&&", "||",
+    "MIN", "MAX", "FLOOR", "CEILING", "INT", "?", "!?", {"^->": "k"}, {"^var": "a"}, {"^var": "a", "ci": 0}, {"->": "k"},
+    {"->": ".^.k.0", "c": True}, {"->": "v", "var": True}, {"f()": "k"}, {"f()": "v", "var": True, "c": True}, {"->t->": "k", "c": True},
+    {"x()": "f"}, {"x()": "g", "exArgs": 2, "c": True}, {"VAR=": "x"}, {"VAR=": "x", "re": True}, {"temp=": "t"}, {"temp=": "t", "re": True},
+    {"VAR?": "x"}, {"CNT?": "k"}, {"*": "k"}, {"*": ".^.k", "flg": 0}, ["^in", {"#n": "g", "#f": 5}],
+    {"k": ["^a", {"#f": 1}], "#f": 3}]})
 STORIES = (
+    (EVERY_FORM, ("through",)),
+    ('{"inkVersion":21,"root":[{"->":"m"},null]}', ("through",)),
+    ('{"inkVersion":21,"root":["ev",{"^->":"k"},{"VAR=":"v"},true,"/ev",{"->":"v","var":true,"c":true},null,{"k":["^in",{"->":".^.^.g"},{"#f":1}],"g":["\\n","^out","end",null]}]}'.replace(",null,{", ",{"),
+     ("through", "get v", "restart", "through")),
+    ('{"inkVersion":21,"root":["^A","#","^ x  y ","#","^z","/#","\\n","<>","ev","str","^s","#","^t","/#","/str",{"VAR=":"v"},"pop","/ev","^B","\\n","end",null]}',
+     ("through", "get v")),
     (HELLO, ("through", "through", "bye", "through")),
     ("\ufeff" + HELLO, ("bye", "through")),
     ('{"inkVersion":21,"root":["done",null],"listDefs":{}}', ("through", "through", "bye")),
