@@ -24,7 +24,7 @@ pub use input::{ReadFailed, Source};
 pub use output::{Sink, WriteFailed};
 pub use played::runnable;
 pub use player::{OpenFault, Player};
-pub use playing::{play, serve_story};
+pub use playing::{open_story, play, serve_story};
 pub use session::{run, serve};
 
 #[cfg(test)]

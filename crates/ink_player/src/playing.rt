@@ -99,8 +99,11 @@ pub fn serve_story<S: Source, T: Sink>(
     }
 }
 
-// Reads and opens a story.
-fn open_story(alloc: Global, line: &[u8], desk: Desk) -> Result<Player, PlayEnd>
+/// Reads a story, checks its paths, and opens it (docs/PROTOCOL.md, "Playing").
+///
+/// Errors: `Story`, where the story is refused as by `read_story` and `check`, or with `Unsupported` at the first content that
+/// is not played yet. `Start`, where its declarations fault or memory was refused for opening it. The desk is handed back.
+pub fn open_story(alloc: Global, line: &[u8], desk: Desk) -> Result<Player, PlayEnd>
     ensures { Opens line.now result }
 {
     let story = match played_story(alloc, line) {
