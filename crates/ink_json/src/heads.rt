@@ -25,7 +25,7 @@ pub(crate) enum Head {
     Temporary,
 }
 
-/// The heads that were found in an object, and the value of one that is alone.
+/// The heads that were found in an object; where it is one, with its value.
 #[derive(Clone, Copy)]
 pub(crate) enum Found<'v> {
     Nothing,
@@ -33,7 +33,7 @@ pub(crate) enum Found<'v> {
     Several,
 }
 
-/// The heads of an object, after those found before.
+/// The heads of an object.
 pub(crate) fn heads(object: &Value) -> Found<'_>
     ensures { Counts result (json_view object.now) (jump_readings (json_view object.now) ++ (value_readings (json_view object.now) ++ store_readings (json_view object.now))) }
 {

@@ -26,8 +26,7 @@ pub(crate) fn read_object_leaf(alloc: Global, object: &Value) -> Result<Leaf, Re
     }
     match heads(object) {
         Found::One(head, value) => read_by(alloc, head, object, value),
-        Found::Nothing => Err(ReadError::here(alloc, Cause::Shape)),
-        Found::Several => Err(ReadError::here(alloc, Cause::Shape)),
+        Found::Nothing | Found::Several => Err(ReadError::here(alloc, Cause::Shape)),
     }
 }
 
