@@ -1,4 +1,4 @@
-use Rattle.std.proofs.Common.{◌≡◌, ◌∙◌, ap, None, option_map, subst}
+use Rattle.std.proofs.Common.{◌≡◌, None, subst}
 use Rattle.ink_check.specs.Words.{story_tree}
 use Rattle.ink_model.specs.Played.{first_unplayed}
 use Rattle.ink_player.proofs.Playable.{none_unplayed}

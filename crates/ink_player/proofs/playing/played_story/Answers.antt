@@ -1,4 +1,4 @@
-use Rattle.std.proofs.Common.{◌∙◌, ap, sym, Some}
+use Rattle.std.proofs.Common.{◌∙◌, sym}
 use Rattle.ink_player.proofs.Playable.{unread, unaccepted, plays_all, not_all}
 use Rattle.ink_player.proofs.playing.played_story.Goals as goal
 

@@ -1,4 +1,4 @@
-use Rattle.std.proofs.Common.{ap, subst, option_map}
+use Rattle.std.proofs.Common.{subst, option_map}
 use Rattle.ink_check.specs.Words.{story_tree}
 use Rattle.ink_model.specs.Configuration.{with_globals}
 use Rattle.ink_model.specs.Step.{goes}

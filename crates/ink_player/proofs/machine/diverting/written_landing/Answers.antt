@@ -1,5 +1,4 @@
-use Rattle.std.proofs.Common.{◌≡◌, None, ap, subst}
-use Rattle.ink_model.specs.Acceptance.{written_target}
+use Rattle.std.proofs.Common.{◌≡◌, None, subst}
 use Rattle.ink_model.specs.Tree.{at}
 use Rattle.ink_player.proofs.Diverting.{nowhere}
 use Rattle.ink_player.proofs.machine.diverting.written_landing.Goals as goal

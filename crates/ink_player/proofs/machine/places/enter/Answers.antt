@@ -1,4 +1,4 @@
-use Rattle.std.proofs.Common.{◌≡◌, ◌∙◌, ap, sym}
+use Rattle.std.proofs.Common.{◌∙◌, ap, sym}
 use Rattle.ink_player.proofs.Moving.{enters_in, enters_nothing}
 use Rattle.ink_player.proofs.machine.places.enter.Goals as goal
 use Rattle.ink_tree.specs.Nodes.{place_of}
