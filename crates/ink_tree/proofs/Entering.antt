@@ -1,12 +1,11 @@
 -- The containers that a landing enters, one further up.
-use Rattle.std.proofs.Common.{◌≡◌, ◌∙◌, ap, sym, subst, refl, ℕ, List, [], ◌∷◌, ◌++◌, map, reverse, Bool, true, false, true≢false, not, ◌&&◌, ◌||◌, Option, Some, None, is_some, cond, append_assoc, append-nil}
+use Rattle.std.proofs.Common.{◌≡◌, ◌∙◌, ap, sym, refl, List, [], ◌∷◌, ◌++◌, map, reverse, Bool, true, false, true≢false, not, ◌&&◌, ◌||◌, Option, Some, None, is_some, cond, append_assoc, append-nil}
 use Rattle.std.proofs.lemmas.List.{reverse-append, reverse-reverse, map-append}
 use Rattle.ink_model.specs.Entered.{was_inside, starts_only, is_first, listed_if, entered_above, entered_around, entered_places}
 use Rattle.ink_model.specs.Tree.{StoryTree, at}
 use Rattle.ink_model.specs.declared.place.Part.{Part}
-use Rattle.ink_tree.specs.Nodes.{node_place, IsNode, AreNodes, Finds}
+use Rattle.ink_tree.specs.Nodes.{node_place, IsNode, AreNodes}
 use Rattle.ink_tree.specs.declared.spot.NodeId.{NodeId}
-use Rattle.ink_tree.proofs.Standing.{stands_above}
 
 abbrev Places : Type 0
 Places = List (List Part)

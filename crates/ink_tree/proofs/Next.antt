@@ -1,5 +1,5 @@
 -- The next place, by the last part of a place.
-use Rattle.std.proofs.Common.{◌≡◌, ◌∙◌, ℕ, ◌+◌, ◌<◌, ◌≤◌, ap, refl, List, [], ◌∷◌, ◌++◌, length, reverse, arith, sym, Option, Some, None, true, false, nat_lt}
+use Rattle.std.proofs.Common.{◌≡◌, ◌∙◌, ℕ, ◌+◌, ◌<◌, ◌≤◌, ap, refl, List, [], ◌∷◌, ◌++◌, length, reverse, arith, sym, Some, None, true, false, nat_lt}
 use Rattle.std.proofs.lemmas.List.{reverse-append, reverse-reverse}
 use Rattle.std.proofs.lemmas.Bool.Decides.{nat_tests}
 use Rattle.std.proofs.lemmas.Grind.{reverse_onto}

@@ -3,7 +3,7 @@ use Rattle.std.proofs.Common.{◌≡◌, refl, ℕ, List, [], ◌∷◌, ◌++�
 use Rattle.ink_model.specs.Entered.{is_around}
 use Rattle.ink_model.specs.Value.{same_part}
 use Rattle.ink_model.specs.declared.place.Part.{Part}
-use Rattle.ink_model.specs.declared.place.Part.TheVariants.{Index, Name}
+use Rattle.ink_model.specs.declared.place.Part.TheVariants.{Index}
 use Rattle.ink_tree.specs.Nodes.{index_part}
 
 and_false : (b : Bool) → (b && false) ≡ false

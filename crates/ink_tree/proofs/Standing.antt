@@ -1,12 +1,10 @@
 -- Where content stands, and the nodes that are found there.
-use Rattle.std.proofs.Common.{◌≡◌, ◌∙◌, ap, sym, refl, ℕ, zero, suc, ◌+◌, ◌<◌, ◌≤◌, List, [], ◌∷◌, ◌++◌, Bool, true, false, true≢false, Option, Some, None, is_some, option_map, option_and_then, Bor, cond, arith}
+use Rattle.std.proofs.Common.{◌≡◌, ◌∙◌, ap, sym, refl, ℕ, zero, suc, ◌+◌, ◌<◌, List, [], ◌∷◌, ◌++◌, Bool, true, false, true≢false, Option, Some, None, is_some, option_map, option_and_then, cond, arith}
 use Rattle.ink_model.specs.Path.{listed_index}
 use Rattle.ink_model.specs.Place.{is_named, named_index}
 use Rattle.ink_model.specs.Tree.{StoryTree, leaf, container, Trees, no_trees, tree, nth, down, at, width, count}
-use Rattle.ink_model.specs.View.{view}
-use Rattle.ink_model.specs.declared.content.Content.{Content}
 use Rattle.ink_model.specs.declared.place.Part.{Part}
-use Rattle.ink_model.specs.declared.place.Part.TheVariants.{Index, Name}
+use Rattle.ink_model.specs.declared.place.Part.TheVariants.{Index}
 use Rattle.ink_tree.specs.Nodes.{node_place, Finds}
 use Rattle.ink_tree.specs.declared.spot.NodeId.{NodeId}
 

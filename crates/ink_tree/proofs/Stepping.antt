@@ -1,10 +1,10 @@
 -- Steps of a path.
-use Rattle.std.proofs.Common.{◌≡◌, ◌∙◌, inl, inr, ap, sym, refl, subst, add-one, drop-cons, drop, get_or, length, suc, ◌+◌, ℕ, ◌<◌, ◌≤◌, List, [], ◌∷◌, ◌++◌, reverse, Bool, true, false, true≢false, Option, Some, None, is_some, option_map, option_and_then, nat_lt, cond, arith}
+use Rattle.std.proofs.Common.{◌≡◌, ◌∙◌, inl, inr, ap, sym, refl, subst, add-one, drop-cons, drop, get_or, length, suc, ◌+◌, ℕ, ◌<◌, List, [], ◌∷◌, ◌++◌, reverse, true, false, true≢false, Option, Some, None, is_some, option_map, option_and_then, nat_lt, arith}
 use Rattle.std.proofs.lemmas.List.{append-nil, reverse-append, reverse-reverse}
 use Rattle.std.proofs.lemmas.Bool.{cases_lt}
 use Rattle.std.proofs.lemmas.Bool.Decides.{nat_tests}
-use Rattle.ink_model.specs.Path.{above, by_name, is_up, listed_index, stepped, stepped_last, walked}
-use Rattle.ink_model.specs.Tree.{StoryTree, down, at, width}
+use Rattle.ink_model.specs.Path.{above, by_name, listed_index, stepped, walked}
+use Rattle.ink_model.specs.Tree.{StoryTree, at, width}
 use Rattle.ink_model.specs.declared.place.Part.{Part}
 use Rattle.ink_model.specs.declared.place.Part.TheVariants.{Index, Name}
 use Rattle.ink_tree.specs.Nodes.{node_place, Finds}

@@ -23,7 +23,7 @@ pub(crate) fn key_of(part: &Part) -> Key<'_>
     }
 }
 
-/// How a place stands to another in reading order, which is some parts and perhaps one part more.
+/// How a place stands in reading order to another one, which is some parts and perhaps one part more.
 pub(crate) fn compare(place: &[Part], up: &[Part], last: Option<Key<'_>>) -> Ordering
     ensures { result ≡ place_cmp place.now (up.now ++ key_parts last.entry) }
 {
@@ -42,6 +42,7 @@ pub(crate) fn compare(place: &[Part], up: &[Part], last: Option<Key<'_>>) -> Ord
     }
 }
 
+/// The part at an index of some parts and perhaps one part more.
 fn part_at<'p>(up: &'p [Part], last: Option<Key<'p>>, index: usize) -> Option<Key<'p>>
     ensures { option_map key_part result ≡ slice_get (up.now ++ key_parts last.entry) index }
 {
@@ -54,6 +55,7 @@ fn part_at<'p>(up: &'p [Part], last: Option<Key<'p>>, index: usize) -> Option<Ke
     }
 }
 
+/// How a part stands to another.
 fn compare_parts(part: &Part, other: Key<'_>) -> Ordering
     ensures { result ≡ part_cmp part.now (key_part other.entry) }
 {

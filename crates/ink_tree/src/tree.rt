@@ -8,12 +8,12 @@ ghost use Rattle.ink_model.specs.Path.{is_place, listed_index};
 ghost use Rattle.ink_model.specs.Place as rules;
 ghost use Rattle.ink_model.specs.Place.{named_index};
 ghost use Rattle.ink_model.specs.Places.{places};
-ghost use Rattle.ink_tree.specs.Order.{keys_rise, key_parts};
 ghost use Rattle.ink_model.specs.Tree.{at, width, count};
 ghost use Rattle.ink_model.specs.View.{view, trees_view};
 ghost use Rattle.ink_model.specs.declared.fault.Cause.TheVariants.{OutOfMemory};
 ghost use Rattle.ink_model.specs.declared.place.Part.TheVariants.{Index};
 ghost use Rattle.ink_tree.specs.Contents.{reaches, has_name};
+ghost use Rattle.ink_tree.specs.Order.{keys_rise, key_parts};
 
 use crate::listing::list_story;
 use crate::order::{Key, compare, key_of};
@@ -85,6 +85,7 @@ impl Tree {
         }
     }
 
+    /// The spot of content itself.
     fn spot_on(&self, parts: &[Part]) -> Option<Spot>
         ensures { option_map (place_of (story_tree self.now)) result
             ≡ (if is_some (at (story_tree self.now) parts.now) then Some parts.now else None) }
@@ -95,6 +96,7 @@ impl Tree {
         })
     }
 
+    /// The spot of an index in what stands at a place.
     fn spot_in(&self, up: &[Part], index: u32) -> Option<Spot>
         ensures { option_map (place_of (story_tree self.now)) result
             ≡ (if is_place (story_tree self.now) (up.now ++ Index index ∷ []) then Some (up.now ++ Index index ∷ []) else None) }
@@ -161,6 +163,7 @@ impl Tree {
         self.search(up, last.map(key_of))
     }
 
+    /// The same for a part that is lent.
     fn search(&self, up: &[Part], last: Option<Key<'_>>) -> Option<NodeId>
         ensures finds { Finds (story_tree self.now) (up.now ++ key_parts last.entry) result }
         ensures stands { IsSome result → is_some (at (story_tree self.now) (up.now ++ key_parts last.entry)) ≡ true }
@@ -196,6 +199,7 @@ pub(crate) fn index_in(container: &Content, name: &str) -> Option<u32>
     }
 }
 
+/// The same in a list.
 fn index_of(contents: &Vec<Content>, name: &str) -> Option<u32>
     requires { count (trees_view contents.now.items) < 2 ^ 32 }
     ensures { result ≡ named_index name.now 0 (trees_view contents.now.items) }
@@ -208,6 +212,7 @@ fn index_of(contents: &Vec<Content>, name: &str) -> Option<u32>
     None
 }
 
+/// Whether content is a container that gives itself a name.
 fn has_name(content: &Content, name: &str) -> bool
     ensures { result ≡ has_name name.now (view content.now) }
 {

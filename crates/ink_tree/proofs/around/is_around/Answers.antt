@@ -1,4 +1,4 @@
-use Rattle.std.proofs.Common.{◌≡◌, ◌∙◌, ap, sym, ◌++◌}
+use Rattle.std.proofs.Common.{◌∙◌, ap, sym, ◌++◌}
 use Rattle.ink_model.specs.Entered.{is_around}
 use Rattle.ink_tree.specs.Nodes.{index_part}
 use Rattle.ink_tree.proofs.Prefixes.{past_index}

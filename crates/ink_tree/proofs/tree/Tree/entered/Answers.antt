@@ -1,5 +1,5 @@
-use Rattle.std.proofs.Common.{◌≡◌, ◌∙◌, ap, sym, true, false, true≢false, not, ◌&&◌, ◌∷◌, [], ◌++◌, is_some, map, option_map, reverse, append-nil}
-use Rattle.ink_model.specs.Entered.{entered_above, is_first, starts_only, was_inside}
+use Rattle.std.proofs.Common.{◌≡◌, ◌∙◌, ap, sym, true, true≢false, ◌&&◌, ◌∷◌, [], ◌++◌, is_some, map, option_map, reverse, append-nil}
+use Rattle.ink_model.specs.Entered.{entered_above, is_first, starts_only}
 use Rattle.ink_model.specs.Tree.{at}
 use Rattle.ink_tree.specs.Nodes.{story_tree, node_place, place_of}
 use Rattle.ink_tree.proofs.Entering.{entered_from, entered_nowhere, enters, enters_at_start, entered_more, nodes_more}

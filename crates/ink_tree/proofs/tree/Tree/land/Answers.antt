@@ -1,4 +1,4 @@
-use Rattle.std.proofs.Common.{◌<◌, ◌≤◌, ◌∙◌, ap, [], ◌∷◌, ◌++◌, arith}
+use Rattle.std.proofs.Common.{◌<◌, ◌∙◌, ap, [], ◌∷◌, ◌++◌, arith}
 use Rattle.ink_model.specs.Tree.{at, width}
 use Rattle.ink_model.specs.declared.place.Part.TheVariants.{Index}
 use Rattle.ink_tree.specs.Nodes.{story_tree, place_of}

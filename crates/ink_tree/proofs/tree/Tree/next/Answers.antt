@@ -1,4 +1,4 @@
-use Rattle.std.proofs.Common.{◌≡◌, ◌∙◌, ap, ◌<◌, ◌≤◌, ◌+◌, ◌++◌, append-nil, sym, arith}
+use Rattle.std.proofs.Common.{◌∙◌, ap, ◌<◌, ◌≤◌, ◌+◌, ◌++◌, append-nil, sym, arith}
 use Rattle.ink_model.specs.Place.{next_place}
 use Rattle.ink_model.specs.Tree.{at, width}
 use Rattle.ink_tree.specs.Nodes.{story_tree, node_place, index_part}

@@ -1,4 +1,4 @@
-use Rattle.std.proofs.Common.{◌≡◌, ◌∙◌, ap, sym, [], cond}
+use Rattle.std.proofs.Common.{◌≡◌, ◌∙◌, ap, [], cond}
 use Rattle.ink_model.specs.Path.{target, walked}
 use Rattle.ink_tree.specs.Nodes.{story_tree, node_place}
 use Rattle.ink_tree.proofs.Standing.{root_place}

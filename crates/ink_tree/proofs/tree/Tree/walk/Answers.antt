@@ -1,4 +1,3 @@
-use Rattle.std.proofs.Common.{◌∙◌, Some, ap, sym}
 use Rattle.ink_tree.specs.Nodes.{story_tree, node_place}
 use Rattle.ink_tree.proofs.Stepping.{walk_on}
 use Rattle.ink_tree.proofs.tree.Tree.walk.Goals as goal
