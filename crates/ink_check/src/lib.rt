@@ -2,7 +2,13 @@
 #![tactic(auto)]
 
 mod checking;
+mod error;
+mod forms;
+mod leading;
 mod story;
 
 pub use checking::check;
 pub use story::Story;
+
+#[cfg(test)]
+mod tests;

@@ -1,7 +1,8 @@
 //! Accepted stories (docs/STORY_FORMAT.md, "Paths").
 
-ghost use Rattle.std.specs.Prelude.{◌≡◌, [], option_map};
+ghost use Rattle.std.specs.Prelude.{◌≡◌, [], map, option_map, slice_get};
 ghost use Rattle.ink_model.specs.Acceptance.{bad_places, written_target};
+ghost use Rattle.ink_model.specs.Places.{places};
 ghost use Rattle.ink_tree.specs.Nodes as nodes;
 
 use ink_tree::{NodeId, Spot, Tree};
@@ -11,6 +12,8 @@ use ink_tree::{NodeId, Spot, Tree};
 pub struct Story {
     pub(crate) tree: Tree,
     pub(crate) targets: Vec<Option<Spot>>,
+    ghost good: { bad_places (nodes.story_tree tree) ≡ [] },
+    ghost leading: { let s = nodes.story_tree tree in map (option_map (nodes.place_of s)) targets.items ≡ map (written_target s) (places s) },
 }
 
 impl Story {
@@ -30,6 +33,13 @@ impl Story {
         ensures { option_map (nodes.place_of (story_tree self.now)) result
             ≡ written_target (story_tree self.now) (nodes.node_place (story_tree self.now) node) }
     {
-        None
+        let root = NodeId { number: 0 };
+        self.entry(node).or(self.entry(root)).flatten()
+    }
+
+    fn entry(&self, node: NodeId) -> Option<Option<Spot>>
+        ensures { result ≡ slice_get self.now.targets.items node.number }
+    {
+        self.targets.get(node.number).copied()
     }
 }

@@ -10,7 +10,8 @@ use Rattle.serde_json.specs.Find.{get, get_member}
 use Rattle.serde_json.specs.Read.{read}
 use Rattle.serde_json.specs.View.{members_view}
 use Rattle.serde_json.proofs.Views.{Entry}
-use Rattle.ink_model.specs.Grammar.{here, json, unmarked, of_value, story, max_story, is_blank_object}
+use Rattle.ink_model.specs.Limits.{max_story}
+use Rattle.ink_model.specs.Grammar.{here, json, unmarked, of_value, story, is_blank_object}
 use Rattle.ink_model.specs.declared.fault.Cause.TheVariants.{NotJson}
 use Rattle.ink_json.specs.Size.{size, members_size}
 use Rattle.ink_json.proofs.Size.{read_size}

@@ -14,7 +14,8 @@ use Rattle.serde_json.specs.View.{view as json_view, items_view, members_view}
 use Rattle.serde_json.specs.declared.value.Value.{Value}
 use Rattle.ink_model.specs.Tree.{StoryTree, container, Trees, no_trees, tree, Keyed, key}
 use Rattle.ink_model.specs.View.{view, trees_of, trees_view, keyed_view}
-use Rattle.ink_model.specs.Grammar.{under, first, own, own_after, is_empty, is_last, are_flags, member_of, flags_key, flags_of, name_in, name_of, is_misnamed, is_taken, with_name, is_own, max_nesting, content, faults, faults_inside, faults_keyed, faults_by, tree_of, content_of, keyed_in, keyed_last, keyed_by}
+use Rattle.ink_model.specs.Limits.{max_nesting}
+use Rattle.ink_model.specs.Grammar.{under, first, own, own_after, is_empty, is_last, are_flags, member_of, flags_key, flags_of, name_in, name_of, is_misnamed, is_taken, with_name, is_own, content, faults, faults_inside, faults_keyed, faults_by, tree_of, content_of, keyed_in, keyed_last, keyed_by}
 use Rattle.ink_model.specs.declared.content.Content.{Content, Container, the_lemmas}
 use Rattle.ink_model.specs.declared.fault.ReadRefusal.{ReadRefusal}
 use Rattle.ink_model.specs.declared.place.Part.TheVariants.{Index, Name}

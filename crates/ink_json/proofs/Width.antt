@@ -7,7 +7,9 @@ use Rattle.serde_json.specs.Find.{get}
 use Rattle.serde_json.specs.Read.{read}
 use Rattle.ink_model.specs.Tree.{StoryTree, Keyed, key, count}
 use Rattle.ink_model.specs.Narrow.{is_narrow, are_narrow, are_keyed_narrow}
-use Rattle.ink_model.specs.Grammar.{here, is_object, is_version, is_blank_object, whole, is_own, tree_of, content_of, keyed_in, keyed_last, keyed_by, faults, unmarked, json, of_json, of_value, root_of, story, max_story}
+use Rattle.ink_model.specs.Limits.{max_story}
+use Rattle.ink_model.specs.Leaves.{whole}
+use Rattle.ink_model.specs.Grammar.{here, is_object, is_version, is_blank_object, is_own, tree_of, content_of, keyed_in, keyed_last, keyed_by, faults, unmarked, json, of_json, of_value, root_of, story}
 use Rattle.ink_model.specs.declared.fault.Cause.TheVariants.{Shape, Version, Unsupported}
 use Rattle.ink_model.specs.declared.fault.ReadRefusal.{ReadRefusal}
 use Rattle.ink_json.specs.Size.{size, items_size, members_size}

@@ -1,3 +1,4 @@
 pub mod Story
 pub mod Size
 pub mod Reading
+pub mod Heads

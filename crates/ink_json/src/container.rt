@@ -3,7 +3,8 @@
 ghost use Rattle.std.specs.Prelude.{◌≡◌, ◌+◌, ◌≤◌, ◌<◌, ◌^◌, ℕ, List, [], IfOk, IfErr, OnOk, map, vec_len, true, false};
 ghost use Rattle.serde_json.specs.Data.{array};
 ghost use Rattle.serde_json.specs.View.{view as json_view, items_view, members_view};
-ghost use Rattle.ink_model.specs.Grammar.{content, content_of, tree_of, keyed_last, keyed_by, faults, faults_inside, faults_keyed, faults_by, first, under, own, max_nesting};
+ghost use Rattle.ink_model.specs.Limits.{max_nesting};
+ghost use Rattle.ink_model.specs.Grammar.{content, content_of, tree_of, keyed_last, keyed_by, faults, faults_inside, faults_keyed, faults_by, first, under, own};
 ghost use Rattle.ink_model.specs.View.{view, trees_view, keyed_view};
 ghost use Rattle.ink_model.specs.declared.place.Part.TheVariants.{Index, Name};
 ghost use Rattle.ink_json.specs.Reading.{Gives, IsFirst, Holds, faults_last, faults_named, put_key};

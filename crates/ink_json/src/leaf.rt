@@ -4,7 +4,10 @@ ghost use Rattle.std.specs.Prelude.{length, nat_lt, Ok, Err, if◌then◌else◌
 ghost use Rattle.std.specs.Result.{result_unwrap_or};
 ghost use Rattle.serde_json.specs.Find.{as_integer};
 ghost use Rattle.serde_json.specs.View.{view as json_view, number_view};
-ghost use Rattle.ink_model.specs.Grammar.{string_leaf, integer_leaf, object_leaf, word, leaf_faults, first, max_text};
+ghost use Rattle.ink_model.specs.Limits.{max_text};
+ghost use Rattle.ink_model.specs.Word.{word};
+ghost use Rattle.ink_model.specs.Leaves.{string_leaf, integer_leaf, object_leaf};
+ghost use Rattle.ink_model.specs.Grammar.{leaf_faults, first};
 ghost use Rattle.ink_model.specs.Tree.{leaf};
 ghost use Rattle.ink_model.specs.View.{view};
 ghost use Rattle.ink_json.specs.Reading.{Gives, placed};
@@ -44,7 +47,7 @@ pub(crate) fn read_object(alloc: Global, object: &Value) -> Result<Content, Read
     Ok(Content::Leaf(leaf))
 }
 
-#[tactic(auto, unfolding(ink_model::specs::Grammar::string_leaf))]
+#[tactic(auto, unfolding(ink_model::specs::Leaves::string_leaf))]
 fn read_leaf(alloc: Global, text: &str) -> Result<Leaf, ReadError>
     ensures { Gives (λ l. l) result (placed (string_leaf text.now)) }
 {

@@ -4,12 +4,15 @@
 mod container;
 mod descent;
 mod error;
+mod heads;
 mod leaf;
 mod limits;
 mod names;
 mod object;
+mod options;
 mod own;
 mod reading;
+mod readings;
 mod story;
 mod word;
 

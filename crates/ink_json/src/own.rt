@@ -2,7 +2,8 @@
 
 ghost use Rattle.std.specs.Prelude.{◌≡◌, false, true, not, MatchOption, Some, None, option_map, if◌then◌else◌, IfOk};
 ghost use Rattle.serde_json.specs.View.{view as json_view, items_view};
-ghost use Rattle.ink_model.specs.Grammar.{own, own_of, is_last, are_flags, flags_of, is_name, name_in, name_of, member_of, flags_key, name_key, is_own, whole};
+ghost use Rattle.ink_model.specs.Leaves.{whole};
+ghost use Rattle.ink_model.specs.Grammar.{own, own_of, is_last, are_flags, flags_of, is_name, name_in, name_of, member_of, flags_key, name_key, is_own};
 ghost use Rattle.ink_json.specs.Reading.{is_whole};
 
 use ink_model::Text;

@@ -3,7 +3,8 @@
 ghost use Rattle.std.specs.Prelude.{◌≡◌, ◌⊎◌, ◌≤◌, ◌<◌, ◌+◌, ◌^◌, true, length, IfOk, IfErr, Ok, Err, Some, option_map, ok_or, codes};
 ghost use Rattle.serde_json.specs.Find.{get};
 ghost use Rattle.serde_json.specs.View.{view as json_view};
-ghost use Rattle.ink_model.specs.Grammar.{here, story, unmarked, json, of_value, root_of, is_blank_object, is_version, whole};
+ghost use Rattle.ink_model.specs.Leaves.{whole};
+ghost use Rattle.ink_model.specs.Grammar.{here, story, unmarked, json, of_value, root_of, is_blank_object, is_version};
 ghost use Rattle.ink_model.specs.View.{view};
 ghost use Rattle.ink_json.specs.Reading.{Gives};
 ghost use Rattle.ink_json.specs.Size.{size};

@@ -1,21 +1,21 @@
 //! The words that stand for leaves.
 
 ghost use Rattle.std.specs.Prelude.{◌≡◌};
-ghost use Rattle.ink_model.specs.Grammar.{word, meant, flow_words, evaluation_words, arithmetic_words, comparison_words, logic_words, number_words};
+ghost use Rattle.ink_model.specs.Word.{word, operator_word, meant, flow_words, evaluation_words, section_words, frame_words, count_words, arithmetic_words, comparison_words, logic_words, number_words};
 
 use ink_model::{Control, Leaf, Op};
 
 /// The leaf that a word stands for.
-#[tactic(auto, unfolding(ink_model::specs::Grammar::word))]
+#[tactic(auto, unfolding(ink_model::specs::Word::word))]
 pub(crate) fn word_leaf(text: &str) -> Option<Leaf>
     ensures { result ≡ word text.now }
 {
     flow(text)
         .or_else(|| evaluation(text))
-        .or_else(|| arithmetic(text))
-        .or_else(|| comparison(text))
-        .or_else(|| logic(text))
-        .or_else(|| number(text))
+        .or_else(|| section(text))
+        .or_else(|| frame(text))
+        .or_else(|| count(text))
+        .or_else(|| operator(text))
 }
 
 fn flow(text: &str) -> Option<Leaf>
@@ -23,6 +23,7 @@ fn flow(text: &str) -> Option<Leaf>
 {
     match text {
         "\n" => Some(Leaf::Newline),
+        "<>" => Some(Leaf::Glue),
         "done" => Some(Leaf::Control(Control::Done)),
         "end" => Some(Leaf::Control(Control::End)),
         "nop" => Some(Leaf::Control(Control::Nop)),
@@ -42,6 +43,53 @@ fn evaluation(text: &str) -> Option<Leaf>
         "du" => Some(Leaf::Control(Control::Duplicate)),
         _ => None,
     }
+}
+
+fn section(text: &str) -> Option<Leaf>
+    ensures { result ≡ meant text.now section_words }
+{
+    match text {
+        "str" => Some(Leaf::Control(Control::BeginString)),
+        "/str" => Some(Leaf::Control(Control::EndString)),
+        "#" => Some(Leaf::Control(Control::BeginTag)),
+        "/#" => Some(Leaf::Control(Control::EndTag)),
+        _ => None,
+    }
+}
+
+fn frame(text: &str) -> Option<Leaf>
+    ensures { result ≡ meant text.now frame_words }
+{
+    match text {
+        "~ret" => Some(Leaf::Control(Control::Return)),
+        "->->" => Some(Leaf::Control(Control::ReturnTunnel)),
+        "thread" => Some(Leaf::Control(Control::Thread)),
+        _ => None,
+    }
+}
+
+fn count(text: &str) -> Option<Leaf>
+    ensures { result ≡ meant text.now count_words }
+{
+    match text {
+        "choiceCnt" => Some(Leaf::Control(Control::ChoiceCount)),
+        "turn" => Some(Leaf::Control(Control::Turn)),
+        "turns" => Some(Leaf::Control(Control::Turns)),
+        "readc" => Some(Leaf::Control(Control::ReadCount)),
+        "visit" => Some(Leaf::Control(Control::Visit)),
+        _ => None,
+    }
+}
+
+/// The leaf that an operator is.
+#[tactic(auto, unfolding(ink_model::specs::Word::operator_word))]
+fn operator(text: &str) -> Option<Leaf>
+    ensures { result ≡ operator_word text.now }
+{
+    arithmetic(text)
+        .or_else(|| comparison(text))
+        .or_else(|| logic(text))
+        .or_else(|| number(text))
 }
 
 fn arithmetic(text: &str) -> Option<Leaf>

@@ -1,49 +1,60 @@
--- The next place, by the last part of a place, and how wide raw content is.
-use Rattle.std.proofs.Common.{◌≡◌, ◌∙◌, ℕ, suc, ◌+◌, ◌<◌, ◌≤◌, ap, refl, List, [], ◌∷◌, ◌++◌, length, reverse, arith, sym, Option, Some, None, option_map, Bor, true, false, nat_lt}
-use Rattle.std.proofs.lemmas.List.{append-nil, reverse-append, reverse-reverse}
-use Rattle.std.proofs.lemmas.Bool.Decides.{nat_tests}
-use Rattle.std.proofs.lemmas.Grind.{reverse_onto}
-use Rattle.ink_model.specs.Tree.{StoryTree, at, width, count}
-use Rattle.ink_model.specs.View.{view, trees_view}
-use Rattle.ink_model.specs.Place.{way_in, way_from, entered, next_upwards}
-use Rattle.ink_model.specs.declared.content.Content.{Content}
+-- The way down to the first content.
+use Rattle.std.proofs.Common.{◌≡◌, ◌∙◌, ap, sym, refl, subst, List, [], ◌∷◌, ◌++◌, Option, Some, None, option_and_then, append_assoc}
+use Rattle.std.proofs.lemmas.List.{append-nil}
+use Rattle.ink_model.specs.Tree.{StoryTree, leaf, container, no_trees, tree, down, at}
+use Rattle.ink_model.specs.Place.{way_in, way_from, entered}
 use Rattle.ink_model.specs.declared.place.Part.{Part}
-use Rattle.ink_model.specs.declared.place.Part.TheVariants.{Index, Name}
+use Rattle.ink_model.specs.declared.place.Part.TheVariants.{Index}
+use Rattle.ink_tree.specs.declared.spot.Spot.{Spot}
+use Rattle.ink_tree.specs.Nodes.{place_of}
 
-module _ (s : StoryTree) (rest up : List Part) where
-  upwards : (p : Part) → rest ≡ up ++ p ∷ [] → next_upwards s (reverse rest) ≡ next_upwards s (p ∷ reverse up)
-  upwards p e = ap (λ xs. next_upwards s (reverse xs)) e ∙ ap (next_upwards s) (reverse-append up (p ∷ []))
+found_is : (found : Option StoryTree) → option_and_then (λ t. Some t) found ≡ found
+found_is None = refl
+found_is (Some t) = refl
 
-  pub next_at_name : (n : List ℕ) → rest ≡ up ++ Name n ∷ [] → next_upwards s (reverse rest) ≡ None
-  next_at_name n e = upwards (Name n) e
+-- what stands one part below a place
+at_below : (s : StoryTree) (p : List Part) (q : Part) → at s (p ++ q ∷ []) ≡ option_and_then (down q) (at s p)
+at_below s [] q = found_is (down q s)
+at_below s (r ∷ p) q =
+    elim (down r s) as (λ o. option_and_then (λ t. at t (p ++ q ∷ [])) o ≡ option_and_then (down q) (option_and_then (λ t. at t p) o)) [
+      | None ↦ refl
+      | Some t ↦ at_below t p q
+    ]
 
-  pub next_at_sibling : (i : ℕ) → rest ≡ up ++ Index i ∷ [] → i + 1 < width (at s up)
-      → next_upwards s (reverse rest) ≡ Some (up ++ Index (i + 1) ∷ [])
-  next_at_sibling i e below =
-      let h : nat_lt (i + 1) (width (at s up)) ≡ true = grind (arith, nat_tests) in
-      upwards (Index i) e
-      ∙ rw (reverse-reverse up, h) (ap Some (reverse_onto (reverse up) (Index (i + 1)) [] ∙ ap (λ xs. xs ++ Index (i + 1) ∷ []) (reverse-reverse up)))
+-- the way goes to the first content inside, where there is one
+pub way_down : (t u : StoryTree) → Some u ≡ down (Index 0) t → way_in t ≡ Index 0 ∷ way_in u
+way_down (leaf l) u h = absurd (cc)
+way_down (container name flags no_trees named) u h = absurd (cc)
+way_down (container name flags (tree t ts) named) u h = let same : u ≡ t = cc in ap (λ v. Index 0 ∷ way_in v) (sym same)
 
-  pub next_above : (i : ℕ) → rest ≡ up ++ Index i ∷ [] → width (at s up) ≤ i + 1
-      → next_upwards s (reverse rest) ≡ next_upwards s (reverse up)
-  next_above i e past = let h : nat_lt (i + 1) (width (at s up)) ≡ false = grind (arith, nat_tests) in upwards (Index i) e ∙ rw (reverse-reverse up, h) refl
+no_way : (t : StoryTree) → None ≡ down (Index 0) t → way_in t ≡ []
+no_way (leaf l) h = refl
+no_way (container name flags no_trees named) h = refl
+no_way (container name flags (tree t ts) named) h = absurd (cc)
 
-pub next_at_root : (s : StoryTree) (rest : List Part) → length rest ≡ 0 → next_upwards s (reverse rest) ≡ None
-next_at_root s [] h = refl
-next_at_root s (p ∷ ps) h = absurd (omega arith)
+module _ (s : StoryTree) (p whole : List Part) (t : StoryTree) (goes : (p ++ way_in t ≡ whole) × (at s p ≡ Some t)) where
+  -- one content further in
+  pub goes_in : (q : List Part) (u : StoryTree) → q ≡ p → Some u ≡ down (Index 0) t
+      → ((q ++ Index 0 ∷ []) ++ way_in u ≡ whole) × (at s (q ++ Index 0 ∷ []) ≡ Some u)
+  goes_in q u same h = (
+    append_assoc q (Index 0 ∷ []) (way_in u) ∙ ap (λ r. r ++ Index 0 ∷ way_in u) same ∙ ap (λ way. p ++ way) (sym (way_down t u h)) ∙ goes.0,
+    at_below s q (Index 0) ∙ ap (λ r. option_and_then (down (Index 0)) (at s r)) same ∙ ap (option_and_then (down (Index 0))) goes.1 ∙ sym h,
+  )
 
-pub count_view : (cs : List Content) → count (trees_view cs) ≡ length cs
-count_view [] = refl
-count_view (c ∷ cs) = ap suc (count_view cs)
+  -- there is nothing further in
+  pub is_in : None ≡ down (Index 0) t → p ≡ whole
+  is_in h = sym (append-nil p) ∙ ap (λ way. p ++ way) (sym (no_way t h)) ∙ goes.0
 
 -- where a step gets to, by what was found at its place
-pub entered_some : (s : StoryTree) (p : List Part) (found : Option (Bor Content)) (c : Bor Content) → option_map (λ r. view r.now) found ≡ at s p
-    → found ≡ Some c → p ++ way_in (view c.now) ≡ entered s p
-unfolding entered
-entered_some s p found c e h = ap (λ t. p ++ way_from t) (sym (ap (λ f. option_map (λ r. view r.now) f) h) ∙ e)
+module _ (t s : StoryTree) (x : Spot) (same : t ≡ s) where
+  pub enters_in : (found : StoryTree) (here : List Part) → at t (place_of t x) ≡ Some found → here ≡ place_of t x ++ way_in found
+      → here ≡ entered s (place_of s x)
+  unfolding entered
+  enters_in found here stands h = h ∙ ap (λ o. place_of t x ++ way_from o) (sym stands) ∙ ap (λ u. place_of u x ++ way_from (at u (place_of u x))) same
 
-pub entered_none : (s : StoryTree) (p : List Part) (found : Option (Bor Content)) → option_map (λ r. view r.now) found ≡ at s p
-    → found ≡ None → p ≡ entered s p
-unfolding entered
-entered_none s p found e h =
-    sym (append-nil p) ∙ ap (λ t. p ++ way_from t) (sym (ap (λ f. option_map (λ r. view r.now) f) h) ∙ e)
+  pub enters_nothing : at t (place_of t x) ≡ None → place_of s x ≡ entered s (place_of s x)
+  unfolding entered
+  enters_nothing none = sym (append-nil (place_of s x)) ∙ ap (λ o. place_of s x ++ way_from o) (sym none_there)
+    where
+      none_there : at s (place_of s x) ≡ None
+      none_there = subst (λ u. at u (place_of u x) ≡ None) same none

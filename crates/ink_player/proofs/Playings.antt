@@ -2,7 +2,7 @@
 use Rattle.std.proofs.Common.{◌≡◌, ℕ, ◌+◌, ◌-◌, ◌<◌, ◌≤◌, List, [], ◌∷◌, ◌++◌, length, false, Option, Result, Ok, Err, ap, ◌∙◌, sym, refl, subst, inl, inr, arith, append_assoc, append-nil, length-append}
 use Rattle.std.specs.Io.KnownBytes.{IsAtEnd}
 use Rattle.std.proofs.KnownBytes.{Appends-nil, Consumes-trans}
-use Rattle.ink_model.specs.Grammar.{max_story}
+use Rattle.ink_model.specs.Limits.{max_story}
 use Rattle.ink_model.specs.Opening.{opened}
 use Rattle.ink_model.specs.State.{State}
 use Rattle.ink_player.specs.Buffered.{Buffered}

@@ -27,13 +27,13 @@ none_shown : (b : Bool) (choices : List Shown) → choices ≡ [] → choices �
 none_shown true choices e = e
 none_shown false choices e = e
 
-pub passage_is : (m : Machine) (text : List ℕ) (told : List (List ℕ)) (choices : List Shown) (events : List Event) (more loose : Bool)
+pub passage_is : (s : StoryTree) (m : Machine) (text : List ℕ) (told : List (List ℕ)) (choices : List Shown) (events : List Event) (more loose : Bool)
     → text ≡ clean (shown m.marks.items) → told ≡ tags m.marks.items → choices ≡ [] → events ≡ []
-    → more ≡ can_go_on (config_of m) → loose ≡ is_loose (config_of m)
-    → made text told choices events more loose ≡ passage (config_of m)
+    → more ≡ can_go_on (config_of s m) → loose ≡ is_loose (config_of s m)
+    → made text told choices events more loose ≡ passage (config_of s m)
 unfolding passage
-passage_is m text told choices events more loose e f g h i j =
-    let chosen = none_shown (can_go_on (config_of m)) choices g in
+passage_is s m text told choices events more loose e f g h i j =
+    let chosen = none_shown (can_go_on (config_of s m)) choices g in
     rw (e, f, h, i, j, chosen) refl
 
 -- ---- a running command, from the run that it makes

@@ -12,4 +12,3 @@ pub mod Lines
 pub mod Serving
 pub mod Playing
 pub mod Globals
-pub mod Knots

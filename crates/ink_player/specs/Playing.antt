@@ -1,9 +1,11 @@
 -- What playing a story over bytes does, and how it may end (docs/PROTOCOL.md, "Playing").
 use Rattle.std.specs.Prelude.{◌≡◌, ◌<◌, ◌≤◌, ◌+◌, ◌-◌, ℕ, List, [], ◌∷◌, ◌++◌, length, Bool, true, false, ◌⊎◌, Option, Result, Ok, Err}
 use Rattle.std.specs.Io.KnownBytes.{Appends, Consumes, IsAtEnd}
-use Rattle.ink_model.specs.Grammar.{here, story, max_story}
+use Rattle.ink_model.specs.Grammar.{here}
+use Rattle.ink_model.specs.Limits.{max_story}
 use Rattle.ink_model.specs.Configuration.{Configuration}
 use Rattle.ink_model.specs.Opening.{opening, opened}
+use Rattle.ink_model.specs.Played.{played_story}
 use Rattle.ink_model.specs.State.{State}
 use Rattle.ink_model.specs.Tree.{StoryTree}
 use Rattle.ink_model.specs.declared.fault.Cause.TheVariants as cause
@@ -35,7 +37,7 @@ pub record PlaysOn (left : Option (List ℕ)) (bytes written : List ℕ) (result
   pub input : List ℕ
   pub story_line : IsStoryLine left bytes line input
   pub tree : StoryTree
-  pub reads : story line ≡ Ok tree
+  pub reads : played_story line ≡ Ok tree
   pub first : Configuration
   pub opens : opening tree ≡ Ok first
   pub new : State
@@ -46,9 +48,9 @@ pub record EndsEarly (bytes written : List ℕ) : Type 0 where
   pub nothing : written ≡ []
   pub bound : length bytes ≤ max_story + 1
 
--- the story is not one, or memory was refused
+-- the story is not one that is played, or memory was refused
 abbrev pub IsRefused : List ℕ → ReadRefusal → Type 0
-IsRefused line r = (r ≡ here cause.OutOfMemory) ⊎ (story line ≡ Err r)
+IsRefused line r = (r ≡ here cause.OutOfMemory) ⊎ (played_story line ≡ Err r)
 
 -- the story was refused; where it is over its limit, it is refused for that, and where memory was refused for its line, too
 abbrev pub IsStoryRefused : Option (List ℕ) → List ℕ → ReadRefusal → Type 0
@@ -65,7 +67,7 @@ pub record IsUnopened (left : Option (List ℕ)) (bytes : List ℕ) (f : Fault) 
   pub input : List ℕ
   pub story_line : IsStoryLine left bytes line input
   pub tree : StoryTree
-  pub reads : story line ≡ Ok tree
+  pub reads : played_story line ≡ Ok tree
   pub why : CannotOpen tree f
 
 abbrev pub PlayFails : Option (List ℕ) → List ℕ → List ℕ → PlayFault → Type 0
@@ -123,9 +125,9 @@ play_fault fault.OutOfMemory = play.Story (here cause.OutOfMemory)
 
 abbrev pub OpenFails : List ℕ → PlayFault → Type 0
 OpenFails line (play.Story r) = IsRefused line r
-OpenFails line (play.Start f) = (tree : StoryTree) × (story line ≡ Ok tree) × CannotOpen tree f
+OpenFails line (play.Start f) = (tree : StoryTree) × (played_story line ≡ Ok tree) × CannotOpen tree f
 OpenFails line (play.Run f) = ⊥
 
 abbrev pub Opens : List ℕ → Result Player PlayEnd → Type 0
-Opens line (Ok p) = (story line ≡ Ok (story_of p)) × ((c : Configuration) × (opening (story_of p) ≡ Ok c) × (state_of p ≡ opened c))
+Opens line (Ok p) = (played_story line ≡ Ok (story_of p)) × ((c : Configuration) × (opening (story_of p) ≡ Ok c) × (state_of p ≡ opened c))
 Opens line (Err e) = OpenFails line e.fault

@@ -1,18 +1,18 @@
 //! Answers as they are written (docs/PROTOCOL.md, "Answers").
 
-ghost use Rattle.std.specs.Prelude.{◌≡◌, [], ◌++◌, map, IfOk, OnOk, string_bytes};
+ghost use Rattle.std.specs.Prelude.{◌≡◌, [], IfOk, string_bytes};
 ghost use Rattle.serde_json.specs.View.{view};
 ghost use Rattle.serde_json.specs.Written.{compact_text, has_float};
-ghost use Rattle.ink_model.specs.Answer.{answer, fault_name as name_of_fault, refusal_name as name_of_refusal, refusal_data, reply_data, reply_of_halt, value_data, part_text, path_text as written_path, Acts, Shows, texts_data, shown_data, passage_data, events_data, items_of, Breaks};
+ghost use Rattle.ink_model.specs.Answer.{answer, fault_name as name_of_fault, refusal_name as name_of_refusal, refusal_data, reply_data, reply_of_halt, value_data, Acts, Shows, texts_data, shown_data, passage_data, events_data, items_of, Breaks};
 ghost use Rattle.serde_json.specs.Data.{string};
-ghost use Rattle.ink_model.specs.Clean.{joined};
 ghost use Rattle.ink_player.specs.Answers.{shown_list, passage_with};
 ghost use Rattle.ink_player.specs.Replies.{reply_by};
 
 #[cfg(test)]
 mod tests;
 
-use ink_model::{Event, Fault, Halt, Part, Passage, Path, Refusal, Seq, Shown, Text, Value};
+use ink_model::{Event, Fault, Halt, Passage, Path, Refusal, Seq, Shown, Text, Value};
+use ink_tree::print_path;
 use serde_json::{Number, Value as Json, json};
 use std::alloc::{AllocError, Global};
 
@@ -86,7 +86,7 @@ fn string_json(alloc: Global, text: &Text) -> Result<Json, AllocError>
 fn target_json(alloc: Global, path: &Path) -> Result<Json, AllocError>
     ensures { IfOk result (λ v. view v ≡ value_data (Value.Target path.now)) }
 {
-    let text = path_text(alloc, path)?;
+    let text = print_path(alloc, path)?;
     json!(in alloc; { "->": text.as_str() })
 }
 
@@ -100,43 +100,6 @@ fn tag_json(alloc: Global, text: &Text) -> Result<Json, AllocError>
     ensures { IfOk result (λ v. view v ≡ value_data (Value.Tag text.now)) }
 {
     json!(in alloc; { "tag": text.as_str() })
-}
-
-// A path as it is written.
-fn path_text(alloc: Global, path: &Path) -> Result<String, AllocError>
-    ensures { IfOk result (λ text. string_bytes text ≡ written_path path.now) }
-{
-    let mut text = String::new(alloc);
-    if path.relative {
-        text.push('.')?;
-    }
-    push_parts(alloc, &mut text, path.parts.as_slice())?;
-    Ok(text)
-}
-
-// The components, joined by dots.
-fn push_parts(alloc: Global, text: &mut String, parts: &[Part]) -> Result<(), AllocError>
-    ensures { OnOk result (string_bytes text.new ≡ string_bytes text.old ++ joined 46 (map part_text parts.now)) }
-{
-    for (index, part) in parts.iter().enumerate() {
-        if index > 0 {
-            text.push('.')?;
-        }
-        push_part(alloc, text, part)?;
-    }
-    Ok(())
-}
-
-fn push_part(alloc: Global, text: &mut String, part: &Part) -> Result<(), AllocError>
-    ensures { OnOk result (string_bytes text.new ≡ string_bytes text.old ++ part_text part.now) }
-{
-    match part {
-        Part::Index(index) => {
-            let digits = index.to_string(alloc)?;
-            text.push_str(digits.as_str())
-        }
-        Part::Name(name) => text.push_str(name.as_str()),
-    }
 }
 
 fn halt_json(alloc: Global, halt: Halt) -> Result<Json, AllocError>
@@ -229,8 +192,10 @@ fn fault_name(fault: Fault) -> &'static str
         Fault::BadOperands => "BadOperands",
         Fault::Divide => "Divide",
         Fault::BadMode => "BadMode",
+        Fault::BadTarget => "BadTarget",
         Fault::NoTemp => "NoTemp",
         Fault::HostRefused => "HostRefused",
+        Fault::StopInString => "StopInString",
         Fault::TooDeep => "TooDeep",
         Fault::OutOfSteps => "OutOfSteps",
         Fault::OutOfMemory => "OutOfMemory",

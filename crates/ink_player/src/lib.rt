@@ -11,20 +11,21 @@ mod lines;
 mod machine;
 mod marks;
 mod output;
+mod played;
 mod player;
 mod playing;
 mod session;
-mod story;
 
 pub use desk::Desk;
 pub use end::{PlayEnd, PlayFault, RunFault};
+pub use ink_check::{Story, check};
 pub use ink_model::{Event, Fault, Halt, Passage, Refusal, Shown};
 pub use input::{ReadFailed, Source};
 pub use output::{Sink, WriteFailed};
+pub use played::runnable;
 pub use player::{OpenFault, Player};
-pub use playing::{play, serve_story};
+pub use playing::{open_story, play, serve_story};
 pub use session::{run, serve};
-pub use story::{Story, accept};
 
 #[cfg(test)]
 mod tests;

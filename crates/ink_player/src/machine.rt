@@ -4,11 +4,13 @@ ghost use Rattle.std.specs.Prelude.{◌≡◌, IfOk};
 ghost use Rattle.ink_model.specs.Configuration.{begun, settled, can_go_on};
 ghost use Rattle.ink_model.specs.Session.{passage, is_loose, RunsThrough};
 ghost use Rattle.ink_model.specs.Step.{nothing_bound};
-ghost use Rattle.ink_player.specs.Words.{story_tree, config_of};
+ghost use Rattle.ink_model.specs.Tree.{StoryTree};
+ghost use Rattle.ink_check.specs.Words.{story_tree};
+ghost use Rattle.ink_player.specs.Words.{config_of};
 ghost use Rattle.ink_player.specs.Steps.{Runs, told, left_by};
 
+mod diverting;
 mod evaluating;
-mod knots;
 mod opening;
 mod operands;
 mod places;
@@ -18,8 +20,9 @@ mod writing;
 
 use crate::globals::Globals;
 use crate::marks::{shown_tags, shown_text};
-use crate::story::Story;
-use ink_model::{Fault, Mark, Passage, Place, Seq};
+use ink_check::Story;
+use ink_model::{Fault, Mark, Passage, Seq};
+use ink_tree::Spot;
 use ink_value::EvalStack;
 use std::alloc::{AllocError, Global};
 
@@ -29,8 +32,8 @@ const MAX_STEPS: u32 = 1_000_000;
 /// What changes while a story runs. Of a configuration's fields those that no content writes yet are not kept.
 #[derive(Drop)]
 pub struct Machine {
-    pub(crate) place: Option<Place>,
-    pub(crate) previous: Option<Place>,
+    pub(crate) place: Option<Spot>,
+    pub(crate) previous: Option<Spot>,
     pub(crate) evaluating: bool,
     pub(crate) safe: bool,
     pub(crate) marks: Vec<Mark>,
@@ -50,21 +53,21 @@ pub enum StepEnd {
 impl Machine {
     /// Whether flow has not stopped.
     pub(crate) fn can_go_on(&self) -> bool
-        ensures { result ≡ can_go_on (config_of self.now) }
+        ensures { (s : StoryTree) → result ≡ can_go_on (config_of s self.now) }
     {
         self.place.is_some()
     }
 
     /// Whether flow has stopped at a loose end.
     fn is_loose(&self) -> bool
-        ensures { result ≡ is_loose (config_of self.now) }
+        ensures { (s : StoryTree) → result ≡ is_loose (config_of s self.now) }
     {
         !self.can_go_on() && !self.safe
     }
 
     /// Runs to the stop and tells the passage. After a fault the machine is of no more use, but for its globals.
     pub(crate) fn through(&mut self, story: &Story) -> Result<Passage, Fault>
-        ensures { RunsThrough (story_tree story.now) nothing_bound (config_of self.old) (told result) (left_by result (config_of self.new)) }
+        ensures { let s = story_tree story.now in RunsThrough s nothing_bound (config_of s self.old) (told result) (left_by result (config_of s self.new)) }
     {
         self.begin();
         if let Err(fault) = self.run(story) {
@@ -79,14 +82,14 @@ impl Machine {
 
     /// As a running command begins.
     fn begin(&mut self)
-        ensures { config_of self.new ≡ begun (config_of self.old) }
+        ensures { (s : StoryTree) → config_of s self.new ≡ begun (config_of s self.old) }
     {
         self.safe = false;
     }
 
     /// Steps to the stop.
     fn run(&mut self, story: &Story) -> Result<(), Fault>
-        ensures { Runs (story_tree story.now) (config_of self.old) (config_of self.new) result }
+        ensures { let s = story_tree story.now in Runs s (config_of s self.old) (config_of s self.new) result }
     {
         for _step in 0..MAX_STEPS {
             match self.step(story) {
@@ -100,7 +103,7 @@ impl Machine {
 
     /// What is told of the machine as a running command ends. The one error is a refused request for memory.
     fn passage(&self) -> Result<Passage, AllocError>
-        ensures { IfOk result (λ p. p ≡ passage (config_of self.now)) }
+        ensures { (s : StoryTree) → IfOk result (λ p. p ≡ passage (config_of s self.now)) }
     {
         let text = shown_text(self.alloc, self.marks.as_slice())?;
         let tags = shown_tags(self.alloc, self.marks.as_slice())?;
@@ -117,7 +120,7 @@ impl Machine {
     /// As a running command ends: the text was taken.
     #[tactic(auto, unfolding(ink_model::specs::Configuration::settled))]
     fn settle(&mut self)
-        ensures { config_of self.new ≡ settled (config_of self.old) }
+        ensures { (s : StoryTree) → config_of s self.new ≡ settled (config_of s self.old) }
     {
         self.marks.clear();
     }

@@ -1,9 +1,10 @@
 //! The player.
 
-ghost use Rattle.std.specs.Prelude.{◌≡◌, ◌⊎◌, Some, IfOk, IfErr, Ok, Err};
+ghost use Rattle.std.specs.Prelude.{◌≡◌, ◌⊎◌, [], Some, IfOk, IfErr, Ok, Err};
 ghost use Rattle.ink_model.specs.Answer.{reply_of, reply_of_events, reply_of_value};
 ghost use Rattle.ink_model.specs.Configuration.{Configuration};
 ghost use Rattle.ink_model.specs.Opening.{opening, opened};
+ghost use Rattle.ink_model.specs.Played.{unplayed};
 ghost use Rattle.ink_model.specs.Session.{Through, Set, Get, Restart, settable};
 ghost use Rattle.ink_model.specs.Run as rules;
 ghost use Rattle.ink_model.specs.State.{is_running, fault_in};
@@ -15,7 +16,7 @@ mod tests;
 
 use crate::desk::Desk;
 use crate::machine::Machine;
-use crate::story::Story;
+use ink_check::Story;
 use ink_model::{Event, Fault, Given, Halt, Passage, Refusal, Seq, Value};
 use std::alloc::Global;
 
@@ -40,11 +41,13 @@ pub struct OpenFault {
 }
 
 impl Player {
-    ghost use Rattle.ink_player.specs.Words.{state_of, story_of, story_tree};
+    ghost use Rattle.ink_check.specs.Words.{story_tree};
+    ghost use Rattle.ink_player.specs.Words.{state_of, story_of};
 
-    /// Opens a story at its start, with the globals that it declares (docs/RUNNING.md, "Opening"). The fault is that of the
-    /// declarations, or `OutOfMemory`.
+    /// Opens a story at its start, with the globals that it declares (docs/RUNNING.md, "Opening"). All of its content is
+    /// played, as `runnable` finds out. The fault is that of the declarations, or `OutOfMemory`.
     pub fn open(alloc: Global, story: Story, desk: Desk) -> Result<Player, OpenFault>
+        requires played { unplayed (story_tree story) ≡ [] }
         ensures story { IfOk result (λ p. story_of p ≡ story_tree story) }
         ensures state { IfOk result (λ p. (c : Configuration) × (opening (story_tree story) ≡ Ok c) × (state_of p ≡ opened c)) }
         ensures fault { IfErr result (λ e. (e.fault ≡ OutOfMemory) ⊎ (opening (story_tree story) ≡ Err e.fault)) }

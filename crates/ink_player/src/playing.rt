@@ -1,17 +1,21 @@
 //! Playing a story over bytes (docs/PROTOCOL.md, "Playing").
 
-ghost use Rattle.std.specs.Prelude.{◌≡◌, ◌||◌};
+ghost use Rattle.std.specs.Prelude.{◌≡◌, ◌||◌, [], Ok, IfOk, IfErr};
+ghost use Rattle.ink_check.specs.Words.{story_tree};
 ghost use Rattle.ink_model.specs.Grammar.{here};
-ghost use Rattle.ink_player.specs.Playing.{Opens, Plays, play_fault, play_reads_fail, play_writes_fail};
+ghost use Rattle.ink_model.specs.Played as rules;
+ghost use Rattle.ink_model.specs.Played.{unplayed};
+ghost use Rattle.ink_player.specs.Playing.{IsRefused, Opens, Plays, play_fault, play_reads_fail, play_writes_fail};
 
 use crate::desk::Desk;
 use crate::end::{PlayEnd, PlayFault, RunFault};
 use crate::input::{Ahead, Reader, Source};
 use crate::lines::{Line, next_line};
 use crate::output::{Sink, Writer};
+use crate::played::runnable;
 use crate::player::{OpenFault, Player};
 use crate::session::{MAX_INPUT, serve_lines};
-use crate::story::accept;
+use ink_check::{Story, check};
 use ink_json::read_story;
 use ink_model::{Cause, Place, ReadRefusal};
 use std::alloc::Global;
@@ -24,7 +28,8 @@ const MAX_STORY: usize = 16_777_216;
 /// limit of the input, 64 MiB, counts the story. The desk is handed back, at an error too.
 ///
 /// Errors: `Story`, where the story is refused, with nothing written; a story line over 16 MiB is refused with `Limit` at
-/// the root. `Start`, where its declarations fault or memory was refused for opening it. `Run`, as of `run`; the reader may also
+/// the root, and a story that can be read and accepted, but is not all played yet, with `Unsupported` at the first content
+/// that is not. `Start`, where its declarations fault or memory was refused for opening it. `Run`, as of `run`; the reader may also
 /// fail within the story.
 pub fn play<R: Read, W: Write>(
     alloc: Global,
@@ -94,18 +99,21 @@ pub fn serve_story<S: Source, T: Sink>(
     }
 }
 
-// Reads and opens a story.
-fn open_story(alloc: Global, line: &[u8], desk: Desk) -> Result<Player, PlayEnd>
+/// Reads a story, checks its paths, and opens it (docs/PROTOCOL.md, "Playing").
+///
+/// Errors: `Story`, where the story is refused as by `read_story` and `check`, or with `Unsupported` at the first content that
+/// is not played yet. `Start`, where its declarations fault or memory was refused for opening it. The desk is handed back.
+pub fn open_story(alloc: Global, line: &[u8], desk: Desk) -> Result<Player, PlayEnd>
     ensures { Opens line.now result }
 {
-    let raw = match read_story(alloc, line) {
-        Ok(raw) => raw,
+    let story = match played_story(alloc, line) {
+        Ok(story) => story,
         Err(refusal) => {
             let fault = PlayFault::Story(refusal);
             return Err(PlayEnd { fault, desk });
         }
     };
-    match Player::open(alloc, accept(raw), desk) {
+    match Player::open(alloc, story, desk) {
         Ok(player) => Ok(player),
         Err(
             OpenFault {
@@ -117,6 +125,32 @@ fn open_story(alloc: Global, line: &[u8], desk: Desk) -> Result<Player, PlayEnd>
             let fault = PlayFault::Start(fault);
             Err(PlayEnd { fault, desk })
         }
+    }
+}
+
+// Reads a story and accepts it, where all of it is played.
+fn played_story(alloc: Global, line: &[u8]) -> Result<Story, ReadRefusal>
+    ensures ok { IfOk result (λ s. rules.played_story line.now ≡ Ok (story_tree s)) }
+    ensures played { IfOk result (λ s. unplayed (story_tree s) ≡ []) }
+    ensures err { IfErr result (IsRefused line.now) }
+{
+    let raw = match read_story(alloc, line) {
+        Ok(raw) => raw,
+        Err(refusal) => return Err(refusal),
+    };
+    let story = match check(alloc, raw) {
+        Ok(story) => story,
+        Err(refusal) => return Err(refusal),
+    };
+    let Ok(unplayed) = runnable(alloc, &story) else {
+        return Err(at_root(alloc, Cause::OutOfMemory));
+    };
+    match unplayed {
+        None => Ok(story),
+        Some(place) => Err(ReadRefusal {
+            cause: Cause::Unsupported,
+            place,
+        }),
     }
 }
 

@@ -1,3 +1,16 @@
 pub mod Reading
 pub mod Writing
 pub mod Back
+pub mod Contents
+pub mod Nodes
+pub mod Standing
+pub mod Stepping
+pub mod Next
+pub mod Prefixes
+pub mod Entering
+pub mod Places
+pub mod Comparing
+pub mod Rising
+pub mod Finding
+pub mod Spots
+pub mod Knots

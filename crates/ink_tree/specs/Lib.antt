@@ -1,2 +1,5 @@
+pub mod Contents
 pub mod Laws
+pub mod Listing
 pub mod Nodes
+pub mod Order

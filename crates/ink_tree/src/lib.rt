@@ -1,7 +1,11 @@
 //! The story tree: nodes, paths, and the order of content.
 #![tactic(auto)]
 
+mod around;
+mod inside;
+mod listing;
 mod moving;
+mod order;
 mod path;
 mod resolving;
 mod spot;
@@ -13,3 +17,5 @@ pub use tree::Tree;
 
 #[cfg(test)]
 mod tests;
+#[cfg(test)]
+mod tests_moving;

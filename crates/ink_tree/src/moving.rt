@@ -1,12 +1,13 @@
 //! Where flow starts, lands, goes on, and what it enters (docs/RUNNING.md, "Places" and "Visits").
 
 ghost use Rattle.std.specs.Prelude.{◌≡◌, IfOk, map, option_map};
-ghost use Rattle.std.specs.List.{list_all};
-ghost use Rattle.ink_model.specs.Entered.{entered_places};
+ghost use Rattle.ink_model.specs.Entered.{entered_places, is_first, starts_only};
 ghost use Rattle.ink_model.specs.Place.{landed, next_place, start_place};
 
+use crate::inside::width_of;
 use crate::spot::{NodeId, Spot};
 use crate::tree::Tree;
+use ink_model::Part;
 use smallvec::SmallVec;
 use std::alloc::{AllocError, Global};
 
@@ -14,10 +15,15 @@ impl Tree {
     ghost use Rattle.ink_tree.specs.Nodes.{story_tree, node_place, place_of, AreNodes};
 
     /// Where the story starts. Takes no memory.
+    #[tactic(auto, using(crate::proofs::Next::starts))]
     pub fn start(&self) -> Spot
         ensures { place_of (story_tree self.now) result ≡ start_place (story_tree self.now) }
     {
-        Spot { holder: NodeId { number: 0 }, index: None }
+        let root = Spot {
+            holder: NodeId { number: 0 },
+            index: None,
+        };
+        self.land(root)
     }
 
     /// Where flow lands on a container: on its first content, or on the container itself where it is empty. At any other
@@ -25,14 +31,32 @@ impl Tree {
     pub fn land(&self, spot: Spot) -> Spot
         ensures { place_of (story_tree self.now) result ≡ landed (story_tree self.now) (place_of (story_tree self.now) spot) }
     {
-        spot
+        let Some(node) = self.node(spot) else {
+            return spot;
+        };
+        if width_of(self.inside(node)) > 0 {
+            Spot {
+                holder: node,
+                index: Some(0),
+            }
+        } else {
+            spot
+        }
     }
 
     /// The place after a place; none where flow stops. Takes no memory.
     pub fn next(&self, spot: Spot) -> Option<Spot>
         ensures { option_map (place_of (story_tree self.now)) result ≡ next_place (story_tree self.now) (place_of (story_tree self.now) spot) }
     {
-        None
+        if let Some(index) = spot.index {
+            if (index as usize) + 1 < width_of(self.inside(spot.holder)) {
+                return Some(Spot {
+                    holder: spot.holder,
+                    index: Some(index + 1),
+                });
+            }
+        }
+        self.next_above(self.parts(spot.holder))
     }
 
     /// The containers around a landing place that a landing there enters, the nearest first; `previous` is the place from
@@ -47,6 +71,64 @@ impl Tree {
             ≡ entered_places (story_tree self.now) (option_map (place_of (story_tree self.now)) previous) (place_of (story_tree self.now) at)) }
         ensures inside { IfOk result (λ nodes. AreNodes (story_tree self.now) nodes.items) }
     {
-        Ok(SmallVec::new(alloc))
+        let mut entered = SmallVec::new(alloc);
+        let Some(node) = self.node(at) else {
+            return Ok(entered);
+        };
+        let mut rest = self.parts(node);
+        let mut at_start = true;
+        while let Some((last, up)) = rest.split_last() {
+            let Some(container) = self.find(up, None) else {
+                return Ok(entered);
+            };
+            at_start = at_start && is_first(last);
+            let starts_only = self.starts_only(container);
+            if !starts_only && self.was_inside(up, previous) {
+                return Ok(entered);
+            }
+            if !starts_only || at_start {
+                entered.push(container)?;
+            }
+            rest = up;
+        }
+        Ok(entered)
+    }
+
+    // The place after content, to which these parts lead.
+    #[tactic(auto, using(crate::proofs::Next::after_name), unfolding(ink_model::specs::Place::next_place))]
+    fn next_above(&self, parts: &[Part]) -> Option<Spot>
+        ensures { option_map (place_of (story_tree self.now)) result ≡ next_place (story_tree self.now) parts.now }
+    {
+        let mut rest = parts;
+        while let Some((last, up)) = rest.split_last() {
+            let Part::Index(index) = last else {
+                return None;
+            };
+            if (*index as usize) + 1 < width_of(self.raw.at(up)) {
+                let holder = self.find(up, None)?;
+                return Some(Spot {
+                    holder,
+                    index: Some(*index + 1),
+                });
+            }
+            rest = up;
+        }
+        None
+    }
+
+    // Whether only entry at its start counts for a container.
+    fn starts_only(&self, container: NodeId) -> bool
+        ensures { result ≡ starts_only (story_tree self.now) (node_place (story_tree self.now) container) }
+    {
+        (self.flags(container) / 4) % 2 == 1
+    }
+}
+
+fn is_first(part: &Part) -> bool
+    ensures { result ≡ is_first part.now }
+{
+    match part {
+        Part::Index(index) => *index == 0,
+        Part::Name(_) => false,
     }
 }

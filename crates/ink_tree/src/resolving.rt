@@ -1,11 +1,12 @@
 //! Where paths lead (docs/STORY_FORMAT.md, "Paths").
 
-ghost use Rattle.std.specs.Prelude.{◌≡◌, option_map};
-ghost use Rattle.ink_model.specs.Path.{target};
+ghost use Rattle.std.specs.Prelude.{◌≡◌, option_map, reverse};
+ghost use Rattle.ink_model.specs.Path.{above, by_name, stepped, stepped_last, target, walked};
+ghost use Rattle.ink_model.specs.declared.place.Part.TheVariants.{Index, Name};
 
 use crate::spot::{NodeId, Spot};
-use crate::tree::Tree;
-use ink_model::Path;
+use crate::tree::{Tree, index_in, reaches};
+use ink_model::{Part, Path};
 
 impl Tree {
     ghost use Rattle.ink_tree.specs.Nodes.{story_tree, node_place, place_of};
@@ -15,6 +16,99 @@ impl Tree {
         ensures { option_map (place_of (story_tree self.now)) result
             ≡ target (story_tree self.now) (node_place (story_tree self.now) from) path.now }
     {
-        None
+        let start = if path.relative {
+            from
+        } else {
+            NodeId { number: 0 }
+        };
+        self.walk(start, path.parts.as_slice())
+    }
+
+    // Where components lead from content.
+    fn walk(&self, from: NodeId, components: &[Part]) -> Option<Spot>
+        ensures { option_map (place_of (story_tree self.now)) result
+            ≡ walked (story_tree self.now) (node_place (story_tree self.now) from) components.now }
+    {
+        let Some((last, others)) = components.split_last() else {
+            return Some(Spot {
+                holder: from,
+                index: None,
+            });
+        };
+        let mut here = from;
+        for component in others {
+            here = self.step(here, component)?;
+        }
+        self.last_step(here, last)
+    }
+
+    // One component further.
+    fn step(&self, here: NodeId, component: &Part) -> Option<NodeId>
+        ensures { option_map (node_place (story_tree self.now)) result
+            ≡ stepped (story_tree self.now) (node_place (story_tree self.now) here) component.now }
+    {
+        match component {
+            Part::Index(index) => self.step_in(here, *index),
+            Part::Name(name) if name.as_str() == "^" => self.step_up(here),
+            Part::Name(name) => self.step_by_name(here, component, name.as_str()),
+        }
+    }
+
+    fn step_in(&self, here: NodeId, index: u32) -> Option<NodeId>
+        ensures { option_map (node_place (story_tree self.now)) result
+            ≡ stepped (story_tree self.now) (node_place (story_tree self.now) here) (Index index) }
+    {
+        self.find(self.parts(here), Some(&Part::Index(index)))
+    }
+
+    fn step_up(&self, here: NodeId) -> Option<NodeId>
+        ensures { option_map (node_place (story_tree self.now)) result ≡ above (reverse (node_place (story_tree self.now) here)) }
+    {
+        let (_, up) = self.parts(here).split_last()?;
+        self.find(up, None)
+    }
+
+    // To the container given by key, or else to the first in the list that gives itself the name.
+    fn step_by_name(&self, here: NodeId, component: &Part, name: &str) -> Option<NodeId>
+        requires { component.now ≡ Name name.now }
+        ensures { option_map (node_place (story_tree self.now)) result
+            ≡ by_name (story_tree self.now) (node_place (story_tree self.now) here) name.now }
+    {
+        if let Some(node) = self.find(self.parts(here), Some(component)) {
+            return Some(node);
+        }
+        let index = index_in(self.inside(here)?, name)?;
+        self.find(self.parts(here), Some(&Part::Index(index)))
+    }
+
+    // The last component, an index of which may be a container's end.
+    fn last_step(&self, here: NodeId, component: &Part) -> Option<Spot>
+        ensures { option_map (place_of (story_tree self.now)) result
+            ≡ stepped_last (story_tree self.now) (node_place (story_tree self.now) here) component.now }
+    {
+        match component {
+            Part::Index(index) => self.last_step_in(here, *index),
+            Part::Name(_) => {
+                let holder = self.step(here, component)?;
+                Some(Spot {
+                    holder,
+                    index: None,
+                })
+            }
+        }
+    }
+
+    fn last_step_in(&self, here: NodeId, index: u32) -> Option<Spot>
+        ensures { option_map (place_of (story_tree self.now)) result
+            ≡ stepped_last (story_tree self.now) (node_place (story_tree self.now) here) (Index index) }
+    {
+        if reaches(self.inside(here)?, index) {
+            Some(Spot {
+                holder: here,
+                index: Some(index),
+            })
+        } else {
+            None
+        }
     }
 }

@@ -1,5 +1,6 @@
-use crate::{print_path, read_path};
-use ink_model::Cause;
+use crate::{NodeId, Spot, Tree, print_path, read_path};
+use ink_json::read_story;
+use ink_model::{Cause, Content, Control, Leaf};
 use std::test::Fail;
 
 #[test]
@@ -36,5 +37,117 @@ fn other_texts_are_no_paths(rt: HostRuntime) -> Result<(), Fail> {
             }
         }
     }
+    Ok(())
+}
+
+/// In reading order: the root, 0, 0.0, 0.1, 0.2, 0.2.0, 0.s0, 0.s0.0, 1, 2, 2.0, knot, knot.0, knot.inner, knot.inner.0.
+const STORY: &str =
+    r##"{"inkVersion":21,"root":[["^a","\n",["^x",{"#f":2,"#n":"g"}],{"s0":["^y",null],"#f":5}],"done",["^k",{"#n":"listed"}],{"knot":["^z",{"inner":["end",null]}],"#f":1}],"listDefs":{}}"##;
+
+fn node(number: usize) -> NodeId {
+    NodeId { number }
+}
+
+fn on(number: usize) -> Spot {
+    Spot {
+        holder: node(number),
+        index: None,
+    }
+}
+
+fn inside(number: usize, index: u32) -> Spot {
+    Spot {
+        holder: node(number),
+        index: Some(index),
+    }
+}
+
+#[test]
+fn content_has_numbers_in_reading_order(rt: HostRuntime) -> Result<(), Fail> {
+    let alloc = rt.alloc();
+    let Ok(raw) = read_story(alloc, STORY.as_bytes()) else {
+        assert!(rt; false, "not read");
+        return Ok(());
+    };
+    let Ok(tree) = Tree::build(alloc, raw) else {
+        assert!(rt; false, "not built");
+        return Ok(());
+    };
+    assert_eq!(rt; tree.len(), 15);
+    for number in 0..15 {
+        let place = tree.place(alloc, on(number))?;
+        assert!(rt;
+            tree.find(place.parts(), None) == Some(node(number)),
+            "{number}"
+        );
+    }
+    assert_eq!(rt; tree.node(on(4)), Some(node(4)));
+    assert_eq!(rt; tree.node(inside(4, 0)), Some(node(5)));
+    assert_eq!(rt; tree.node(inside(4, 1)), None);
+    assert_eq!(rt; tree.node(inside(5, 0)), None);
+    assert!(rt;
+        matches!(
+            tree.content(inside(1, 1)),
+            Some(Content::Leaf(Leaf::Newline))
+        )
+    );
+    assert!(rt;
+        matches!(
+            tree.content(on(14)),
+            Some(Content::Leaf(Leaf::Control(Control::End)))
+        )
+    );
+    assert!(rt; tree.content(inside(0, 3)).is_none());
+    for (number, flags) in [(0, 1), (1, 5), (2, 0), (4, 2), (11, 0)] {
+        assert_eq!(rt; tree.flags(node(number)), flags);
+    }
+    assert_eq!(rt; tree.knot("knot"), Some(node(11)));
+    assert_eq!(rt; tree.knot("listed"), Some(node(9)));
+    assert_eq!(rt; tree.knot("inner"), None);
+    Ok(())
+}
+
+#[test]
+fn places_have_spots(rt: HostRuntime) -> Result<(), Fail> {
+    let alloc = rt.alloc();
+    let Ok(raw) = read_story(alloc, STORY.as_bytes()) else {
+        assert!(rt; false, "not read");
+        return Ok(());
+    };
+    let Ok(tree) = Tree::build(alloc, raw) else {
+        assert!(rt; false, "not built");
+        return Ok(());
+    };
+    for (spot, same) in [
+        (on(0), Some(on(0))),
+        (on(5), Some(inside(4, 0))),
+        (inside(4, 1), Some(inside(4, 1))),
+        (inside(0, 3), Some(inside(0, 3))),
+        (on(13), Some(on(13))),
+        (inside(4, 2), None),
+        (inside(5, 0), None),
+    ] {
+        let place = tree.place(alloc, spot)?;
+        assert_eq!(rt; tree.spot(place.parts()), same);
+    }
+    Ok(())
+}
+
+#[test]
+fn a_number_beyond_the_story_is_the_root(rt: HostRuntime) -> Result<(), Fail> {
+    let alloc = rt.alloc();
+    let Ok(raw) = read_story(alloc, STORY.as_bytes()) else {
+        assert!(rt; false, "not read");
+        return Ok(());
+    };
+    let Ok(tree) = Tree::build(alloc, raw) else {
+        assert!(rt; false, "not built");
+        return Ok(());
+    };
+    assert!(rt; tree.place(alloc, on(15))?.parts().is_empty());
+    assert_eq!(rt; tree.node(on(usize::MAX)), Some(node(0)));
+    assert_eq!(rt; tree.node(inside(99, 1)), Some(node(8)));
+    assert_eq!(rt; tree.flags(node(15)), 1);
+    assert!(rt; tree.content(on(15)).is_some());
     Ok(())
 }

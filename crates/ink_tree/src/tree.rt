@@ -1,16 +1,22 @@
 //! A story's content by number.
 
-ghost use Rattle.std.specs.Prelude.{◌≡◌, length, Some, None, IfOk, IfErr, is_some, if◌then◌else◌, option_map, ◌++◌};
+ghost use Rattle.std.specs.Prelude.{◌≡◌, length, Some, None, IfOk, IfErr, IsSome, true, is_some, if◌then◌else◌, option_map, [], ◌∷◌, ◌++◌, ◌<◌, ◌^◌};
 ghost use Rattle.ink_json.specs.Story.{tree};
 ghost use Rattle.ink_model.specs.Entered.{flags_at};
 ghost use Rattle.ink_model.specs.Grammar.{here};
-ghost use Rattle.ink_model.specs.Path.{is_place};
+ghost use Rattle.ink_model.specs.Path.{is_place, listed_index};
 ghost use Rattle.ink_model.specs.Place as rules;
+ghost use Rattle.ink_model.specs.Place.{named_index};
 ghost use Rattle.ink_model.specs.Places.{places};
-ghost use Rattle.ink_model.specs.Tree.{at};
-ghost use Rattle.ink_model.specs.View.{view};
+ghost use Rattle.ink_model.specs.Tree.{at, width, count};
+ghost use Rattle.ink_model.specs.View.{view, trees_view};
 ghost use Rattle.ink_model.specs.declared.fault.Cause.TheVariants.{OutOfMemory};
+ghost use Rattle.ink_model.specs.declared.place.Part.TheVariants.{Index};
+ghost use Rattle.ink_tree.specs.Contents.{reaches, has_name};
+ghost use Rattle.ink_tree.specs.Order.{keys_rise, key_parts};
 
+use crate::listing::list_story;
+use crate::order::{Key, compare, key_of};
 use crate::spot::{NodeId, Spot};
 use ink_json::RawStory;
 use ink_model::{Cause, Content, Part, Place, ReadRefusal};
@@ -20,7 +26,9 @@ use std::alloc::{AllocError, Global};
 #[derive(Drop)]
 pub struct Tree {
     pub(crate) raw: RawStory,
-    places: Vec<Place>,
+    listed: Vec<Place>,
+    ghost complete: { listed.items ≡ places (tree raw) },
+    ghost rising: { keys_rise (tree raw) ≡ true },
 }
 
 impl Tree {
@@ -31,28 +39,38 @@ impl Tree {
         ensures ok { IfOk result (λ t. story_tree t ≡ tree raw) }
         ensures err { IfErr result (λ r. r ≡ here OutOfMemory) }
     {
-        Err(ReadRefusal { cause: Cause::OutOfMemory, place: Place::root(alloc) })
+        match list_story(alloc, &raw) {
+            Ok(listed) => Ok(Tree { raw, listed }),
+            Err(_) => Err(ReadRefusal {
+                cause: Cause::OutOfMemory,
+                place: Place::root(alloc),
+            }),
+        }
     }
 
     /// How many contents the story has. Their numbers are those below it. Takes no memory.
     pub fn len(&self) -> usize
         ensures { result ≡ length (places (story_tree self.now)) }
     {
-        self.places.len()
+        self.listed.len()
     }
 
     /// The content at a place, none where nothing stands there. Takes no memory.
     pub fn content(&self, spot: Spot) -> Option<&Content>
         ensures { option_map (λ c. view c.now) result ≡ at (story_tree self.now) (place_of (story_tree self.now) spot) }
     {
-        None
+        self.raw.at(self.parts(self.node(spot)?))
     }
 
     /// The place of a spot. The one error is a refused request for memory.
     pub fn place(&self, alloc: Global, spot: Spot) -> Result<Place, AllocError>
         ensures { IfOk result (λ place. place ≡ place_of (story_tree self.now) spot) }
     {
-        Place::from_parts(alloc, self.parts(spot.holder))
+        let mut place = Place::from_parts(alloc, self.parts(spot.holder))?;
+        if let Some(index) = spot.index {
+            place.push(Part::Index(index))?;
+        }
+        Ok(place)
     }
 
     /// The spot of a place; none where the story has no such place. Takes no memory.
@@ -60,21 +78,59 @@ impl Tree {
         ensures { option_map (place_of (story_tree self.now)) result
             ≡ (if is_place (story_tree self.now) parts.now then Some parts.now else None) }
     {
-        None
+        match parts.split_last() {
+            Some((Part::Index(index), up)) => self.spot_in(up, *index),
+            Some((Part::Name(_), _)) => self.spot_on(parts),
+            None => self.spot_on(parts),
+        }
+    }
+
+    /// The spot of content itself.
+    fn spot_on(&self, parts: &[Part]) -> Option<Spot>
+        ensures { option_map (place_of (story_tree self.now)) result
+            ≡ (if is_some (at (story_tree self.now) parts.now) then Some parts.now else None) }
+    {
+        Some(Spot {
+            holder: self.search(parts, None)?,
+            index: None,
+        })
+    }
+
+    /// The spot of an index in what stands at a place.
+    fn spot_in(&self, up: &[Part], index: u32) -> Option<Spot>
+        ensures { option_map (place_of (story_tree self.now)) result
+            ≡ (if is_place (story_tree self.now) (up.now ++ Index index ∷ []) then Some (up.now ++ Index index ∷ []) else None) }
+    {
+        let holder = self.find(up, None)?;
+        if reaches(self.raw.at(up)?, index) {
+            Some(Spot {
+                holder,
+                index: Some(index),
+            })
+        } else {
+            None
+        }
     }
 
     /// The content at a place, by number; none where nothing stands there. Takes no memory.
     pub fn node(&self, spot: Spot) -> Option<NodeId>
         ensures { Finds (story_tree self.now) (place_of (story_tree self.now) spot) result }
     {
-        None
+        let last = match spot.index {
+            Some(index) => Some(Key::Index(index)),
+            None => None,
+        };
+        self.search(self.parts(spot.holder), last)
     }
 
     /// The flags of a container, 0 of other content. Takes no memory.
     pub fn flags(&self, node: NodeId) -> u8
         ensures { result ≡ flags_at (at (story_tree self.now) (node_place (story_tree self.now) node)) }
     {
-        0
+        match self.raw.at(self.parts(node)) {
+            Some(Content::Container { flags, .. }) => *flags,
+            _ => 0,
+        }
     }
 
     /// The knot of a name: the container of the root that has it as its key, or else the first in the root's list that gives
@@ -83,14 +139,18 @@ impl Tree {
         ensures place { option_map (node_place (story_tree self.now)) result ≡ rules.knot name.now (story_tree self.now) }
         ensures inside { MayBeNode (story_tree self.now) result }
     {
-        None
+        if let Some(node) = self.search(&[], Some(Key::Name(name))) {
+            return Some(node);
+        }
+        let index = index_in(self.raw.at(&[])?, name)?;
+        self.search(&[], Some(Key::Index(index)))
     }
 
     /// The place of a node, by its parts.
     pub(crate) fn parts(&self, node: NodeId) -> &[Part]
         ensures { result.now ≡ node_place (story_tree self.now) node }
     {
-        match self.places.get(node.number) {
+        match self.listed.get(node.number) {
             Some(place) => place.parts(),
             None => &[],
         }
@@ -100,6 +160,67 @@ impl Tree {
     pub(crate) fn find(&self, up: &[Part], last: Option<&Part>) -> Option<NodeId>
         ensures { Finds (story_tree self.now) (up.now ++ last_part last.entry) result }
     {
-        None
+        self.search(up, last.map(key_of))
+    }
+
+    /// The same for a part that is lent.
+    fn search(&self, up: &[Part], last: Option<Key<'_>>) -> Option<NodeId>
+        ensures finds { Finds (story_tree self.now) (up.now ++ key_parts last.entry) result }
+        ensures stands { IsSome result → is_some (at (story_tree self.now) (up.now ++ key_parts last.entry)) ≡ true }
+    {
+        match self
+            .listed
+            .binary_search_by(|place| compare(place.parts(), up, last))
+        {
+            Ok(number) => Some(NodeId { number }),
+            Err(_) => None,
+        }
+    }
+}
+
+/// Whether an index is one of a container's, or its end.
+pub(crate) fn reaches(content: &Content, index: u32) -> bool
+    ensures { result ≡ reaches (view content.now) index }
+{
+    match content {
+        Content::Leaf(_) => false,
+        Content::Container { content, .. } => index as usize <= content.len(),
+    }
+}
+
+/// The index in a container of the first container that gives itself a name.
+pub(crate) fn index_in(container: &Content, name: &str) -> Option<u32>
+    requires { width (Some (view container.now)) < 2 ^ 32 }
+    ensures { result ≡ listed_index name.now (Some (view container.now)) }
+{
+    match container {
+        Content::Leaf(_) => None,
+        Content::Container { content, .. } => index_of(content, name),
+    }
+}
+
+/// The same in a list.
+fn index_of(contents: &Vec<Content>, name: &str) -> Option<u32>
+    requires { count (trees_view contents.now.items) < 2 ^ 32 }
+    ensures { result ≡ named_index name.now 0 (trees_view contents.now.items) }
+{
+    for (index, content) in contents.iter().enumerate() {
+        if has_name(content, name) {
+            return Some(index as u32);
+        }
+    }
+    None
+}
+
+/// Whether content is a container that gives itself a name.
+fn has_name(content: &Content, name: &str) -> bool
+    ensures { result ≡ has_name name.now (view content.now) }
+{
+    match content {
+        Content::Container {
+            name: Some(own),
+            ..
+        } => name == own.as_str(),
+        _ => false,
     }
 }

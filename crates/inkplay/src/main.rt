@@ -1,100 +1,95 @@
-//! Plays a compiled story: the story is the first line of standard input, the lines after it are commands, and each
-//! command's answer is a line of standard output (docs/PROTOCOL.md).
+//! Plays a compiled story: commands are the lines of standard input, and each command's answer is a line of standard output.
+//! The story is a file, or without one the first line of the input (docs/PROTOCOL.md, "The program").
 #![tactic(auto)]
 
-use ink_model::{Cause, Part, Place, ReadRefusal};
-use ink_player::{Desk, PlayEnd, PlayFault, play};
+mod file;
+mod report;
+
+use clap::{Arg, Command};
+use ink_player::{Desk, PlayEnd, PlayFault, open_story, play, run};
+use report::{refuse_file, refuse_words, tell};
+use std::alloc::{AllocError, Global};
+use std::fs::Files;
+use std::io::{Read, Write};
 use std::process::ExitCode;
 use std::rt::Env;
 use std::{env, io};
 
 /// The input was served to its end.
 const SERVED: u8 = 0;
-/// Reading or writing failed, a line or the input was too long, or there was no memory for a line or an answer.
-const RUN_FAULT: u8 = 1;
-/// No line was served: the words or the story were refused, or the story could not be opened.
-const REFUSED: u8 = 2;
 
 fn main(rt: HostRuntime) -> ExitCode {
-    if !is_without_words(&rt) {
-        let _ = eprintln!(rt; "inkplay: words refused");
-        return ExitCode::from(REFUSED);
-    }
+    let alloc = rt.alloc();
+    let Ok(words) = words(&rt) else {
+        return ExitCode::from(refuse_words(&rt));
+    };
+    let Ok(command) = command(alloc) else {
+        return ExitCode::from(refuse_words(&rt));
+    };
+    let Ok(matches) = command.try_get_matches_from(words.as_slice()) else {
+        return ExitCode::from(refuse_words(&rt));
+    };
     let mut reader = rt.reader();
     let mut writer = io::writer(&rt);
-    match play(rt.alloc(), &mut reader, &mut writer, Desk::new()) {
+    ExitCode::from(match matches.get_str("STORY") {
+        Some(path) => serve_file(&rt, alloc, path, &mut reader, &mut writer),
+        None => serve_input(&rt, alloc, &mut reader, &mut writer),
+    })
+}
+
+/// The words that the program was started with.
+fn words<R: Env + Alloc>(rt: &R) -> io::Result<Vec<String<R::A>, R::A>> {
+    let words = env::args(rt)?.collect(rt.alloc())?;
+    Ok(words)
+}
+
+/// What the program's words may be.
+fn command<'a>(alloc: Global) -> Result<Command<'a>, AllocError> {
+    let story = Arg::new(alloc, "STORY");
+    Command::new(alloc, "inkplay").disable_help_flag(true).arg(story)
+}
+
+/// Plays the story that is the first line of the input.
+fn serve_input<R: Read, W: Write>(
+    rt: &impl Eprint,
+    alloc: Global,
+    reader: &mut R,
+    writer: &mut W,
+) -> u8 {
+    match play(alloc, reader, writer, Desk::new()) {
         Ok(desk) => {
             desk.close();
-            ExitCode::from(SERVED)
+            SERVED
         }
         Err(PlayEnd { fault, desk }) => {
             desk.close();
-            ExitCode::from(tell(&rt, &fault))
+            tell(rt, &fault)
         }
     }
 }
 
-/// Whether the program was started with its name alone. Without memory to look, it was not.
-fn is_without_words(rt: &(impl Env + Alloc)) -> bool {
-    match env::args(rt) {
-        Ok(mut words) => {
-            let _name = words.next();
-            words.next().is_none()
+/// Plays the story of a file.
+fn serve_file<R: Read, W: Write>(
+    rt: &(impl Eprint + Files),
+    alloc: Global,
+    path: &str,
+    reader: &mut R,
+    writer: &mut W,
+) -> u8 {
+    let Ok(bytes) = file::read(rt, alloc, path) else {
+        return refuse_file(rt);
+    };
+    let mut player = match open_story(alloc, &bytes, Desk::new()) {
+        Ok(player) => player,
+        Err(PlayEnd { fault, desk }) => {
+            desk.close();
+            return tell(rt, &fault);
         }
-        Err(_) => false,
+    };
+    let outcome = run(alloc, reader, writer, &mut player);
+    player.close().close();
+    match outcome {
+        Ok(()) => SERVED,
+        Err(fault) => tell(rt, &PlayFault::Run(fault)),
     }
-}
-
-/// Tells on standard error why the play ended, and gives the exit status.
-fn tell(rt: &impl Eprint, fault: &PlayFault) -> u8 {
-    match fault {
-        PlayFault::Story(refusal) => {
-            let _ = tell_refusal(rt, refusal);
-            REFUSED
-        }
-        PlayFault::Start(fault) => {
-            let _ = eprintln!(rt; "inkplay: story fault: {fault}");
-            REFUSED
-        }
-        PlayFault::Run(fault) => {
-            let _ = eprintln!(rt; "inkplay: run fault: {fault}");
-            RUN_FAULT
-        }
-    }
-}
-
-fn tell_refusal(rt: &impl Eprint, refusal: &ReadRefusal) -> io::Result<()> {
-    let cause = refusal.cause;
-    eprint!(rt; "inkplay: story refused: {cause}")?;
-    if has_place(cause) {
-        eprint!(rt; " at ")?;
-        tell_place(rt, &refusal.place)?;
-    }
-    eprintln!(rt; "")
-}
-
-/// Whether a refusal for this cause is of one place in the story.
-fn has_place(cause: Cause) -> bool {
-    match cause {
-        Cause::Shape | Cause::Unsupported | Cause::BadPath | Cause::Limit => true,
-        Cause::NotJson | Cause::Version | Cause::OutOfMemory => false,
-    }
-}
-
-/// The parts joined by dots, or `root`.
-fn tell_place(rt: &impl Eprint, place: &Place) -> io::Result<()> {
-    let parts = place.parts();
-    if parts.is_empty() {
-        return eprint!(rt; "root");
-    }
-    for (i, part) in parts.iter().enumerate() {
-        if i > 0 {
-            eprint!(rt; ".")?;
-        }
-        match part {
-            Part::Index(index) => eprint!(rt; "{index}")?,
-            Part::Name(name) => eprint!(rt; "{}", name.as_str())?,
-        }
-    }
-    Ok(())
 }

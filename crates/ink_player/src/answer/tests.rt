@@ -1,4 +1,5 @@
 use super::*;
+use ink_model::Part;
 use std::test::Fail;
 
 fn text(alloc: Global, text: &str) -> Result<Text, AllocError> {

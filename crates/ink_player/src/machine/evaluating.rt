@@ -6,19 +6,22 @@ ghost use Rattle.ink_model.specs.Stack.{popped, taken};
 ghost use Rattle.ink_model.specs.Step.{pushes, values, begins, leaves_off, outs, prints, pops, doubles, operates};
 ghost use Rattle.ink_model.specs.Value as rules;
 ghost use Rattle.ink_model.specs.declared.value.Value.TheVariants as value;
-ghost use Rattle.ink_player.specs.Words.{story_tree, config_of};
+ghost use Rattle.ink_check.specs.Words.{story_tree};
+ghost use Rattle.ink_tree.specs.Nodes.{place_of};
+ghost use Rattle.ink_player.specs.Words.{config_of};
 ghost use Rattle.ink_player.specs.Steps.{Ends};
 
 use crate::machine::operands::{applied, top, top_copy};
 use crate::machine::{Machine, StepEnd};
-use crate::story::Story;
-use ink_model::{Fault, Op, Place, Text, Value};
+use ink_check::Story;
+use ink_model::{Fault, Op, Text, Value};
+use ink_tree::Spot;
 use ink_value::printed;
 
 impl Machine {
     /// A value is pushed in evaluation mode, and does nothing outside it.
-    pub(super) fn put_value(&mut self, story: &Story, here: Place, value: Value) -> StepEnd
-        ensures { Ends (values (story_tree story.now) here value (config_of self.old)) self.old.globals (config_of self.new) result }
+    pub(super) fn put_value(&mut self, story: &Story, here: Spot, value: Value) -> StepEnd
+        ensures { let s = story_tree story.now in Ends (values s (place_of s here) value (config_of s self.old)) self.old.globals (config_of s self.new) result }
     {
         if self.evaluating {
             self.push(story, here, value)
@@ -27,8 +30,8 @@ impl Machine {
         }
     }
 
-    pub(super) fn push_text(&mut self, story: &Story, here: Place, text: &str) -> StepEnd
-        ensures { Ends (pushes (story_tree story.now) here (value.Text text.now) (config_of self.old)) self.old.globals (config_of self.new) result }
+    pub(super) fn push_text(&mut self, story: &Story, here: Spot, text: &str) -> StepEnd
+        ensures { let s = story_tree story.now in Ends (pushes s (place_of s here) (value.Text text.now) (config_of s self.old)) self.old.globals (config_of s self.new) result }
     {
         let Ok(copy) = Text::from_str(self.alloc, text) else {
             return StepEnd::Fault(Fault::OutOfMemory);
@@ -36,8 +39,8 @@ impl Machine {
         self.push(story, here, Value::Text(copy))
     }
 
-    pub(super) fn push(&mut self, story: &Story, here: Place, value: Value) -> StepEnd
-        ensures { Ends (pushes (story_tree story.now) here value (config_of self.old)) self.old.globals (config_of self.new) result }
+    pub(super) fn push(&mut self, story: &Story, here: Spot, value: Value) -> StepEnd
+        ensures { let s = story_tree story.now in Ends (pushes s (place_of s here) value (config_of s self.old)) self.old.globals (config_of s self.new) result }
     {
         if let Err(fault) = self.stack.push(value) {
             return StepEnd::Fault(fault);
@@ -45,8 +48,8 @@ impl Machine {
         self.go_on(story, here)
     }
 
-    pub(super) fn begin_evaluation(&mut self, story: &Story, here: Place) -> StepEnd
-        ensures { Ends (begins (story_tree story.now) here (config_of self.old)) self.old.globals (config_of self.new) result }
+    pub(super) fn begin_evaluation(&mut self, story: &Story, here: Spot) -> StepEnd
+        ensures { let s = story_tree story.now in Ends (begins s (place_of s here) (config_of s self.old)) self.old.globals (config_of s self.new) result }
     {
         if self.evaluating {
             return StepEnd::Fault(Fault::BadMode);
@@ -55,8 +58,8 @@ impl Machine {
         self.go_on(story, here)
     }
 
-    pub(super) fn end_evaluation(&mut self, story: &Story, here: Place) -> StepEnd
-        ensures { Ends (leaves_off (story_tree story.now) here (config_of self.old)) self.old.globals (config_of self.new) result }
+    pub(super) fn end_evaluation(&mut self, story: &Story, here: Spot) -> StepEnd
+        ensures { let s = story_tree story.now in Ends (leaves_off s (place_of s here) (config_of s self.old)) self.old.globals (config_of s self.new) result }
     {
         if !self.evaluating {
             return StepEnd::Fault(Fault::BadMode);
@@ -66,8 +69,8 @@ impl Machine {
     }
 
     /// Writes what is popped; on an empty stack it does nothing.
-    pub(super) fn out(&mut self, story: &Story, here: Place) -> StepEnd
-        ensures { Ends (outs (story_tree story.now) here (popped self.old.stack.items) (config_of self.old)) self.old.globals (config_of self.new) result }
+    pub(super) fn out(&mut self, story: &Story, here: Spot) -> StepEnd
+        ensures { let s = story_tree story.now in Ends (outs s (place_of s here) (popped self.old.stack.items) (config_of s self.old)) self.old.globals (config_of s self.new) result }
     {
         match top(&mut self.stack) {
             Some(value) => self.print(story, here, &value),
@@ -75,8 +78,8 @@ impl Machine {
         }
     }
 
-    fn print(&mut self, story: &Story, here: Place, value: &Value) -> StepEnd
-        ensures { Ends (prints (story_tree story.now) here (rules.printed value.now) (config_of self.old)) self.old.globals (config_of self.new) result }
+    fn print(&mut self, story: &Story, here: Spot, value: &Value) -> StepEnd
+        ensures { let s = story_tree story.now in Ends (prints s (place_of s here) (rules.printed value.now) (config_of s self.old)) self.old.globals (config_of s self.new) result }
     {
         match printed(self.alloc, value) {
             Ok(text) => self.write_text(story, here, &text),
@@ -84,8 +87,8 @@ impl Machine {
         }
     }
 
-    pub(super) fn pop(&mut self, story: &Story, here: Place) -> StepEnd
-        ensures { Ends (pops (story_tree story.now) here (popped self.old.stack.items) (config_of self.old)) self.old.globals (config_of self.new) result }
+    pub(super) fn pop(&mut self, story: &Story, here: Spot) -> StepEnd
+        ensures { let s = story_tree story.now in Ends (pops s (place_of s here) (popped self.old.stack.items) (config_of s self.old)) self.old.globals (config_of s self.new) result }
     {
         match top(&mut self.stack) {
             Some(_) => self.go_on(story, here),
@@ -93,8 +96,8 @@ impl Machine {
         }
     }
 
-    pub(super) fn duplicate(&mut self, story: &Story, here: Place) -> StepEnd
-        ensures { Ends (doubles (story_tree story.now) here (popped self.old.stack.items) (config_of self.old)) self.old.globals (config_of self.new) result }
+    pub(super) fn duplicate(&mut self, story: &Story, here: Spot) -> StepEnd
+        ensures { let s = story_tree story.now in Ends (doubles s (place_of s here) (popped self.old.stack.items) (config_of s self.old)) self.old.globals (config_of s self.new) result }
     {
         match top_copy(self.alloc, &self.stack) {
             Ok(value) => self.push(story, here, value),
@@ -102,8 +105,8 @@ impl Machine {
         }
     }
 
-    pub(super) fn operate(&mut self, story: &Story, here: Place, operator: Op) -> StepEnd
-        ensures { Ends (operates (story_tree story.now) here operator (taken (takes operator) self.old.stack.items []) (config_of self.old)) self.old.globals (config_of self.new) result }
+    pub(super) fn operate(&mut self, story: &Story, here: Spot, operator: Op) -> StepEnd
+        ensures { let s = story_tree story.now in Ends (operates s (place_of s here) operator (taken (takes operator) self.old.stack.items []) (config_of s self.old)) self.old.globals (config_of s self.new) result }
     {
         match applied(self.alloc, &mut self.stack, operator) {
             Ok(value) => self.push(story, here, value),

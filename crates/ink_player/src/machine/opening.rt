@@ -3,51 +3,51 @@
 ghost use Rattle.std.specs.Prelude.{◌≡◌, ◌⊎◌, Ok, Err, IfOk, IfErr};
 ghost use Rattle.ink_model.specs.Configuration.{fresh_at, start, with_globals};
 ghost use Rattle.ink_model.specs.Opening.{opening};
+ghost use Rattle.ink_model.specs.Tree.{StoryTree};
 ghost use Rattle.ink_model.specs.declared.fault.Fault.TheVariants.{OutOfMemory};
-ghost use Rattle.ink_player.specs.Words.{story_tree, config_of};
+ghost use Rattle.ink_check.specs.Words.{story_tree};
+ghost use Rattle.ink_player.specs.Words.{config_of};
+ghost use Rattle.ink_tree.specs.Nodes.{place_of};
 
 use crate::globals::Globals;
 use crate::machine::Machine;
-use crate::machine::knots::first_declaration;
-use crate::machine::places::first_place;
-use crate::story::Story;
-use ink_model::{Fault, Place};
+use crate::machine::places::first_declaration;
+use ink_check::Story;
+use ink_model::Fault;
+use ink_tree::Spot;
 use ink_value::EvalStack;
-use std::alloc::{AllocError, Global};
+use std::alloc::Global;
 
 impl Machine {
     /// A machine at the story's start, with the globals that the story declares (docs/RUNNING.md, "Opening"). The fault is
     /// that of the declarations, or `OutOfMemory`.
     pub(crate) fn open(alloc: Global, story: &Story) -> Result<Machine, Fault>
-        ensures ok { IfOk result (λ m. opening (story_tree story.now) ≡ Ok (config_of m)) }
+        ensures ok { let s = story_tree story.now in IfOk result (λ m. opening s ≡ Ok (config_of s m)) }
         ensures err { IfErr result (λ f. (f ≡ OutOfMemory) ⊎ (opening (story_tree story.now) ≡ Err f)) }
     {
-        let Some(place) = first_declaration(alloc, &story.raw)? else {
-            let machine = Machine::at_start(alloc, story, Globals::new(alloc))?;
-            return Ok(machine);
+        let Some(place) = first_declaration(story) else {
+            return Ok(Machine::at_start(alloc, story, Globals::new(alloc)));
         };
         let mut machine = Machine::fresh(alloc, place, Globals::new(alloc));
         if let Err(fault) = machine.run(story) {
             return Err(fault);
         }
         let Machine { globals, .. } = machine;
-        let machine = Machine::at_start(alloc, story, globals)?;
-        Ok(machine)
+        Ok(Machine::at_start(alloc, story, globals))
     }
 
-    /// A machine at the story's start with these globals. The one error is a refused request for memory.
+    /// A machine at the story's start with these globals. Takes no memory.
     #[tactic(auto, unfolding(ink_model::specs::Configuration::start, ink_model::specs::Configuration::fresh_at))]
-    fn at_start(alloc: Global, story: &Story, globals: Globals) -> Result<Machine, AllocError>
-        ensures { IfOk result (λ m. config_of m ≡ start (story_tree story.now) globals) }
+    fn at_start(alloc: Global, story: &Story, globals: Globals) -> Machine
+        ensures { let s = story_tree story.now in config_of s result ≡ start s globals }
     {
-        let place = first_place(alloc, &story.raw)?;
-        Ok(Machine::fresh(alloc, place, globals))
+        Machine::fresh(alloc, story.tree().start(), globals)
     }
 
-    /// A machine at a place with these globals, where nothing has happened yet.
+    /// A machine at a place with these globals, where nothing has happened yet. Takes no memory.
     #[tactic(auto, unfolding(ink_model::specs::Configuration::fresh_at))]
-    fn fresh(alloc: Global, place: Place, globals: Globals) -> Machine
-        ensures { config_of result ≡ with_globals globals (fresh_at place) }
+    fn fresh(alloc: Global, place: Spot, globals: Globals) -> Machine
+        ensures { (s : StoryTree) → config_of s result ≡ with_globals globals (fresh_at (place_of s place)) }
     {
         Machine {
             place: Some(place),

@@ -1,102 +1,87 @@
 //! Moving from place to place in a story.
 
-ghost use Rattle.std.specs.Prelude.{◌≡◌, [], ◌∷◌, ◌++◌, IfOk, option_map};
-ghost use Rattle.ink_json.specs.Story.{tree};
-ghost use Rattle.ink_model.specs.Place.{start_place, way_in, entered, next_place};
-ghost use Rattle.ink_model.specs.Tree.{width, count};
+ghost use Rattle.std.specs.Prelude.{◌≡◌, ◌++◌, Some, option_map};
+ghost use Rattle.ink_check.specs.Words.{story_tree};
+ghost use Rattle.ink_model.specs.Opening.{declarations};
+ghost use Rattle.ink_model.specs.Place.{start_place, landed, way_in, entered, next_place};
+ghost use Rattle.ink_model.specs.Tree.{at, down, nth};
 ghost use Rattle.ink_model.specs.View.{view, trees_view};
 ghost use Rattle.ink_model.specs.declared.place.Part.TheVariants.{Index};
+ghost use Rattle.ink_tree.specs.Nodes.{place_of};
+ghost use Rattle.ink_tree.specs.Nodes as nodes;
 
-use ink_json::RawStory;
-use ink_model::{Content, Part, Place};
-use std::alloc::{AllocError, Global};
+use ink_check::Story;
+use ink_model::Content;
+use ink_tree::{Spot, Tree};
 
-/// How many contents stand by index in what was found.
-pub(super) fn width_of(found: Option<&Content>) -> usize
-    ensures { result ≡ width (option_map (λ c. view c.now) found.entry) }
+/// Where flow lands to declare the globals, none where the story declares none.
+pub(super) fn first_declaration(story: &Story) -> Option<Spot>
+    ensures { let s = story_tree story.now in option_map (place_of s) result ≡ option_map (landed s) (declarations s) }
 {
-    match found {
-        None | Some(Content::Leaf(_)) => 0,
-        Some(Content::Container { content, .. }) => width_in(content),
+    let tree = story.tree();
+    let holder = tree.knot("global decl")?;
+    Some(tree.land(Spot {
+        holder,
+        index: None,
+    }))
+}
+
+/// The place to which a step goes before it performs: down to the first content that holds no other by index; and what
+/// stands there, none where nothing does.
+pub(super) fn enter(story: &Story, place: Spot) -> (Spot, Option<&Content>)
+    ensures here { let s = story_tree story.now in place_of s result.0 ≡ entered s (place_of s place) }
+    ensures found { let s = story_tree story.now in option_map (λ c. view c.now) result.1 ≡ at s (place_of s result.0) }
+{
+    let tree = story.tree();
+    match tree.content(place) {
+        None => (place, None),
+        Some(content) => {
+            let (here, inside) = go_in(tree, place, content);
+            (here, Some(inside))
+        }
     }
 }
 
-fn width_in(content: &Vec<Content>) -> usize
-    ensures { result ≡ count (trees_view content.now.items) }
+/// Goes from content down to its first content that holds no other by index.
+fn go_in<'c>(tree: &Tree, place: Spot, from: &'c Content) -> (Spot, &'c Content)
+    requires { let s = nodes.story_tree tree.now in at s (place_of s place) ≡ Some (view from.now) }
+    ensures here { let s = nodes.story_tree tree.now in place_of s result.0 ≡ place_of s place ++ way_in (view from.now) }
+    ensures found { let s = nodes.story_tree tree.now in at s (place_of s result.0) ≡ Some (view result.1.now) }
 {
-    content.len()
-}
-
-/// Where a story starts. The one error is a refused request for memory.
-pub(super) fn first_place(alloc: Global, story: &RawStory) -> Result<Place, AllocError>
-    ensures { IfOk result (λ place. place ≡ start_place (tree story.now)) }
-{
-    let mut place = Place::root(alloc);
-    if width_of(story.at(&[])) > 0 {
-        place.push(Part::Index(0))?;
-    }
-    Ok(place)
-}
-
-/// The place to which a step goes before it performs: down to the first content that holds no other by index. The one
-/// error is a refused request for memory.
-pub(super) fn enter(alloc: Global, story: &RawStory, place: &Place) -> Result<Place, AllocError>
-    ensures { IfOk result (λ here. here ≡ entered (tree story.now) place.now) }
-{
-    let mut here = Place::from_parts(alloc, place.parts())?;
-    if let Some(content) = story.at(place.parts()) {
-        go_in(&mut here, content)?;
-    }
-    Ok(here)
-}
-
-/// Goes from content down to its first content that holds no other by index. The one error is a refused request for
-/// memory, and the place is then somewhere on the way.
-fn go_in(here: &mut Place, from: &Content) -> Result<(), AllocError>
-    ensures { IfOk result (λ _. here.new ≡ here.old ++ way_in (view from.now)) }
-{
+    let mut here = place;
     let mut content = from;
-    while let Content::Container { content: inner, .. } = content {
-        let Some(first) = inner.first() else {
+    while let Some(first) = first_inside(content) {
+        let Some(holder) = tree.node(here) else {
             break;
         };
-        here.push(Part::Index(0))?;
+        here = Spot {
+            holder,
+            index: Some(0),
+        };
         content = first;
     }
-    Ok(())
+    (here, content)
 }
 
-/// The place after a place, none where flow stops. The one error is a refused request for memory.
-pub(super) fn place_after(
-    alloc: Global,
-    story: &RawStory,
-    here: &[Part],
-) -> Result<Option<Place>, AllocError>
-    ensures { IfOk result (λ next. next ≡ next_place (tree story.now) here.now) }
+/// The first of the content that stands by index in content.
+fn first_inside(content: &Content) -> Option<&Content>
+    ensures { option_map (λ c. view c.now) result ≡ down (Index 0) (view content.now) }
 {
-    match sibling_after(story, here) {
-        None => Ok(None),
-        Some((container, index)) => {
-            let mut next = Place::from_parts(alloc, container)?;
-            next.push(Part::Index(index))?;
-            Ok(Some(next))
-        }
+    match content {
+        Content::Leaf(_) => None,
+        Content::Container { content, .. } => first_of(content),
     }
 }
 
-/// The container in which flow goes on after a place, and the index there.
-fn sibling_after<'p>(story: &RawStory, here: &'p [Part]) -> Option<(&'p [Part], u32)>
-    ensures { option_map (λ sibling. sibling.0.now ++ Index sibling.1 ∷ []) result ≡ next_place (tree story.now) here.now }
+fn first_of(contents: &Vec<Content>) -> Option<&Content>
+    ensures { option_map (λ c. view c.now) result ≡ nth 0 (trees_view contents.now.items) }
 {
-    let mut rest = here;
-    while let Some((last, up)) = rest.split_last() {
-        let Part::Index(index) = last else {
-            return None;
-        };
-        if (*index as usize) + 1 < width_of(story.at(up)) {
-            return Some((up, *index + 1));
-        }
-        rest = up;
-    }
-    None
+    contents.first()
+}
+
+/// The place after a place, none where flow stops.
+pub(super) fn place_after(story: &Story, here: Spot) -> Option<Spot>
+    ensures { let s = story_tree story.now in option_map (place_of s) result ≡ next_place s (place_of s here) }
+{
+    story.tree().next(here)
 }

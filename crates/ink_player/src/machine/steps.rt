@@ -3,35 +3,36 @@
 ghost use Rattle.std.specs.Prelude.{◌≡◌, Some, option_map};
 ghost use Rattle.ink_model.specs.Configuration.{ended};
 ghost use Rattle.ink_model.specs.Step.{Stop, step, performs, controls, goes, go_on, done, nothing_bound};
-ghost use Rattle.ink_model.specs.Tree.{leaf};
+ghost use Rattle.ink_model.specs.Tree.{StoryTree, at, leaf};
 ghost use Rattle.ink_model.specs.View.{view};
-ghost use Rattle.ink_player.specs.Words.{story_tree, config_of};
+ghost use Rattle.ink_check.specs.Words.{story_tree};
+ghost use Rattle.ink_tree.specs.Nodes.{place_of};
+ghost use Rattle.ink_player.specs.Words.{config_of};
 ghost use Rattle.ink_player.specs.Steps.{Ends, Goes};
 
 use crate::machine::places::{enter, place_after};
 use crate::machine::{Machine, StepEnd};
-use crate::story::Story;
-use ink_model::{Content, Control, Fault, Leaf, Place, Value};
+use ink_check::Story;
+use ink_model::{Content, Control, Fault, Leaf, Value};
+use ink_tree::Spot;
 
 impl Machine {
     /// One step: goes down to the first content, performs it and moves (docs/RUNNING.md, "Steps"). Where flow has stopped
     /// it stays stopped.
     pub(super) fn step(&mut self, story: &Story) -> StepEnd
-        ensures { Ends (step (story_tree story.now) nothing_bound (config_of self.old)) self.old.globals (config_of self.new) result }
+        ensures { let s = story_tree story.now in Ends (step s nothing_bound (config_of s self.old)) self.old.globals (config_of s self.new) result }
     {
-        let Some(place) = &self.place else {
+        let Some(place) = self.place else {
             return StepEnd::Stopped;
         };
-        let Ok(here) = enter(self.alloc, &story.raw, place) else {
-            return StepEnd::Fault(Fault::OutOfMemory);
-        };
-        let found = story.raw.at(here.parts());
+        let (here, found) = enter(story, place);
         self.perform(story, here, found)
     }
 
     /// Performs what was found at a place: an empty container, or nothing, is passed over.
-    fn perform(&mut self, story: &Story, here: Place, found: Option<&Content>) -> StepEnd
-        ensures { Ends (performs (story_tree story.now) nothing_bound here (option_map (λ c. view c.now) found.entry) (config_of self.old)) self.old.globals (config_of self.new) result }
+    fn perform(&mut self, story: &Story, here: Spot, found: Option<&Content>) -> StepEnd
+        requires { let s = story_tree story.now in option_map (λ c. view c.now) found ≡ at s (place_of s here) }
+        ensures { let s = story_tree story.now in Ends (performs s nothing_bound (place_of s here) (option_map (λ c. view c.now) found.entry) (config_of s self.old)) self.old.globals (config_of s self.new) result }
     {
         match found {
             None => self.go_on(story, here),
@@ -40,8 +41,10 @@ impl Machine {
         }
     }
 
-    fn perform_leaf(&mut self, story: &Story, here: Place, content: &Leaf) -> StepEnd
-        ensures { Ends (performs (story_tree story.now) nothing_bound here (Some (leaf content.now)) (config_of self.old)) self.old.globals (config_of self.new) result }
+    // Content that is not played yet is passed over.
+    fn perform_leaf(&mut self, story: &Story, here: Spot, content: &Leaf) -> StepEnd
+        requires { let s = story_tree story.now in at s (place_of s here) ≡ Some (leaf content.now) }
+        ensures { let s = story_tree story.now in Ends (performs s nothing_bound (place_of s here) (Some (leaf content.now)) (config_of s self.old)) self.old.globals (config_of s self.new) result }
     {
         match content {
             Leaf::Text(text) => self.say(story, here, text),
@@ -49,16 +52,27 @@ impl Machine {
             Leaf::Int(number) => self.put_value(story, here, Value::Int(*number)),
             Leaf::Bool(truth) => self.put_value(story, here, Value::Bool(*truth)),
             Leaf::Void => self.put_value(story, here, Value::Void),
+            Leaf::Target(text) => self.put_target(story, here, text),
             Leaf::Control(control) => self.obey(story, here, *control),
             Leaf::Op(operator) => self.operate(story, here, *operator),
             Leaf::Declare(name) => self.declare(story, here, name),
             Leaf::Assign(name) => self.assign(story, here, name),
             Leaf::Variable(name) => self.read(story, here, name),
+            Leaf::Divert { to, conditional } => self.divert(story, here, to, *conditional),
+            Leaf::Glue
+            | Leaf::Pointer(..)
+            | Leaf::Call { .. }
+            | Leaf::Tunnel { .. }
+            | Leaf::External { .. }
+            | Leaf::DeclareTemp(_)
+            | Leaf::AssignTemp(_)
+            | Leaf::Count(_)
+            | Leaf::Choice { .. } => self.go_on(story, here),
         }
     }
 
-    fn obey(&mut self, story: &Story, here: Place, control: Control) -> StepEnd
-        ensures { Ends (controls (story_tree story.now) here control (config_of self.old)) self.old.globals (config_of self.new) result }
+    fn obey(&mut self, story: &Story, here: Spot, control: Control) -> StepEnd
+        ensures { let s = story_tree story.now in Ends (controls s (place_of s here) control (config_of s self.old)) self.old.globals (config_of s self.new) result }
     {
         match control {
             Control::BeginEval => self.begin_evaluation(story, here),
@@ -69,12 +83,24 @@ impl Machine {
             Control::Nop => self.go_on(story, here),
             Control::Done => self.done(),
             Control::End => self.end(),
+            Control::BeginString
+            | Control::EndString
+            | Control::BeginTag
+            | Control::EndTag
+            | Control::Return
+            | Control::ReturnTunnel
+            | Control::Thread
+            | Control::ChoiceCount
+            | Control::Turn
+            | Control::Turns
+            | Control::ReadCount
+            | Control::Visit => self.go_on(story, here),
         }
     }
 
     /// Flow stops safely where it is.
     fn done(&mut self) -> StepEnd
-        ensures { Goes (done (config_of self.old)) (config_of self.new) result }
+        ensures { (s : StoryTree) → Goes (done (config_of s self.old)) (config_of s self.new) result }
     {
         self.place = None;
         self.safe = true;
@@ -83,25 +109,23 @@ impl Machine {
 
     /// Flow stops safely, and nothing is left of where it was.
     fn end(&mut self) -> StepEnd
-        ensures { Goes (Stop (ended (config_of self.old))) (config_of self.new) result }
+        ensures { (s : StoryTree) → Goes (Stop (ended (config_of s self.old))) (config_of s self.new) result }
     {
         self.previous = None;
         self.evaluating = false;
         self.done()
     }
 
-    pub(super) fn go_on(&mut self, story: &Story, here: Place) -> StepEnd
-        ensures { Ends (go_on (story_tree story.now) here (config_of self.old)) self.old.globals (config_of self.new) result }
+    pub(super) fn go_on(&mut self, story: &Story, here: Spot) -> StepEnd
+        ensures { let s = story_tree story.now in Ends (go_on s (place_of s here) (config_of s self.old)) self.old.globals (config_of s self.new) result }
     {
-        let Ok(next) = place_after(self.alloc, &story.raw, here.parts()) else {
-            return StepEnd::Fault(Fault::OutOfMemory);
-        };
+        let next = place_after(story, here);
         self.go(here, next)
     }
 
     /// Flow goes from a place to the next, or stops where there is none.
-    pub(super) fn go(&mut self, here: Place, next: Option<Place>) -> StepEnd
-        ensures { Goes (goes here next (config_of self.old)) (config_of self.new) result }
+    pub(super) fn go(&mut self, here: Spot, next: Option<Spot>) -> StepEnd
+        ensures { (s : StoryTree) → Goes (goes (place_of s here) (option_map (place_of s) next) (config_of s self.old)) (config_of s self.new) result }
     {
         let end = match &next {
             Some(_) => StepEnd::Went,

@@ -5,20 +5,24 @@ ghost use Rattle.ink_model.specs.Configuration.{with_globals};
 ghost use Rattle.ink_model.specs.Stack.{popped};
 ghost use Rattle.ink_model.specs.Step.{go_on, pushes, declares, assigns, read_global};
 ghost use Rattle.ink_model.specs.Store.{stored, store};
-ghost use Rattle.ink_player.specs.Words.{story_tree, config_of};
+ghost use Rattle.ink_model.specs.Tree.{StoryTree};
+ghost use Rattle.ink_check.specs.Words.{story_tree};
+ghost use Rattle.ink_tree.specs.Nodes.{place_of};
+ghost use Rattle.ink_player.specs.Words.{config_of};
 ghost use Rattle.ink_player.specs.Steps.{Ends};
 
 use crate::machine::operands::top;
 use crate::machine::places::place_after;
 use crate::machine::{Machine, StepEnd};
-use crate::story::Story;
-use ink_model::{Fault, Place, Text, Value};
+use ink_check::Story;
+use ink_model::{Fault, Text, Value};
+use ink_tree::Spot;
 use std::alloc::AllocError;
 
 impl Machine {
     /// What is popped becomes the value of a global, which need not be there.
-    pub(super) fn declare(&mut self, story: &Story, here: Place, name: &Text) -> StepEnd
-        ensures { Ends (declares (story_tree story.now) here name.now (popped self.old.stack.items) (config_of self.old)) self.old.globals (config_of self.new) result }
+    pub(super) fn declare(&mut self, story: &Story, here: Spot, name: &Text) -> StepEnd
+        ensures { let s = story_tree story.now in Ends (declares s (place_of s here) name.now (popped self.old.stack.items) (config_of s self.old)) self.old.globals (config_of s self.new) result }
     {
         let Some(value) = top(&mut self.stack) else {
             return StepEnd::Fault(Fault::StackEmpty);
@@ -27,8 +31,8 @@ impl Machine {
     }
 
     /// What is popped becomes the value of a global that has to be there.
-    pub(super) fn assign(&mut self, story: &Story, here: Place, name: &Text) -> StepEnd
-        ensures { Ends (assigns (story_tree story.now) here name.now (popped self.old.stack.items) (config_of self.old)) self.old.globals (config_of self.new) result }
+    pub(super) fn assign(&mut self, story: &Story, here: Spot, name: &Text) -> StepEnd
+        ensures { let s = story_tree story.now in Ends (assigns s (place_of s here) name.now (popped self.old.stack.items) (config_of s self.old)) self.old.globals (config_of s self.new) result }
     {
         let Some(value) = top(&mut self.stack) else {
             return StepEnd::Fault(Fault::StackEmpty);
@@ -40,20 +44,18 @@ impl Machine {
     }
 
     /// Gives a global a value and goes on. A global changes last: what can fail comes before.
-    fn put(&mut self, story: &Story, here: Place, name: &str, value: Value) -> StepEnd
-        ensures { Ends (go_on (story_tree story.now) here (with_globals (store name.now value self.old.globals) (config_of self.old))) self.old.globals (config_of self.new) result }
+    fn put(&mut self, story: &Story, here: Spot, name: &str, value: Value) -> StepEnd
+        ensures { let s = story_tree story.now in Ends (go_on s (place_of s here) (with_globals (store name.now value self.old.globals) (config_of s self.old))) self.old.globals (config_of s self.new) result }
     {
-        let Ok(next) = place_after(self.alloc, &story.raw, here.parts()) else {
-            return StepEnd::Fault(Fault::OutOfMemory);
-        };
+        let next = place_after(story, here);
         if let Err(_) = self.globals.put(name, value) {
             return StepEnd::Fault(Fault::OutOfMemory);
         }
         self.go(here, next)
     }
 
-    pub(super) fn read(&mut self, story: &Story, here: Place, name: &Text) -> StepEnd
-        ensures { Ends (pushes (story_tree story.now) here (read_global name.now (config_of self.old)) (config_of self.old)) self.old.globals (config_of self.new) result }
+    pub(super) fn read(&mut self, story: &Story, here: Spot, name: &Text) -> StepEnd
+        ensures { let s = story_tree story.now in Ends (pushes s (place_of s here) (read_global name.now (config_of s self.old)) (config_of s self.old)) self.old.globals (config_of s self.new) result }
     {
         let Ok(value) = self.value_of(name.as_str()) else {
             return StepEnd::Fault(Fault::OutOfMemory);
@@ -63,7 +65,7 @@ impl Machine {
 
     /// The value of a global, 0 where there is no such global. The one error is a refused request for memory.
     fn value_of(&self, name: &str) -> Result<Value, AllocError>
-        ensures { IfOk result (λ value. value ≡ read_global name.now (config_of self.now)) }
+        ensures { (s : StoryTree) → IfOk result (λ value. value ≡ read_global name.now (config_of s self.now)) }
     {
         match self.globals.get(name) {
             Some(value) => value.clone_in(self.alloc),
@@ -73,8 +75,8 @@ impl Machine {
 
     /// Gives a global that is there a value. The one error is a refused request for memory, and leaves it as it was.
     pub(crate) fn set(&mut self, name: &str, value: Value) -> Result<(), AllocError>
-        ensures ok { OnOk result (config_of self.new ≡ with_globals (store name.now value self.old.globals) (config_of self.old)) }
-        ensures err { OnErr result (config_of self.new ≡ config_of self.old) }
+        ensures ok { (s : StoryTree) → OnOk result (config_of s self.new ≡ with_globals (store name.now value self.old.globals) (config_of s self.old)) }
+        ensures err { (s : StoryTree) → OnErr result (config_of s self.new ≡ config_of s self.old) }
     {
         self.globals.put(name, value)
     }

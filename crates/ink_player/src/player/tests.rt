@@ -1,26 +1,45 @@
 //! Each call of the player once, on short stories.
 
-use crate::{Desk, Fault, Halt, OpenFault, Player, Refusal, accept};
+use crate::{Desk, Fault, Halt, OpenFault, Player, Refusal, Story, check, runnable};
 use ink_json::read_story;
-use ink_model::{Cause, Given, Value};
+use ink_model::{Cause, Given, Part, ReadRefusal, Value};
 use std::alloc::Global;
 
-/// A player at the start of a story, none where the story is refused or memory is.
-fn opened(alloc: Global, story: &[u8]) -> Option<Player> {
-    let raw = read_story(alloc, story).ok()?;
-    match Player::open(alloc, accept(raw), Desk::new()) {
-        Ok(player) => Some(player),
+/// A story that is accepted.
+fn accepted(alloc: Global, bytes: &[u8]) -> Result<Story, ReadRefusal> {
+    let raw = match read_story(alloc, bytes) {
+        Ok(raw) => raw,
+        Err(refusal) => return Err(refusal),
+    };
+    check(alloc, raw)
+}
+
+/// A player at the start of a story, or the fault of opening it; where memory is refused for finding out what is played, too.
+fn open(alloc: Global, story: Story) -> Result<Player, Fault> {
+    match runnable(alloc, &story) {
+        Ok(None) => {}
+        Ok(Some(_)) => return Err(Fault::StopInString),
+        Err(_) => return Err(Fault::OutOfMemory),
+    }
+    match Player::open(alloc, story, Desk::new()) {
+        Ok(player) => Ok(player),
         Err(
             OpenFault {
-                fault: _,
+                fault,
                 story: _,
                 desk,
             },
         ) => {
             desk.close();
-            None
+            Err(fault)
         }
     }
+}
+
+/// A player at the start of a story, none where the story is refused or memory is.
+fn opened(alloc: Global, bytes: &[u8]) -> Option<Player> {
+    let story = accepted(alloc, bytes).ok()?;
+    open(alloc, story).ok()
 }
 
 #[test]
@@ -150,24 +169,15 @@ fn a_broken_player_shows_its_globals_and_restarts(rt: HostRuntime) {
 #[test]
 fn a_story_that_cannot_declare_is_not_opened(rt: HostRuntime) {
     let story = br##"{"inkVersion":21,"root":["done",["ev","ev",{"#n":"global decl"}],null]}"##;
-    let Ok(raw) = read_story(rt.alloc(), story) else {
+    let Ok(story) = accepted(rt.alloc(), story) else {
         panic!(rt; "refused");
     };
-    match Player::open(rt.alloc(), accept(raw), Desk::new()) {
+    match open(rt.alloc(), story) {
         Ok(player) => {
             player.close().close();
             panic!(rt; "opened");
         }
-        Err(
-            OpenFault {
-                fault,
-                story: _,
-                desk,
-            },
-        ) => {
-            desk.close();
-            assert!(rt; fault == Fault::BadMode);
-        }
+        Err(fault) => assert!(rt; fault == Fault::BadMode),
     }
 }
 
@@ -176,24 +186,17 @@ fn a_story_that_cannot_declare_is_not_opened(rt: HostRuntime) {
 fn want_of_memory_is_told(rt: HostRuntime) {
     let story =
         br##"{"inkVersion":21,"root":[["^ A ","\n",[null],["^B","end",{"#n":"b"}],{"k":[null]}],null]}"##;
-    let raw = match read_story(rt.alloc(), story) {
-        Ok(raw) => raw,
+    let story = match accepted(rt.alloc(), story) {
+        Ok(story) => story,
         Err(refusal) => {
             assert!(rt; refusal.cause == Cause::OutOfMemory);
             assert!(rt; refusal.place.parts().is_empty());
             return;
         }
     };
-    let mut player = match Player::open(rt.alloc(), accept(raw), Desk::new()) {
+    let mut player = match open(rt.alloc(), story) {
         Ok(player) => player,
-        Err(
-            OpenFault {
-                fault,
-                story: _,
-                desk,
-            },
-        ) => {
-            desk.close();
+        Err(fault) => {
             assert!(rt; fault == Fault::OutOfMemory);
             return;
         }
@@ -249,4 +252,23 @@ fn want_of_memory_leaves_globals(rt: HostRuntime) {
         Err(_) => panic!(rt; "neither restarted nor out of memory"),
     }
     player.close().close();
+}
+
+#[test]
+fn the_first_content_that_is_not_played_is_found(rt: HostRuntime) {
+    let alloc = rt.alloc();
+    let played = br##"{"inkVersion":21,"root":["^A",{"->":"2"},null]}"##;
+    let Ok(story) = accepted(alloc, played) else {
+        panic!(rt; "refused");
+    };
+    assert!(rt; matches!(runnable(alloc, &story), Ok(None)));
+
+    let beyond = br##"{"inkVersion":21,"root":["^A",["^B",{"x()":"f"},"<>",null],"done",null]}"##;
+    let Ok(story) = accepted(alloc, beyond) else {
+        panic!(rt; "refused");
+    };
+    let Ok(Some(place)) = runnable(alloc, &story) else {
+        panic!(rt; "none found");
+    };
+    assert!(rt; matches!(place.parts(), [Part::Index(1), Part::Index(1)]));
 }

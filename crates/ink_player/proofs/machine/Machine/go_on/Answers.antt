@@ -1,7 +1,6 @@
-use Rattle.std.proofs.Common.{◌∙◌, ap}
-use Rattle.ink_model.specs.Place.{next_place}
+use Rattle.ink_check.specs.Words.{story_tree}
 use Rattle.ink_player.proofs.Stepping.{ends_on}
 use Rattle.ink_player.proofs.machine.Machine.go_on.Goals as goal
 
 pub returns : goal.returns
-returns c = ends_on _ _ _ _ _ _ _ (c.in-Ok.ensures ∙ ap (next_place _) c.parts.ensures) c.go.ensures
+returns c = ends_on _ _ _ _ _ _ _ c.place_after-next.ensures (c.go.ensures (story_tree c.args.story.now))

@@ -1,5 +1,5 @@
-use Rattle.std.proofs.Common.{◌∙◌, ap, refl, [], arith}
-use Rattle.ink_model.specs.Place.{next_place}
+use Rattle.std.proofs.Common.{ap, refl, [], arith}
+use Rattle.ink_check.specs.Words.{story_tree}
 use Rattle.ink_model.specs.Step.{with_page}
 use Rattle.ink_player.specs.Words.{config_of}
 use Rattle.ink_player.proofs.Stepping.{ends_written, ends_full}
@@ -10,6 +10,7 @@ returns-then-saturating_add-gt-MAX_MARKS c = ends_full _ _ _ _ _ _ (omega (arith
 
 pub returns : goal.returns
 returns c =
+    let s = story_tree c.args.story.now in
     ends_written _ _ _ _ _ _ _ _ _ (omega (arith, c.args.self.now.marks.ok.0, c.args.more.ok.0))
-    (ap (λ ms. with_page (record { line = ms; sections = []; next_enter = 0 }) (config_of c.args.self.now)) c.in_default-append.ensures.items)
-    (c.in-Ok.ensures ∙ ap (next_place _) c.parts.ensures) c.go.ensures
+    (ap (λ ms. with_page (record { line = ms; sections = []; next_enter = 0 }) (config_of s c.args.self.now)) c.in_default.ensures.items)
+    c.place_after-next.ensures (c.go.ensures s)

@@ -1,8 +1,15 @@
-use Rattle.std.proofs.Common.{◌≡◌, ◌++◌}
+use Rattle.std.proofs.Common.{◌≡◌, ◌++◌, Some, length}
 use Rattle.ink_model.specs.Place.{way_in}
+use Rattle.ink_model.specs.Tree.{at}
 use Rattle.ink_model.specs.View.{view}
 use Rattle.ink_player.proofs.machine.places.go_in.Given as goal
+use Rattle.ink_tree.specs.Nodes.{story_tree, place_of}
 
--- the way from here leads to where the whole way does
-abbrev pub invariant-loop-content : goal.invariant-loop-content
-invariant-loop-content l = l.here ++ way_in (view l.content) ≡ l.initial.here ++ way_in (view l.from)
+-- the content stands here, and the way from here leads to where the whole way does
+abbrev pub invariant-loop-first : goal.invariant-loop-first
+invariant-loop-first l =
+    let s = story_tree l.tree in
+    (place_of s l.here ++ way_in (view l.content) ≡ place_of s l.initial.here ++ way_in (view l.from)) × (at s (place_of s l.here) ≡ Some (view l.content))
+
+abbrev pub decreases-loop-first : goal.decreases-loop-first
+decreases-loop-first l = length (way_in (view l.content))

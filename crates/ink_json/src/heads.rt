@@ -1,0 +1,90 @@
+//! The heads of an object, which say what it is.
+
+ghost use Rattle.std.specs.Prelude.{List, ◌++◌, Result};
+ghost use Rattle.serde_json.specs.View.{view as json_view};
+ghost use Rattle.ink_model.specs.Leaves.{by_head, jump_readings, value_readings, store_readings};
+ghost use Rattle.ink_model.specs.declared.fault.Cause.{Cause};
+ghost use Rattle.ink_model.specs.declared.content.Leaf.{Leaf};
+ghost use Rattle.ink_json.specs.Heads.{Counts, reading};
+
+use serde_json::Value;
+
+/// The key that says what an object is.
+#[derive(Clone, Copy)]
+pub(crate) enum Head {
+    Divert,
+    Call,
+    Tunnel,
+    External,
+    Choice,
+    Target,
+    Pointer,
+    Variable,
+    Count,
+    Global,
+    Temporary,
+}
+
+/// The heads that were found in an object; where it is one, with its value.
+#[derive(Clone, Copy)]
+pub(crate) enum Found<'v> {
+    Nothing,
+    One(Head, &'v Value),
+    Several,
+}
+
+/// The heads of an object.
+pub(crate) fn heads(object: &Value) -> Found<'_>
+    ensures { Counts result (json_view object.now) (jump_readings (json_view object.now) ++ (value_readings (json_view object.now) ++ store_readings (json_view object.now))) }
+{
+    let found = Found::Nothing;
+    let found = add_jumps(found, object);
+    let found = add_values(found, object);
+    add_stores(found, object)
+}
+
+#[tactic(auto, unfolding(ink_model::specs::Leaves::jump_readings))]
+fn add_jumps<'v>(found: Found<'v>, object: &'v Value) -> Found<'v>
+    ensures { (rs : List (Result Leaf Cause)) → Counts found.entry (json_view object.now) rs
+        → Counts result (json_view object.now) (rs ++ jump_readings (json_view object.now)) }
+{
+    let found = add(found, object, "->", Head::Divert);
+    let found = add(found, object, "f()", Head::Call);
+    let found = add(found, object, "->t->", Head::Tunnel);
+    let found = add(found, object, "x()", Head::External);
+    add(found, object, "*", Head::Choice)
+}
+
+#[tactic(auto, unfolding(ink_model::specs::Leaves::value_readings))]
+fn add_values<'v>(found: Found<'v>, object: &'v Value) -> Found<'v>
+    ensures { (rs : List (Result Leaf Cause)) → Counts found.entry (json_view object.now) rs
+        → Counts result (json_view object.now) (rs ++ value_readings (json_view object.now)) }
+{
+    let found = add(found, object, "^->", Head::Target);
+    let found = add(found, object, "^var", Head::Pointer);
+    let found = add(found, object, "VAR?", Head::Variable);
+    add(found, object, "CNT?", Head::Count)
+}
+
+#[tactic(auto, unfolding(ink_model::specs::Leaves::store_readings))]
+fn add_stores<'v>(found: Found<'v>, object: &'v Value) -> Found<'v>
+    ensures { (rs : List (Result Leaf Cause)) → Counts found.entry (json_view object.now) rs
+        → Counts result (json_view object.now) (rs ++ store_readings (json_view object.now)) }
+{
+    let found = add(found, object, "VAR=", Head::Global);
+    add(found, object, "temp=", Head::Temporary)
+}
+
+/// The heads found before, and this one where the object has it.
+fn add<'v>(found: Found<'v>, object: &'v Value, key: &str, head: Head) -> Found<'v>
+    ensures { (rs : List (Result Leaf Cause)) → Counts found.entry (json_view object.now) rs
+        → Counts result (json_view object.now) (rs ++ by_head key.now (reading head) (json_view object.now)) }
+{
+    let Some(value) = object.get(key) else {
+        return found;
+    };
+    match found {
+        Found::Nothing => Found::One(head, value),
+        Found::One(_, _) | Found::Several => Found::Several,
+    }
+}

@@ -1,6 +1,0 @@
-use Rattle.std.proofs.Common.{arith}
-use Rattle.ink_player.proofs.Moving.{count_view}
-use Rattle.ink_player.proofs.machine.places.width_in.Goals as goal
-
-pub returns : goal.returns
-returns c = omega (arith, count_view c.args.content.now.items, c.args.content.now.ok.0)

@@ -1,0 +1,78 @@
+-- The containers that a landing enters, one further up.
+use Rattle.std.proofs.Common.{◌≡◌, ◌∙◌, ap, sym, refl, List, [], ◌∷◌, ◌++◌, map, reverse, Bool, true, false, true≢false, not, ◌&&◌, ◌||◌, Option, Some, None, is_some, cond, append_assoc, append-nil}
+use Rattle.std.proofs.lemmas.List.{reverse-append, reverse-reverse, map-append}
+use Rattle.ink_model.specs.Entered.{was_inside, starts_only, is_first, listed_if, entered_above, entered_around, entered_places}
+use Rattle.ink_model.specs.Tree.{StoryTree, at}
+use Rattle.ink_model.specs.declared.place.Part.{Part}
+use Rattle.ink_tree.specs.Nodes.{node_place, IsNode, AreNodes}
+use Rattle.ink_tree.specs.declared.spot.NodeId.{NodeId}
+
+abbrev Places : Type 0
+Places = List (List Part)
+
+-- what a container adds to what those around it are
+abbrev added : Bool → Bool → Bool → List Part → Places → Places
+added inside starts at_start up rest = cond (inside && not starts) [] (listed_if (not starts || at_start) up rest)
+
+always : (at_start : Bool) (up : List Part) (rest : Places) → up ∷ rest ≡ added false false at_start up rest
+always true up rest = refl
+always false up rest = refl
+
+at_its_start : (inside : Bool) (up : List Part) (rest : Places) → up ∷ rest ≡ added inside true true up rest
+at_its_start true up rest = refl
+at_its_start false up rest = refl
+
+not_at_its_start : (inside : Bool) (up : List Part) (rest : Places) → rest ≡ added inside true false up rest
+not_at_its_start true up rest = refl
+not_at_its_start false up rest = refl
+
+module _ (s : StoryTree) (o : Option (List Part)) where
+  around_some : (n : List Part) (t : Option StoryTree) → is_some t ≡ true → entered_above s o true (reverse n) ≡ entered_around t s o n
+  around_some n None e = absurd (true≢false (sym e))
+  around_some n (Some t) e = refl
+
+  around_none : (n : List Part) (t : Option StoryTree) → is_some t ≡ false → [] ≡ entered_around t s o n
+  around_none n None e = refl
+  around_none n (Some t) e = absurd (true≢false e)
+
+  -- where content stands all that is around it is looked at, and elsewhere nothing is
+  pub entered_from : (n : List Part) → is_some (at s n) ≡ true → entered_above s o true (reverse n) ≡ entered_places s o n
+  unfolding entered_places
+  entered_from n h = around_some n (at s n) h
+
+  pub entered_nowhere : (n : List Part) → is_some (at s n) ≡ false → [] ≡ entered_places s o n
+  unfolding entered_places
+  entered_nowhere n h = around_none n (at s n) h
+
+  module _ (at_start : Bool) (x : Part) (up rest : List Part) (e : rest ≡ up ++ x ∷ []) where
+    one_up : entered_above s o at_start (reverse rest)
+        ≡ added (was_inside up o) (starts_only s up) (at_start && is_first x) up (entered_above s o (at_start && is_first x) (reverse up))
+    one_up =
+        ap (λ r. entered_above s o at_start (reverse r)) e ∙ ap (entered_above s o at_start) (reverse-append up (x ∷ []))
+        ∙ ap (λ q. added (was_inside q o) (starts_only s q) (at_start && is_first x) q (entered_above s o (at_start && is_first x) (reverse up))) (reverse-reverse up)
+
+    module _ (now : Bool) (is_now : now ≡ (at_start && is_first x)) where
+      -- a container that counts always, and that flow was not in
+      pub enters : starts_only s up ≡ false → was_inside up o ≡ false → entered_above s o at_start (reverse rest) ≡ up ∷ entered_above s o now (reverse up)
+      enters a i = one_up ∙ rw (sym is_now, a, i) (sym (always now up (entered_above s o now (reverse up))))
+
+      -- a container that counts at its start alone, which is where flow lands
+      pub enters_at_start : starts_only s up ≡ true → now ≡ true → entered_above s o at_start (reverse rest) ≡ up ∷ entered_above s o now (reverse up)
+      enters_at_start a i =
+          one_up ∙ rw (sym is_now, a, i) (sym (at_its_start (was_inside up o) up (entered_above s o true (reverse up))))
+
+-- one container more
+one_more : (s : StoryTree) (ns : List NodeId) (n : NodeId) (up : List Part) (rest : Places) → node_place s n ≡ up
+    → map (node_place s) (ns ++ n ∷ []) ++ rest ≡ map (node_place s) ns ++ up ∷ rest
+one_more s ns n up rest e =
+    ap (λ ps. ps ++ rest) (map-append (node_place s) ns (n ∷ [])) ∙ append_assoc (map (node_place s) ns) (node_place s n ∷ []) rest
+    ∙ ap (λ p. map (node_place s) ns ++ p ∷ rest) e
+
+pub nodes_more : (s : StoryTree) (ns : List NodeId) (n : NodeId) → AreNodes s ns → IsNode s n → AreNodes s (ns ++ n ∷ [])
+nodes_more s [] n h k = (k, tt)
+nodes_more s (m ∷ ns) n h k = (h.0, nodes_more s ns n h.1 k)
+
+pub entered_more : (s : StoryTree) (ns more : List NodeId) (n : NodeId) (up : List Part) (before after all : Places) → node_place s n ≡ up ++ []
+    → more ≡ ns ++ n ∷ [] → before ≡ up ∷ after → map (node_place s) ns ++ before ≡ all → map (node_place s) more ++ after ≡ all
+entered_more s ns more n up before after all is e b h =
+    ap (λ ms. map (node_place s) ms ++ after) e ∙ one_more s ns n up after (is ∙ append-nil up) ∙ ap (λ ps. map (node_place s) ns ++ ps) (sym b) ∙ h

@@ -1,0 +1,167 @@
+-- Listing the places of content one element and one key at a time.
+use Rattle.std.proofs.Common.{◌≡◌, ℕ, zero, suc, ◌+◌, ◌-◌, ◌^◌, ◌<◌, ◌≤◌, List, [], ◌∷◌, ◌++◌, map, length, get_or, drop, take, Bool, true, false, ◌&&◌, Option, String, Global, Vec, BTreeMap, nat_lt, Less, string_bytes, string_cmp, refl, sym, ap, ◌∙◌, append_assoc, arith, rules}
+use Rattle.std.proofs.lemmas.Bool.Decides.{nat_tests}
+use Rattle.std.proofs.lemmas.List.{drop_more, drop_all, append-nil, map-append, map-id, length-append, length-map, take_at}
+use Rattle.std.specs.List.{AllByRecursion}
+use Rattle.std.specs.List.Sorted.{IsStrictlySortedBy}
+use Rattle.std.specs.Map.{keys_of}
+use Rattle.ink_model.specs.Narrow.{is_narrow, are_narrow, are_keyed_narrow}
+use Rattle.ink_model.specs.Places.{places, places_from, places_by_key}
+use Rattle.ink_model.specs.Tree.{StoryTree, container, Trees, Keyed, count}
+use Rattle.ink_model.specs.View.{view, trees_view, keyed_view}
+use Rattle.ink_model.specs.declared.content.Content.{Content, Container, the_lemmas}
+use Rattle.ink_model.specs.declared.place.Part.{Part}
+use Rattle.ink_model.specs.declared.place.Part.TheVariants.{Index, Name}
+use Rattle.ink_tree.specs.Listing.{below, Lists}
+use Rattle.ink_tree.specs.Order.{keys_rise, keys_rise_in, keys_rise_by_key, is_below}
+
+abbrev pub Entry : Type 0
+Entry = String Global × Content
+
+both : (a b : Bool) → (a && b) ≡ true → (a ≡ true) × (b ≡ true)
+both true b h = (refl, h)
+both false b h = absurd cc
+
+-- ---- ways
+
+below_under : (way : List Part) (p : Part) (ps : List (List Part)) → below (way ++ p ∷ []) ps ≡ below way (map (λ q. p ∷ q) ps)
+below_under way p [] = refl
+below_under way p (q ∷ ps) = λ i. append_assoc way (p ∷ []) q i ∷ below_under way p ps i
+
+-- what stands at a part was listed, and the rest is still to come
+pub listed_more : (listed : List (List Part)) (way : List Part) (p : Part) (ps rest whole : List (List Part)) (listed' : List (List Part)) (way' : List Part)
+    → listed ++ below way (map (λ q. p ∷ q) ps ++ rest) ≡ whole → way' ≡ way ++ p ∷ [] → listed' ≡ listed ++ below way' ps
+    → listed' ++ below way rest ≡ whole
+listed_more listed way p ps rest whole listed' way' total pushed more =
+    ap (λ l. l ++ below way rest) (more ∙ ap (λ w. listed ++ below w ps) pushed ∙ ap (λ l. listed ++ l) (below_under way p ps))
+    ∙ append_assoc listed (below way (map (λ q. p ∷ q) ps)) (below way rest)
+    ∙ ap (λ l. listed ++ l) (sym (map-append (λ q. way ++ q) (map (λ q. p ∷ q) ps) rest))
+    ∙ total
+
+-- all but the last part
+pub but_last : (way up : List Part) (last : Part) (n : ℕ) → n ≡ length way → way ≡ up ++ last ∷ [] → take (n - 1) way ≡ up
+but_last way up last n long is =
+    let count : n - 1 ≡ length up = omega (arith, ap length is, length-append up (last ∷ [])) in
+    ap (λ k. take k way) count ∙ ap (take (length up)) is ∙ take_at up (last ∷ []) (length up) refl
+
+-- the content itself, then its elements, then what it has by key
+pub container_listed : (listed : List (List Part)) (way : List Part) (elements named : List (List Part)) (l1 l2 l3 : List (List Part)) (way1 way2 : List Part)
+    → l1 ≡ listed ++ way ∷ [] → Lists l1 way elements l2 way1 → Lists l2 way1 named l3 way2
+    → Lists listed way ([] ∷ (elements ++ named)) l3 way2
+container_listed listed way elements named l1 l2 l3 way1 way2 first inner last =
+    let whole : l3 ≡ listed ++ below way ([] ∷ (elements ++ named)) =
+    last.0 ∙ ap (λ w. l2 ++ below w named) inner.1 ∙ ap (λ l. l ++ below way named) (inner.0 ∙ ap (λ l. l ++ below way elements) first)
+    ∙ ap (λ l. l ++ below way named) (append_assoc listed (way ∷ []) (below way elements))
+    ∙ append_assoc listed (way ∷ below way elements) (below way named)
+    ∙ ap (λ l. listed ++ way ∷ l) (sym (map-append (λ q. way ++ q) elements named))
+    ∙ ap (λ w. listed ++ w ∷ below way (elements ++ named)) (sym (append-nil way)) in
+    (whole, last.1 ∙ inner.1)
+
+-- from the root on, where nothing is listed before
+pub listed_whole : (listed : List (List Part)) (way : List Part) (ps listed' : List (List Part)) (way' : List Part) → listed ≡ [] → way ≡ [] → Lists listed way ps listed' way' → listed' ≡ ps
+listed_whole listed way ps listed' way' none root lists = lists.0 ∙ ap (λ l. l ++ below way ps) none ∙ ap (λ w. below w ps) root ∙ map-id ps
+
+-- ---- containers
+
+pub seen : (c : Content) (name : Option (List ℕ)) (flags : ℕ) (inside : Vec Content Global) (keyed : BTreeMap (String Global) Content) → c ≡ Container name flags inside keyed
+    → view c ≡ container name flags (trees_view inside.items) (keyed_view keyed.entries)
+seen c name flags inside keyed is =
+    let made : view (Container name flags inside keyed) ≡ container name flags (trees_view inside.items) (keyed_view keyed.entries) = search (rules, the_lemmas) in
+    ap view is ∙ made
+
+module _ (s : StoryTree) (name : Option (List ℕ)) (flags : ℕ) (elements : Trees) (named : Keyed) (is : s ≡ container name flags elements named) where
+  pub places_are : places s ≡ [] ∷ (places_from 0 elements ++ places_by_key named)
+  places_are = ap places is
+
+  pub places_count : length (places s) ≡ suc (length (places_from 0 elements) + length (places_by_key named))
+  places_count = ap length places_are ∙ ap suc (length-append (places_from 0 elements) (places_by_key named))
+
+  pub narrow_inside : is_narrow s ≡ true → (count elements < 2 ^ 32) × (are_narrow elements ≡ true) × (are_keyed_narrow named ≡ true)
+  narrow_inside h =
+      let whole = both (nat_lt (count elements) (2 ^ 32)) (are_narrow elements && are_keyed_narrow named) (sym (ap is_narrow is) ∙ h) in
+      let inside = both (are_narrow elements) (are_keyed_narrow named) whole.1 in
+      let width : count elements < 2 ^ 32 = grind (arith, nat_tests, whole.0) in
+      (width, inside.0, inside.1)
+
+-- ---- elements
+
+pub count_is : (cs : List Content) → count (trees_view cs) ≡ length cs
+count_is [] = refl
+count_is (c ∷ cs) = ap suc (count_is cs)
+
+pub index_small : (cs : List Content) (n : ℕ) → count (trees_view cs) < n → length cs < n
+index_small cs n h = omega (arith, count_is cs)
+
+element_narrow_or : (cs : List Content) (i : ℕ) (d : Content) → i < length cs → are_narrow (trees_view cs) ≡ true → is_narrow (view (get_or cs i d)) ≡ true
+element_narrow_or [] i d h n = absurd (omega arith)
+element_narrow_or (c ∷ cs) zero d h n = (both (is_narrow (view c)) _ n).0
+element_narrow_or (c ∷ cs) (suc i) d h n = element_narrow_or cs i d (omega arith) (both (is_narrow (view c)) _ n).1
+
+pub element_narrow : (cs : List Content) (i : ℕ) (c : Content) → c ≡ get_or cs i c → i < length cs → are_narrow (trees_view cs) ≡ true → is_narrow (view c) ≡ true
+element_narrow cs i c is h n = ap (λ x. is_narrow (view x)) is ∙ element_narrow_or cs i c h n
+
+module _ (cs : List Content) (i : ℕ) (c : Content) (is : c ≡ get_or cs i c) (h : i < length cs) where
+  next : drop i cs ≡ c ∷ drop (i + 1) cs
+  next = drop_more cs i c h ∙ ap (λ d. d ∷ drop (i + 1) cs) (sym is)
+
+  pub element_listed : (listed : List (List Part)) (way : List Part) (whole listed' : List (List Part)) (way' : List Part)
+      → listed ++ below way (places_from i (trees_view (drop i cs))) ≡ whole → way' ≡ way ++ Index i ∷ [] → listed' ≡ listed ++ below way' (places (view c))
+      → listed' ++ below way (places_from (i + 1) (trees_view (drop (i + 1) cs))) ≡ whole
+  element_listed listed way whole listed' way' total =
+      listed_more listed way (Index i) (places (view c)) (places_from (i + 1) (trees_view (drop (i + 1) cs))) whole listed' way'
+      (ap (λ l. listed ++ below way (places_from i (trees_view l))) (sym next) ∙ total)
+
+  pub element_rises : keys_rise (view c) ≡ true → keys_rise_in (trees_view (drop i cs)) ≡ keys_rise_in (trees_view (drop (i + 1) cs))
+  element_rises rises = ap (λ l. keys_rise_in (trees_view l)) next ∙ ap (λ b. b && keys_rise_in (trees_view (drop (i + 1) cs))) rises
+
+pub elements_end : (cs : List Content) (i n : ℕ) → length cs ≤ i → places_from n (trees_view (drop i cs)) ≡ []
+elements_end cs i n h = ap (λ l. places_from n (trees_view l)) (drop_all i cs h)
+
+pub elements_risen : (cs : List Content) (i : ℕ) → length cs ≤ i → keys_rise_in (trees_view (drop i cs)) ≡ true
+elements_risen cs i h = ap (λ l. keys_rise_in (trees_view l)) (drop_all i cs h)
+
+pub nothing_left : (listed : List (List Part)) (way : List Part) (rest whole : List (List Part)) → rest ≡ [] → listed ++ below way rest ≡ whole → listed ≡ whole
+nothing_left listed way rest whole none total = sym (append-nil listed) ∙ ap (λ r. listed ++ below way r) (sym none) ∙ total
+
+-- ---- keys
+
+all_below : (k : String Global) (es : List Entry) → AllByRecursion (λ y. string_cmp k y ≡ Less) (keys_of es) → is_below (string_bytes k) (keyed_view es) ≡ true
+all_below k [] h = refl
+all_below k (e ∷ es) h = rw (h.0) (all_below k es h.1)
+
+pub key_listed : (e : Entry) (es : List Entry) (listed : List (List Part)) (way : List Part) (whole listed' : List (List Part)) (way' : List Part)
+    → listed ++ below way (places_by_key (keyed_view (e ∷ es))) ≡ whole → way' ≡ way ++ Name (string_bytes e.0) ∷ [] → listed' ≡ listed ++ below way' (places (view e.1))
+    → listed' ++ below way (places_by_key (keyed_view es)) ≡ whole
+key_listed e es listed way = listed_more listed way (Name (string_bytes e.0)) (places (view e.1)) (places_by_key (keyed_view es))
+
+-- keys that rise strictly are a rising rest, once what they lead to is seen
+pub key_rises : (e : Entry) (es : List Entry) → IsStrictlySortedBy string_cmp (keys_of (e ∷ es)) → keys_rise (view e.1) ≡ true → keys_rise_by_key (keyed_view (e ∷ es)) ≡ keys_rise_by_key (keyed_view es)
+unfolding IsStrictlySortedBy
+key_rises e es sorted rises = rw (all_below e.0 es sorted.0, rises) refl
+
+pub keys_after : (e : Entry) (es : List Entry) → IsStrictlySortedBy string_cmp (keys_of (e ∷ es)) → IsStrictlySortedBy string_cmp (keys_of es)
+unfolding IsStrictlySortedBy
+keys_after e es sorted = sorted.1
+
+pub key_narrow : (e : Entry) (es : List Entry) → are_keyed_narrow (keyed_view (e ∷ es)) ≡ true → (is_narrow (view e.1) ≡ true) × (are_keyed_narrow (keyed_view es) ≡ true)
+key_narrow e es n = both (is_narrow (view e.1)) _ n
+
+pub after_key : (all done : List Entry) (e : Entry) (more : List Entry) → all ≡ done ++ e ∷ more → all ≡ (done ++ e ∷ []) ++ more
+after_key all done e more split = split ∙ sym (append_assoc done (e ∷ []) more)
+
+-- ---- how much there is to list
+
+element_count_or : (cs : List Content) (i n : ℕ) (d : Content) → i < length cs → length (places (view (get_or cs i d))) ≤ length (places_from n (trees_view cs))
+element_count_or [] i n d h = absurd (omega arith)
+element_count_or (c ∷ cs) zero n d h = simp (length-append, length-map) (omega arith)
+element_count_or (c ∷ cs) (suc i) n d h = simp (length-append, length-map) (omega (arith, element_count_or cs i (n + 1) d (omega arith)))
+
+pub element_count : (cs : List Content) (i : ℕ) (c : Content) → c ≡ get_or cs i c → i < length cs → length (places (view c)) ≤ length (places_from 0 (trees_view cs))
+element_count cs i c is h = omega (arith, ap (λ x. length (places (view x))) is, element_count_or cs i 0 c h)
+
+key_count_in : (done : List Entry) (e : Entry) (es : List Entry) → length (places (view e.1)) ≤ length (places_by_key (keyed_view (done ++ e ∷ es)))
+key_count_in [] e es = simp (length-append, length-map) (omega arith)
+key_count_in (f ∷ done) e es = simp (length-append, length-map) (omega (arith, key_count_in done e es))
+
+pub key_count : (all done : List Entry) (e : Entry) (es : List Entry) → all ≡ done ++ e ∷ es → length (places (view e.1)) ≤ length (places_by_key (keyed_view all))
+key_count all done e es split = omega (arith, ap (λ es. length (places_by_key (keyed_view es))) split, key_count_in done e es)

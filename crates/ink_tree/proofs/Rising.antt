@@ -1,0 +1,200 @@
+-- The places of a story rise in reading order.
+use Rattle.std.proofs.Common.{◌≡◌, ℕ, zero, suc, ◌+◌, ◌<◌, List, [], ◌∷◌, ◌++◌, map, length, get_or, Bool, true, false, ◌&&◌, Ordering, Less, Equal, Greater, nat_cmp, refl, sym, ap, subst, append_assoc, arith}
+use Rattle.std.proofs.lemmas.Cmp.{nat_cmp_total, nat_list_cmp_total, lists_total, tied_itself}
+use Rattle.std.proofs.lemmas.List.Sorted.{searchable_from_sorted}
+use Rattle.std.proofs.Math.Numerals.{add-one}
+use Rattle.std.specs.Cmp.{IsTotalOrder, nat_cmp_is}
+use Rattle.std.specs.Cmp.Lexicographic.{slice_cmp}
+use Rattle.std.specs.FinMap.{nat_cmp-IsAntisymmetric, slice_cmp-IsAntisymmetric}
+use Rattle.std.specs.List.{AllByRecursion}
+use Rattle.std.specs.List.Sorted.{IsSortedBy, IsNonDecreasingBy}
+use Rattle.std.specs.Ordering.{is_lt, ordering_reverse, ordering_index}
+use Rattle.ink_model.specs.Places.{places, places_from, places_by_key}
+use Rattle.ink_model.specs.Tree.{StoryTree, leaf, container, Trees, no_trees, tree, Keyed, no_keys, key}
+use Rattle.ink_model.specs.declared.place.Part.{Part}
+use Rattle.ink_model.specs.declared.place.Part.TheVariants.{Index, Name}
+use Rattle.ink_tree.specs.Order.{part_cmp, place_cmp, keys_rise, keys_rise_in, keys_rise_by_key, is_below}
+
+-- ---- the order of parts and of places
+
+part_antisymm : (x y : Part) → part_cmp x y ≡ ordering_reverse (part_cmp y x)
+part_antisymm (Index i) (Index j) = nat_cmp_total.antisymm i j
+part_antisymm (Index i) (Name n) = refl
+part_antisymm (Name m) (Index j) = refl
+part_antisymm (Name m) (Name n) = nat_list_cmp_total.antisymm m n
+
+part_trans : (x y z : Part) → part_cmp x y ≡ Less → part_cmp y z ≡ Less → part_cmp x z ≡ Less
+part_trans (Index i) (Index j) (Index k) h g = nat_cmp_total.trans i j k h g
+part_trans (Index i) (Index j) (Name n) h g = refl
+part_trans (Index i) (Name m) (Index k) h g = absurd cc
+part_trans (Index i) (Name m) (Name n) h g = refl
+part_trans (Name l) (Index j) z h g = absurd cc
+part_trans (Name l) (Name m) (Index k) h g = absurd cc
+part_trans (Name l) (Name m) (Name n) h g = nat_list_cmp_total.trans l m n h g
+
+part_congr : (x y z : Part) → part_cmp x y ≡ Equal → part_cmp x z ≡ part_cmp y z
+part_congr (Index i) (Index j) (Index k) h = nat_cmp_total.congr i j k h
+part_congr (Index i) (Index j) (Name n) h = refl
+part_congr (Index i) (Name m) z h = absurd cc
+part_congr (Name l) (Index j) z h = absurd cc
+part_congr (Name l) (Name m) (Index k) h = refl
+part_congr (Name l) (Name m) (Name n) h = nat_list_cmp_total.congr l m n h
+
+part_total : IsTotalOrder part_cmp
+part_total = record { antisymm = part_antisymm; trans = part_trans; congr = part_congr }
+
+place_total : IsTotalOrder place_cmp
+place_total = lists_total part_total
+
+pub name_same : (m n : List ℕ) → slice_cmp nat_cmp m n ≡ Equal → m ≡ n
+name_same = slice_cmp-IsAntisymmetric nat_cmp-IsAntisymmetric
+
+pub nat_list_tied : (n : List ℕ) → slice_cmp nat_cmp n n ≡ Equal
+nat_list_tied n = tied_itself nat_list_cmp_total n
+
+part_same : (x y : Part) → part_cmp x y ≡ Equal → x ≡ y
+part_same (Index i) (Index j) h = ap Index (nat_cmp-IsAntisymmetric i j h)
+part_same (Index i) (Name n) h = absurd cc
+part_same (Name m) (Index j) h = absurd cc
+part_same (Name m) (Name n) h = ap Name (name_same m n h)
+
+pub place_same : (p q : List Part) → place_cmp p q ≡ Equal → p ≡ q
+place_same = slice_cmp-IsAntisymmetric part_same
+
+pub place_tied : (p : List Part) → place_cmp p p ≡ Equal
+place_tied p = tied_itself place_total p
+
+-- ---- lists that rise
+
+abbrev All' : (List Part → Type 0) → List (List Part) → Type 0
+All' P xs = AllByRecursion P xs
+
+all_append : (P : List Part → Type 0) (xs ys : List (List Part)) → All' P xs → All' P ys → All' P (xs ++ ys)
+all_append P [] ys h g = g
+all_append P (x ∷ xs) ys h g = (h.0, all_append P xs ys h.1 g)
+
+all_under : (P : List Part → Type 0) (p : Part) (xs : List (List Part)) → ((x : List Part) → P (p ∷ x)) → All' P (map (λ x. p ∷ x) xs)
+all_under P p [] h = tt
+all_under P p (x ∷ xs) h = (h x, all_under P p xs h)
+
+all_seen : (P Q : List Part → Type 0) (xs : List (List Part)) → ((x : List Part) → P x → Q x) → All' P xs → All' Q xs
+all_seen P Q [] f h = tt
+all_seen P Q (x ∷ xs) f h = (f x h.0, all_seen P Q xs f h.1)
+
+abbrev Below : List Part → List (List Part) → Type 0
+Below x = All' (λ y. place_cmp x y ≡ Less)
+
+abbrev Rises : List (List Part) → Type 0
+Rises [] = Unit {0}
+Rises (x ∷ xs) = Below x xs × Rises xs
+
+-- a place that begins with such a part
+abbrev Begins : (Part → Type 0) → List Part → Type 0
+Begins R [] = ⊥
+Begins R (p ∷ ps) = R p
+
+abbrev After : Part → List (List Part) → Type 0
+After p = All' (Begins (λ q. part_cmp p q ≡ Less))
+
+begins_below : (p : Part) (x y : List Part) → Begins (λ q. part_cmp p q ≡ Less) y → place_cmp (p ∷ x) y ≡ Less
+begins_below p x [] h = absurd h
+begins_below p x (q ∷ y) h = rw h refl
+
+below_under : (p : Part) (x : List Part) (xs : List (List Part)) → Below x xs → Below (p ∷ x) (map (λ y. p ∷ y) xs)
+below_under p x [] h = tt
+below_under p x (y ∷ xs) h = (rw (tied_itself part_total p) h.0, below_under p x xs h.1)
+
+-- what stands under a part, and after it what begins with later parts
+under_then : (p : Part) (xs ys : List (List Part)) → Rises xs → Rises ys → After p ys → Rises (map (λ x. p ∷ x) xs ++ ys)
+under_then p [] ys h g after = g
+under_then p (x ∷ xs) ys h g after =
+    (all_append _ (map (λ y. p ∷ y) xs) ys (below_under p x xs h.0) (all_seen _ _ ys (begins_below p x) after), under_then p xs ys h.1 g after)
+
+-- ---- the places of a story
+
+abbrev IsName : Part → Type 0
+IsName (Index i) = ⊥
+IsName (Name n) = Unit {0}
+
+index_before : (i j : ℕ) → i < j → nat_cmp i j ≡ Less
+index_before i j h = sym (nat_cmp_is i j Less h)
+
+name_after : (i : ℕ) (p : List Part) → Begins IsName p → Begins (λ q. part_cmp (Index i) q ≡ Less) p
+name_after i [] h = h
+name_after i (Index j ∷ p) h = absurd h
+name_after i (Name n ∷ p) h = refl
+
+named : (ks : Keyed) → All' (Begins IsName) (places_by_key ks)
+named no_keys = tt
+named (key k t ks) = all_append _ (map (λ p. Name k ∷ p) (places t)) (places_by_key ks) (all_under _ (Name k) (places t) (λ x. tt)) (named ks)
+
+later : (i j : ℕ) (ts : Trees) → i < j → After (Index i) (places_from j ts)
+later i j no_trees h = tt
+later i j (tree t ts) h = all_append _ (map (λ p. Index j ∷ p) (places t)) (places_from (j + 1) ts) (all_under _ (Index j) (places t) (λ x. index_before i j h)) (later i (j + 1) ts (omega arith))
+
+less : (o : Ordering) → is_lt o ≡ true → o ≡ Less
+less Less h = refl
+less Equal h = absurd cc
+less Greater h = absurd cc
+
+both : (a b : Bool) → (a && b) ≡ true → (a ≡ true) × (b ≡ true)
+both true b h = (refl, h)
+both false b h = absurd cc
+
+above : (k : List ℕ) (ks : Keyed) → is_below k ks ≡ true → After (Name k) (places_by_key ks)
+above k no_keys h = tt
+above k (key l t ks) h =
+    let two = both (is_lt (slice_cmp nat_cmp k l)) (is_below k ks) h in
+    all_append _ (map (λ p. Name l ∷ p) (places t)) (places_by_key ks) (all_under _ (Name l) (places t) (λ x. less (slice_cmp nat_cmp k l) two.0)) (above k ks two.1)
+
+all_any : (R : Part → Type 0) (xs : List (List Part)) → All' (Begins R) xs → Below [] xs
+all_any R xs = all_seen _ _ xs (begun R) where
+  begun : (S : Part → Type 0) (x : List Part) → Begins S x → place_cmp [] x ≡ Less
+  begun S [] h = absurd h
+  begun S (p ∷ x) h = refl
+
+mutual
+  rises : (s : StoryTree) → keys_rise s ≡ true → Rises (places s)
+  rises (leaf l) h = (tt, tt)
+  rises (container name flags content named') h =
+      let two = both (keys_rise_in content) (keys_rise_by_key named') h in (
+        all_append _ (places_from 0 content) (places_by_key named') (from_root 0 content) (all_any IsName (places_by_key named') (named named')),
+        rises_from 0 content (places_by_key named') two.0 (named named') (rises_by_key named' two.1),
+      )
+
+  rises_from : (i : ℕ) (ts : Trees) (rest : List (List Part)) → keys_rise_in ts ≡ true → All' (Begins IsName) rest → Rises rest → Rises (places_from i ts ++ rest)
+  rises_from i no_trees rest h names up = up
+  rises_from i (tree t ts) rest h names up =
+      let two = both (keys_rise t) (keys_rise_in ts) h in
+      subst Rises (sym (append_assoc (map (λ p. Index i ∷ p) (places t)) (places_from (i + 1) ts) rest))
+      (under_then (Index i) (places t) (places_from (i + 1) ts ++ rest) (rises t two.0) (rises_from (i + 1) ts rest two.1 names up)
+      (all_append _ (places_from (i + 1) ts) rest (later i (i + 1) ts (omega arith)) (all_seen _ _ rest (name_after i) names)))
+
+  rises_by_key : (ks : Keyed) → keys_rise_by_key ks ≡ true → Rises (places_by_key ks)
+  rises_by_key no_keys h = tt
+  rises_by_key (key k t ks) h =
+      let first = both (is_below k ks) (keys_rise t && keys_rise_by_key ks) h in
+      let two = both (keys_rise t) (keys_rise_by_key ks) first.1 in
+      under_then (Name k) (places t) (places_by_key ks) (rises t two.0) (rises_by_key ks two.1) (above k ks first.0)
+
+  from_root : (i : ℕ) (ts : Trees) → Below [] (places_from i ts)
+  from_root i no_trees = tt
+  from_root i (tree t ts) = all_append _ (map (λ p. Index i ∷ p) (places t)) (places_from (i + 1) ts) (all_under _ (Index i) (places t) (λ x. refl)) (from_root (i + 1) ts)
+
+-- ---- searching
+
+turned : (x y : List Part) → place_cmp x y ≡ Less → is_lt (place_cmp y x) ≡ false
+turned x y h = rw (place_total.antisymm y x, h) refl
+
+next_above : (xs : List (List Part)) (k : ℕ) (d : List Part) → Rises xs → suc k < length xs → is_lt (place_cmp (get_or xs (suc k) d) (get_or xs k d)) ≡ false
+next_above [] k d up h = absurd (omega arith)
+next_above (x ∷ []) k d up h = absurd (omega arith)
+next_above (x ∷ y ∷ xs) zero d up h = turned x y up.0.0
+next_above (x ∷ y ∷ xs) (suc k) d up h = next_above (y ∷ xs) k d up.1 (omega arith)
+
+sorted : (xs : List (List Part)) → Rises xs → IsSortedBy (λ x y. is_lt (place_cmp x y)) xs
+sorted xs up k d low h = rw (add-one k) (next_above xs k d up (omega arith))
+
+-- a search over the places of a story by the order of places is a search over what rises
+pub searchable : (s : StoryTree) (p : List Part) → keys_rise s ≡ true → IsNonDecreasingBy (λ q. ordering_index (place_cmp q p)) (places s)
+searchable s p h = searchable_from_sorted place_total (λ q. q) (places s) p (sorted (places s) (rises s h))

@@ -1,0 +1,106 @@
+-- Which places are places of a story, given by their last part.
+use Rattle.std.proofs.Common.{◌≡◌, ℕ, zero, suc, List, [], ◌∷◌, ◌++◌, length, reverse, Bool, true, false, ◌&&◌, ◌||◌, nat_eq, nat_le, cond, Option, Some, None, is_some, option_and_then, String, Global, Vec, BTreeMap, refl, sym, ap, ◌∙◌, arith}
+use Rattle.std.proofs.lemmas.Bool.Decides.{nat_tests}
+use Rattle.std.proofs.lemmas.List.{append-nil, reverse-append, reverse-reverse}
+use Rattle.ink_model.specs.Path.{is_place, is_container, ends_at}
+use Rattle.ink_model.specs.Tree.{StoryTree, leaf, container, Trees, no_trees, tree, nth, down, at, width, count}
+use Rattle.ink_model.specs.View.{view}
+use Rattle.ink_model.specs.declared.content.Content.{Content, Container}
+use Rattle.ink_model.specs.declared.place.Part.{Part}
+use Rattle.ink_model.specs.declared.place.Part.TheVariants.{Index, Name}
+use Rattle.ink_tree.specs.Contents.{reaches}
+use Rattle.ink_tree.specs.Nodes.{place_of, node_place}
+use Rattle.ink_tree.specs.declared.spot.NodeId.{NodeId}
+use Rattle.ink_tree.proofs.Places.{seen, count_is}
+
+-- ---- one part further
+
+further : (q : Part) (up : List Part) (o : Option StoryTree) → ((t : StoryTree) → at t (up ++ q ∷ []) ≡ option_and_then (λ u. at u (q ∷ [])) (at t up))
+    → option_and_then (λ t. at t (up ++ q ∷ [])) o ≡ option_and_then (λ u. at u (q ∷ [])) (option_and_then (λ t. at t up) o)
+further q up None h = refl
+further q up (Some t) h = h t
+
+at_further : (up : List Part) (q : Part) (s : StoryTree) → at s (up ++ q ∷ []) ≡ option_and_then (λ u. at u (q ∷ [])) (at s up)
+at_further [] q s = refl
+at_further (p ∷ up) q s = further q up (down p s) (at_further up q)
+
+reversed : (up : List Part) (q : Part) → reverse (up ++ q ∷ []) ≡ q ∷ reverse up
+reversed up q = reverse-append up (q ∷ [])
+
+-- ---- by an index
+
+abbrev end_reached : Option StoryTree → ℕ → Bool
+end_reached None i = false
+end_reached (Some t) i = reaches t i
+
+both_more : (b : Bool) (i n : ℕ) → (b || nat_eq i n) ≡ nat_le i n → (b || nat_eq (suc i) (suc n)) ≡ nat_le (suc i) (suc n)
+both_more true i n h = grind (arith, nat_tests, h)
+both_more false i n h = grind (arith, nat_tests, h)
+
+or_end : (ts : Trees) (i : ℕ) → (is_some (option_and_then (λ u. Some u) (nth i ts)) || nat_eq i (count ts)) ≡ nat_le i (count ts)
+or_end no_trees zero = refl
+or_end no_trees (suc i) = grind (arith, nat_tests)
+or_end (tree t ts) zero = grind (arith, nat_tests)
+or_end (tree t ts) (suc i) = both_more (is_some (option_and_then (λ u. Some u) (nth i ts))) i (count ts) (or_end ts i)
+
+reached : (o : Option StoryTree) (i : ℕ) → (is_some (option_and_then (λ u. at u (Index i ∷ [])) o) || (is_container o && nat_eq i (width o))) ≡ end_reached o i
+reached None i = refl
+reached (Some (leaf l)) i = refl
+reached (Some (container name flags content named)) i = or_end content i
+
+place_by_index : (s : StoryTree) (up : List Part) (i : ℕ) → is_place s (up ++ Index i ∷ []) ≡ end_reached (at s up) i
+unfolding is_place
+place_by_index s up i =
+    (λ j. is_some (at_further up (Index i) s j) || ends_at s (reversed up (Index i) j))
+    ∙ ap (λ o. is_some (option_and_then (λ u. at u (Index i ∷ [])) (at s up)) || (is_container o && nat_eq i (width o))) (ap (at s) (reverse-reverse up))
+    ∙ reached (at s up) i
+
+abbrev chosen : Bool → List Part → Option (List Part)
+chosen b p = cond b (Some p) None
+
+module _ (s : StoryTree) (up : List Part) (i : ℕ) where
+  pub nowhere : at s up ≡ None → None ≡ chosen (is_place s (up ++ Index i ∷ [])) (up ++ Index i ∷ [])
+  nowhere none = ap (λ b. chosen b (up ++ Index i ∷ [])) (sym (place_by_index s up i ∙ ap (λ o. end_reached o i) none))
+
+  pub beyond : (t : StoryTree) → Some t ≡ at s up → reaches t i ≡ false → None ≡ chosen (is_place s (up ++ Index i ∷ [])) (up ++ Index i ∷ [])
+  beyond t some h = ap (λ b. chosen b (up ++ Index i ∷ [])) (sym (place_by_index s up i ∙ ap (λ o. end_reached o i) (sym some) ∙ h))
+
+  pub within : (t : StoryTree) (n : NodeId) → Some t ≡ at s up → reaches t i ≡ true → node_place s n ≡ up ++ []
+      → Some (place_of s (record { holder = n; index = Some i })) ≡ chosen (is_place s (up ++ Index i ∷ [])) (up ++ Index i ∷ [])
+  within t n some h is =
+      ap (λ p. Some (p ++ Index i ∷ [])) (is ∙ append-nil up)
+      ∙ ap (λ b. chosen b (up ++ Index i ∷ [])) (sym (place_by_index s up i ∙ ap (λ o. end_reached o i) (sym some) ∙ h))
+
+-- ---- otherwise
+
+or_false : (b : Bool) → (b || false) ≡ b
+or_false true = refl
+or_false false = refl
+
+place_by_name : (s : StoryTree) (up : List Part) (n : List ℕ) → is_some (at s (up ++ Name n ∷ [])) ≡ is_place s (up ++ Name n ∷ [])
+unfolding is_place
+place_by_name s up n = sym (ap (λ q. is_some (at s (up ++ Name n ∷ [])) || ends_at s q) (reversed up (Name n)) ∙ or_false _)
+
+pub named_last : (s : StoryTree) (p up : List Part) (q : Part) (n : List ℕ) → p ≡ up ++ q ∷ [] → q ≡ Name n → is_some (at s p) ≡ is_place s p
+named_last s p up q n is named =
+    let whole : p ≡ up ++ Name n ∷ [] = is ∙ ap (λ r. up ++ r ∷ []) named in
+    ap (λ r. is_some (at s r)) whole ∙ place_by_name s up n ∙ ap (is_place s) (sym whole)
+
+pub no_last : (s : StoryTree) (p : List Part) → length p ≡ 0 → is_some (at s p) ≡ is_place s p
+unfolding is_place
+no_last s [] h = refl
+no_last s (q ∷ p) h = absurd (omega arith)
+
+module _ (s : StoryTree) (p : List Part) where
+  pub missing : at s (p ++ []) ≡ None → None ≡ chosen (is_some (at s p)) p
+  missing none = ap (λ o. chosen (is_some o) p) (sym (ap (at s) (sym (append-nil p)) ∙ none))
+
+  pub there : (n : NodeId) → node_place s n ≡ p ++ [] → is_some (at s (p ++ [])) ≡ true → Some (place_of s (record { holder = n; index = None })) ≡ chosen (is_some (at s p)) p
+  there n is some =
+      ap Some (append-nil (node_place s n) ∙ is ∙ append-nil p) ∙ ap (λ b. chosen b p) (sym (ap (λ q. is_some (at s q)) (sym (append-nil p)) ∙ some))
+
+-- ---- content seen
+
+pub reached_seen : (c : Content) (name : Option (List ℕ)) (flags : ℕ) (inside : Vec Content Global) (keyed : BTreeMap (String Global) Content) (i n : ℕ) → c ≡ Container name flags inside keyed
+    → n ≡ length inside.items → nat_le i n ≡ reaches (view c) i
+reached_seen c name flags inside keyed i n is long = ap (nat_le i) (long ∙ sym (count_is inside.items)) ∙ ap (λ t. reaches t i) (sym (seen c name flags inside keyed is))

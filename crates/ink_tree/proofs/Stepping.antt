@@ -1,0 +1,69 @@
+-- Steps of a path.
+use Rattle.std.proofs.Common.{◌≡◌, ◌∙◌, inl, inr, ap, sym, refl, subst, add-one, drop-cons, drop, get_or, length, suc, ◌+◌, ℕ, ◌<◌, List, [], ◌∷◌, ◌++◌, reverse, true, false, true≢false, Option, Some, None, is_some, option_map, option_and_then, nat_lt, arith}
+use Rattle.std.proofs.lemmas.List.{append-nil, reverse-append, reverse-reverse}
+use Rattle.std.proofs.lemmas.Bool.{cases_lt}
+use Rattle.std.proofs.lemmas.Bool.Decides.{nat_tests}
+use Rattle.ink_model.specs.Path.{above, by_name, listed_index, stepped, walked}
+use Rattle.ink_model.specs.Tree.{StoryTree, at, width}
+use Rattle.ink_model.specs.declared.place.Part.{Part}
+use Rattle.ink_model.specs.declared.place.Part.TheVariants.{Index, Name}
+use Rattle.ink_tree.specs.Nodes.{node_place, Finds}
+use Rattle.ink_tree.specs.declared.spot.NodeId.{NodeId}
+use Rattle.ink_tree.specs.Order.{keys_rise}
+use Rattle.ink_tree.proofs.Nodes.{node_stands}
+use Rattle.ink_tree.proofs.Standing.{stands_around, index_stands, index_within, listed_within, there}
+
+module _ (s : StoryTree) (p : List Part) where
+  -- by an index
+  pub index_found : (i : ℕ) (r : Option NodeId) → keys_rise s ≡ true → Finds s (p ++ Index i ∷ []) r → option_map (node_place s) r ≡ stepped s p (Index i)
+  index_found i None rise f =
+      elim (cases_lt i (width (at s p))) [
+        | inl below ↦ absurd (true≢false (sym (index_stands s p i below) ∙ ap is_some f))
+        | inr past ↦ let no : nat_lt i (width (at s p)) ≡ false = grind (arith, nat_tests) in rw no refl
+      ]
+  index_found i (Some n) rise f =
+      let below : i < width (at s p) = index_within s p i (ap (λ q. is_some (at s q)) (sym f.1) ∙ node_stands s n rise) in
+      let within : nat_lt i (width (at s p)) ≡ true = grind (arith, nat_tests) in
+      ap Some f.1 ∙ rw within refl
+
+  -- up
+  pub above_found : (up : List Part) (x : Part) (r : Option NodeId) → p ≡ up ++ x ∷ [] → is_some (at s p) ≡ true → Finds s (up ++ []) r
+      → option_map (node_place s) r ≡ above (reverse p)
+  above_found up x r e h f =
+      there s up r (subst (λ q. Finds s q r) (append-nil up) f) (stands_around s p up x e h)
+      ∙ sym (ap (λ q. above (reverse q)) e ∙ ap above (reverse-append up (x ∷ [])) ∙ ap Some (reverse-reverse up))
+
+  -- by a name
+  module _ (name : List ℕ) where
+    pub key_found : (n : NodeId) → keys_rise s ≡ true → node_place s n ≡ p ++ Name name ∷ [] → Some (node_place s n) ≡ by_name s p name
+    key_found n rise is =
+        let stands : is_some (at s (p ++ Name name ∷ [])) ≡ true = ap (λ q. is_some (at s q)) (sym is) ∙ node_stands s n rise in
+        ap Some is ∙ rw stands refl
+
+    module _ (o : Option StoryTree) (e : o ≡ at s p) where
+      not_by_key : at s (p ++ Name name ∷ []) ≡ None → by_name s p name ≡ option_map (λ i. p ++ Index i ∷ []) (listed_index name o)
+      not_by_key none = rw (ap is_some none) (ap (λ q. option_map (λ i. p ++ Index i ∷ []) (listed_index name q)) (sym e))
+
+      pub named_not_found : at s (p ++ Name name ∷ []) ≡ None → listed_index name o ≡ None → None ≡ by_name s p name
+      named_not_found h none = sym (not_by_key h ∙ ap (option_map (λ i. p ++ Index i ∷ [])) none)
+
+      pub named_found : (i : ℕ) (r : Option NodeId) → at s (p ++ Name name ∷ []) ≡ None → listed_index name o ≡ Some i
+          → Finds s (p ++ Index i ∷ []) r → option_map (node_place s) r ≡ by_name s p name
+      named_found i r h is f =
+          let below : i < width (at s p) = omega (arith, listed_within name o i is, ap width e) in
+          there s (p ++ Index i ∷ []) r f (index_stands s p i below) ∙ sym (not_by_key h ∙ ap (option_map (λ k. p ++ Index k ∷ [])) is)
+
+-- ---- a component after another
+
+-- with more to come a component is no last one
+pub walked_on : (s : StoryTree) (p : List Part) (c : Part) (cs : List Part) (last : Part)
+    → walked s p (c ∷ (cs ++ last ∷ [])) ≡ option_and_then (λ q. walked s q (cs ++ last ∷ [])) (stepped s p c)
+walked_on s p c [] last = refl
+walked_on s p c (d ∷ ds) last = refl
+
+pub walk_on : (s : StoryTree) (p q : List Part) (c last : Part) (cs : List Part) (i : ℕ) (whole : Option (List Part)) → i < length cs
+    → c ≡ get_or cs i c → Some q ≡ stepped s p c → walked s p (drop i cs ++ last ∷ []) ≡ whole → walked s q (drop (i + 1) cs ++ last ∷ []) ≡ whole
+walk_on s p q c last cs i whole below is step before =
+    let rest : drop i cs ≡ c ∷ drop (i + 1) cs = rw (add-one, drop-cons cs i c) (ap (λ x. x ∷ drop (suc i) cs) (sym is)) in
+    ap (option_and_then (λ r. walked s r (drop (i + 1) cs ++ last ∷ []))) step ∙ sym (walked_on s p c (drop (i + 1) cs) last)
+    ∙ ap (λ r. walked s p (r ++ last ∷ [])) (sym rest) ∙ before

@@ -1,0 +1,49 @@
+-- The order of places: reading order, where keys rise.
+use Rattle.std.specs.Prelude.{ℕ, List, [], ◌∷◌, Bool, true, ◌&&◌, Option, Some, None}
+use Rattle.std.specs.Cmp.Lexicographic.{slice_cmp}
+use Rattle.std.specs.Ordering.{nat_cmp, is_lt}
+use Rattle.std.specs.declared.cmp.Ordering.{Ordering}
+use Rattle.std.specs.declared.cmp.Ordering.TheVariants.{Less, Greater}
+use Rattle.ink_model.specs.Tree.{StoryTree, leaf, container, Trees, no_trees, tree, Keyed, no_keys, key}
+use Rattle.ink_model.specs.declared.place.Part.{Part}
+use Rattle.ink_model.specs.declared.place.Part.TheVariants.{Index, Name}
+use Rattle.ink_tree.specs.declared.order.Key.{Key}
+
+-- indexes by their number, names by their bytes, and an index before a name
+abbrev pub part_cmp : Part → Part → Ordering
+part_cmp (Index i) (Index j) = nat_cmp i j
+part_cmp (Index i) (Name n) = Less
+part_cmp (Name m) (Index j) = Greater
+part_cmp (Name m) (Name n) = slice_cmp nat_cmp m n
+
+-- the part that a key is
+abbrev pub key_part : Key → Part
+key_part (Key.Index i) = Index i
+key_part (Key.Name n) = Name n.now
+
+abbrev pub key_parts : Option Key → List Part
+key_parts None = []
+key_parts (Some k) = key_part k ∷ []
+
+-- part by part, and a place before those inside it
+abbrev pub place_cmp : List Part → List Part → Ordering
+place_cmp = slice_cmp part_cmp
+
+-- a key comes before all of these
+abbrev pub is_below : List ℕ → Keyed → Bool
+is_below k no_keys = true
+is_below k (key l t ks) = is_lt (slice_cmp nat_cmp k l) && is_below k ks
+
+abbrev mutual
+  -- in every container the keys rise by their bytes
+  pub keys_rise : StoryTree → Bool
+  keys_rise (leaf l) = true
+  keys_rise (container name flags content named) = keys_rise_in content && keys_rise_by_key named
+
+  pub keys_rise_in : Trees → Bool
+  keys_rise_in no_trees = true
+  keys_rise_in (tree t ts) = keys_rise t && keys_rise_in ts
+
+  pub keys_rise_by_key : Keyed → Bool
+  keys_rise_by_key no_keys = true
+  keys_rise_by_key (key k t ks) = is_below k ks && (keys_rise t && keys_rise_by_key ks)
