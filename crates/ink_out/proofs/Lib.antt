@@ -1,0 +1,11 @@
+pub mod WhiteEnds
+pub mod Lines
+pub mod Covers
+pub mod Tracking
+pub mod Standing
+pub mod Opens
+pub mod Answering
+pub mod Walking
+pub mod Tracked
+pub mod Noting
+pub mod Closing

@@ -1,0 +1,61 @@
+-- Marks written at the end of the open section.
+use Rattle.std.proofs.Common.{◌≡◌, ℕ, suc, ◌+◌, ◌-◌, ◌<◌, ◌≤◌, nat_lt, false, List, [], ◌∷◌, ◌++◌, length, get_or, set, take, drop, reverse, Result, Ok, refl, sym, ap, ◌∙◌, arith}
+use Rattle.std.proofs.Math.Bool.{and-false}
+use Rattle.std.proofs.lemmas.Bool.{le-ltb}
+use Rattle.std.proofs.Math.Seq.{split_at}
+use Rattle.std.proofs.lemmas.List.{append-nil, reverse-append, set_split, drop_all}
+use Rattle.ink_model.specs.Configuration.{Page, Section}
+use Rattle.ink_model.specs.Output.{writes_marks, let_through, noted_in, is_line, max_marks}
+use Rattle.ink_model.specs.declared.fault.Fault.{Fault}
+use Rattle.ink_model.specs.declared.mark.Mark.{Mark}
+use Rattle.ink_model.specs.declared.mark.Mark.TheVariants.{Text, Blank, Newline, Glue, Tag, Enter, Leave}
+use Rattle.ink_out.specs.Writing.{page_of}
+
+-- ---- the section that is open
+
+pub noted_onto : (ms line : List Mark) (rest : List Section) (n : ℕ) (x y : Section) → y ≡ record x { marks = x.marks ++ ms } → writes_marks ms (page_of line (rest ++ x ∷ []) n) ≡ Ok (page_of line (rest ++ y ∷ []) n)
+noted_onto ms line rest n x y is = rw (reverse-append rest (x ∷ []), reverse-append rest (y ∷ []), is) refl
+
+-- the last of a list
+pub last_is : {X : Type 0} (xs : List X) (x : X) → 0 < length xs → xs ≡ take (length xs - 1) xs ++ get_or xs (length xs - 1) x ∷ []
+last_is xs x some =
+    let within : length xs - 1 < length xs = omega arith in
+    let end : drop (suc (length xs - 1)) xs ≡ [] = drop_all (suc (length xs - 1)) xs (omega arith) in
+    split_at xs (length xs - 1) x within ∙ rw end refl
+
+pub last_set : {X : Type 0} (xs : List X) (y : X) → 0 < length xs → set xs (length xs - 1) y ≡ take (length xs - 1) xs ++ y ∷ []
+last_set xs y some =
+    let within : length xs - 1 < length xs = omega arith in
+    let end : drop (suc (length xs - 1)) xs ≡ [] = drop_all (suc (length xs - 1)) xs (omega arith) in
+    set_split xs (length xs - 1) y within ∙ rw end refl
+
+written : Page → Result Page Fault
+written page = Ok page
+
+pub noted_last : (ms line : List Mark) (sections : List Section) (n : ℕ) (x y : Section) → 0 < length sections → y ≡ record (get_or sections (length sections - 1) x) { marks = (get_or sections (length sections - 1) x).marks ++ ms } → writes_marks ms (page_of line sections n) ≡ Ok (page_of line (set sections (length sections - 1) y) n)
+unfolding written
+noted_last ms line sections n x y some is =
+    ap (λ (s : List Section). writes_marks ms (page_of line s n)) (last_is sections x some)
+    ∙ (noted_onto ms line (take (length sections - 1) sections) n (get_or sections (length sections - 1) x) y is
+    ∙ sym (ap (λ (s : List Section). written (page_of line s n)) (last_set sections y some)))
+
+-- ---- where nothing is written
+
+pub noted_in-nil : (line : List Mark) (sections : List Section) (n : ℕ) → noted_in [] line sections n ≡ record { line = line; sections = sections; next_enter = n }
+noted_in-nil line [] n = rw append-nil refl
+noted_in-nil line (x ∷ rest) n = rw append-nil refl
+
+pub nothing_written : (line : List Mark) (sections : List Section) (n : ℕ) → length line ≤ max_marks → writes_marks [] (page_of line sections n) ≡ Ok (page_of line sections n)
+nothing_written line sections n fits =
+    let room : nat_lt max_marks (length line + 0) ≡ false = le-ltb max_marks (length line + 0) (omega arith) in
+    rw (room, and-false (is_line (reverse sections)), noted_in-nil line (reverse sections) n) refl
+
+pub let_through-false : (ms : List Mark) → let_through false ms ≡ ms
+let_through-false [] = refl
+let_through-false (Text t ∷ ms) = ap (λ (rest : List Mark). Text t ∷ rest) (let_through-false ms)
+let_through-false (Blank t ∷ ms) = ap (λ (rest : List Mark). Blank t ∷ rest) (let_through-false ms)
+let_through-false (Newline ∷ ms) = ap (λ (rest : List Mark). Newline ∷ rest) (let_through-false ms)
+let_through-false (Glue ∷ ms) = ap (λ (rest : List Mark). Glue ∷ rest) (let_through-false ms)
+let_through-false (Tag t ∷ ms) = ap (λ (rest : List Mark). Tag t ∷ rest) (let_through-false ms)
+let_through-false (Enter n ∷ ms) = ap (λ (rest : List Mark). Enter n ∷ rest) (let_through-false ms)
+let_through-false (Leave n ∷ ms) = ap (λ (rest : List Mark). Leave n ∷ rest) (let_through-false ms)

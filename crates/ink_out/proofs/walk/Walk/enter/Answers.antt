@@ -1,0 +1,12 @@
+use Rattle.std.proofs.Common.{◌∷◌, refl}
+use Rattle.std.proofs.lemmas.List.{append-nil}
+use Rattle.ink_model.specs.Shown.{text_before}
+use Rattle.ink_model.specs.declared.mark.Mark.TheVariants as kinds
+use Rattle.ink_out.proofs.Walking.{walk_plain, smooth_enter}
+use Rattle.ink_out.proofs.walk.Walk.enter.Goals as goal
+
+pub returns : goal.returns
+returns c before n is at k =
+    let w = c.args.self.now in
+    walk_plain (kinds.Enter n) before w c.enter-self.result c.note.new.self w.glue (smooth_enter n before) (λ after. refl) (λ after. append-nil (text_before before (kinds.Enter n ∷ after))) (λ g. g)
+    (rw is at (c.in_ok-note.ensures.ok before at k.knows)) (c.enter-self.ensures before n) k

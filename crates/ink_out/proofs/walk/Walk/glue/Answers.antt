@@ -1,0 +1,12 @@
+use Rattle.std.proofs.Common.{◌∷◌, refl}
+use Rattle.std.proofs.lemmas.List.{append-nil}
+use Rattle.ink_model.specs.Shown.{text_before}
+use Rattle.ink_model.specs.declared.mark.Mark.TheVariants as kinds
+use Rattle.ink_out.proofs.Walking.{walk_plain, smooth_glue}
+use Rattle.ink_out.proofs.walk.Walk.glue.Goals as goal
+
+pub returns : goal.returns
+returns c before at k =
+    let w = c.args.self.now in
+    walk_plain kinds.Glue before w c.glue-self.result w.enters c.args.at (smooth_glue before) (λ after. refl) (λ after. append-nil (text_before before (kinds.Glue ∷ after))) (λ _. at)
+    record { at = k.knows.at } (c.glue-self.ensures before) k

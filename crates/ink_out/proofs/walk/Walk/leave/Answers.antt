@@ -1,0 +1,8 @@
+use Rattle.ink_out.proofs.Walking.{walk_leave}
+use Rattle.ink_out.proofs.walk.Walk.leave.Goals as goal
+
+pub returns : goal.returns
+returns c before k =
+    let reach = c.reach-reach.ensures before k.knows in
+    rw c.leave.ensures
+    (walk_leave c.args.number before c.args.self.now c.leave-self.result c.reach-reach.result reach (λ settled. c.leave-self.ensures before c.args.number settled reach) k)

@@ -1,0 +1,7 @@
+use Rattle.ink_out.proofs.Walking.{walk_newline}
+use Rattle.ink_out.proofs.walk.Walk.newline.Goals as goal
+
+pub returns : goal.returns
+returns c before at k =
+    rw c.in_ok-push.ensures
+    (walk_newline before c.args.self.now c.newline-self.result c.args.at at (λ settled. c.newline-self.ensures before settled at) k)

@@ -1,0 +1,12 @@
+use Rattle.std.proofs.Common.{◌∷◌, refl}
+use Rattle.std.proofs.lemmas.List.{append-nil}
+use Rattle.ink_model.specs.Shown.{text_before}
+use Rattle.ink_model.specs.declared.mark.Mark.TheVariants as kinds
+use Rattle.ink_out.proofs.Walking.{walk_plain, smooth_tag}
+use Rattle.ink_out.proofs.walk.Walk.tag.Goals as goal
+
+pub returns : goal.returns
+returns c before text k =
+    let w = c.args.self.now in
+    walk_plain (kinds.Tag text) before w c.tag-self.result w.enters w.glue (smooth_tag text before) (λ after. refl) (λ after. append-nil (text_before before (kinds.Tag text ∷ after))) (λ g. g)
+    record { at = k.knows.at } (c.tag-self.ensures before text) k

@@ -1,0 +1,167 @@
+//! Cutting a written text into marks (docs/TEXT.md, "Cutting").
+
+ghost use Rattle.std.specs.Prelude.{◌≡◌, [], ◌∷◌, ◌++◌, not, IfOk, OnOk, IfSome, is_some, slice_index};
+ghost use Rattle.std.specs.List.{list_any, prefix_len, suffix_len};
+ghost use Rattle.ink_model.specs.Mark.{cut, cut_end, has_newline, is_blank, is_newline, is_white, leading, piece, trailing, trimmed, without};
+
+use ink_model::{Mark, Text};
+use std::alloc::{AllocError, Global};
+
+/// The marks of a written text (docs/TEXT.md, "Cutting"). The one error is a refused request for memory.
+#[tactic(auto, unfolding(ink_model::specs::Mark::cut))]
+pub(crate) fn cut_text(alloc: Global, text: &str) -> Result<Vec<Mark>, AllocError>
+    ensures { IfOk result (λ marks. marks.items ≡ cut text.now) }
+{
+    let mut marks = Vec::new(alloc);
+    match split_start(text) {
+        Some((before, after)) => {
+            push_line(alloc, &mut marks, before)?;
+            push_end(alloc, &mut marks, after)?;
+            Ok(marks)
+        }
+        None => {
+            push_end(alloc, &mut marks, text)?;
+            Ok(marks)
+        }
+    }
+}
+
+/// Adds the marks of what follows a white beginning. The one error is a refused request for memory.
+fn push_end(alloc: Global, marks: &mut Vec<Mark>, text: &str) -> Result<(), AllocError>
+    ensures { OnOk result (marks.new.items ≡ marks.old.items ++ cut_end text.now) }
+{
+    match split_end(text) {
+        Some((before, after)) => {
+            push_line(alloc, marks, before)?;
+            push_piece(alloc, marks, after)
+        }
+        None => push_piece(alloc, marks, text),
+    }
+}
+
+/// Adds the mark of a piece, and a newline. The one error is a refused request for memory.
+fn push_line(alloc: Global, marks: &mut Vec<Mark>, text: &str) -> Result<(), AllocError>
+    ensures { OnOk result (marks.new.items ≡ marks.old.items ++ (piece text.now ++ Mark.Newline ∷ [])) }
+{
+    push_piece(alloc, marks, text)?;
+    marks.push(Mark::Newline)?;
+    Ok(())
+}
+
+/// Adds the mark of a piece, if it is not empty. The one error is a refused request for memory.
+fn push_piece(alloc: Global, marks: &mut Vec<Mark>, text: &str) -> Result<(), AllocError>
+    ensures { OnOk result (marks.new.items ≡ marks.old.items ++ piece text.now) }
+{
+    if text.is_empty() {
+        return Ok(());
+    }
+    let copy = Text::from_str(alloc, text)?;
+    let mark = if has_words(text) {
+        Mark::Text(copy)
+    } else {
+        Mark::Blank(copy)
+    };
+    marks.push(mark)?;
+    Ok(())
+}
+
+/// Where a text begins with white that holds a newline: what stands before the first newline there, and after the
+/// last.
+fn split_start(text: &str) -> Option<(&str, &str)>
+    ensures found { is_some result ≡ has_newline (leading is_white text.now) }
+    ensures before { IfSome result (λ parts. parts.0.now ≡ leading is_blank text.now) }
+    ensures after { IfSome result (λ parts. parts.1.now ≡ trailing is_blank (leading is_white text.now) ++ without is_white text.now) }
+{
+    let first = leading_blanks(text);
+    if !is_newline_at(text, first) {
+        return None;
+    }
+    let white = leading_white(text);
+    let after = white - trailing_blanks(&text[..white]);
+    Some((&text[..first], &text[after..]))
+}
+
+/// Where a text ends with white that holds a newline: what stands before the first newline there, and after the last.
+fn split_end(text: &str) -> Option<(&str, &str)>
+    ensures found { is_some result ≡ has_newline (trailing is_white text.now) }
+    ensures before { IfSome result (λ parts. parts.0.now ≡ trimmed is_white text.now ++ leading is_blank (trailing is_white text.now)) }
+    ensures after { IfSome result (λ parts. parts.1.now ≡ trailing is_blank text.now) }
+{
+    let after = text.len() - trailing_blanks(text);
+    if after == 0 || !is_newline_at(text, after - 1) {
+        return None;
+    }
+    let white = text.len() - trailing_white(text);
+    let first = white + leading_blanks(&text[white..]);
+    Some((&text[..first], &text[after..]))
+}
+
+/// How many blanks a text begins with.
+fn leading_blanks(text: &str) -> usize
+    ensures { result ≡ prefix_len is_blank text.now }
+{
+    text.as_bytes()
+        .iter()
+        .take_while(|byte| is_blank(**byte))
+        .count()
+}
+
+/// How many white bytes a text begins with.
+fn leading_white(text: &str) -> usize
+    ensures { result ≡ prefix_len is_white text.now }
+{
+    text.as_bytes()
+        .iter()
+        .take_while(|byte| is_white(**byte))
+        .count()
+}
+
+/// How many blanks a text ends with.
+fn trailing_blanks(text: &str) -> usize
+    ensures { result ≡ suffix_len is_blank text.now }
+{
+    text.as_bytes()
+        .iter()
+        .rev()
+        .take_while(|byte| is_blank(**byte))
+        .count()
+}
+
+/// How many white bytes a text ends with.
+fn trailing_white(text: &str) -> usize
+    ensures { result ≡ suffix_len is_white text.now }
+{
+    text.as_bytes()
+        .iter()
+        .rev()
+        .take_while(|byte| is_white(**byte))
+        .count()
+}
+
+/// Some byte of a text is no blank.
+fn has_words(text: &str) -> bool
+    ensures { result ≡ list_any (λ byte. not (is_blank byte)) text.now }
+{
+    text.as_bytes().iter().any(|byte| !is_blank(*byte))
+}
+
+/// A newline stands at a place in a text.
+fn is_newline_at(text: &str, at: usize) -> bool
+    ensures { result ≡ is_newline (slice_index text.now at) }
+{
+    at < text.len() && text.as_bytes()[at] == b'\n'
+}
+
+/// A space or a tab.
+fn is_blank(byte: u8) -> bool
+    ensures { result ≡ is_blank byte }
+{
+    byte == b' ' || byte == b'\t'
+}
+
+/// A space, a tab or a newline.
+fn is_white(byte: u8) -> bool
+    ensures { result ≡ is_white byte }
+{
+    is_blank(byte) || byte == b'\n'
+}

@@ -1,0 +1,18 @@
+//! The text being written: sections of marks, what they show, and their tags (docs/TEXT.md).
+#![tactic(auto)]
+
+mod cleaning;
+mod cutting;
+mod enters;
+mod opened;
+mod output;
+mod pile;
+mod section;
+mod state;
+mod tags;
+#[cfg(test)]
+mod tests;
+mod tracker;
+mod walk;
+
+pub use output::Output;

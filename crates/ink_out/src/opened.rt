@@ -1,0 +1,147 @@
+//! Strings and tags that are open on the line, and where a mark is written.
+
+ghost use Rattle.std.specs.Prelude.{◌≡◌, ◌≤◌, [], ◌∷◌, ◌++◌, ◌-◌, ◌<◌, length, take, IfOk, OnOk, OnErr};
+ghost use Rattle.ink_model.specs.Clean.{clean};
+ghost use Rattle.ink_model.specs.Output.{is_string, max_marks};
+ghost use Rattle.ink_model.specs.Shown.{shown_text};
+ghost use Rattle.ink_out.specs.Opened.{section_kind};
+ghost use Rattle.ink_out.specs.Writing.{Notes};
+
+use crate::section::Section;
+use ink_model::{Fault, Mark, Text};
+use std::alloc::{AllocError, Global};
+use std::marker::Model;
+
+// As many marks as the line may have.
+const MAX_MARKS: usize = 100_000;
+
+#[derive(Clone, Copy)]
+pub(crate) enum Kind {
+    String,
+    Tag,
+}
+
+/// A string or a tag that is open. A contract sees its kind and its marks, the oldest first.
+#[derive(Drop)]
+pub(crate) struct Opened {
+    kind: Kind,
+    marks: Section,
+}
+
+impl Model for Opened {
+    ghost use Rattle.ink_model.specs.Configuration.{Section};
+    ghost use Rattle.ink_out.specs.Opened.{section_kind};
+
+    ghost Value = { Section };
+
+    ghost view = { λ o. record { kind = section_kind o.kind; marks = o.marks } };
+}
+
+impl Opened {
+    /// With no marks, which takes no memory.
+    pub(crate) fn new(alloc: Global, kind: Kind) -> Opened
+        ensures { result ≡ record { kind = section_kind kind; marks = [] } }
+    {
+        Opened {
+            kind,
+            marks: Section::new(alloc),
+        }
+    }
+
+    pub(crate) fn is_string(&self) -> bool
+        ensures { result ≡ is_string self.now }
+    {
+        matches!(self.kind, Kind::String)
+    }
+
+    /// Adds a mark. The one error is a refused request for memory, and leaves all as it was.
+    fn add(&mut self, mark: Mark) -> Result<(), AllocError>
+        ensures ok { OnOk result (self.new ≡ record self.old { marks = self.old.marks ++ mark ∷ [] }) }
+        ensures err { OnErr result (self.new ≡ self.old) }
+    {
+        self.marks.add(mark)
+    }
+
+    /// Adds marks. The one error is a refused request for memory, and leaves all as it was.
+    fn extend(&mut self, marks: Vec<Mark>) -> Result<(), AllocError>
+        ensures ok { OnOk result (self.new ≡ record self.old { marks = self.old.marks ++ marks.items }) }
+        ensures err { OnErr result (self.new ≡ self.old) }
+    {
+        self.marks.extend(marks)
+    }
+
+    /// The shown text, cleaned. The one error is a refused request for memory.
+    pub(crate) fn text(&self, alloc: Global) -> Result<Text, AllocError>
+        ensures { IfOk result (λ text. text ≡ clean (shown_text self.now.marks)) }
+    {
+        self.marks.text(alloc)
+    }
+
+    /// The shown text as it is, not cleaned. The one error is a refused request for memory.
+    pub(crate) fn raw_text(&self, alloc: Global) -> Result<Text, AllocError>
+        ensures { IfOk result (λ text. text ≡ shown_text self.now.marks) }
+    {
+        self.marks.raw_text(alloc)
+    }
+}
+
+/// Adds a mark to the last of these sections, or to the line where there is none. `TooDeep` for more than 100,000 marks in
+/// the line, `OutOfMemory` for a refused request for memory; nothing has changed then.
+pub(crate) fn note(line: &mut Section, sections: &mut [Opened], mark: Mark) -> Result<(), Fault>
+    ensures page { Notes (mark ∷ []) line.old sections.old line.new sections.new result }
+    ensures err { OnErr result ((line.new ≡ line.old) × (sections.new ≡ sections.old)) }
+    ensures within { length line.old ≤ max_marks → length line.new ≤ max_marks }
+{
+    match sections.len() {
+        0 => {
+            if line.len() >= MAX_MARKS {
+                return Err(Fault::TooDeep);
+            }
+            line.add(mark)?;
+            Ok(())
+        }
+        open => {
+            sections[open - 1].add(mark)?;
+            Ok(())
+        }
+    }
+}
+
+/// Adds marks in the same way, all or none.
+pub(crate) fn note_all(
+    line: &mut Section,
+    sections: &mut [Opened],
+    marks: Vec<Mark>,
+) -> Result<(), Fault>
+    ensures page { Notes marks.items line.old sections.old line.new sections.new result }
+    ensures within { length line.old ≤ max_marks → length line.new ≤ max_marks }
+{
+    match sections.len() {
+        0 => {
+            if line.len().saturating_add(marks.len()) > MAX_MARKS {
+                return Err(Fault::TooDeep);
+            }
+            line.extend(marks)?;
+            Ok(())
+        }
+        open => {
+            sections[open - 1].extend(marks)?;
+            Ok(())
+        }
+    }
+}
+
+/// Adds a mark in the same way, as if the last section were not there.
+pub(crate) fn note_below(
+    line: &mut Section,
+    sections: &mut [Opened],
+    mark: Mark,
+) -> Result<(), Fault>
+    requires { 0 < length sections.old }
+    ensures page { Notes (mark ∷ []) line.old (take (length sections.old - 1) sections.old) line.new (take (length sections.old - 1) sections.new) result }
+    ensures err { OnErr result ((line.new ≡ line.old) × (sections.new ≡ sections.old)) }
+    ensures within { length line.old ≤ max_marks → length line.new ≤ max_marks }
+{
+    let below = sections.len() - 1;
+    note(line, &mut sections[..below], mark)
+}

@@ -1,0 +1,312 @@
+//! The text being written (docs/TEXT.md, "Sections").
+
+ghost use Rattle.std.specs.Prelude.{◌≡◌, ◌<◌, ◌≤◌, [], ◌∷◌, length, reverse, IfOk};
+ghost use Rattle.std.specs.List.{list_any};
+ghost use Rattle.ink_model.specs.Clean.{clean};
+ghost use Rattle.ink_model.specs.Configuration.{string_section, tag_section};
+ghost use Rattle.ink_model.specs.Mark.{cut, tags};
+ghost use Rattle.ink_model.specs.Output.{writes_marks, writes_value, writes_text, writes_newline, writes_glue, begins_function, ends_function, opens, closes_string, closes_tag, prints_text, ends_line, empty_page, max_marks, is_string, is_text, kept_text, let_through};
+ghost use Rattle.ink_model.specs.Shown.{shown_text, is_shown, open_newline, more_from};
+ghost use Rattle.ink_model.specs.Value.{printed};
+ghost use Rattle.ink_out.specs.Opened.{section_kind};
+ghost use Rattle.ink_out.specs.Writing.{Leaves, Hands, closed};
+
+use crate::cutting::cut_text;
+use crate::opened::{Kind, Opened, note, note_all, note_below};
+use crate::section::Section;
+use ink_model::{Fault, Mark, Seq, Text, Value};
+use ink_value::printed;
+use std::alloc::{AllocError, Global};
+use std::marker::Model;
+
+// As many strings and tags as may be open.
+const MAX_SECTIONS: usize = 1_000;
+
+// As many bytes as a text may have.
+const MAX_TEXT: usize = 1_048_576;
+
+/// The text being written: the marks of the line, and the string and tag sections that are open on it. A contract sees the
+/// page.
+#[derive(Drop)]
+pub struct Output {
+    line: Section,
+    sections: Vec<Opened>,
+    next_enter: u64,
+    alloc: Global,
+}
+
+impl Model for Output {
+    ghost use Rattle.std.specs.Prelude.{length, ◌≤◌};
+    ghost use Rattle.ink_model.specs.Output.{max_marks};
+    ghost use Rattle.ink_out.specs.Writing.{Writing, page_of};
+
+    ghost Value = { Writing };
+
+    ghost view = { λ o. record { page = page_of o.line o.sections.items o.next_enter } };
+
+    ghost invariant = { λ o. length o.line ≤ max_marks };
+}
+
+impl Output {
+    /// An empty line, which takes no memory.
+    pub fn new(alloc: Global) -> Output
+        ensures { result.page ≡ empty_page }
+    {
+        Output {
+            line: Section::new(alloc),
+            sections: Vec::new(alloc),
+            next_enter: 0,
+            alloc,
+        }
+    }
+
+    /// Writes the printed text of a value into the open section, cut into marks; `fresh` where the top frame is a function
+    /// fresh in that section, which lets no newline through before a text. True where a text is among the marks.
+    ///
+    /// `BadOperands` for a value that does not print, `TooDeep` for more than 100,000 marks in the line, `OutOfMemory` for a
+    /// refused request for memory; nothing has changed then.
+    #[tactic(auto, unfolding(ink_model::specs::Value::printed))]
+    pub fn write(&mut self, value: &Value, fresh: bool) -> Result<bool, Fault>
+        ensures page { Leaves (writes_value fresh value.now self.old.page) self.old.page self.new.page result }
+        ensures told { IfOk result (λ has_text. has_text ≡ prints_text (printed value.now)) }
+    {
+        if let Value::Text(text) = value {
+            return self.write_text(text.as_str(), fresh);
+        }
+        let text = printed(self.alloc, value)?;
+        self.write_text(text.as_str(), fresh)
+    }
+
+    fn write_text(&mut self, text: &str, fresh: bool) -> Result<bool, Fault>
+        ensures page { Leaves (writes_text fresh text.now self.old.page) self.old.page self.new.page result }
+        ensures told { IfOk result (λ has_text. has_text ≡ list_any is_text (cut text.now)) }
+    {
+        let marks = cut_text(self.alloc, text)?;
+        let has_text = has_text(&marks);
+        let marks = let_through(self.alloc, marks, fresh)?;
+        note_all(&mut self.line, &mut self.sections, marks)?;
+        Ok(has_text)
+    }
+
+    /// Writes a newline, unless the top frame is a function that is `fresh` in the open section. `TooDeep` for more than
+    /// 100,000 marks in the line, `OutOfMemory` for a refused request for memory; nothing has changed then.
+    pub fn newline(&mut self, fresh: bool) -> Result<(), Fault>
+        ensures { Leaves (writes_newline fresh self.old.page) self.old.page self.new.page result }
+    {
+        let line = &mut self.line;
+        if fresh {
+            return Ok(());
+        }
+        note(line, &mut self.sections, Mark::Newline)
+    }
+
+    /// Writes glue (docs/TEXT.md, "What is shown"). `TooDeep` for more than 100,000 marks in the line, `OutOfMemory` for a
+    /// refused request for memory; nothing has changed then.
+    pub fn glue(&mut self) -> Result<(), Fault>
+        ensures { Leaves (writes_glue self.old.page) self.old.page self.new.page result }
+    {
+        note(&mut self.line, &mut self.sections, Mark::Glue)
+    }
+
+    /// A function begins. Answers its number: Enters are numbered upwards. `TooDeep` for more than 100,000 marks in the line
+    /// and where no number is left, `OutOfMemory` for a refused request for memory; nothing has changed then.
+    pub fn enter(&mut self) -> Result<u64, Fault>
+        ensures page { Leaves (begins_function self.old.page) self.old.page self.new.page result }
+        ensures number { IfOk result (λ n. n ≡ self.old.page.next_enter) }
+    {
+        let number = self.next_enter;
+        let next = number.checked_add(1).ok_or(Fault::TooDeep)?;
+        note(&mut self.line, &mut self.sections, Mark::Enter(number))?;
+        self.next_enter = next;
+        Ok(number)
+    }
+
+    /// A function ends; `None` where it began on an earlier line. `TooDeep` for more than 100,000 marks in the line,
+    /// `OutOfMemory` for a refused request for memory; nothing has changed then.
+    pub fn leave(&mut self, number: Option<u64>) -> Result<(), Fault>
+        ensures { Leaves (ends_function number self.old.page) self.old.page self.new.page result }
+    {
+        note(&mut self.line, &mut self.sections, Mark::Leave(number))
+    }
+
+    /// Opens a string. `TooDeep` where 1,000 strings and tags are open, `OutOfMemory` for a refused request for memory;
+    /// nothing has changed then.
+    pub fn open_string(&mut self) -> Result<(), Fault>
+        ensures { Leaves (opens string_section self.old.page) self.old.page self.new.page result }
+    {
+        self.open(Kind::String)
+    }
+
+    /// Opens a tag. An open tag is not closed by it. `TooDeep` where 1,000 strings and tags are open, `OutOfMemory` for a
+    /// refused request for memory; nothing has changed then.
+    pub fn open_tag(&mut self) -> Result<(), Fault>
+        ensures { Leaves (opens tag_section self.old.page) self.old.page self.new.page result }
+    {
+        self.open(Kind::Tag)
+    }
+
+    fn open(&mut self, kind: Kind) -> Result<(), Fault>
+        ensures { Leaves (opens (section_kind kind) self.old.page) self.old.page self.new.page result }
+    {
+        if self.depth() >= MAX_SECTIONS {
+            return Err(Fault::TooDeep);
+        }
+        self.sections.push(Opened::new(self.alloc, kind))?;
+        Ok(())
+    }
+
+    /// Closes the open string and hands its text out as it is shown, uncleaned. `BadMode` where no string is open on top,
+    /// `TooDeep` for a text over 1 MiB, `OutOfMemory` for a refused request for memory; nothing has changed then.
+    pub fn close_string(&mut self) -> Result<Text, Fault>
+        ensures { Hands (closes_string self.old.page) self.old.page self.new.page result }
+    {
+        let opened = self.sections.last().ok_or(Fault::BadMode)?;
+        if !opened.is_string() {
+            return Err(Fault::BadMode);
+        }
+        let text = within(opened.raw_text(self.alloc)?)?;
+        self.sections.pop();
+        Ok(text)
+    }
+
+    /// Closes the open tag. Its cleaned text is handed out where a string is open, and else is a mark. `BadMode` where no
+    /// tag is open on top, `TooDeep` for a text over 1 MiB or more than 100,000 marks in the line, `OutOfMemory` for a
+    /// refused request for memory; nothing has changed then.
+    pub fn close_tag(&mut self) -> Result<Option<Text>, Fault>
+        ensures { Hands (closes_tag self.old.page) self.old.page self.new.page result }
+    {
+        let opened = self.sections.last().ok_or(Fault::BadMode)?;
+        if opened.is_string() {
+            return Err(Fault::BadMode);
+        }
+        let text = within(opened.text(self.alloc)?)?;
+        let below = self.depth() - 1;
+        if has_string(&self.sections[..below]) {
+            self.sections.pop();
+            return Ok(Some(text));
+        }
+        self.close_with(Mark::Tag(text))?;
+        Ok(None)
+    }
+
+    /// Closes what is open on top, and adds a mark to what is open then. `TooDeep` for more than 100,000 marks in the line,
+    /// `OutOfMemory` for a refused request for memory; nothing has changed then.
+    fn close_with(&mut self, mark: Mark) -> Result<(), Fault>
+        requires { 0 < length self.old.page.sections }
+        ensures { Leaves (writes_marks (mark ∷ []) (closed self.old.page)) self.old.page self.new.page result }
+    {
+        note_below(&mut self.line, &mut self.sections, mark)?;
+        self.sections.pop();
+        Ok(())
+    }
+
+    /// How many strings and tags are open.
+    pub fn depth(&self) -> usize
+        ensures { result ≡ length self.now.page.sections }
+    {
+        self.sections.len()
+    }
+
+    /// Whether the line alone is open, and a newline is shown in it that no text or tag follows.
+    pub fn ends_line(&self) -> bool
+        ensures { result ≡ ends_line self.now.page }
+    {
+        self.sections.is_empty() && self.open_newline().is_some()
+    }
+
+    /// How many marks the line has.
+    pub fn len(&self) -> usize
+        ensures marks { result ≡ length self.now.page.line }
+        ensures within { result ≤ max_marks }
+    {
+        self.line.len()
+    }
+
+    /// The index in the line of the shown newline that no text or tag follows.
+    pub fn open_newline(&self) -> Option<usize>
+        ensures { result ≡ open_newline self.now.page.line }
+    {
+        self.line.open()
+    }
+
+    /// Whether a newline that is shown stands at an index of the line.
+    pub fn is_shown(&self, index: usize) -> bool
+        ensures { result ≡ is_shown self.now.page.line index }
+    {
+        self.line.is_shown(index)
+    }
+
+    /// Whether a text or a tag stands in the line at an index or behind it.
+    pub fn more_from(&self, index: usize) -> bool
+        ensures { result ≡ more_from self.now.page.line index }
+    {
+        self.line.more_from(index)
+    }
+
+    /// The line's text, cleaned (docs/TEXT.md, "Cleaning"). The one error is a refused request for memory.
+    pub fn text(&self) -> Result<Text, AllocError>
+        ensures { IfOk result (λ text. text ≡ clean (shown_text self.now.page.line)) }
+    {
+        self.line.text(self.alloc)
+    }
+
+    /// The line's tags, in order. The one error is a refused request for memory.
+    pub fn tags(&self) -> Result<Seq<Text>, AllocError>
+        ensures { IfOk result (λ texts. texts ≡ tags self.now.page.line) }
+    {
+        self.line.tags(self.alloc)
+    }
+
+    /// Takes all away: marks, open sections and numbers. Takes no memory.
+    pub fn clear(&mut self)
+        ensures { self.new.page ≡ empty_page }
+    {
+        self.line.clear();
+        self.sections.clear();
+        self.next_enter = 0;
+    }
+}
+
+/// A text within the limit. `TooDeep` for one over 1 MiB.
+fn within(text: Text) -> Result<Text, Fault>
+    ensures { result ≡ kept_text text text }
+{
+    if text.as_str().len() > MAX_TEXT {
+        return Err(Fault::TooDeep);
+    }
+    Ok(text)
+}
+
+fn has_string(sections: &[Opened]) -> bool
+    ensures { result ≡ list_any is_string (reverse sections.now) }
+{
+    sections.iter().rev().any(|opened| opened.is_string())
+}
+
+fn has_text(marks: &[Mark]) -> bool
+    ensures { result ≡ list_any is_text marks.now }
+{
+    marks.iter().any(|mark| matches!(mark, Mark::Text(_)))
+}
+
+/// The marks that are let through, which newlines before a text are not where the top frame is a `fresh` function. The one
+/// error is a refused request for memory.
+fn let_through(alloc: Global, marks: Vec<Mark>, mut fresh: bool) -> Result<Vec<Mark>, AllocError>
+    ensures { IfOk result (λ kept. kept.items ≡ let_through fresh marks.items) }
+{
+    if !fresh {
+        return Ok(marks);
+    }
+    let mut kept = Vec::with_capacity(alloc, marks.len())?;
+    for mark in marks {
+        match mark {
+            Mark::Newline if fresh => {}
+            Mark::Text(text) => {
+                fresh = false;
+                kept.push(Mark::Text(text))?;
+            }
+            mark => kept.push(mark)?,
+        }
+    }
+    Ok(kept)
+}

@@ -1,0 +1,146 @@
+//! What waits to be written.
+
+ghost use Rattle.std.specs.Prelude.{◌≡◌, [], ◌∷◌, ◌++◌, reverse, OnOk, string_bytes};
+ghost use Rattle.ink_out.specs.Walks.{held_at, is_at, left_pile, now_text, pile_now};
+
+use crate::tracker::{Waiting, is_reached};
+use ink_model::Text;
+use std::alloc::{AllocError, Global};
+use std::marker::Model;
+
+/// A blank or newline that may still be hidden, with its index, and for a blank whether a newline stands before it.
+#[derive(Clone, Copy)]
+pub(crate) enum Held<'m> {
+    Blank {
+        at: usize,
+        broken: bool,
+        text: &'m Text,
+    },
+    Newline {
+        at: usize,
+    },
+}
+
+impl Held<'_> {
+    /// The index.
+    fn at(&self) -> usize
+        ensures { result ≡ held_at self.now }
+    {
+        match self {
+            Held::Blank { at, .. } => *at,
+            Held::Newline { at } => *at,
+        }
+    }
+}
+
+impl<'m> Held<'m> {
+    /// What is shown where nothing more hides it.
+    fn now_text(&self, newline: Option<Waiting>, glue: usize) -> &'m str
+        ensures { result.now ≡ now_text newline glue self.now }
+    {
+        match self {
+            Held::Blank { at, broken, .. } if *broken && *at < glue => "",
+            Held::Blank { text, .. } => text.as_str(),
+            Held::Newline { at } if is_at(*at, newline) => "\n",
+            Held::Newline { .. } => "",
+        }
+    }
+}
+
+/// The blanks and newlines since the last text. A contract sees them the last first.
+#[derive(Drop)]
+pub(crate) struct Pile<'m> {
+    items: Vec<Held<'m>>,
+}
+
+impl<'m> Model for Pile<'m> {
+    ghost use Rattle.std.specs.Prelude.{List, reverse};
+    ghost use Rattle.ink_out.specs.declared.pile.Held.{Held};
+
+    ghost Value = { List Held };
+
+    ghost view = { λ p. reverse p.items.items };
+}
+
+impl<'m> Pile<'m> {
+    /// An empty pile, which takes no memory.
+    pub(crate) fn new(alloc: Global) -> Pile<'m>
+        ensures { result ≡ [] }
+    {
+        Pile {
+            items: Vec::new(alloc),
+        }
+    }
+
+    /// Puts one on top. The one error is a refused request for memory.
+    pub(crate) fn push(&mut self, held: Held<'m>) -> Result<(), AllocError>
+        ensures { OnOk result (self.new ≡ held.entry ∷ self.old) }
+    {
+        self.items.push(held)?;
+        Ok(())
+    }
+
+    /// Takes from the top what the end of a function's text that reaches back so far hides.
+    pub(crate) fn leave(&mut self, reach: Option<usize>)
+        ensures { self.new ≡ left_pile reach self.old }
+    {
+        drop_reached(&mut self.items, reach);
+    }
+
+    /// Takes all away.
+    pub(crate) fn clear(&mut self)
+        ensures { self.new ≡ [] }
+    {
+        self.items.clear();
+    }
+
+    /// Writes what is shown where nothing more hides any, by the newline that waits and the index of the last glue. The one
+    /// error is a refused request for memory.
+    pub(crate) fn write(
+        &self,
+        text: &mut String,
+        newline: Option<Waiting>,
+        glue: usize,
+    ) -> Result<(), AllocError>
+        ensures { OnOk result (string_bytes text.new ≡ string_bytes text.old ++ pile_now newline glue self.now) }
+    {
+        write_all(text, &self.items, newline, glue)
+    }
+}
+
+// Takes from the end what is reached.
+fn drop_reached(items: &mut Vec<Held<'_>>, reach: Option<usize>)
+    ensures { reverse items.new.items ≡ left_pile reach (reverse items.old.items) }
+{
+    while let Some(held) = items.last().copied() {
+        if !is_reached(held.at(), reach) {
+            return;
+        }
+        let _ = items.pop();
+    }
+}
+
+// Writes what is shown of these, in order.
+fn write_all(
+    text: &mut String,
+    items: &[Held<'_>],
+    newline: Option<Waiting>,
+    glue: usize,
+) -> Result<(), AllocError>
+    ensures { OnOk result (string_bytes text.new ≡ string_bytes text.old ++ pile_now newline glue (reverse items.now)) }
+{
+    for held in items {
+        text.push_str(held.now_text(newline, glue))?;
+    }
+    Ok(())
+}
+
+// The newline that waits stands at an index.
+fn is_at(at: usize, newline: Option<Waiting>) -> bool
+    ensures { result ≡ is_at at newline }
+{
+    match newline {
+        Some(waiting) => at == waiting.at,
+        None => false,
+    }
+}

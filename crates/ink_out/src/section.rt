@@ -1,0 +1,178 @@
+//! A section of marks.
+
+ghost use Rattle.std.specs.Prelude.{◌≡◌, [], ◌∷◌, ◌++◌, length, take, option_to_list, IfNone, IfOk, OnOk, OnErr};
+ghost use Rattle.ink_model.specs.Clean.{clean};
+ghost use Rattle.ink_model.specs.Mark.{tags};
+ghost use Rattle.ink_model.specs.Shown.{is_shown, more_from, open_newline, shown_text};
+
+use crate::cleaning::clean_text;
+use crate::enters::Enters;
+use crate::state::{Past, State, is_settled};
+use crate::tags::tag_texts;
+use crate::walk::shown_text;
+use ink_model::{Mark, Seq, Text};
+use std::alloc::{AllocError, Global};
+use std::marker::Model;
+
+/// The marks that were written into the line, a string or a tag, with what stands beside each. A contract sees the marks,
+/// the oldest first.
+#[derive(Drop)]
+pub(crate) struct Section {
+    marks: Vec<Mark>,
+    past: Vec<Past>,
+    state: State,
+    enters: Enters,
+}
+
+impl Model for Section {
+    ghost use Rattle.std.specs.Prelude.{List};
+    ghost use Rattle.ink_model.specs.declared.mark.Mark.{Mark};
+    ghost use Rattle.ink_out.specs.Stands.{Sees};
+
+    ghost Value = { List Mark };
+
+    ghost view = { λ s. s.marks.items };
+
+    ghost invariant = { λ s. Sees s.marks.items s.past.items s.state s.enters };
+}
+
+impl Section {
+    /// An empty section, which takes no memory.
+    pub(crate) fn new(alloc: Global) -> Section
+        ensures { result ≡ [] }
+    {
+        Section {
+            marks: Vec::new(alloc),
+            past: Vec::new(alloc),
+            state: State::new(),
+            enters: Enters::new(alloc),
+        }
+    }
+
+    /// Adds a mark. The one error is a refused request for memory, and leaves the section as it was.
+    pub(crate) fn add(&mut self, mark: Mark) -> Result<(), AllocError>
+        ensures ok { OnOk result (self.new ≡ self.old ++ mark ∷ []) }
+        ensures err { OnErr result (self.new ≡ self.old) }
+    {
+        let at = self.marks.len();
+        self.marks.reserve(1)?;
+        self.past.reserve(1)?;
+        let next = self.state.after(&mark, at, &self.enters);
+        let earlier = self.enters.note(&mark, at)?;
+        let beside = Past {
+            state: self.state,
+            earlier,
+        };
+        self.past.push(beside).unwrap();
+        self.marks.push(mark).unwrap();
+        self.state = next;
+        Ok(())
+    }
+
+    /// Takes the last mark back, with all that it changed.
+    pub(crate) fn pop(&mut self) -> Option<Mark>
+        ensures last { self.old ≡ self.new ++ option_to_list result }
+        ensures empty { IfNone result (self.new ≡ []) }
+    {
+        let mark = self.marks.pop()?;
+        if let Some(beside) = self.past.pop() {
+            self.enters.forget(&mark, beside.earlier);
+            self.state = beside.state;
+        }
+        Some(mark)
+    }
+
+    /// Adds marks. The one error is a refused request for memory, and leaves the section as it was.
+    pub(crate) fn extend(&mut self, marks: Vec<Mark>) -> Result<(), AllocError>
+        ensures ok { OnOk result (self.new ≡ self.old ++ marks.items) }
+        ensures err { OnErr result (self.new ≡ self.old) }
+    {
+        let len = self.len();
+        for mark in marks {
+            if let Err(refused) = self.add(mark) {
+                self.truncate(len);
+                return Err(refused);
+            }
+        }
+        Ok(())
+    }
+
+    /// Takes marks back until so many are left.
+    pub(crate) fn truncate(&mut self, len: usize)
+        ensures { self.new ≡ take len self.old }
+    {
+        while self.len() > len {
+            let _ = self.pop();
+        }
+    }
+
+    /// How many marks there are.
+    pub(crate) fn len(&self) -> usize
+        ensures { result ≡ length self.now }
+    {
+        self.marks.len()
+    }
+
+    /// A newline that is shown stands at an index.
+    pub(crate) fn is_shown(&self, index: usize) -> bool
+        ensures { result ≡ is_shown self.now index }
+    {
+        match self.state.tracker.newline {
+            Some(newline) if newline.at == index => true,
+            _ => is_settled(self.past.as_slice(), self.state.settled, index),
+        }
+    }
+
+    /// The index of the shown newline that no text or tag follows.
+    pub(crate) fn open(&self) -> Option<usize>
+        ensures { result ≡ open_newline self.now }
+    {
+        let newline = self.state.tracker.newline?;
+        if newline.tagged {
+            return None;
+        }
+        Some(newline.at)
+    }
+
+    /// A text or tag stands at an index or behind it.
+    pub(crate) fn more_from(&self, index: usize) -> bool
+        ensures { result ≡ more_from self.now index }
+    {
+        match self.state.more {
+            Some(at) => index <= at,
+            None => false,
+        }
+    }
+
+    /// The shown text, cleaned (docs/TEXT.md). The one error is a refused request for memory.
+    pub(crate) fn text(&self, alloc: Global) -> Result<Text, AllocError>
+        ensures { IfOk result (λ text. text ≡ clean (shown_text self.now)) }
+    {
+        let text = self.raw_text(alloc)?;
+        clean_text(alloc, text.as_str())
+    }
+
+    /// The shown text as it is, not cleaned. The one error is a refused request for memory.
+    pub(crate) fn raw_text(&self, alloc: Global) -> Result<Text, AllocError>
+        ensures { IfOk result (λ text. text ≡ shown_text self.now) }
+    {
+        shown_text(alloc, self.marks.as_slice())
+    }
+
+    /// The tags, in order. The one error is a refused request for memory.
+    pub(crate) fn tags(&self, alloc: Global) -> Result<Seq<Text>, AllocError>
+        ensures { IfOk result (λ texts. texts ≡ tags self.now) }
+    {
+        tag_texts(alloc, self.marks.as_slice())
+    }
+
+    /// Takes all marks away, which takes no memory.
+    pub(crate) fn clear(&mut self)
+        ensures { self.new ≡ [] }
+    {
+        self.marks.clear();
+        self.past.clear();
+        self.state = State::new();
+        self.enters.clear();
+    }
+}

@@ -1,0 +1,226 @@
+//! What decides which newlines are shown, kept up to date by each mark (docs/TEXT.md, "What is shown").
+
+ghost use Rattle.std.specs.Prelude.{◌≡◌, ℕ, List, [], ◌∷◌, Option, length};
+ghost use Rattle.ink_model.specs.declared.mark.Mark.{Mark};
+ghost use Rattle.ink_model.specs.declared.mark.Mark.TheVariants as mark;
+ghost use Rattle.ink_out.specs.Next.{blank_left, hides_next, newline_left};
+ghost use Rattle.ink_out.specs.Tracks.{Tracks, reach_of, reached, settled_by};
+
+/// Which glue that follows hides a newline: one with no text or tag between, any with no text between, or none.
+#[derive(Clone, Copy)]
+pub(crate) enum Hides {
+    Near,
+    Any,
+    Never,
+}
+
+/// A shown newline that no text follows, and whether a tag does.
+#[derive(Clone, Copy)]
+pub(crate) struct Waiting {
+    pub(crate) at: usize,
+    pub(crate) hides: Hides,
+    pub(crate) tagged: bool,
+}
+
+/// The first shown blank of a section without a text, and whether a newline stands before it.
+#[derive(Clone, Copy)]
+pub(crate) struct First {
+    pub(crate) at: usize,
+    pub(crate) broken: bool,
+}
+
+/// What the marks so far leave to decide: whether there is a text, whether glue and a newline stand behind the last one,
+/// and what of these may still be hidden.
+#[derive(Clone, Copy)]
+pub(crate) struct Tracker {
+    pub(crate) text: bool,
+    pub(crate) glue: bool,
+    pub(crate) broken: bool,
+    pub(crate) newline: Option<Waiting>,
+    pub(crate) blank: Option<First>,
+}
+
+impl Tracker {
+    /// At the start of a section.
+    pub(crate) fn new() -> Tracker
+        ensures { Tracks [] result [] }
+    {
+        Tracker {
+            text: false,
+            glue: false,
+            broken: false,
+            newline: None,
+            blank: None,
+        }
+    }
+
+    /// After a text, which settles the newline that waits.
+    pub(crate) fn text(self) -> Tracker
+        ensures { (before : List Mark) (text settled : List ℕ) → Tracks before self settled → Tracks (mark.Text text ∷ before) result (settled_by self.newline settled) }
+    {
+        Tracker {
+            text: true,
+            glue: false,
+            broken: false,
+            newline: None,
+            blank: None,
+        }
+    }
+
+    /// After a blank at an index.
+    pub(crate) fn blank(self, at: usize) -> Tracker
+        ensures { (before : List Mark) (text settled : List ℕ) → at ≡ length before → Tracks before self settled → Tracks (mark.Blank text ∷ before) result settled }
+    {
+        if self.text || self.blank.is_some() {
+            return self;
+        }
+        let first = First {
+            at,
+            broken: self.broken,
+        };
+        Tracker {
+            blank: Some(first),
+            ..self
+        }
+    }
+
+    /// After a newline at an index.
+    pub(crate) fn newline(self, at: usize) -> Tracker
+        ensures { (before : List Mark) (settled : List ℕ) → at ≡ length before → Tracks before self settled → Tracks (mark.Newline ∷ before) result settled }
+    {
+        if self.newline.is_some() {
+            return self;
+        }
+        match self.hides_next() {
+            Some(hides) => {
+                let newline = Waiting {
+                    at,
+                    hides,
+                    tagged: false,
+                };
+                Tracker {
+                    broken: true,
+                    newline: Some(newline),
+                    ..self
+                }
+            }
+            None => Tracker {
+                broken: true,
+                ..self
+            },
+        }
+    }
+
+    /// Which glue would hide a newline that comes next, where it may be shown at all and none waits.
+    fn hides_next(self) -> Option<Hides>
+        ensures { result ≡ hides_next self }
+    {
+        if self.glue {
+            return None;
+        }
+        if self.text {
+            return Some(Hides::Near);
+        }
+        match self.blank {
+            Some(first) if first.broken => Some(Hides::Any),
+            Some(_) => Some(Hides::Near),
+            None => None,
+        }
+    }
+
+    /// After glue.
+    pub(crate) fn glue(self) -> Tracker
+        ensures { (before : List Mark) (settled : List ℕ) → Tracks before self settled → Tracks (mark.Glue ∷ before) result settled }
+    {
+        Tracker {
+            glue: true,
+            newline: match self.newline {
+                Some(
+                    Waiting {
+                        hides: Hides::Never,
+                        ..
+                    },
+                ) => self.newline,
+                _ => None,
+            },
+            blank: match self.blank {
+                Some(First { broken: false, .. }) => self.blank,
+                _ => None,
+            },
+            ..self
+        }
+    }
+
+    /// After a tag.
+    pub(crate) fn tag(self) -> Tracker
+        ensures { (before : List Mark) (text settled : List ℕ) → Tracks before self settled → Tracks (mark.Tag text ∷ before) result settled }
+    {
+        match self.newline {
+            Some(newline) => {
+                let hides = match newline.hides {
+                    Hides::Near => Hides::Never,
+                    Hides::Any => Hides::Any,
+                    Hides::Never => Hides::Never,
+                };
+                let newline = Waiting {
+                    hides,
+                    tagged: true,
+                    ..newline
+                };
+                Tracker {
+                    newline: Some(newline),
+                    ..self
+                }
+            }
+            None => self,
+        }
+    }
+
+    /// After the start of a function's text.
+    pub(crate) fn enter(self) -> Tracker
+        ensures { (before : List Mark) (n : ℕ) (settled : List ℕ) → Tracks before self settled → Tracks (mark.Enter n ∷ before) result settled }
+    {
+        self
+    }
+
+    /// After the end of a function's text, which reaches back to an index, or to the start.
+    pub(crate) fn leave(self, reach: Option<usize>) -> Tracker
+        ensures { (before : List Mark) (n : Option ℕ) (settled : List ℕ) → reach ≡ reach_of n before → Tracks before self settled → Tracks (mark.Leave n ∷ before) result settled }
+    {
+        Tracker {
+            newline: newline_left(self.newline, reach),
+            blank: blank_left(self.blank, reach),
+            ..self
+        }
+    }
+}
+
+/// The waiting newline, where the end of a function's text leaves it.
+fn newline_left(newline: Option<Waiting>, reach: Option<usize>) -> Option<Waiting>
+    ensures { result ≡ newline_left newline reach }
+{
+    match newline {
+        Some(waiting) if is_reached(waiting.at, reach) => None,
+        _ => newline,
+    }
+}
+
+/// The first blank, where the end of a function's text leaves it.
+fn blank_left(blank: Option<First>, reach: Option<usize>) -> Option<First>
+    ensures { result ≡ blank_left blank reach }
+{
+    match blank {
+        Some(first) if is_reached(first.at, reach) => None,
+        _ => blank,
+    }
+}
+
+/// What reaches back so far reaches past an index.
+pub(crate) fn is_reached(at: usize, reach: Option<usize>) -> bool
+    ensures { result ≡ reached at reach }
+{
+    match reach {
+        Some(enter) => enter <= at,
+        None => true,
+    }
+}

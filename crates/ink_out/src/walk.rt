@@ -1,0 +1,154 @@
+//! The shown text, by one walk over the marks (docs/TEXT.md, "What is shown").
+
+ghost use Rattle.std.specs.Prelude.{◌≡◌, ℕ, List, [], ◌∷◌, Option, length, IfOk, OnOk};
+ghost use Rattle.ink_model.specs.declared.mark.Mark.{Mark};
+ghost use Rattle.ink_model.specs.declared.mark.Mark.TheVariants as kinds;
+ghost use Rattle.ink_model.specs.Shown.{shown_text, text_before};
+ghost use Rattle.ink_out.specs.Walks.{Walks};
+
+use crate::enters::Enters;
+use crate::pile::{Held, Pile};
+use crate::tracker::Tracker;
+use ink_model::{Mark, Text};
+use std::alloc::{AllocError, Global};
+
+/// The text that marks show, before it is cleaned. The one error is a refused request for memory.
+pub(crate) fn shown_text(alloc: Global, marks: &[Mark]) -> Result<Text, AllocError>
+    ensures { IfOk result (λ text. text ≡ shown_text marks.now) }
+{
+    let mut walk = Walk::new(alloc);
+    for (at, mark) in marks.iter().enumerate() {
+        walk.add(mark, at)?;
+    }
+    walk.finish()
+}
+
+/// A walk over marks: what decides which are shown, the index of the last glue behind the last text, what waits, and what
+/// was written.
+#[derive(Drop)]
+struct Walk<'m> {
+    tracker: Tracker,
+    enters: Enters,
+    glue: usize,
+    held: Pile<'m>,
+    text: String,
+}
+
+impl<'m> Walk<'m> {
+    /// At the start.
+    fn new(alloc: Global) -> Walk<'m>
+        ensures { Walks [] result }
+    {
+        Walk {
+            tracker: Tracker::new(),
+            enters: Enters::new(alloc),
+            glue: 0,
+            held: Pile::new(alloc),
+            text: String::new(alloc),
+        }
+    }
+
+    /// Goes past the mark at an index. The one error is a refused request for memory.
+    fn add(&mut self, mark: &'m Mark, at: usize) -> Result<(), AllocError>
+        ensures { OnOk result ((before : List Mark) → at ≡ length before → Walks before self.old → Walks (mark.now ∷ before) self.new) }
+    {
+        match mark {
+            Mark::Text(text) => self.text(text),
+            Mark::Blank(text) => self.blank(text, at),
+            Mark::Newline => self.newline(at),
+            Mark::Glue => {
+                self.glue(at);
+                Ok(())
+            }
+            Mark::Tag(_) => {
+                self.tag();
+                Ok(())
+            }
+            Mark::Enter(_) => self.enter(mark, at),
+            Mark::Leave(number) => {
+                self.leave(*number);
+                Ok(())
+            }
+        }
+    }
+
+    /// The text, where no mark is left. The one error is a refused request for memory.
+    fn finish(self) -> Result<Text, AllocError>
+        ensures { IfOk result (λ text. (before : List Mark) → Walks before self.entry → text ≡ text_before before []) }
+    {
+        let Walk {
+            tracker,
+            glue,
+            held,
+            mut text,
+            ..
+        } = self;
+        held.write(&mut text, tracker.newline, glue)?;
+        Ok(Text::from_string(text))
+    }
+
+    // A text: nothing hides what waits any more.
+    fn text(&mut self, text: &Text) -> Result<(), AllocError>
+        ensures { OnOk result ((before : List Mark) → Walks before self.old → Walks (kinds.Text text.now ∷ before) self.new) }
+    {
+        self.held
+            .write(&mut self.text, self.tracker.newline, self.glue)?;
+        self.text.push_str(text.as_str())?;
+        self.held.clear();
+        self.tracker = self.tracker.text();
+        self.glue = 0;
+        Ok(())
+    }
+
+    fn blank(&mut self, text: &'m Text, at: usize) -> Result<(), AllocError>
+        ensures { OnOk result ((before : List Mark) → at ≡ length before → Walks before self.old → Walks (kinds.Blank text.now ∷ before) self.new) }
+    {
+        let blank = Held::Blank {
+            at,
+            broken: self.tracker.broken,
+            text,
+        };
+        self.held.push(blank)?;
+        self.tracker = self.tracker.blank(at);
+        Ok(())
+    }
+
+    fn newline(&mut self, at: usize) -> Result<(), AllocError>
+        ensures { OnOk result ((before : List Mark) → at ≡ length before → Walks before self.old → Walks (kinds.Newline ∷ before) self.new) }
+    {
+        self.held.push(Held::Newline { at })?;
+        self.tracker = self.tracker.newline(at);
+        Ok(())
+    }
+
+    fn glue(&mut self, at: usize)
+        ensures { (before : List Mark) → at ≡ length before → Walks before self.old → Walks (kinds.Glue ∷ before) self.new }
+    {
+        self.tracker = self.tracker.glue();
+        self.glue = at;
+    }
+
+    fn tag(&mut self)
+        ensures { (before : List Mark) (text : List ℕ) → Walks before self.old → Walks (kinds.Tag text ∷ before) self.new }
+    {
+        self.tracker = self.tracker.tag();
+    }
+
+    // The start of a function's text.
+    fn enter(&mut self, mark: &Mark, at: usize) -> Result<(), AllocError>
+        ensures { OnOk result ((before : List Mark) (n : ℕ) → mark.now ≡ kinds.Enter n → at ≡ length before → Walks before self.old → Walks (kinds.Enter n ∷ before) self.new) }
+    {
+        self.enters.note(mark, at)?;
+        self.tracker = self.tracker.enter();
+        Ok(())
+    }
+
+    // The end of a function's text, which hides what waits since its start.
+    fn leave(&mut self, number: Option<u64>)
+        ensures { (before : List Mark) → Walks before self.old → Walks (kinds.Leave number ∷ before) self.new }
+    {
+        let reach = self.enters.reach(number);
+        self.tracker = self.tracker.leave(reach);
+        self.held.leave(reach);
+    }
+}
