@@ -1,6 +1,3 @@
-pub mod Cutting
-pub mod Showing
-pub mod Cleaning
 pub mod Moving
 pub mod Stepping
 pub mod Diverting

@@ -1,30 +1,20 @@
 -- How a step ends, from how its parts end.
-use Rattle.std.proofs.Common.{◌≡◌, ◌⊎◌, ◌+◌, ◌<◌, ◌≤◌, sym, refl, subst, inl, inr, List, [], ◌∷◌, ◌++◌, length, Option, Some, None, Err, true, false, nat_lt, length-append, arith}
+use Rattle.std.proofs.Common.{◌≡◌, ◌≢◌, ◌⊎◌, ◌+◌, ◌≤◌, ap, sym, refl, subst, inl, inr, List, [], ◌∷◌, ◌++◌, length, Option, Some, None, Result, Ok, Err, Bool, true, false, if◌then◌else◌, nat_lt, length-append, arith}
 use Rattle.std.proofs.lemmas.Bool.Decides.{nat_tests}
 use Rattle.ink_model.specs.Tree.{StoryTree, at}
 use Rattle.ink_model.specs.Place.{entered, next_place}
-use Rattle.ink_model.specs.Configuration.{Configuration, place_of, with_stack}
-use Rattle.ink_model.specs.Step.{Outcome, Next, Stop, Wants, Faults, goes, go_on, writes, pushes, operates, performs, step, step_at, nothing_bound, with_page, noted}
+use Rattle.ink_model.specs.Configuration.{Configuration, place_of, moved, with_stack, with_globals}
+use Rattle.ink_model.specs.Step.{Outcome, Next, Stop, Wants, Faults, goes, go_on, pushes, operates, performs, step, step_at, nothing_bound}
+use Rattle.ink_model.specs.Output.{is_line}
 use Rattle.ink_model.specs.Store.{Values}
 use Rattle.ink_model.specs.declared.fault.Fault.{Fault}
-use Rattle.ink_model.specs.declared.fault.Fault.TheVariants.{OutOfMemory, StackEmpty, TooDeep}
-use Rattle.ink_model.specs.declared.mark.Mark.{Mark}
+use Rattle.ink_model.specs.declared.fault.Fault.TheVariants.{OutOfMemory, StackEmpty, StopInString, TooDeep}
 use Rattle.ink_model.specs.declared.operator.Op.{Op}
 use Rattle.ink_model.specs.declared.place.Part.{Part}
 use Rattle.ink_model.specs.declared.value.Value.{Value}
-use Rattle.ink_player.specs.Steps.{Ends, Goes, Applies}
+use Rattle.ink_player.specs.Steps.{Ends, Applies}
 use Rattle.ink_player.specs.declared.machine.StepEnd.{StepEnd}
 use Rattle.ink_player.specs.declared.machine.StepEnd.TheVariants as ends
-
-pub ends_gone : (o : Outcome) (globals : Values) (new : Configuration) (e : StepEnd) → Goes o new e → Ends o globals new e
-ends_gone (Next c) globals new ends.Went h = h
-ends_gone (Next c) globals new ends.Stopped h = h
-ends_gone (Next c) globals new (ends.Fault f) h = absurd h
-ends_gone (Stop c) globals new ends.Went h = h
-ends_gone (Stop c) globals new ends.Stopped h = h
-ends_gone (Stop c) globals new (ends.Fault f) h = absurd h
-ends_gone (Wants name arguments c) globals new e h = absurd h
-ends_gone (Faults f) globals new e h = absurd h
 
 -- where memory was refused
 pub ends_short : (o : Outcome) (globals : Values) (c : Configuration) → c.shared.globals ≡ globals → Ends o globals c (ends.Fault OutOfMemory)
@@ -35,26 +25,67 @@ ends_short (Faults f) globals d h = (inr refl, h)
 
 -- flow went on after a place
 pub ends_on : (s : StoryTree) (p : List Part) (next : Option (List Part)) (old new : Configuration) (globals : Values) (e : StepEnd)
-    → next ≡ next_place s p → Goes (goes p next old) new e → Ends (go_on s p old) globals new e
+    → next ≡ next_place s p → Ends (goes p next old) globals new e → Ends (go_on s p old) globals new e
 unfolding go_on
-ends_on s p next old new globals e is h = ends_gone (goes p (next_place s p) old) globals new e (subst (λ n. Goes (goes p n old) new e) is h)
+ends_on s p next old new globals e is h = subst (λ n. Ends (goes p n old) globals new e) is h
 
-module _ (s : StoryTree) (p : List Part) (ms : List Mark) (old : Configuration) (globals : Values) where
-  -- marks were written, and then flow went on
-  pub ends_written : (next : Option (List Part)) (mid new : Configuration) (e : StepEnd) → length old.page.line + length ms ≤ 100000
-      → mid ≡ with_page (noted ms old.page) old → next ≡ next_place s p → Goes (goes p next mid) new e → Ends (writes s p ms old) globals new e
-  unfolding writes go_on
-  ends_written next mid new e room note is h =
-      let fits : nat_lt 100000 (length old.page.line + length ms) ≡ false = grind (arith, nat_tests) in
-      rw fits (ends_gone (goes p (next_place s p) (with_page (noted ms old.page) old)) globals new e
-      (subst (λ n. Goes (goes p n (with_page (noted ms old.page) old)) new e) is (subst (λ c. Goes (goes p next c) new e) note h)))
+-- where flow goes on the globals stay
+pub globals_kept : (s : StoryTree) (p : List Part) (old new : Configuration) (e : StepEnd) → Ends (go_on s p old) old.shared.globals new e → new.shared.globals ≡ old.shared.globals
+unfolding go_on
+globals_kept s p old new e h = kept (next_place s p) e h
+  where
+    halted : (b : Bool) (e : StepEnd) → Ends (if b then Stop (moved p None old) else Faults StopInString) old.shared.globals new e → new.shared.globals ≡ old.shared.globals
+    halted true ends.Went h = absurd h
+    halted true ends.Stopped h = ap (λ c. c.shared.globals) h
+    halted true (ends.Fault f) h = h.1
+    halted false ends.Went h = absurd h
+    halted false ends.Stopped h = absurd h
+    halted false (ends.Fault f) h = h.1
 
-  -- too many marks
-  pub ends_full : (new : Configuration) → 100000 < length old.page.line + length ms → new.shared.globals ≡ globals
-      → Ends (writes s p ms old) globals new (ends.Fault TooDeep)
-  unfolding writes
-  ends_full new over same =
-      let full : nat_lt 100000 (length old.page.line + length ms) ≡ true = grind (arith, nat_tests) in rw full (inl refl, same)
+    kept : (next : Option (List Part)) (e : StepEnd) → Ends (goes p next old) old.shared.globals new e → new.shared.globals ≡ old.shared.globals
+    kept None e h = halted (is_line old.page.sections) e h
+    kept (Some q) ends.Went h = ap (λ c. c.shared.globals) h
+    kept (Some q) ends.Stopped h = absurd h
+    kept (Some q) (ends.Fault f) h = h.1
+
+-- flow goes on with other globals as it does with these
+module _ (p : List Part) (vs : Values) (old new : Configuration) where
+  later : (next : Option (List Part)) (e : StepEnd) → ((f : Fault) → e ≢ ends.Fault f) → Ends (goes p next old) old.shared.globals new e
+      → Ends (goes p next (with_globals vs old)) old.shared.globals (with_globals vs new) e
+  later None e sound h = later_at (is_line old.page.sections) e sound h
+    where
+      later_at : (b : Bool) (e : StepEnd) → ((f : Fault) → e ≢ ends.Fault f) → Ends (if b then Stop (moved p None old) else Faults StopInString) old.shared.globals new e
+          → Ends (if b then Stop (moved p None (with_globals vs old)) else Faults StopInString) old.shared.globals (with_globals vs new) e
+      later_at b (ends.Fault f) sound h = absurd (sound f refl)
+      later_at true ends.Went sound h = absurd h
+      later_at true ends.Stopped sound h = ap (with_globals vs) h
+      later_at false ends.Went sound h = absurd h
+      later_at false ends.Stopped sound h = absurd h
+  later (Some q) ends.Went sound h = ap (with_globals vs) h
+  later (Some q) ends.Stopped sound h = absurd h
+  later (Some q) (ends.Fault f) sound h = absurd (sound f refl)
+
+  fails : (next : Option (List Part)) (f : Fault) → Ends (goes p next old) old.shared.globals new (ends.Fault f)
+      → Ends (goes p next (with_globals vs old)) old.shared.globals new (ends.Fault f)
+  fails None f h = fails_at (is_line old.page.sections) h
+    where
+      fails_at : (b : Bool) → Ends (if b then Stop (moved p None old) else Faults StopInString) old.shared.globals new (ends.Fault f)
+          → Ends (if b then Stop (moved p None (with_globals vs old)) else Faults StopInString) old.shared.globals new (ends.Fault f)
+      fails_at true h = h
+      fails_at false h = h
+  fails (Some q) f h = h
+
+  module _ (s : StoryTree) (e : StepEnd) (h : Ends (go_on s p old) old.shared.globals new e) where
+    pub ends_stored : (globals : Values) → ((f : Fault) → e ≢ ends.Fault f) → globals ≡ vs → Ends (go_on s p (with_globals vs old)) old.shared.globals (with_globals globals new) e
+    unfolding go_on
+    ends_stored globals sound is =
+        subst (λ g. Ends (goes p (next_place s p) (with_globals vs old)) old.shared.globals (with_globals g new) e) (sym is) (later (next_place s p) e sound h)
+
+    pub ends_unstored : (f : Fault) → e ≡ ends.Fault f → Ends (go_on s p (with_globals vs old)) old.shared.globals new e
+    unfolding go_on
+    ends_unstored f is =
+        subst (λ x. Ends (goes p (next_place s p) (with_globals vs old)) old.shared.globals new x) (sym is)
+        (fails (next_place s p) f (subst (λ x. Ends (goes p (next_place s p) old) old.shared.globals new x) is h))
 
 module _ (s : StoryTree) (p : List Part) (v : Value) (old : Configuration) (globals : Values) where
   -- a value was pushed, and then flow went on

@@ -1,8 +1,9 @@
 -- The passage of a machine, and what a running command tells.
 use Rattle.std.proofs.Common.{◌≡◌, ◌∙◌, ◌⊎◌, ◌≤◌, ap, sym, refl, subst, inl, inr, ℕ, List, [], Bool, true, false, Err, if◌then◌else◌, arith}
 use Rattle.ink_model.specs.Tree.{StoryTree}
-use Rattle.ink_model.specs.Mark.{shown, tags}
+use Rattle.ink_model.specs.Mark.{tags}
 use Rattle.ink_model.specs.Clean.{clean}
+use Rattle.ink_model.specs.Shown.{shown_text}
 use Rattle.ink_model.specs.Configuration.{Configuration, can_go_on, begun, settled}
 use Rattle.ink_model.specs.Step.{nothing_bound}
 use Rattle.ink_model.specs.Run.{Moment, At, Stopped, moment, cut_off, max_steps, through}
@@ -28,7 +29,7 @@ none_shown true choices e = e
 none_shown false choices e = e
 
 pub passage_is : (s : StoryTree) (m : Machine) (text : List ℕ) (told : List (List ℕ)) (choices : List Shown) (events : List Event) (more loose : Bool)
-    → text ≡ clean (shown m.marks.items) → told ≡ tags m.marks.items → choices ≡ [] → events ≡ []
+    → text ≡ clean (shown_text m.output.page.line) → told ≡ tags m.output.page.line → choices ≡ [] → events ≡ []
     → more ≡ can_go_on (config_of s m) → loose ≡ is_loose (config_of s m)
     → made text told choices events more loose ≡ passage (config_of s m)
 unfolding passage

@@ -1,6 +1,4 @@
 pub mod Words
-pub mod Cleaning
-pub mod Past
 pub mod Steps
 pub mod Commands
 pub mod Answers

@@ -18,12 +18,6 @@ use Rattle.ink_model.specs.declared.passage.Passage.{Passage}
 use Rattle.ink_player.specs.declared.machine.StepEnd.{StepEnd}
 use Rattle.ink_player.specs.declared.machine.StepEnd.TheVariants as ends
 
--- the end of what can't fail, and what it leaves
-abbrev pub Goes : Outcome → Configuration → StepEnd → Type 0
-Goes (Next c) new ends.Went = new ≡ c
-Goes (Stop c) new ends.Stopped = new ≡ c
-Goes outcome new end = ⊥
-
 -- A step ends as its outcome says. A fault leaves the globals as they were; only want of memory may come in the place of an
 -- outcome.
 abbrev pub Ends : Outcome → Values → Configuration → StepEnd → Type 0
@@ -32,6 +26,13 @@ Ends (Stop c) globals new ends.Stopped = new ≡ c
 Ends (Faults g) globals new (ends.Fault f) = ((f ≡ g) ⊎ (f ≡ OutOfMemory)) × (new.shared.globals ≡ globals)
 Ends outcome globals new (ends.Fault f) = (f ≡ OutOfMemory) × (new.shared.globals ≡ globals)
 Ends outcome globals new end = ⊥
+
+-- A part of a step leaves what the definition gives, or fails as it does; memory may be refused instead.
+abbrev pub Changes : Result Configuration Fault → Configuration → Result (Unit {0}) Fault → Type 0
+Changes (Ok c) new (Ok u) = new ≡ c
+Changes (Err f) new (Ok u) = ⊥
+Changes (Ok c) new (Err g) = g ≡ OutOfMemory
+Changes (Err f) new (Err g) = (g ≡ f) ⊎ (g ≡ OutOfMemory)
 
 -- a run got to a configuration and had not ended
 pub record GotTo (s : StoryTree) (start : Configuration) (now : Configuration) : Type 0 where

@@ -27,7 +27,7 @@ config_of s m = record {
     safe = m.safe;
   };
   shared = record { globals = m.globals; visits = []; turns = []; turn = 0 };
-  page = record { line = m.marks.items; sections = []; next_enter = 0 };
+  page = m.output.page;
 }
 
 abbrev pub story_of : Player → StoryTree

@@ -9,7 +9,6 @@ mod globals;
 mod input;
 mod lines;
 mod machine;
-mod marks;
 mod output;
 mod played;
 mod player;

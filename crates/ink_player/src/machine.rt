@@ -14,14 +14,15 @@ mod evaluating;
 mod opening;
 mod operands;
 mod places;
+mod sections;
 mod steps;
 mod storing;
 mod writing;
 
 use crate::globals::Globals;
-use crate::marks::{shown_tags, shown_text};
 use ink_check::Story;
-use ink_model::{Fault, Mark, Passage, Seq};
+use ink_model::{Fault, Passage, Seq};
+use ink_out::Output;
 use ink_tree::Spot;
 use ink_value::EvalStack;
 use std::alloc::{AllocError, Global};
@@ -36,7 +37,7 @@ pub struct Machine {
     pub(crate) previous: Option<Spot>,
     pub(crate) evaluating: bool,
     pub(crate) safe: bool,
-    pub(crate) marks: Vec<Mark>,
+    pub(crate) output: Output,
     pub(crate) stack: EvalStack,
     pub(crate) globals: Globals,
     pub(crate) alloc: Global,
@@ -105,8 +106,8 @@ impl Machine {
     fn passage(&self) -> Result<Passage, AllocError>
         ensures { (s : StoryTree) → IfOk result (λ p. p ≡ passage (config_of s self.now)) }
     {
-        let text = shown_text(self.alloc, self.marks.as_slice())?;
-        let tags = shown_tags(self.alloc, self.marks.as_slice())?;
+        let text = self.output.text()?;
+        let tags = self.output.tags()?;
         Ok(Passage {
             text,
             tags,
@@ -122,6 +123,9 @@ impl Machine {
     fn settle(&mut self)
         ensures { (s : StoryTree) → config_of s self.new ≡ settled (config_of s self.old) }
     {
-        self.marks.clear();
+        self.output.clear();
     }
 }
+
+#[cfg(test)]
+mod tests;

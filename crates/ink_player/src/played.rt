@@ -58,6 +58,7 @@ fn plays(leaf: &Leaf) -> bool
     match leaf {
         Leaf::Text(_)
         | Leaf::Newline
+        | Leaf::Glue
         | Leaf::Int(_)
         | Leaf::Bool(_)
         | Leaf::Void
@@ -68,8 +69,7 @@ fn plays(leaf: &Leaf) -> bool
         | Leaf::Assign(_)
         | Leaf::Variable(_) => true,
         Leaf::Control(control) => plays_control(*control),
-        Leaf::Glue
-        | Leaf::Pointer(..)
+        Leaf::Pointer(..)
         | Leaf::Call { .. }
         | Leaf::Tunnel { .. }
         | Leaf::External { .. }
@@ -90,13 +90,13 @@ fn plays_control(control: Control) -> bool
         | Control::Pop
         | Control::Duplicate
         | Control::Nop
-        | Control::Done
-        | Control::End => true,
-        Control::BeginString
+        | Control::BeginString
         | Control::EndString
         | Control::BeginTag
         | Control::EndTag
-        | Control::Return
+        | Control::Done
+        | Control::End => true,
+        Control::Return
         | Control::ReturnTunnel
         | Control::Thread
         | Control::ChoiceCount

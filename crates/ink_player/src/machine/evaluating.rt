@@ -3,8 +3,7 @@
 ghost use Rattle.std.specs.Prelude.{◌≡◌, [], ◌∷◌};
 ghost use Rattle.ink_model.specs.Operator.{takes};
 ghost use Rattle.ink_model.specs.Stack.{popped, taken};
-ghost use Rattle.ink_model.specs.Step.{pushes, values, begins, leaves_off, outs, prints, pops, doubles, operates};
-ghost use Rattle.ink_model.specs.Value as rules;
+ghost use Rattle.ink_model.specs.Step.{pushes, values, begins, leaves_off, outs, pops, doubles, operates};
 ghost use Rattle.ink_model.specs.declared.value.Value.TheVariants as value;
 ghost use Rattle.ink_check.specs.Words.{story_tree};
 ghost use Rattle.ink_tree.specs.Nodes.{place_of};
@@ -16,7 +15,6 @@ use crate::machine::{Machine, StepEnd};
 use ink_check::Story;
 use ink_model::{Fault, Op, Text, Value};
 use ink_tree::Spot;
-use ink_value::printed;
 
 impl Machine {
     /// A value is pushed in evaluation mode, and does nothing outside it.
@@ -73,17 +71,8 @@ impl Machine {
         ensures { let s = story_tree story.now in Ends (outs s (place_of s here) (popped self.old.stack.items) (config_of s self.old)) self.old.globals (config_of s self.new) result }
     {
         match top(&mut self.stack) {
-            Some(value) => self.print(story, here, &value),
+            Some(value) => self.write(story, here, &value),
             None => self.go_on(story, here),
-        }
-    }
-
-    fn print(&mut self, story: &Story, here: Spot, value: &Value) -> StepEnd
-        ensures { let s = story_tree story.now in Ends (prints s (place_of s here) (rules.printed value.now) (config_of s self.old)) self.old.globals (config_of s self.new) result }
-    {
-        match printed(self.alloc, value) {
-            Ok(text) => self.write_text(story, here, &text),
-            Err(fault) => StepEnd::Fault(fault),
         }
     }
 

@@ -14,6 +14,7 @@ use crate::machine::Machine;
 use crate::machine::places::first_declaration;
 use ink_check::Story;
 use ink_model::Fault;
+use ink_out::Output;
 use ink_tree::Spot;
 use ink_value::EvalStack;
 use std::alloc::Global;
@@ -54,7 +55,7 @@ impl Machine {
             previous: None,
             evaluating: false,
             safe: false,
-            marks: Vec::new(alloc),
+            output: Output::new(alloc),
             stack: EvalStack::new(alloc),
             globals,
             alloc,

@@ -2,13 +2,13 @@
 
 ghost use Rattle.std.specs.Prelude.{◌≡◌, Some, option_map};
 ghost use Rattle.ink_model.specs.Configuration.{ended};
-ghost use Rattle.ink_model.specs.Step.{Stop, step, performs, controls, goes, go_on, done, nothing_bound};
+ghost use Rattle.ink_model.specs.Step.{step, performs, controls, goes, go_on, halts, done, nothing_bound};
 ghost use Rattle.ink_model.specs.Tree.{StoryTree, at, leaf};
 ghost use Rattle.ink_model.specs.View.{view};
 ghost use Rattle.ink_check.specs.Words.{story_tree};
 ghost use Rattle.ink_tree.specs.Nodes.{place_of};
 ghost use Rattle.ink_player.specs.Words.{config_of};
-ghost use Rattle.ink_player.specs.Steps.{Ends, Goes};
+ghost use Rattle.ink_player.specs.Steps.{Ends};
 
 use crate::machine::places::{enter, place_after};
 use crate::machine::{Machine, StepEnd};
@@ -49,6 +49,7 @@ impl Machine {
         match content {
             Leaf::Text(text) => self.say(story, here, text),
             Leaf::Newline => self.say_newline(story, here),
+            Leaf::Glue => self.glue(story, here),
             Leaf::Int(number) => self.put_value(story, here, Value::Int(*number)),
             Leaf::Bool(truth) => self.put_value(story, here, Value::Bool(*truth)),
             Leaf::Void => self.put_value(story, here, Value::Void),
@@ -59,8 +60,7 @@ impl Machine {
             Leaf::Assign(name) => self.assign(story, here, name),
             Leaf::Variable(name) => self.read(story, here, name),
             Leaf::Divert { to, conditional } => self.divert(story, here, to, *conditional),
-            Leaf::Glue
-            | Leaf::Pointer(..)
+            Leaf::Pointer(..)
             | Leaf::Call { .. }
             | Leaf::Tunnel { .. }
             | Leaf::External { .. }
@@ -81,13 +81,13 @@ impl Machine {
             Control::Pop => self.pop(story, here),
             Control::Duplicate => self.duplicate(story, here),
             Control::Nop => self.go_on(story, here),
+            Control::BeginString => self.begin_string(story, here),
+            Control::EndString => self.end_string(story, here),
+            Control::BeginTag => self.begin_tag(story, here),
+            Control::EndTag => self.end_tag(story, here),
             Control::Done => self.done(),
             Control::End => self.end(),
-            Control::BeginString
-            | Control::EndString
-            | Control::BeginTag
-            | Control::EndTag
-            | Control::Return
+            Control::Return
             | Control::ReturnTunnel
             | Control::Thread
             | Control::ChoiceCount
@@ -100,16 +100,16 @@ impl Machine {
 
     /// Flow stops safely where it is.
     fn done(&mut self) -> StepEnd
-        ensures { (s : StoryTree) → Goes (done (config_of s self.old)) (config_of s self.new) result }
+        ensures { (s : StoryTree) → Ends (done (config_of s self.old)) self.old.globals (config_of s self.new) result }
     {
         self.place = None;
         self.safe = true;
-        StepEnd::Stopped
+        self.halt()
     }
 
     /// Flow stops safely, and nothing is left of where it was.
     fn end(&mut self) -> StepEnd
-        ensures { (s : StoryTree) → Goes (Stop (ended (config_of s self.old))) (config_of s self.new) result }
+        ensures { (s : StoryTree) → Ends (halts (ended (config_of s self.old))) self.old.globals (config_of s self.new) result }
     {
         self.previous = None;
         self.evaluating = false;
@@ -125,14 +125,24 @@ impl Machine {
 
     /// Flow goes from a place to the next, or stops where there is none.
     pub(super) fn go(&mut self, here: Spot, next: Option<Spot>) -> StepEnd
-        ensures { (s : StoryTree) → Goes (goes (place_of s here) (option_map (place_of s) next) (config_of s self.old)) (config_of s self.new) result }
+        ensures { (s : StoryTree) → Ends (goes (place_of s here) (option_map (place_of s) next) (config_of s self.old)) self.old.globals (config_of s self.new) result }
     {
-        let end = match &next {
-            Some(_) => StepEnd::Went,
-            None => StepEnd::Stopped,
-        };
         self.previous = Some(here);
         self.place = next;
-        end
+        match next {
+            Some(_) => StepEnd::Went,
+            None => self.halt(),
+        }
+    }
+
+    /// Flow has stopped, which it may not do while a string or a tag is open.
+    fn halt(&self) -> StepEnd
+        ensures { (s : StoryTree) → Ends (halts (config_of s self.now)) self.now.globals (config_of s self.now) result }
+    {
+        if self.output.depth() == 0 {
+            StepEnd::Stopped
+        } else {
+            StepEnd::Fault(Fault::StopInString)
+        }
     }
 }

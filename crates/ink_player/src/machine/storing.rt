@@ -12,7 +12,6 @@ ghost use Rattle.ink_player.specs.Words.{config_of};
 ghost use Rattle.ink_player.specs.Steps.{Ends};
 
 use crate::machine::operands::top;
-use crate::machine::places::place_after;
 use crate::machine::{Machine, StepEnd};
 use ink_check::Story;
 use ink_model::{Fault, Text, Value};
@@ -47,11 +46,14 @@ impl Machine {
     fn put(&mut self, story: &Story, here: Spot, name: &str, value: Value) -> StepEnd
         ensures { let s = story_tree story.now in Ends (go_on s (place_of s here) (with_globals (store name.now value self.old.globals) (config_of s self.old))) self.old.globals (config_of s self.new) result }
     {
-        let next = place_after(story, here);
-        if let Err(_) = self.globals.put(name, value) {
-            return StepEnd::Fault(Fault::OutOfMemory);
+        let end = self.go_on(story, here);
+        if let StepEnd::Fault(_) = &end {
+            return end;
         }
-        self.go(here, next)
+        match self.globals.put(name, value) {
+            Ok(()) => end,
+            Err(_) => StepEnd::Fault(Fault::OutOfMemory),
+        }
     }
 
     pub(super) fn read(&mut self, story: &Story, here: Spot, name: &Text) -> StepEnd

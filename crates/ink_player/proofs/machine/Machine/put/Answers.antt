@@ -1,16 +1,15 @@
-use Rattle.std.proofs.Common.{subst, option_map}
-use Rattle.ink_check.specs.Words.{story_tree}
-use Rattle.ink_model.specs.Configuration.{with_globals}
-use Rattle.ink_model.specs.Step.{goes}
-use Rattle.ink_player.specs.Steps.{Goes}
-use Rattle.ink_player.specs.Words.{config_of}
-use Rattle.ink_player.proofs.Stepping.{ends_on}
+use Rattle.std.proofs.Common.{◌∙◌, ap}
+use Rattle.ink_model.specs.Store.{store}
+use Rattle.ink_player.proofs.Stepping.{ends_short, ends_stored, ends_unstored, globals_kept}
 use Rattle.ink_player.proofs.machine.Machine.put.Goals as goal
-use Rattle.ink_tree.specs.Nodes.{place_of}
 
-pub returns : goal.returns
-returns c =
-    let s = story_tree c.args.story.now in
-    ends_on _ _ _ _ _ _ _ c.place_after-next.ensures
-    (subst (λ vs. Goes (goes (place_of s c.args.here) (option_map (place_of s) c.place_after-next.result) (with_globals vs (config_of s c.args.self.now))) (config_of s c.go.new.self) c.go.result)
-    c.in_default.ensures.ok (c.go.ensures s))
+pub returns-in-Ok : goal.returns-in-Ok
+returns-in-Ok c =
+    ends_stored _ _ _ _ _ _ c.go_on-end.ensures _ c.in_default.not-Fault
+    (c.in-Ok.ensures.ok ∙ ap (store c.args.name.now c.args.value) (globals_kept _ _ _ _ _ c.go_on-end.ensures))
+
+pub returns-in-Err : goal.returns-in-Err
+returns-in-Err c = ends_short _ _ _ (c.in-Err.ensures.err ∙ globals_kept _ _ _ _ _ c.go_on-end.ensures)
+
+pub returns-in-Fault : goal.returns-in-Fault
+returns-in-Fault c = ends_unstored _ _ _ _ _ _ c.go_on-end.ensures _ c.in-Fault.is

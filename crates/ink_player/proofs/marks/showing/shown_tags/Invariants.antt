@@ -1,6 +1,0 @@
-use Rattle.std.proofs.Common.{◌≡◌, ◌++◌, drop}
-use Rattle.ink_model.specs.Mark.{tags}
-use Rattle.ink_player.proofs.marks.showing.shown_tags.Given as goal
-
-abbrev pub invariant-loop-mark : goal.invariant-loop-mark
-invariant-loop-mark l = l.texts.items ++ tags (drop l.mark-index l.marks) ≡ tags l.marks
