@@ -17,6 +17,7 @@ use ink_tree::Spot;
 const FRESH: bool = false;
 
 impl Machine {
+    /// A text is pushed in evaluation mode, and written outside it.
     #[tactic(auto, unfolding(ink_model::specs::Value::printed))]
     pub(super) fn say(&mut self, story: &Story, here: Spot, text: &Text) -> StepEnd
         ensures { let s = story_tree story.now in Ends (says s (place_of s here) text.now (config_of s self.old)) self.old.globals (config_of s self.new) result }
