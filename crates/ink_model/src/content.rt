@@ -52,17 +52,33 @@ pub enum Leaf {
     Pointer(Text, i32),
     Control(Control),
     Op(Op),
-    Divert { to: Destination, conditional: bool },
-    Call { to: Destination, conditional: bool },
-    Tunnel { to: Destination, conditional: bool },
-    External { name: Text, arguments: u32, conditional: bool },
+    Divert {
+        to: Destination,
+        conditional: bool,
+    },
+    Call {
+        to: Destination,
+        conditional: bool,
+    },
+    Tunnel {
+        to: Destination,
+        conditional: bool,
+    },
+    External {
+        name: Text,
+        arguments: u32,
+        conditional: bool,
+    },
     Declare(Text),
     Assign(Text),
     DeclareTemp(Text),
     AssignTemp(Text),
     Variable(Text),
     Count(Text),
-    Choice { target: Text, flags: u8 },
+    Choice {
+        target: Text,
+        flags: u8,
+    },
 }
 
 /// Content: a leaf, or a container with the content in it by index and the containers given by key. `name` is the

@@ -46,7 +46,9 @@ fn words<R: Env + Alloc>(rt: &R) -> io::Result<Vec<String<R::A>, R::A>> {
 /// What the program's words may be.
 fn command<'a>(alloc: Global) -> Result<Command<'a>, AllocError> {
     let story = Arg::new(alloc, "STORY");
-    Command::new(alloc, "inkplay").disable_help_flag(true).arg(story)
+    Command::new(alloc, "inkplay")
+        .disable_help_flag(true)
+        .arg(story)
 }
 
 /// Plays the story that is the first line of the input.
