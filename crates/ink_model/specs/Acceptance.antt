@@ -1,5 +1,5 @@
 -- Which stories are accepted: each written path leads somewhere (docs/STORY_FORMAT.md, "Paths").
-use Rattle.std.specs.Prelude.{ℕ, ◌/◌, ◌%◌, List, [], ◌∷◌, map, filter, Bool, true, false, not, ◌&&◌, ◌||◌, ◌==◌, if◌then◌else◌, Option, Some, None, option_and_then, is_some, Result}
+use Rattle.std.specs.Prelude.{ℕ, ◌/◌, ◌%◌, List, map, filter, Bool, true, false, not, ◌&&◌, ◌==◌, if◌then◌else◌, Option, Some, None, option_and_then, is_some, Result}
 use Rattle.std.specs.Option.{option_map}
 use Rattle.ink_model.specs.Tree.{StoryTree, leaf, container, at}
 use Rattle.ink_model.specs.Entered.{flags_at}

@@ -1,5 +1,5 @@
 -- The leaves that JSON spells, and what is wrong with those that it does not (docs/STORY_FORMAT.md, "Content").
-use Rattle.std.specs.Prelude.{ℕ, zero, suc, ◌^◌, ℤ, pos, negsuc, List, [], ◌∷◌, ◌++◌, length, Bool, true, false, ◌||◌, ◌&&◌, ◌==◌, codes, nat_lt, if◌then◌else◌, Option, Some, None, option_and_then, is_some, unwrap_or, Result, Ok, Err}
+use Rattle.std.specs.Prelude.{ℕ, zero, suc, ◌^◌, ℤ, pos, negsuc, List, [], ◌∷◌, ◌++◌, length, Bool, false, ◌||◌, ◌==◌, codes, nat_lt, if◌then◌else◌, Option, Some, None, option_and_then, is_some, unwrap_or, Result, Ok, Err}
 use Rattle.std.specs.Option.{ok_or}
 use Rattle.serde_json.specs.Data.{Data, null, boolean, number, string, array, object}
 use Rattle.serde_json.specs.Find.{get, as_bool, as_str, as_number, as_u64, as_integer}

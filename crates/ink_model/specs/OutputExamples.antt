@@ -1,10 +1,10 @@
 -- Strings, tags and glue in small steps, each proved by computation (docs/TEXT.md, "Sections").
-use Rattle.std.specs.Prelude.{◌≡◌, ℕ, List, [], ◌∷◌, refl, codes, Bool, true, false, Option, Some, None, Result, Ok, Err}
+use Rattle.std.specs.Prelude.{◌≡◌, List, [], ◌∷◌, refl, codes, true, false, Some, None, Ok, Err}
 use Rattle.ink_model.specs.Tree.{StoryTree, leaf, container, no_trees, tree, no_keys}
 use Rattle.ink_model.specs.Place.{entered, next_place}
 use Rattle.ink_model.specs.Mark.{cut}
 use Rattle.ink_model.specs.Clean.{clean}
-use Rattle.ink_model.specs.Configuration.{Configuration, Page, Section, string_section, tag_section, with_mode, with_stack, with_safe, put_at, fresh_at, moved}
+use Rattle.ink_model.specs.Configuration.{Configuration, Page, string_section, tag_section, with_mode, with_stack, with_safe, put_at, fresh_at, moved}
 use Rattle.ink_model.specs.Output.{let_through, writes_text, writes_newline, begins_function, ends_function, closes_string, closes_tag, ends_line, empty_page}
 use Rattle.ink_model.specs.Step.{step, nothing_bound, Next, Stop, Faults, pushes, go_on, with_page}
 use Rattle.ink_model.specs.Value.{printed}
@@ -13,7 +13,7 @@ use Rattle.ink_model.specs.declared.content.Control.TheVariants as control
 use Rattle.ink_model.specs.declared.content.Leaf.TheVariants as leaves
 use Rattle.ink_model.specs.declared.fault.Fault.TheVariants as fault
 use Rattle.ink_model.specs.declared.mark.Mark.{Mark}
-use Rattle.ink_model.specs.declared.mark.Mark.TheVariants.{Text, Blank, Newline, Glue, Tag, Enter, Leave}
+use Rattle.ink_model.specs.declared.mark.Mark.TheVariants.{Text, Newline, Tag, Enter, Leave}
 use Rattle.ink_model.specs.declared.place.Part.TheVariants.{Index}
 use Rattle.ink_model.specs.declared.value.Value.{Value}
 use Rattle.ink_model.specs.declared.value.Value.TheVariants as value

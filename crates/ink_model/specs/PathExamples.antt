@@ -1,6 +1,6 @@
 -- Small worked examples of paths, targets and entered places, each proved by computation.
-use Rattle.std.specs.Prelude.{◌≡◌, ℕ, List, [], ◌∷◌, refl, codes, true, false, Option, Some, None}
-use Rattle.ink_model.specs.Tree.{StoryTree, leaf, container, Trees, no_trees, tree, Keyed, no_keys, key}
+use Rattle.std.specs.Prelude.{◌≡◌, List, [], ◌∷◌, refl, codes, true, false, Some, None}
+use Rattle.ink_model.specs.Tree.{StoryTree, leaf, container, no_trees, tree, no_keys, key}
 use Rattle.ink_model.specs.Place.{landed}
 use Rattle.ink_model.specs.Path.{read_path, target, landing}
 use Rattle.ink_model.specs.Entered.{entered_places}

@@ -1,5 +1,5 @@
 -- Which marks are shown, by the marks that stand before and after them (docs/TEXT.md, "What is shown").
-use Rattle.std.specs.Prelude.{ℕ, ◌+◌, ◌==◌, List, [], ◌∷◌, ◌++◌, length, drop, reverse, Option, None, Some, Bool, true, false, not, ◌||◌, ◌&&◌, if◌then◌else◌}
+use Rattle.std.specs.Prelude.{ℕ, ◌==◌, List, [], ◌∷◌, ◌++◌, length, drop, reverse, Option, None, Some, Bool, true, false, not, ◌||◌, ◌&&◌, if◌then◌else◌}
 use Rattle.ink_model.specs.declared.mark.Mark.{Mark}
 use Rattle.ink_model.specs.declared.mark.Mark.TheVariants.{Text, Blank, Newline, Glue, Tag, Enter, Leave}
 

@@ -1,5 +1,5 @@
 -- Small sections and what they show, each proved by computation (docs/TEXT.md, "What is shown").
-use Rattle.std.specs.Prelude.{◌≡◌, ℕ, List, [], ◌∷◌, Option, None, Some, true, false, refl, codes}
+use Rattle.std.specs.Prelude.{◌≡◌, [], ◌∷◌, None, Some, true, false, refl, codes}
 use Rattle.ink_model.specs.Shown.{shown_text, is_shown, open_newline, more_from}
 use Rattle.ink_model.specs.declared.mark.Mark.{Mark}
 use Rattle.ink_model.specs.declared.mark.Mark.TheVariants.{Text, Blank, Newline, Glue, Tag, Enter, Leave}

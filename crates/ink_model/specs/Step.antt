@@ -1,5 +1,5 @@
 -- The outcome of one step (docs/RUNNING.md, "Steps").
-use Rattle.std.specs.Prelude.{Bool, false, ℕ, ◌+◌, List, [], ◌∷◌, ◌++◌, length, true, not, ◌&&◌, nat_eq, Option, Some, None, Result, Ok, Err, is_some, unwrap_or, pos, nat_lt, if◌then◌else◌}
+use Rattle.std.specs.Prelude.{Bool, false, ℕ, List, [], ◌∷◌, ◌++◌, length, true, not, ◌&&◌, nat_eq, Option, Some, None, Result, Ok, Err, is_some, unwrap_or, pos, nat_lt, if◌then◌else◌}
 use Rattle.ink_model.specs.Tree.{StoryTree, leaf, container, at}
 use Rattle.ink_model.specs.Place.{entered, next_place}
 use Rattle.ink_model.specs.Acceptance.{lands}

@@ -1,7 +1,7 @@
 -- Small stories that are refused, and diverts, each proved by computation.
-use Rattle.std.specs.Prelude.{◌≡◌, ℤ, pos, negsuc, ℕ, List, [], ◌∷◌, refl, codes, Bool, true, false, Option, Some, None, Ok, Err}
-use Rattle.serde_json.specs.Data.{unsigned, Data, null, boolean, number, string, array, object, Items, no_items, item, Members, no_members, member}
-use Rattle.ink_model.specs.Tree.{StoryTree, leaf, container, Trees, no_trees, tree, Keyed, no_keys, key}
+use Rattle.std.specs.Prelude.{◌≡◌, pos, ℕ, List, [], ◌∷◌, refl, codes, Bool, true, false, Some, None, Ok, Err}
+use Rattle.serde_json.specs.Data.{unsigned, Data, null, boolean, number, string, array, object, no_items, item, Members, no_members, member}
+use Rattle.ink_model.specs.Tree.{StoryTree, leaf, container, no_trees, tree, no_keys, key}
 use Rattle.ink_model.specs.Acceptance.{accepted, bad_places, bad_path, written_target}
 use Rattle.ink_model.specs.Grammar.{content, here}
 use Rattle.ink_model.specs.Leaves.{object_leaf, jump_readings, value_readings, store_readings}
@@ -10,14 +10,13 @@ use Rattle.ink_model.specs.Place.{entered, landed, next_place}
 use Rattle.ink_model.specs.Places.{places}
 use Rattle.ink_model.specs.Played.{unplayed}
 use Rattle.ink_model.specs.Configuration.{Configuration, with_stack, with_globals, fresh_at, moved}
-use Rattle.ink_model.specs.Step.{step, nothing_bound, Next, Faults, pushes, go_on}
+use Rattle.ink_model.specs.Step.{step, nothing_bound, Next, Faults, go_on}
 use Rattle.ink_model.specs.Value.{is_true}
 use Rattle.ink_model.specs.declared.content.Destination.{Destination}
 use Rattle.ink_model.specs.declared.content.Destination.TheVariants as destination
 use Rattle.ink_model.specs.declared.content.Leaf.TheVariants as leaves
 use Rattle.ink_model.specs.declared.fault.Cause.TheVariants.{Shape, Unsupported, Limit}
 use Rattle.ink_model.specs.declared.fault.Fault.TheVariants as fault
-use Rattle.ink_model.specs.declared.place.Part.{Part}
 use Rattle.ink_model.specs.declared.place.Part.TheVariants.{Index, Name}
 use Rattle.ink_model.specs.declared.value.Value.{Value}
 use Rattle.ink_model.specs.declared.value.Value.TheVariants as value
