@@ -1,13 +1,15 @@
 #!/usr/bin/env python3
-"""Times reading and running on stories of 1, 4 and 16 MiB, and long arithmetic, and prints the times side by side.
+"""Times reading, checking and running stories of 1, 4 and 16 MiB, long arithmetic, and long passages, and prints the times
+side by side.
 
-    bench/bench.py [PROGRAM]      the program is ./inkplay unless another is named
+    bench/bench.py [PROGRAM [WORKER]]      ./inkplay, and crates/inkbench, unless others are named
 
 Each time is the least of three runs, in milliseconds, with the program's start in it. The last column is the time at
 16 MiB over that at 4 MiB: work that grows with the bytes alone grows about four times. Machines are noisy, so compare
 within one run.
 """
 import os
+import shutil
 import subprocess
 import sys
 import time
@@ -43,6 +45,20 @@ def huge_texts(size):
     return flat(size, '"^' + "x" * (MIB - 64) + '"')
 
 
+def knot(number, of):
+    """Containers of 20 elements as a compiled story has them: text, evaluation, a choice, diverts, a named container."""
+    return ('"knot_%d":[["^You are at the crossing number %d, and it rains.","\\n","ev",{"VAR?":"gold"},3,">","/ev",'
+            '{"->":".^.^.g-0","c":true},"ev","str","^Go on ","/str","/ev",{"*":".^.^.c-0","flg":20},"^It rains.","\\n",'
+            '{"->":"knot_%d"},"nop","nop","nop",null],{"c-0":["\\n",{"->":".^.^.g-0"},{"#f":5}],"g-0":["^Night falls.","\\n","done",null],"#f":1}]'
+            % (number, number, (number * 7 + 1) % of))
+
+
+def realistic(size):
+    """Knots, each with a list of 20 elements, named containers and four diverts."""
+    count = (size - 100) // (len(knot(99999, 100000)) + 1)
+    return '{"inkVersion":21,"root":["done",{' + ",".join(knot(n, count) for n in range(count)) + "}]}"
+
+
 ARITHMETIC = '"ev",7,3,"*",5,"+",4,"%",{"VAR=":"x"},{"VAR?":"x"},2,"<","pop","/ev"'
 
 
@@ -64,13 +80,34 @@ def best(program, lines):
     return min(times) * 1000, written
 
 
+def best_work(worker, words, text=""):
+    """The least time of three runs of the worker, in milliseconds."""
+    times = []
+    for _ in range(3):
+        begun = time.perf_counter()
+        done = subprocess.run([worker] + [str(word) for word in words], input=text.encode(), stdout=subprocess.DEVNULL)
+        times.append(time.perf_counter() - begun)
+        if done.returncode != 0:
+            sys.exit("bench: %s failed" % words[0])
+    return min(times) * 1000
+
+
 def row(name, times):
     print("%-34s %s %8.2f" % (name, " ".join("%9.1f" % t for t in times), times[-1] / times[-2]))
+
+
+def worker_of(top):
+    """The program that does the work to be timed, proved and built first."""
+    crate = os.path.join(top, "crates/inkbench")
+    rt = shutil.which("rt") or "/opt/rattle/bin/rt"
+    subprocess.run([rt, "run"], cwd=crate, stdin=subprocess.DEVNULL, stdout=subprocess.DEVNULL, stderr=subprocess.DEVNULL, check=True)
+    return os.path.join(crate, "out/inkbench")
 
 
 def main():
     top = os.path.dirname(os.path.dirname(os.path.abspath(__file__)))
     program = sys.argv[1] if len(sys.argv) > 1 else os.path.join(top, "inkplay")
+    worker = sys.argv[2] if len(sys.argv) > 2 else worker_of(top)
     best(program, '{"inkVersion":21,"root":["done",null]}\n')  # built, and in the cache
     print("%-34s %s %8s" % ("ms", " ".join("%5d MiB" % s for s in SIZES), "16 / 4"))
     for name, make in (("texts of 200 bytes", long_texts), ("texts of 4 bytes", short_texts),
@@ -86,7 +123,9 @@ def main():
                     sys.exit("bench: %r" % written[:200])
                 ran.append(took)
             row("  .. and run through", ran)
-
+    stories = [realistic(s * MIB) for s in SIZES]
+    row("knots of 20 elements, read, checked", [best_work(worker, ["story"], s) for s in stories])
+    row("  .. the same bytes by serde_json", [best_work(worker, ["json"], s) for s in stories])
 
     print()
     print("%-34s %9s %9s %9s" % ("arithmetic, run through", "steps", "ms", "ns a step"))
@@ -97,6 +136,13 @@ def main():
         if b'"text":""' not in written:
             sys.exit("bench: %r" % written[:200])
         print("%-34s %9d %9.1f %9.0f" % ("", steps, took - reading, (took - reading) * 1e6 / steps))
+
+    print()
+    print("%-34s %9s %9s %9s" % ("a passage, written and shown", "marks", "ns a mark", "asked"))
+    start = best_work(worker, ["marks", 0, 0])
+    for marks, rounds in ((25000, 80), (100000, 20)):
+        plain, asked = (best_work(worker, [what, marks, rounds]) - start for what in ("marks", "asked"))
+        print("%-34s %9d %9.0f %9.2f" % ("", marks, plain * 1e6 / (marks * rounds), asked / plain))
 
 
 if __name__ == "__main__":
