@@ -1,5 +1,5 @@
 -- Small worked examples of paths, targets and entered places, each proved by computation.
-use Rattle.std.specs.Prelude.{◌≡◌, List, [], ◌∷◌, refl, codes, true, false, Some, None}
+use Rattle.std.specs.Prelude.{◌≡◌, ℕ, List, [], ◌∷◌, refl, codes, true, false, Some, None}
 use Rattle.ink_model.specs.Tree.{StoryTree, leaf, container, no_trees, tree, no_keys, key}
 use Rattle.ink_model.specs.Place.{landed}
 use Rattle.ink_model.specs.Path.{read_path, target, landing}
@@ -112,3 +112,34 @@ from_outside_in_the_middle = refl
 from_inside : entered_places knot_story (Some (Name (codes "k") ∷ Index 1 ∷ [])) (inner (Index 0 ∷ [])) ≡ inner [] ∷ []
 unfolding entered_places
 from_inside = refl
+
+-- ---- entered places: a knot with the flags of its two containers one inside the other
+
+abbrev flagged : ℕ → ℕ → StoryTree
+flagged outer inner_flags = container None 0 no_trees
+    (key (codes "k") (container None outer (tree (container None inner_flags (tree x (tree x no_trees)) no_keys) (tree x no_trees)) no_keys) no_keys)
+
+-- containers that note turns, or nothing at all, are entered like those that count; which of them count is told by their flags
+that_note_turns : entered_places (flagged 2 0) None (inner (Index 1 ∷ [])) ≡ inner [] ∷ (Name (codes "k") ∷ []) ∷ [] ∷ []
+unfolding entered_places
+that_note_turns = refl
+
+-- what counts at its start only is passed over in the middle, and what is around it is looked at still
+start_only_around : entered_places (flagged 4 1) None (inner (Index 1 ∷ [])) ≡ inner [] ∷ [] ∷ []
+unfolding entered_places
+start_only_around = refl
+
+-- from one content to the next of the same container nothing is entered
+within_one_container : entered_places (flagged 1 1) (Some (inner (Index 0 ∷ []))) (inner (Index 1 ∷ [])) ≡ []
+unfolding entered_places
+within_one_container = refl
+
+-- from the container itself nothing is entered in it
+from_the_container : entered_places (flagged 1 1) (Some (inner [])) (inner (Index 0 ∷ [])) ≡ []
+unfolding entered_places
+from_the_container = refl
+
+-- at a container's end nothing stands, and nothing is entered
+at_an_end : entered_places (flagged 1 1) None (inner (Index 2 ∷ [])) ≡ []
+unfolding entered_places
+at_an_end = refl
