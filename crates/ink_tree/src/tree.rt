@@ -8,7 +8,8 @@ ghost use Rattle.ink_model.specs.Path.{is_place, listed_index};
 ghost use Rattle.ink_model.specs.Place as rules;
 ghost use Rattle.ink_model.specs.Place.{named_index};
 ghost use Rattle.ink_model.specs.Places.{places};
-ghost use Rattle.ink_model.specs.Tree.{at, width, count};
+ghost use Rattle.ink_model.specs.Tree.{at, down, width, count};
+ghost use Rattle.ink_model.specs.Tree as trees;
 ghost use Rattle.ink_model.specs.View.{view, trees_view};
 ghost use Rattle.ink_model.specs.declared.fault.Cause.TheVariants.{OutOfMemory};
 ghost use Rattle.ink_model.specs.declared.place.Part.TheVariants.{Index};
@@ -59,7 +60,19 @@ impl Tree {
     pub fn content(&self, spot: Spot) -> Option<&Content>
         ensures { option_map (λ c. view c.now) result ≡ at (story_tree self.now) (place_of (story_tree self.now) spot) }
     {
-        self.raw.at(self.parts(self.node(spot)?))
+        match spot.index {
+            Some(index) => self.content_in(spot.holder, index),
+            None => self.raw.at(self.parts(spot.holder)),
+        }
+    }
+
+    fn content_in(&self, holder: NodeId, index: u32) -> Option<&Content>
+        ensures { option_map (λ c. view c.now) result ≡ at (story_tree self.now) (node_place (story_tree self.now) holder ++ Index index ∷ []) }
+    {
+        match self.raw.at(self.parts(holder)) {
+            Some(content) => by_index(content, index),
+            None => None,
+        }
     }
 
     /// The place of a spot. The one error is a refused request for memory.
@@ -175,6 +188,27 @@ impl Tree {
             Ok(number) => Some(NodeId { number }),
             Err(_) => None,
         }
+    }
+}
+
+/// What stands at an index in content.
+fn by_index(content: &Content, index: u32) -> Option<&Content>
+    ensures { option_map (λ c. view c.now) result ≡ down (Index index) (view content.now) }
+{
+    match content {
+        Content::Leaf(_) => None,
+        Content::Container { content, .. } => nth(content, index as usize),
+    }
+}
+
+/// The same in a list.
+fn nth(contents: &Vec<Content>, index: usize) -> Option<&Content>
+    ensures { option_map (λ c. view c.now) result ≡ trees.nth index (trees_view contents.now.items) }
+{
+    if index < contents.len() {
+        Some(&contents[index])
+    } else {
+        None
     }
 }
 

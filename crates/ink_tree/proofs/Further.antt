@@ -1,0 +1,18 @@
+-- What stands one index further than content.
+use Rattle.std.proofs.Common.{◌≡◌, ℕ, List, [], ◌∷◌, ◌++◌, Option, Some, None, option_and_then, refl, sym, ◌∙◌, ap}
+use Rattle.ink_model.specs.Tree.{StoryTree, at, down}
+use Rattle.ink_model.specs.declared.place.Part.{Part}
+use Rattle.ink_model.specs.declared.place.Part.TheVariants.{Index}
+use Rattle.ink_tree.proofs.Standing.{at_append}
+
+found_there : (d : Option StoryTree) → option_and_then (λ u. at u []) d ≡ d
+found_there None = refl
+found_there (Some t) = refl
+
+one_down : (q : Part) (o : Option StoryTree) → option_and_then (λ t. at t (q ∷ [])) o ≡ option_and_then (down q) o
+one_down q None = refl
+one_down q (Some t) = found_there (down q t)
+
+-- by what was found at the content's own place
+pub inside : (s : StoryTree) (p : List Part) (i : ℕ) (o : Option StoryTree) → o ≡ at s p → option_and_then (down (Index i)) o ≡ at s (p ++ Index i ∷ [])
+inside s p i o is = ap (option_and_then (down (Index i))) is ∙ (sym (one_down (Index i) (at s p)) ∙ sym (at_append p (Index i ∷ []) s))
