@@ -10,7 +10,7 @@ use Rattle.serde_json.specs.Find.{get, get_member}
 use Rattle.serde_json.specs.Read.{read}
 use Rattle.serde_json.specs.View.{members_view}
 use Rattle.serde_json.proofs.Views.{Entry}
-use Rattle.ink_model.specs.Limits.{max_story}
+use Rattle.ink_model.specs.declared.limits.TheConstants.{MAX_STORY}
 use Rattle.ink_model.specs.Grammar.{here, json, unmarked, of_value, story, is_blank_object}
 use Rattle.ink_model.specs.declared.fault.Cause.TheVariants.{NotJson}
 use Rattle.ink_json.specs.Size.{size, members_size}
@@ -40,10 +40,10 @@ found : (o : Option Data) (d : Data) → ok_or o (here NotJson) ≡ Ok d → o �
 found None d e = absurd cc
 found (Some x) d e = cc
 
-within : (n : ℕ) → n ≤ max_story → nat_lt max_story n ≡ false
+within : (n : ℕ) → n ≤ MAX_STORY → nat_lt MAX_STORY n ≡ false
 within n h = grind (arith, nat_tests)
 
-pub story_is : (bytes : List ℕ) (d : Data) → length bytes ≤ max_story → ok_or (json (unmarked bytes)) (here NotJson) ≡ Ok d → story bytes ≡ of_value d
+pub story_is : (bytes : List ℕ) (d : Data) → length bytes ≤ MAX_STORY → ok_or (json (unmarked bytes)) (here NotJson) ≡ Ok d → story bytes ≡ of_value d
 unfolding story
 story_is bytes d h e = let short = within (length bytes) h in let is = found (json (unmarked bytes)) d e in rw (short, is) refl
 

@@ -14,7 +14,7 @@ use Rattle.serde_json.specs.View.{view as json_view, items_view, members_view}
 use Rattle.serde_json.specs.declared.value.Value.{Value}
 use Rattle.ink_model.specs.Tree.{StoryTree, container, Trees, no_trees, tree, Keyed, key}
 use Rattle.ink_model.specs.View.{view, trees_of, trees_view, keyed_view}
-use Rattle.ink_model.specs.Limits.{max_nesting}
+use Rattle.ink_model.specs.declared.limits.TheConstants.{MAX_NESTING}
 use Rattle.ink_model.specs.Grammar.{under, first, own, own_after, is_empty, is_last, are_flags, member_of, flags_key, flags_of, name_in, name_of, is_misnamed, is_taken, with_name, is_own, content, faults, faults_inside, faults_keyed, faults_by, tree_of, content_of, keyed_in, keyed_last, keyed_by}
 use Rattle.ink_model.specs.declared.content.Content.{Content, Container, the_lemmas}
 use Rattle.ink_model.specs.declared.fault.ReadRefusal.{ReadRefusal}
@@ -87,10 +87,10 @@ both : (a b : Bool) → (a && b) ≡ true → (a ≡ true) × (b ≡ true)
 both true b h = (refl, h)
 both false b h = absurd cc
 
-above : (n : ℕ) → n ≤ max_nesting → nat_lt max_nesting n ≡ false
+above : (n : ℕ) → n ≤ MAX_NESTING → nat_lt MAX_NESTING n ≡ false
 above n h = grind (arith, nat_tests)
 
-faults_are_inside : (version nesting : ℕ) (misnamed : Bool) (ds : Items) → nesting ≤ max_nesting → is_whole (own ds) ≡ true → misnamed ≡ false
+faults_are_inside : (version nesting : ℕ) (misnamed : Bool) (ds : Items) → nesting ≤ MAX_NESTING → is_whole (own ds) ≡ true → misnamed ≡ false
     → faults version nesting misnamed (array ds) ≡ faults_inside version nesting 0 [] ds
 faults_are_inside version nesting misnamed ds h w m =
     let deep = above nesting h in
@@ -104,7 +104,7 @@ whole_has [] w = absurd cc
 whole_has (v ∷ vs) w = omega arith
 
 -- a container stops at the first fault among its elements
-pub container_stops : (version nesting : ℕ) (misnamed listed : Bool) (ds : Items) (e : ReadError) → nesting ≤ max_nesting → is_whole (own ds) ≡ true → misnamed ≡ false
+pub container_stops : (version nesting : ℕ) (misnamed listed : Bool) (ds : Items) (e : ReadError) → nesting ≤ MAX_NESTING → is_whole (own ds) ≡ true → misnamed ≡ false
     → IsFirst e (faults_inside version nesting 0 [] ds) → Fails e (content version nesting misnamed listed (array ds))
 container_stops version nesting misnamed listed ds e h w m stops =
     rw (faults_are_inside version nesting misnamed ds h w m) (first_fails e (faults_inside version nesting 0 [] ds) (tree_of version listed (array ds)) stops)
@@ -115,7 +115,7 @@ fails_alike (Refused r) [] a b h = absurd cc
 fails_alike (Refused r) (f ∷ fs) a b h = cc
 
 -- .. or among the containers by key
-pub container_stops_late : (version nesting : ℕ) (misnamed listed : Bool) (ds : Items) (last : Data) (taken : List (List ℕ)) (e : ReadError) → nesting ≤ max_nesting → is_whole (own ds) ≡ true → misnamed ≡ false
+pub container_stops_late : (version nesting : ℕ) (misnamed listed : Bool) (ds : Items) (last : Data) (taken : List (List ℕ)) (e : ReadError) → nesting ≤ MAX_NESTING → is_whole (own ds) ≡ true → misnamed ≡ false
     → own ds ≡ Some last → faults_inside version nesting 0 [] ds ≡ faults_last version nesting taken (own ds)
     → Fails e (first (faults_keyed version nesting taken last) (keyed_last version last)) → Fails e (content version nesting misnamed listed (array ds))
 container_stops_late version nesting misnamed listed ds last taken e h w m o same stops =
@@ -123,7 +123,7 @@ container_stops_late version nesting misnamed listed ds last taken e h w m o sam
     rw (faults_are_inside version nesting misnamed ds h w m, all) (fails_alike e (faults_keyed version nesting taken last) (keyed_last version last) (tree_of version listed (array ds)) stops)
 
 -- and is read where there is none
-pub container_read : (version nesting : ℕ) (misnamed listed : Bool) (ds : Items) (last : Data) (taken : List (List ℕ)) (name : Option (List ℕ)) (flags : ℕ) (inside : Trees) (keyed : Keyed) → nesting ≤ max_nesting → is_whole (own ds) ≡ true → misnamed ≡ false
+pub container_read : (version nesting : ℕ) (misnamed listed : Bool) (ds : Items) (last : Data) (taken : List (List ℕ)) (name : Option (List ℕ)) (flags : ℕ) (inside : Trees) (keyed : Keyed) → nesting ≤ MAX_NESTING → is_whole (own ds) ≡ true → misnamed ≡ false
     → own ds ≡ Some last → keyed_in version ds ≡ keyed_last version last → faults_inside version nesting 0 [] ds ≡ faults_last version nesting taken (own ds)
     → first (faults_keyed version nesting taken last) (keyed_last version last) ≡ Ok keyed
     → name ≡ cond listed (name_in (own ds)) None → flags ≡ flags_of (own ds) → inside ≡ content_of version ds

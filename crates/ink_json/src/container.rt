@@ -3,7 +3,7 @@
 ghost use Rattle.std.specs.Prelude.{◌≡◌, ◌+◌, ◌≤◌, ◌<◌, ◌^◌, ℕ, List, [], IfOk, IfErr, OnOk, map, vec_len, true, false};
 ghost use Rattle.serde_json.specs.Data.{array};
 ghost use Rattle.serde_json.specs.View.{view as json_view, items_view, members_view};
-ghost use Rattle.ink_model.specs.Limits.{max_nesting};
+ghost use Rattle.ink_model.specs.declared.limits.TheConstants.{MAX_NESTING};
 ghost use Rattle.ink_model.specs.Grammar.{content, content_of, tree_of, keyed_last, keyed_by, faults, faults_inside, faults_keyed, faults_by, first, under, own};
 ghost use Rattle.ink_model.specs.View.{view, trees_view, keyed_view};
 ghost use Rattle.ink_model.specs.declared.place.Part.TheVariants.{Index, Name};
@@ -35,7 +35,7 @@ fn read_content(
     nesting: u32,
     misnamed: bool,
 ) -> Result<Content, ReadError>
-    requires nests { nesting ≤ max_nesting + 1 }
+    requires nests { nesting ≤ MAX_NESTING + 1 }
     requires small { size (json_view value.now) < 2 ^ 32 }
     ensures { Gives view result (content 21 nesting misnamed true (json_view value.now)) }
 {
@@ -58,7 +58,7 @@ pub(crate) fn read_container(
     misnamed: bool,
     listed: bool,
 ) -> Result<Content, ReadError>
-    requires nests { nesting ≤ max_nesting + 1 }
+    requires nests { nesting ≤ MAX_NESTING + 1 }
     requires small { items_size (items_view items.now.items) < 2 ^ 32 }
     ensures { Gives view result (content 21 nesting misnamed listed (array (items_view items.now.items))) }
 {
@@ -84,7 +84,7 @@ pub(crate) fn read_container(
 /// The content that stands in a list, which is all elements but the last.
 #[cycle(content)]
 fn read_elements(alloc: Global, items: &Vec<Value>, nesting: u32) -> Result<Inside<'_>, ReadError>
-    requires nests { nesting ≤ max_nesting }
+    requires nests { nesting ≤ MAX_NESTING }
     requires small { items_size (items_view items.now.items) < 2 ^ 32 }
     requires last { 0 < vec_len items.now }
     ensures content { IfOk result (λ x. trees_view x.content.items ≡ content_of 21 (items_view items.now.items)) }
@@ -112,7 +112,7 @@ fn read_element(
     nesting: u32,
     misnamed: bool,
 ) -> Result<Content, ReadError>
-    requires nests { nesting ≤ max_nesting + 1 }
+    requires nests { nesting ≤ MAX_NESTING + 1 }
     requires small { size (json_view value.now) < 2 ^ 32 }
     ensures { Gives view result
         (first (map (under (Index index)) (faults 21 nesting misnamed (json_view value.now))) (tree_of 21 true (json_view value.now))) }
@@ -131,7 +131,7 @@ fn read_last(
     nesting: u32,
     names: &BTreeSet<&str>,
 ) -> Result<BTreeMap<String, Content>, ReadError>
-    requires nests { nesting ≤ max_nesting }
+    requires nests { nesting ≤ MAX_NESTING }
     requires small { size (json_view last.now) < 2 ^ 32 }
     ensures { (taken : List (List ℕ)) → Holds names.now taken → Gives (λ m. keyed_view m.entries) result
         (first (faults_keyed 21 nesting taken (json_view last.now)) (keyed_last 21 (json_view last.now))) }
@@ -152,7 +152,7 @@ fn read_keyed(
     nesting: u32,
     names: &BTreeSet<&str>,
 ) -> Result<BTreeMap<String, Content>, ReadError>
-    requires nests { nesting ≤ max_nesting }
+    requires nests { nesting ≤ MAX_NESTING }
     requires small { members_size (members_view keys.now.entries) < 2 ^ 32 }
     ensures { (taken : List (List ℕ)) → Holds names.now taken → Gives (λ m. keyed_view m.entries) result
         (first (faults_by 21 nesting taken (members_view keys.now.entries)) (keyed_by 21 (members_view keys.now.entries))) }
@@ -178,7 +178,7 @@ fn read_named(
     nesting: u32,
     misnamed: bool,
 ) -> Result<Content, ReadError>
-    requires nests { nesting ≤ max_nesting + 1 }
+    requires nests { nesting ≤ MAX_NESTING + 1 }
     requires small { size (json_view value.now) < 2 ^ 32 }
     ensures { Gives view result
         (first (map (under (Name key.now)) (faults_named 21 nesting misnamed (json_view value.now))) (tree_of 21 false (json_view value.now))) }

@@ -4,7 +4,7 @@ ghost use Rattle.std.specs.Prelude.{length, nat_lt, Ok, Err, if◌then◌else◌
 ghost use Rattle.std.specs.Result.{result_unwrap_or};
 ghost use Rattle.serde_json.specs.Find.{as_integer};
 ghost use Rattle.serde_json.specs.View.{view as json_view, number_view};
-ghost use Rattle.ink_model.specs.Limits.{max_text};
+ghost use Rattle.ink_model.specs.declared.limits.TheConstants.{MAX_TEXT};
 ghost use Rattle.ink_model.specs.Word.{word};
 ghost use Rattle.ink_model.specs.Leaves.{string_leaf, integer_leaf, object_leaf};
 ghost use Rattle.ink_model.specs.Grammar.{leaf_faults, first};
@@ -59,7 +59,7 @@ fn read_leaf(alloc: Global, text: &str) -> Result<Leaf, ReadError>
 
 fn read_written(alloc: Global, written: &str) -> Result<Leaf, ReadError>
     ensures { Gives (λ l. l) result
-        (placed (if nat_lt max_text (length written.now) then Err Cause.Limit else Ok (Leaf.Text written.now))) }
+        (placed (if nat_lt MAX_TEXT (length written.now) then Err Cause.Limit else Ok (Leaf.Text written.now))) }
 {
     if written.len() > MAX_TEXT {
         return Err(ReadError::here(alloc, Cause::Limit));

@@ -14,10 +14,11 @@ use Rattle.ink_model.specs.Word.{word, operator_word}
 use Rattle.ink_model.specs.Mark.{cut}
 use Rattle.ink_model.specs.Clean.{clean}
 use Rattle.ink_model.specs.Configuration.{Configuration, with_mode, with_stack, with_globals, start, fresh_at, ended, with_safe, put_at, moved, settled, begun}
-use Rattle.ink_model.specs.Step.{Bound, Faults, pushes, step, go_on, nothing_bound, Next, Stop, with_page}
+use Rattle.ink_model.specs.Step.{Bound, Faults, push, step, go_on, nothing_bound, Next, Stop, with_page}
 use Rattle.ink_model.specs.Run.{Made, moment, next, run, through, cut_off, At, Stopped}
 use Rattle.ink_model.specs.Command.{lines_of, command_of}
 use Rattle.ink_model.specs.Answer.{answer, Tells, Acts, Shows, Refuses, Breaks}
+use Rattle.ink_model.specs.Memory.{GetsTo, asks}
 use Rattle.ink_model.specs.Session.{Session, Serves, Set, Get, Restart, passage}
 use Rattle.ink_model.specs.State.{State, Ready, Broken}
 use Rattle.ink_model.specs.Opening.{opened, opened_by, opening}
@@ -231,21 +232,24 @@ abbrev broken : State
 broken = record { condition = Broken fault.TooDeep []; stamp = 0 }
 
 -- where flow has stopped, running is refused, and so is a line that is no command; nothing changes
-a_session : Session small nothing_bound (codes "through" ∷ codes "bye" ∷ []) stopped (cannot ++ bad_command) stopped
+a_session : Session small nothing_bound [] (codes "through" ∷ codes "bye" ∷ []) stopped (cannot ++ bad_command) stopped
 unfolding Serves start fresh_at
 a_session = (
   Refuses refusal.CannotContinue,
   stopped,
   bad_command,
-  rw through_line (refl, refl),
+  [],
+  [],
+  refl,
+  rw through_line (inl (refl, (refl, refl))),
   rw a_refusal refl,
-  (Refuses refusal.BadCommand, stopped, [], rw other_line (refl, refl), rw a_bad_command refl, (refl, refl)),
+  (Refuses refusal.BadCommand, stopped, [], [], [], refl, rw other_line (inl (refl, (refl, refl))), rw a_bad_command refl, (refl, refl, refl)),
 )
 
 -- after a fault a command that runs is answered by the fault
-a_broken_session : Session small nothing_bound (codes "through" ∷ []) broken (codes "{\"fault\":\"TooDeep\",\"refused\":\"Broken\"}\n") broken
+a_broken_session : Session small nothing_bound [] (codes "through" ∷ []) broken (codes "{\"fault\":\"TooDeep\",\"refused\":\"Broken\"}\n") broken
 unfolding Serves
-a_broken_session = (Refuses (refusal.Broken fault.TooDeep), broken, [], rw through_line (refl, refl), rw a_broken_answer refl, (refl, refl))
+a_broken_session = (Refuses (refusal.Broken fault.TooDeep), broken, [], [], [], refl, rw through_line (inl (refl, (refl, refl))), rw a_broken_answer refl, (refl, refl, refl))
 
 -- a run that has stopped stays as it is
 stays : (s : StoryTree) (b : Bound) (c d : Configuration) (k j : ℕ) (left answers : List (Option Given)) (made : List Made)
@@ -273,38 +277,51 @@ abbrev after_small : State
 after_small = record { condition = Ready (settled small_end); stamp = 0 }
 
 -- a story is played to its end; then running is refused, and so is a line that is no command
-a_whole_session : Session small nothing_bound (codes "through" ∷ codes "through" ∷ codes "bye" ∷ []) (opened (start small [])) (small_passage ++ (cannot ++ bad_command)) after_small
+a_whole_session : Session small nothing_bound [] (codes "through" ∷ codes "through" ∷ codes "bye" ∷ []) (opened (start small [])) (small_passage ++ (cannot ++ bad_command)) after_small
 unfolding Serves start fresh_at settled
 a_whole_session = (
   Tells (passage small_end),
   after_small,
   cannot ++ bad_command,
-  rw through_line (inl ([], rw small_through (refl, refl)), refl),
+  [],
+  [],
+  refl,
+  rw through_line (inl (inl (rw small_through (refl, refl, refl)), refl)),
   rw a_told_answer refl,
   (
     Refuses refusal.CannotContinue,
     after_small,
     bad_command,
-    rw through_line (refl, refl),
+    [],
+    [],
+    refl,
+    rw through_line (inl (refl, (refl, refl))),
     rw a_refusal refl,
-    (Refuses refusal.BadCommand, after_small, [], rw other_line (refl, refl), rw a_bad_command refl, (refl, refl)),
+    (Refuses refusal.BadCommand, after_small, [], [], [], refl, rw other_line (inl (refl, (refl, refl))), rw a_bad_command refl, (refl, refl, refl)),
   ),
 )
 
 abbrev no_memory : State
 no_memory = record { condition = Broken fault.OutOfMemory []; stamp = 0 }
 
+abbrev first_step : GetsTo small nothing_bound (begun (start small [])) [] (begun (start small []))
+unfolding start fresh_at run asks entered
+first_step = record { steps = 0; within = omega arith; got_there = refl; asking = refl }
+
 -- where memory is refused at some step, the fault says so, and the player is broken by it
-a_short_session : Session small nothing_bound (codes "through" ∷ codes "bye" ∷ []) (opened (start small []))
+a_short_session : Session small nothing_bound [] (codes "through" ∷ codes "bye" ∷ []) (opened (start small []))
     (codes "{\"events\":[],\"fault\":\"OutOfMemory\"}\n" ++ bad_command) no_memory
-unfolding Serves start fresh_at answer run serde_json_on_literals
+unfolding Serves start fresh_at answer serde_json_on_literals
 a_short_session = (
   Breaks fault.OutOfMemory [],
   no_memory,
   bad_command,
-  rw through_line (inr (record { given = []; steps = 0; reached = begun (start small []); left = []; made = []; within = omega arith; got_there = inl refl; says = refl; breaks = refl }), refl),
+  [],
+  [],
   refl,
-  (Refuses refusal.BadCommand, no_memory, [], rw other_line (refl, refl), refl, (refl, refl)),
+  rw through_line (inl (inr (record { reached = begun (start small []); got_there = inl first_step; replies = refl; breaks = refl }), refl)),
+  refl,
+  (Refuses refusal.BadCommand, no_memory, [], [], [], refl, rw other_line (inl (refl, (refl, refl))), refl, (refl, refl, refl)),
 )
 
 -- ---- evaluation, globals and opening
@@ -328,7 +345,7 @@ at_first vs = with_stack vs (fresh_at (Index 0 ∷ []))
 -- in evaluation mode a text is pushed and not written
 a_text_pushed : step (story_of (tree (text (codes "x")) (tree newline no_trees))) nothing_bound (evaluating (at_first []))
     ≡ Next (with_stack (value.Text (codes "x") ∷ []) (moved (Index 0 ∷ []) (Some (Index 1 ∷ [])) (evaluating (at_first []))))
-unfolding step fresh_at entered pushes go_on next_place cut
+unfolding step fresh_at entered push go_on next_place cut
 a_text_pushed = refl
 
 -- outside it an integer does nothing
@@ -368,7 +385,7 @@ lacking_an_operand = refl
 
 a_quotient : step (story_of (tree (leaf (leaves.Op op.Divide)) (tree newline no_trees))) nothing_bound (at_first (value.Int (negsuc 6) ∷ value.Int (pos 2) ∷ []))
     ≡ Next (with_stack (value.Int (negsuc 2) ∷ []) (moved (Index 0 ∷ []) (Some (Index 1 ∷ [])) (at_first [])))
-unfolding step fresh_at entered apply pushes go_on next_place
+unfolding step fresh_at entered apply push go_on next_place
 a_quotient = refl
 
 -- a global is declared; one that is there keeps its place when it is declared again
@@ -385,7 +402,7 @@ assigned_absent = refl
 
 read_absent : step (story_of (tree (leaf (leaves.Variable (codes "x"))) (tree newline no_trees))) nothing_bound (at_first [])
     ≡ Next (with_stack (value.Int (pos 0) ∷ []) (moved (Index 0 ∷ []) (Some (Index 1 ∷ [])) (at_first [])))
-unfolding step fresh_at entered pushes go_on next_place
+unfolding step fresh_at entered push go_on next_place
 read_absent = refl
 
 -- ["ev",1,{"VAR=":"x"},"end",null] as the knot `global decl`
@@ -410,7 +427,7 @@ abbrev declared_end : Configuration
 declared_end = ended (with_globals ((codes "x", value.Int (pos 1)) ∷ []) (fresh_at (Name (codes "global decl") ∷ Index 0 ∷ [])))
 
 declarations_run : moment declaring nothing_bound (fresh_at (Name (codes "global decl") ∷ Index 0 ∷ [])) [] 4 ≡ Stopped declared_end [] []
-unfolding run step fresh_at entered pushes go_on next_place
+unfolding run step fresh_at entered push go_on next_place
 declarations_run = refl
 
 -- a story is opened with the globals that it declares
@@ -424,11 +441,11 @@ with_x = opened (start declaring ((codes "x", value.Int (pos 1)) ∷ []))
 
 -- a bad value is told before an absent variable
 a_bad_value : Set (codes "y") None with_x (Refuses refusal.BadValue) with_x
-a_bad_value = inl (refl, refl)
+a_bad_value = (refl, refl)
 
 an_absent_variable : Set (codes "y") (Some (given.Int (pos 1))) with_x (Refuses refusal.NoSuchVariable) with_x
 unfolding start fresh_at
-an_absent_variable = inl (refl, refl)
+an_absent_variable = (refl, refl)
 
 -- a broken player still shows its globals, and begins anew
 a_broken_get : Get (codes "x") (record { condition = Broken fault.Divide ((codes "x", value.Int (pos 3)) ∷ []); stamp = 0 }) (Shows (value.Int (pos 3)))

@@ -8,7 +8,7 @@ use Rattle.ink_model.specs.Leaves.{object_leaf, jump_readings, value_readings, s
 use Rattle.ink_model.specs.Path.{read_path, target, is_place}
 use Rattle.ink_model.specs.Place.{entered, landed, next_place}
 use Rattle.ink_model.specs.Places.{places}
-use Rattle.ink_model.specs.Played.{unplayed}
+use Rattle.ink_model.specs.Supported.{unsupported}
 use Rattle.ink_model.specs.Configuration.{Configuration, with_stack, with_globals, fresh_at, moved}
 use Rattle.ink_model.specs.Step.{step, nothing_bound, Next, Faults, go_on}
 use Rattle.ink_model.specs.Value.{is_true}
@@ -136,8 +136,8 @@ a_relative_value : accepted (container None 0 (tree (leaf (leaves.Target (codes 
 unfolding accepted bad_places read_path target
 a_relative_value = refl
 
-the_first_unplayed : unplayed (counting (codes "n")) ≡ (Index 0 ∷ []) ∷ []
-unfolding unplayed
+the_first_unplayed : unsupported (counting (codes "n")) ≡ (Index 0 ∷ []) ∷ []
+unfolding unsupported
 the_first_unplayed = refl
 
 -- ---- places

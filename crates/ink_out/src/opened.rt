@@ -2,7 +2,8 @@
 
 ghost use Rattle.std.specs.Prelude.{◌≡◌, ◌≤◌, [], ◌∷◌, ◌++◌, ◌-◌, ◌<◌, length, take, IfOk, OnOk, OnErr};
 ghost use Rattle.ink_model.specs.Clean.{clean};
-ghost use Rattle.ink_model.specs.Output.{is_string, max_marks};
+ghost use Rattle.ink_model.specs.Output.{is_string};
+ghost use Rattle.ink_model.specs.declared.limits.TheConstants.{MAX_MARKS};
 ghost use Rattle.ink_model.specs.Shown.{shown_text};
 ghost use Rattle.ink_out.specs.Opened.{section_kind};
 ghost use Rattle.ink_out.specs.Writing.{Notes};
@@ -90,7 +91,7 @@ impl Opened {
 pub(crate) fn note(line: &mut Section, sections: &mut [Opened], mark: Mark) -> Result<(), Fault>
     ensures page { Notes (mark ∷ []) line.old sections.old line.new sections.new result }
     ensures err { OnErr result ((line.new ≡ line.old) × (sections.new ≡ sections.old)) }
-    ensures within { length line.old ≤ max_marks → length line.new ≤ max_marks }
+    ensures within { length line.old ≤ MAX_MARKS → length line.new ≤ MAX_MARKS }
 {
     match sections.len() {
         0 => {
@@ -114,7 +115,7 @@ pub(crate) fn note_all(
     marks: Vec<Mark>,
 ) -> Result<(), Fault>
     ensures page { Notes marks.items line.old sections.old line.new sections.new result }
-    ensures within { length line.old ≤ max_marks → length line.new ≤ max_marks }
+    ensures within { length line.old ≤ MAX_MARKS → length line.new ≤ MAX_MARKS }
 {
     match sections.len() {
         0 => {
@@ -140,7 +141,7 @@ pub(crate) fn note_below(
     requires { 0 < length sections.old }
     ensures page { Notes (mark ∷ []) line.old (take (length sections.old - 1) sections.old) line.new (take (length sections.old - 1) sections.new) result }
     ensures err { OnErr result ((line.new ≡ line.old) × (sections.new ≡ sections.old)) }
-    ensures within { length line.old ≤ max_marks → length line.new ≤ max_marks }
+    ensures within { length line.old ≤ MAX_MARKS → length line.new ≤ MAX_MARKS }
 {
     let below = sections.len() - 1;
     note(line, &mut sections[..below], mark)

@@ -5,7 +5,8 @@ ghost use Rattle.std.specs.List.{list_any};
 ghost use Rattle.ink_model.specs.Clean.{clean};
 ghost use Rattle.ink_model.specs.Configuration.{string_section, tag_section};
 ghost use Rattle.ink_model.specs.Mark.{cut, tags};
-ghost use Rattle.ink_model.specs.Output.{writes_marks, writes_value, writes_text, writes_newline, writes_glue, begins_function, ends_function, opens, closes_string, closes_tag, prints_text, ends_line, empty_page, max_marks, is_string, is_text, kept_text, let_through};
+ghost use Rattle.ink_model.specs.Output.{writes_marks, writes_value, writes_text, writes_newline, writes_glue, begins_function, ends_function, opens, closes_string, closes_tag, prints_text, ends_line, empty_page, is_string, is_text, kept_text, let_through};
+ghost use Rattle.ink_model.specs.declared.limits.TheConstants.{MAX_MARKS};
 ghost use Rattle.ink_model.specs.Shown.{shown_text, is_shown, open_newline, more_from};
 ghost use Rattle.ink_model.specs.Value.{printed};
 ghost use Rattle.ink_out.specs.Opened.{section_kind};
@@ -37,14 +38,14 @@ pub struct Output {
 
 impl Model for Output {
     ghost use Rattle.std.specs.Prelude.{length, ◌≤◌};
-    ghost use Rattle.ink_model.specs.Output.{max_marks};
+    ghost use Rattle.ink_model.specs.declared.limits.TheConstants.{MAX_MARKS};
     ghost use Rattle.ink_out.specs.Writing.{Writing, page_of};
 
     ghost Value = { Writing };
 
     ghost view = { λ o. record { page = page_of o.line o.sections.items o.next_enter } };
 
-    ghost invariant = { λ o. length o.line ≤ max_marks };
+    ghost invariant = { λ o. length o.line ≤ MAX_MARKS };
 }
 
 impl Output {
@@ -217,7 +218,7 @@ impl Output {
     /// How many marks the line has.
     pub fn len(&self) -> usize
         ensures marks { result ≡ length self.now.page.line }
-        ensures within { result ≤ max_marks }
+        ensures within { result ≤ MAX_MARKS }
     {
         self.line.len()
     }

@@ -9,7 +9,11 @@ use Rattle.serde_json.specs.Read.{read}
 use Rattle.std.proofs.lemmas.Bool.{eq-eqb, true≢false, false≢true}
 use Rattle.std.proofs.lemmas.Bool.Decides.{eqb_tells}
 use Rattle.std.proofs.lemmas.Str.{IsUtf8-from_is_utf8, is_utf8-from_IsUtf8}
-use Rattle.ink_model.specs.Command.{command_of, command_word, after, at_space, given_of, given_by}
+use Rattle.ink_model.specs.Command.{command_of, command_word}
+use Rattle.ink_model.specs.Bytes.{after}
+use Rattle.ink_model.specs.Bytes.{at_space}
+use Rattle.ink_model.specs.ValueJson.{given_of}
+use Rattle.ink_model.specs.ValueJson.{given_by}
 
 pub command_of_text : (line : List ℕ) → IsUtf8 line → command_of line ≡ command_word line
 unfolding command_of

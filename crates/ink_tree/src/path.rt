@@ -2,11 +2,9 @@
 
 ghost use Rattle.std.specs.Prelude.{◌≡◌, ◌⊎◌, ◌<◌, length, None, Some, true, ◌++◌, map, IfOk, IfErr, OnOk, string_bytes};
 ghost use Rattle.std.specs.List.{list_all};
-ghost use Rattle.ink_model.specs.Answer as written;
-ghost use Rattle.ink_model.specs.Clean.{joined, pieces};
+ghost use Rattle.ink_model.specs.Bytes.{joined, pieces, is_digit, is_dot};
 ghost use Rattle.ink_model.specs.Grammar.{here};
 ghost use Rattle.ink_model.specs.Path as rules;
-ghost use Rattle.ink_model.specs.Path.{is_digit, is_dot};
 ghost use Rattle.ink_model.specs.declared.fault.Cause.TheVariants.{BadPath, OutOfMemory};
 ghost use Rattle.ink_tree.specs.Laws.{ReadsBack, dot_before, index_component};
 
@@ -33,7 +31,7 @@ pub fn read_path(alloc: Global, text: &str) -> Result<Path, ReadRefusal>
 /// Writes a path as it is spelled: its components joined by dots, and a dot in front of a relative one. A path that was
 /// read reads the same from what is written. The one error is a refused request for memory.
 pub fn print_path(alloc: Global, path: &Path) -> Result<Text, AllocError>
-    ensures text { IfOk result (λ text. text ≡ written.path_text path.now) }
+    ensures text { IfOk result (λ text. text ≡ rules.path_text path.now) }
     ensures reads_back { ReadsBack path.now }
 {
     let mut text = String::new(alloc);
@@ -137,7 +135,7 @@ fn index_part(digits: &str) -> Option<Part>
 
 // The components, joined by dots.
 fn push_parts(alloc: Global, text: &mut String, parts: &[Part]) -> Result<(), AllocError>
-    ensures { OnOk result (string_bytes text.new ≡ string_bytes text.old ++ joined 46 (map written.part_text parts.now)) }
+    ensures { OnOk result (string_bytes text.new ≡ string_bytes text.old ++ joined 46 (map rules.part_text parts.now)) }
 {
     for (index, part) in parts.iter().enumerate() {
         push_dot(text, index)?;
@@ -157,7 +155,7 @@ fn push_dot(text: &mut String, index: usize) -> Result<(), AllocError>
 }
 
 fn push_part(alloc: Global, text: &mut String, part: &Part) -> Result<(), AllocError>
-    ensures { OnOk result (string_bytes text.new ≡ string_bytes text.old ++ written.part_text part.now) }
+    ensures { OnOk result (string_bytes text.new ≡ string_bytes text.old ++ rules.part_text part.now) }
 {
     match part {
         Part::Index(index) => {

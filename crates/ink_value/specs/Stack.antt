@@ -7,5 +7,5 @@ pub record Stack : Type 0 where
   pub items : List Value
 
 -- as many values as it can hold
-abbrev pub max_stack : ℕ
-max_stack = 10000
+abbrev pub MAX_STACK : ℕ
+MAX_STACK = 10000

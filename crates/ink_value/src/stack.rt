@@ -1,7 +1,7 @@
 //! The evaluation stack.
 
 ghost use Rattle.std.specs.Prelude.{◌≡◌, ◌≢◌, ◌≤◌, ◌↔◌, ◌⊎◌, [], ◌∷◌, ◌++◌, length, reverse, slice_get, OnOk, OnErr, IfOk, IfErr, MatchResult};
-ghost use Rattle.ink_value.specs.Stack.{max_stack};
+ghost use Rattle.ink_model.specs.declared.limits.TheConstants.{MAX_STACK};
 
 use ink_model::{Fault, Value};
 use std::alloc::Global;
@@ -18,13 +18,14 @@ pub struct EvalStack {
 
 impl Model for EvalStack {
     ghost use Rattle.std.specs.Prelude.{◌≤◌, vec_len};
-    ghost use Rattle.ink_value.specs.Stack.{Stack, max_stack};
+    ghost use Rattle.ink_value.specs.Stack.{Stack};
+    ghost use Rattle.ink_model.specs.declared.limits.TheConstants.{MAX_STACK};
 
     ghost Value = { Stack };
 
     ghost view = { λ s. record { items = s.items.items } };
 
-    ghost invariant = { λ s. vec_len s.items ≤ max_stack };
+    ghost invariant = { λ s. vec_len s.items ≤ MAX_STACK };
 }
 
 impl EvalStack {
@@ -42,9 +43,9 @@ impl EvalStack {
     pub fn push(&mut self, value: Value) -> Result<(), Fault>
         ensures ok { OnOk result (self.new.items ≡ self.old.items ++ value ∷ []) }
         ensures err { OnErr result (self.new.items ≡ self.old.items) }
-        ensures too_deep { (result ≡ Err Fault.TooDeep) ↔ (length self.old.items ≡ max_stack) }
+        ensures too_deep { (result ≡ Err Fault.TooDeep) ↔ (length self.old.items ≡ MAX_STACK) }
         ensures faults { IfErr result (λ f. (f ≡ Fault.TooDeep) ⊎ (f ≡ Fault.OutOfMemory)) }
-        ensures within { length self.new.items ≤ max_stack }
+        ensures within { length self.new.items ≤ MAX_STACK }
     {
         if self.items.len() >= MAX_STACK {
             return Err(Fault::TooDeep);

@@ -1,6 +1,7 @@
 //! Operators on two texts.
 
 ghost use Rattle.std.specs.Prelude.{◌≡◌, ◌++◌};
+ghost use Rattle.ink_model.specs.Bytes as bytes;
 ghost use Rattle.ink_model.specs.Operator as rules;
 ghost use Rattle.ink_value.specs.Words.{Gives};
 
@@ -38,7 +39,7 @@ fn joined(alloc: Global, left: &str, right: &str) -> Result<Value, Fault>
 // Does a text stand in another?
 #[tactic(auto, using(crate::proofs::Standing::has_from_contains))]
 fn has(text: &str, part: &str) -> bool
-    ensures { result ≡ rules.has text.now part.now }
+    ensures { result ≡ bytes.has text.now part.now }
 {
     text.contains(part)
 }

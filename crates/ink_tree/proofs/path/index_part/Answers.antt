@@ -1,7 +1,7 @@
 use Rattle.std.proofs.Common.{ℕ, Ok, Err, inl, inr, arith}
 use Rattle.std.proofs.lemmas.Bool.{cases_lt}
 use Rattle.std.proofs.lemmas.Str.Parse.{parse_digits}
-use Rattle.ink_model.specs.Path.{number_from}
+use Rattle.ink_model.specs.Bytes.{number_from}
 use Rattle.ink_tree.proofs.Reading.{numerals, small_index, large_index}
 use Rattle.ink_tree.proofs.path.index_part.Goals as goal
 use Rattle.ink_tree.proofs.path.index_part.Goals.{in_default-via-in-Ok+else-index-le-MAX_INDEX, in_default-via-in_default}

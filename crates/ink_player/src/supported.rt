@@ -2,8 +2,8 @@
 
 ghost use Rattle.std.specs.Prelude.{◌≡◌, [], None, IfOk, option_map};
 ghost use Rattle.ink_check.specs.Words.{story_tree};
-ghost use Rattle.ink_model.specs.Played as rules;
-ghost use Rattle.ink_model.specs.Played.{unplayed, first_unplayed};
+ghost use Rattle.ink_model.specs.Supported as rules;
+ghost use Rattle.ink_model.specs.Supported.{unsupported, first_unsupported};
 ghost use Rattle.ink_model.specs.View.{view};
 ghost use Rattle.ink_tree.specs.Nodes as nodes;
 ghost use Rattle.ink_tree.specs.Nodes.{place_of};
@@ -16,8 +16,8 @@ use std::alloc::{AllocError, Global};
 /// The first place of a story, in reading order, whose content is not played yet; none where all of it is played
 /// (docs/STORY_FORMAT.md, "What is played"). The one error is a refused request for memory.
 pub fn runnable(alloc: Global, story: &Story) -> Result<Option<Place>, AllocError>
-    ensures first { IfOk result (λ p. p ≡ first_unplayed (story_tree story.now)) }
-    ensures all { IfOk result (λ p. p ≡ None → unplayed (story_tree story.now) ≡ []) }
+    ensures first { IfOk result (λ p. p ≡ first_unsupported (story_tree story.now)) }
+    ensures all { IfOk result (λ p. p ≡ None → unsupported (story_tree story.now) ≡ []) }
 {
     let tree = story.tree();
     let Some(spot) = unplayed_spot(tree) else {
@@ -28,7 +28,7 @@ pub fn runnable(alloc: Global, story: &Story) -> Result<Option<Place>, AllocErro
 }
 
 fn unplayed_spot(tree: &Tree) -> Option<Spot>
-    ensures { let s = nodes.story_tree tree.now in option_map (place_of s) result ≡ first_unplayed s }
+    ensures { let s = nodes.story_tree tree.now in option_map (place_of s) result ≡ first_unsupported s }
 {
     for number in 0..tree.len() {
         let spot = Spot {
@@ -43,7 +43,7 @@ fn unplayed_spot(tree: &Tree) -> Option<Spot>
 }
 
 fn is_played(found: Option<&Content>) -> bool
-    ensures { result ≡ rules.is_played (option_map (λ c. view c.now) found.entry) }
+    ensures { result ≡ rules.is_supported (option_map (λ c. view c.now) found.entry) }
 {
     match found {
         None => true,
@@ -53,7 +53,7 @@ fn is_played(found: Option<&Content>) -> bool
 }
 
 fn plays(leaf: &Leaf) -> bool
-    ensures { result ≡ rules.plays leaf.now }
+    ensures { result ≡ rules.supports leaf.now }
 {
     match leaf {
         Leaf::Text(_)
@@ -81,7 +81,7 @@ fn plays(leaf: &Leaf) -> bool
 }
 
 fn plays_control(control: Control) -> bool
-    ensures { result ≡ rules.plays_control control }
+    ensures { result ≡ rules.supports_control control }
 {
     match control {
         Control::BeginEval
