@@ -1,5 +1,5 @@
 -- Small worked examples of the rules, each proved by computation.
-use Rattle.std.specs.Prelude.{◌≡◌, ℤ, pos, negsuc, ℕ, zero, suc, ◌+◌, List, [], ◌∷◌, ◌++◌, refl, codes, true, false, Option, Some, None, Ok, Err}
+use Rattle.std.specs.Prelude.{◌≡◌, ℤ, pos, negsuc, ℕ, zero, suc, ◌+◌, List, [], ◌∷◌, ◌++◌, refl, codes, length, nat_lt, true, false, Option, Some, None, Ok, Err}
 use Rattle.std.proofs.Common.{inl, inr, ap, arith, zero-add, suc-add}
 use Rattle.std.proofs.lemmas.Str.{is_utf8-from_IsUtf8}
 use Rattle.std.specs.Char.{encode_utf8}
@@ -15,9 +15,11 @@ use Rattle.ink_model.specs.Mark.{cut}
 use Rattle.ink_model.specs.Clean.{clean}
 use Rattle.ink_model.specs.Configuration.{Configuration, with_mode, with_stack, with_globals, start, fresh_at, ended, with_safe, put_at, moved, settled, begun}
 use Rattle.ink_model.specs.Step.{Bound, Faults, push, step, go_on, nothing_bound, Next, Stop, with_page}
-use Rattle.ink_model.specs.Run.{Made, moment, next, run, through, cut_off, At, Stopped}
+use Rattle.ink_model.specs.Run.{Made, Moment, moment, next, run, through, cut_off, answered_at, At, Stopped}
 use Rattle.ink_model.specs.Command.{lines_of, command_of}
 use Rattle.ink_model.specs.Answer.{answer, Tells, Acts, Shows, Refuses, Breaks}
+use Rattle.ink_model.specs.Bytes.{fits_text}
+use Rattle.ink_model.specs.declared.limits.TheConstants.{MAX_STACK}
 use Rattle.ink_model.specs.Memory.{GetsTo, asks}
 use Rattle.ink_model.specs.Session.{Session, Serves, Set, Get, Restart, passage}
 use Rattle.ink_model.specs.State.{State, Ready, Broken}
@@ -39,6 +41,7 @@ use Rattle.ink_model.specs.declared.fault.Cause.TheVariants.{NotJson, Version, S
 use Rattle.ink_model.specs.declared.fault.Fault.TheVariants as fault
 use Rattle.ink_model.specs.declared.fault.Refusal.TheVariants as refusal
 use Rattle.ink_model.specs.declared.mark.Mark.TheVariants.{Text, Blank, Newline}
+use Rattle.ink_model.specs.declared.place.Part.{Part}
 use Rattle.ink_model.specs.declared.place.Part.TheVariants.{Index, Name}
 
 -- ---- a story: ["^Hi","\n",["done",{"#n":"g"}],null], and a container by key that flow never comes to
@@ -308,7 +311,7 @@ abbrev first_step : GetsTo small nothing_bound (begun (start small [])) [] (begu
 unfolding start fresh_at run asks entered
 first_step = record { steps = 0; within = omega arith; got_there = refl; asking = refl }
 
--- where memory is refused at some step, the fault says so, and the player is broken by it
+-- where memory is refused at some step, the fault is OutOfMemory, and the player is broken by it
 a_short_session : Session small nothing_bound [] (codes "through" ∷ codes "bye" ∷ []) (opened (start small []))
     (codes "{\"events\":[],\"fault\":\"OutOfMemory\"}\n" ++ bad_command) no_memory
 unfolding Serves start fresh_at answer serde_json_on_literals
@@ -439,13 +442,40 @@ an_opening = ap (λ m. opened_by declaring (cut_off m))
 abbrev with_x : State
 with_x = opened (start declaring ((codes "x", value.Int (pos 1)) ∷ []))
 
--- a bad value is told before an absent variable
+-- a bad value comes before an absent variable
 a_bad_value : Set (codes "y") None with_x (Refuses refusal.BadValue) with_x
 a_bad_value = (refl, refl)
 
 an_absent_variable : Set (codes "y") (Some (given.Int (pos 1))) with_x (Refuses refusal.NoSuchVariable) with_x
 unfolding start fresh_at
 an_absent_variable = (refl, refl)
+
+-- an answer of the host is pushed within the stack's limit, and no text over its limit is
+a_full_stack : (s : StoryTree) (p : List Part) (c : Configuration) → nat_lt (length c.flow.stack) MAX_STACK ≡ false
+    → answered_at s (value.Int (pos 1)) (Some p) c ≡ Faults fault.TooDeep
+unfolding push
+a_full_stack s p c full = rw full refl
+
+a_long_answer : (s : StoryTree) (p : List Part) (c : Configuration) (t : List ℕ) → fits_text t ≡ false
+    → answered_at s (value.Text t) (Some p) c ≡ Faults fault.TooDeep
+a_long_answer s p c t long = rw long refl
+
+-- declarations that fault leave the globals as they stood before the step that faulted
+abbrev declaring_half : StoryTree
+declaring_half = container None 0 no_trees (key (codes "global decl") (container None 0
+    (tree (leaf (leaves.Control control.BeginEval)) (tree (leaf (leaves.Int (pos 1))) (tree (leaf (leaves.Declare (codes "x")))
+    (tree (leaf (leaves.Declare (codes "y"))) no_trees)))) no_keys) no_keys)
+
+abbrev half_start : Configuration
+half_start = fresh_at (Name (codes "global decl") ∷ Index 0 ∷ [])
+
+abbrev half_moment : Moment
+half_moment = moment declaring_half nothing_bound half_start [] 4
+
+half_fault : opened_by declaring_half half_moment
+    ≡ Err (record { fault = fault.StackEmpty; globals = (codes "x", value.Int (pos 1)) ∷ [] })
+unfolding run step fresh_at entered push go_on next_place
+half_fault = refl
 
 -- a broken player still shows its globals, and begins anew
 a_broken_get : Get (codes "x") (record { condition = Broken fault.Divide ((codes "x", value.Int (pos 3)) ∷ []); stamp = 0 }) (Shows (value.Int (pos 3)))

@@ -139,7 +139,7 @@ sole [] = Err Shape
 sole (r ∷ []) = r
 sole (r ∷ q ∷ rs) = Err Shape
 
--- the heads that ink has beyond what is played
+-- the heads that ink has beyond what is supported
 abbrev pub is_beyond : Data → Bool
 is_beyond d = is_some (get (codes "list") d) || is_some (get (codes "#") d)
 

@@ -125,14 +125,14 @@ pub record GetsTo (s : StoryTree) (b : Bound) (c : Configuration) (made : List M
   pub got_there : moment s b c (answers_of made) steps ≡ At reached [] made
   pub asking : asks s reached ≡ true
 
--- A run stopped, and what it says is made in memory.
+-- A run stopped, and its passage is made in memory.
 pub record StopsAt (s : StoryTree) (b : Bound) (c : Configuration) (made : List Made) (reached : Configuration) : Type 0 where
   pub steps : ℕ
   pub within : steps ≤ MAX_STEPS
   pub got_there : moment s b c (answers_of made) steps ≡ Stopped reached [] made
 
--- The run of a command got as far as some moment of it, and there memory was refused: the fault says so, and the player
--- is broken by it, with the globals of that moment.
+-- The run of a command got as far as some moment of it, and there memory was refused: the fault is
+-- OutOfMemory, and the player is broken by it, with the globals of that moment.
 pub record FallsShort (s : StoryTree) (b : Bound) (c : Configuration) (made : List Made) (reply : Reply) (new : Condition) : Type 0 where
   pub reached : Configuration
   pub got_there : GetsTo s b (begun c) made reached ⊎ StopsAt s b (begun c) made reached

@@ -112,7 +112,7 @@ is_string x = is_string_kind x.kind
     is_string_kind string_section = true
     is_string_kind tag_section = false
 
--- a closed tag is told to the string that is open, or else is a mark
+-- a closed tag is handed out where a string is open, and else is a mark
 abbrev pub tagged : List ℕ → Page → Result (Option (List ℕ) × Page) Fault
 tagged t page = if list_any is_string page.sections then Ok (Some t, page) else marked (writes_marks (Tag t ∷ []) page)
   where
@@ -132,7 +132,7 @@ closes_tag_of page (x ∷ rest) = closes_tag_kind x.kind (clean (shown_text x.ma
 abbrev pub closes_tag : Page → Result (Option (List ℕ) × Page) Fault
 closes_tag page = closes_tag_of page page.sections
 
--- ---- what is told
+-- ---- what is asked of a page
 
 -- The line alone is open, and a Newline is shown in it that no Text or Tag follows.
 abbrev pub ends_line : Page → Bool

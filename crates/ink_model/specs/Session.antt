@@ -41,7 +41,7 @@ has_none (choice ∷ choices) = false
 abbrev pub is_loose : Configuration → Bool
 is_loose c = not (can_go_on c) && (has_none c.flow.choices && not c.flow.safe)
 
--- what is told of a configuration when a running command ends
+-- what a running command answers of the configuration in which it ends
 unfoldable pub passage : Configuration → Passage
 passage c = record {
   text = clean (shown_text c.page.line);
@@ -110,12 +110,12 @@ settable (given.Bool b) = true
 settable (given.Text t) = fits_text t
 settable given.Void = false
 
--- `set` of a value: a bad value is told before an absent variable; only storing it takes memory
+-- `set` of a value: a bad value comes before an absent variable; only storing it takes memory
 abbrev pub SetsIn : List ℕ → Given → Configuration → State → Reply → State → Type 0
 SetsIn name g c old reply new = MatchBool (settable g)
     (MatchBool (is_some (stored name c.shared.globals))
     (((reply ≡ Acts []) × (new ≡ with_condition (Ready (with_globals (store name (value_given g) c.shared.globals) c)) old))
-        ⊎ FailsAllocation old reply new)
+    ⊎ FailsAllocation old reply new)
     (Keeps (Refuses refusal.NoSuchVariable) old reply new))
     (Keeps (Refuses refusal.BadValue) old reply new)
 

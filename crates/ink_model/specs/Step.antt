@@ -73,7 +73,7 @@ done c = stop (with_safe true (put_at None c))
 abbrev pub with_page : Page → Configuration → Configuration
 with_page page c = record c { page = page }
 
--- the top frame is a function fresh in the open section, which is told by its depth
+-- the top frame is a function fresh in the open section, which its depth says
 abbrev pub is_function : FrameKind → Bool
 is_function Base = false
 is_function Function = true
@@ -252,7 +252,7 @@ perform_control s p control.Done c = done c
 perform_control s p control.End c = stop (ended c)
 perform_control s p o c = go_on s p c
 
--- what stands at a place is performed; content that is not played yet is passed over here, and kept out by `unplayed`
+-- what stands at a place is performed; content that is not supported yet is passed over here, and kept out by `unsupported`
 abbrev pub perform : StoryTree → Bound → List Part → Option StoryTree → Configuration → Outcome
 perform s b p None c = go_on s p c
 perform s b p (Some (container name flags content named)) c = go_on s p c

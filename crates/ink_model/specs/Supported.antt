@@ -47,7 +47,7 @@ is_supported (Some (leaf l)) = supports l
 abbrev pub is_unsupported : StoryTree → List Part → Bool
 is_unsupported s p = not (is_supported (at s p))
 
--- the places of content that is not played yet, in reading order
+-- the places of content that is not supported yet, in reading order
 unfoldable pub unsupported : StoryTree → List (List Part)
 unsupported s = filter (is_unsupported s) (places s)
 
@@ -58,7 +58,7 @@ first_unsupported s = slice_get (unsupported s) 0
 abbrev pub not_supported : List Part → ReadRefusal
 not_supported p = record { cause = Unsupported; place = p }
 
--- a story all of whose content is played, or the first content that is not
+-- a story all of whose content is supported, or the first content that is not
 unfoldable pub supported : StoryTree → Result StoryTree ReadRefusal
 supported s = first (map not_supported (unsupported s)) s
 
@@ -67,6 +67,6 @@ abbrev pub and_then : (StoryTree → Result StoryTree ReadRefusal) → Result St
 and_then asks (Ok s) = asks s
 and_then asks (Err r) = Err r
 
--- the story that bytes spell, accepted and all of it played, or the first reason against it: what is not played comes last
+-- the story that bytes spell, accepted and all of it supported, or the first reason against it: what is not supported comes last
 unfoldable pub supported_story : List ℕ → Result StoryTree ReadRefusal
 supported_story bytes = and_then supported (and_then accepted (story bytes))
