@@ -13,7 +13,7 @@ use Rattle.ink_model.specs.Leaves.{string_leaf}
 use Rattle.ink_model.specs.Word.{word, operator_word}
 use Rattle.ink_model.specs.Mark.{cut}
 use Rattle.ink_model.specs.Clean.{clean}
-use Rattle.ink_model.specs.Configuration.{Configuration, with_mode, with_stack, with_globals, start, fresh_at, ended, with_safe, put_at, moved, settled, begun}
+use Rattle.ink_model.specs.Configuration.{Configuration, with_mode, with_stack, with_globals, start, fresh_at, ended, with_safe, put_at, moved, settled, begun, can_go_on}
 use Rattle.ink_model.specs.Step.{Bound, Faults, push, step, go_on, nothing_bound, Next, Stop, with_page}
 use Rattle.ink_model.specs.Run.{Made, Moment, moment, next, run, through, cut_off, answered_at, At, Stopped}
 use Rattle.ink_model.specs.Command.{lines_of, command_of}
@@ -235,19 +235,24 @@ abbrev broken : State
 broken = record { condition = Broken fault.TooDeep []; stamp = 0 }
 
 -- where flow has stopped, running is refused, and so is a line that is no command; nothing changes
-a_session : Session small nothing_bound [] (codes "through" ∷ codes "bye" ∷ []) stopped (cannot ++ bad_command) stopped
-unfolding Serves start fresh_at
-a_session = (
+a_stopped_session : (c : Configuration) → can_go_on c ≡ false → let after : State = record { condition = Ready c; stamp = 0 } in
+    Session small nothing_bound [] (codes "through" ∷ codes "bye" ∷ []) after (cannot ++ bad_command) after
+unfolding Serves
+a_stopped_session c stays_there = let after : State = record { condition = Ready c; stamp = 0 } in (
   Refuses refusal.CannotContinue,
-  stopped,
+  after,
   bad_command,
   [],
   [],
   refl,
-  rw through_line (inl (refl, (refl, refl))),
+  rw through_line (inl (rw stays_there (refl, (refl, refl)))),
   rw a_refusal refl,
-  (Refuses refusal.BadCommand, stopped, [], [], [], refl, rw other_line (inl (refl, (refl, refl))), rw a_bad_command refl, (refl, refl, refl)),
+  (Refuses refusal.BadCommand, after, [], [], [], refl, rw other_line (inl (refl, (refl, refl))), rw a_bad_command refl, (refl, refl, refl)),
 )
+
+a_session : Session small nothing_bound [] (codes "through" ∷ codes "bye" ∷ []) stopped (cannot ++ bad_command) stopped
+unfolding start fresh_at
+a_session = a_stopped_session (put_at None (start small [])) refl
 
 -- after a fault a command that runs is answered by the fault
 a_broken_session : Session small nothing_bound [] (codes "through" ∷ []) broken (codes "{\"fault\":\"TooDeep\",\"refused\":\"Broken\"}\n") broken
@@ -291,17 +296,7 @@ a_whole_session = (
   refl,
   rw through_line (inl (inl (rw small_through (refl, refl, refl)), refl)),
   rw a_told_answer refl,
-  (
-    Refuses refusal.CannotContinue,
-    after_small,
-    bad_command,
-    [],
-    [],
-    refl,
-    rw through_line (inl (refl, (refl, refl))),
-    rw a_refusal refl,
-    (Refuses refusal.BadCommand, after_small, [], [], [], refl, rw other_line (inl (refl, (refl, refl))), rw a_bad_command refl, (refl, refl, refl)),
-  ),
+  a_stopped_session (settled small_end) refl,
 )
 
 abbrev no_memory : State
