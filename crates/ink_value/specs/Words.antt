@@ -1,7 +1,7 @@
 -- What values stand for, and which operators make a text of them.
-use Rattle.std.specs.Prelude.{ℕ, ℤ, List, [], ◌∷◌, Bool, true, false, ◌&&◌, ◌||◌, Option, Some, None}
+use Rattle.std.specs.Prelude.{ℕ, ℤ, List, [], ◌∷◌, Bool, true, false, ◌&&◌, ◌||◌, Option, Some, None, is_ok}
 use Rattle.std.specs.Fmt.{signed_decimal}
-use Rattle.ink_model.specs.Operator.{truth_number}
+use Rattle.ink_model.specs.Operator.{truth_number, of_texts}
 use Rattle.ink_model.specs.Value.{truth_text}
 use Rattle.ink_model.specs.declared.operator.Op.{Op}
 use Rattle.ink_model.specs.declared.operator.Op.TheVariants as op
@@ -38,14 +38,9 @@ abbrev pub is_join : Op → Bool
 is_join op.Add = true
 is_join operator = false
 
--- the operator has a result for two texts
+-- the operator is one on texts: it has a result for two that are empty
 abbrev pub is_for_texts : Op → Bool
-is_for_texts op.Add = true
-is_for_texts op.Equal = true
-is_for_texts op.NotEqual = true
-is_for_texts op.Has = true
-is_for_texts op.HasNot = true
-is_for_texts operator = false
+is_for_texts operator = is_ok (of_texts operator [] [])
 
 -- An operator makes a text of these values: it joins texts, or it prints the number beside a text.
 abbrev pub makes_text : Op → List Value → Bool
