@@ -17,7 +17,7 @@ use Rattle.ink_model.specs.declared.fault.Cause.TheVariants.{NotJson}
 use Rattle.ink_model.specs.declared.fault.Failure.{Failure}
 use Rattle.ink_model.specs.declared.fault.Failure.TheVariants.{OutOfMemory, Refused}
 use Rattle.ink_model.specs.declared.fault.ReadRefusal.{ReadRefusal}
-use Rattle.ink_json.specs.Reading.{is_text, is_parsed, FailsOr, Reads, ReadsOr}
+use Rattle.ink_json.specs.Reading.{is_parsable, is_parsed, FailsOr, Reads, ReadsOr}
 use Rattle.ink_json.specs.Size.{size, members_size}
 use Rattle.ink_json.proofs.Size.{read_size}
 use Rattle.ink_json.proofs.Tests.{not_above}
@@ -38,9 +38,9 @@ json_some bytes text d same utf8 is =
     rw (e, found) refl
 
 -- text of which there is a byte
-pub is_text_of : (bytes text : List ℕ) → text ≡ bytes → IsUtf8 bytes → 0 < length text → is_text bytes ≡ true
-is_text_of [] text same utf8 some = absurd (omega (arith, ap length same))
-is_text_of (c ∷ cs) text same utf8 some = let e = is_utf8-from_IsUtf8 (c ∷ cs) utf8 in rw e refl
+pub parsable : (bytes text : List ℕ) → text ≡ bytes → IsUtf8 bytes → 0 < length text → is_parsable bytes ≡ true
+parsable [] text same utf8 some = absurd (omega (arith, ap length same))
+parsable (c ∷ cs) text same utf8 some = let e = is_utf8-from_IsUtf8 (c ∷ cs) utf8 in rw e refl
 
 nothing_read : read [] ≡ None
 unfolding serde_json_on_literals
@@ -50,7 +50,7 @@ read_text : (bytes : List ℕ) (d : Data) → read bytes ≡ Some d → is_fille
 read_text [] d e = absurd (cc nothing_read)
 read_text (c ∷ cs) d e = refl
 
-json_text : (bytes : List ℕ) (b : Bool) (d : Data) → is_utf8 bytes ≡ b → json bytes ≡ Some d → is_text bytes ≡ true
+json_text : (bytes : List ℕ) (b : Bool) (d : Data) → is_utf8 bytes ≡ b → json bytes ≡ Some d → is_parsable bytes ≡ true
 json_text bytes true d e is = let found : read bytes ≡ Some d = rw e at is in rw (e, read_text bytes d found) refl
 json_text bytes false d e is = let none : None ≡ Some d = rw e at is in absurd cc
 
@@ -79,7 +79,7 @@ not_json None r e = let same : here NotJson ≡ r = cc in ap Err same
 not_json (Some d) r e = absurd cc
 
 -- where no value is found, there is no story
-pub no_story : (bytes : List ℕ) (e : Failure ReadRefusal) → length bytes ≤ MAX_STORY → FailsOr (is_text (unmarked bytes)) e (ok_or (json (unmarked bytes)) (here NotJson)) → FailsOr (is_parsed bytes) e (story bytes)
+pub no_story : (bytes : List ℕ) (e : Failure ReadRefusal) → length bytes ≤ MAX_STORY → FailsOr (is_parsable (unmarked bytes)) e (ok_or (json (unmarked bytes)) (here NotJson)) → FailsOr (is_parsed bytes) e (story bytes)
 unfolding story
 no_story bytes OutOfMemory h stops = rw (not_above MAX_STORY (length bytes) h) stops
 no_story bytes (Refused r) h stops = rw (not_above MAX_STORY (length bytes) h) (not_json (json (unmarked bytes)) r stops)

@@ -20,12 +20,12 @@ use Rattle.ink_model.specs.declared.fault.ReadRefusal.{ReadRefusal}
 use Rattle.ink_model.specs.declared.place.Part.{Part}
 
 -- there is a byte, and all are text
-abbrev pub is_text : List ℕ → Bool
-is_text bytes = is_utf8 bytes && is_filled bytes
+abbrev pub is_parsable : List ℕ → Bool
+is_parsable bytes = is_utf8 bytes && is_filled bytes
 
 -- The bytes are parsed as JSON, which takes memory: they are within the limit, and those behind the byte order mark are text.
 abbrev pub is_parsed : List ℕ → Bool
-is_parsed bytes = not (nat_lt MAX_STORY (length bytes)) && is_text (unmarked bytes)
+is_parsed bytes = not (nat_lt MAX_STORY (length bytes)) && is_parsable (unmarked bytes)
 
 -- a place is not the very place
 abbrev pub has_parts : List Part → Bool

@@ -6,7 +6,7 @@ ghost use Rattle.serde_json.specs.View.{view as json_view};
 ghost use Rattle.ink_model.specs.Leaves.{whole};
 ghost use Rattle.ink_model.specs.Grammar.{here, story, unmarked, json, of_value, root_of, is_blank_object, is_version};
 ghost use Rattle.ink_model.specs.View.{view};
-ghost use Rattle.ink_json.specs.Reading.{Reads, ReadsOr, is_text, is_parsed};
+ghost use Rattle.ink_json.specs.Reading.{Reads, ReadsOr, is_parsable, is_parsed};
 ghost use Rattle.ink_json.specs.Size.{size};
 ghost use Rattle.ink_json.specs.Story.{tree};
 
@@ -59,7 +59,7 @@ fn without_mark(bytes: &[u8]) -> &[u8]
 
 /// The value that bytes are in JSON. It is made of no more values than there are bytes, and one.
 fn read_json(alloc: Global, bytes: &[u8]) -> Result<Value, ReadFailure>
-    ensures value { ReadsOr (is_text bytes.now) json_view result (ok_or (json bytes.now) (here Cause.NotJson)) }
+    ensures value { ReadsOr (is_parsable bytes.now) json_view result (ok_or (json bytes.now) (here Cause.NotJson)) }
     ensures small { IfOk result (λ v. size (json_view v) ≤ length bytes.now + 1) }
 {
     let Ok(text) = str::from_utf8(bytes) else {

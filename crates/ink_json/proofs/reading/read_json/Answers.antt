@@ -1,6 +1,6 @@
 use Rattle.std.proofs.Common.{rules}
 use Rattle.serde_json.specs.View.{view}
-use Rattle.ink_json.proofs.Bytes.{json_none, json_some, json_size, is_text_of}
+use Rattle.ink_json.proofs.Bytes.{json_none, json_some, json_size, parsable}
 use Rattle.ink_json.proofs.reading.read_json.Goals as goal
 
 pub returns-in_default-clause-value : goal.returns-in_default-clause-value
@@ -13,4 +13,4 @@ pub returns-in-Ok-from_str-clause-small : goal.returns-in-Ok-from_str-clause-sma
 returns-in-Ok-from_str-clause-small c = json_size c.args.bytes.now c.in-Ok.text.now (view c.in-Ok-from_str.value) c.in-Ok.ensures.cases.0 c.in-Ok-from_str.ensures.ok
 
 pub returns-in-Err-clause-value : goal.returns-in-Err-clause-value
-returns-in-Err-clause-value c = is_text_of c.args.bytes.now c.in-Ok.text.now c.in-Ok.ensures.cases.0 c.in-Ok.ensures.cases.1 (c.in-Err.ensures.memory (search rules))
+returns-in-Err-clause-value c = parsable c.args.bytes.now c.in-Ok.text.now c.in-Ok.ensures.cases.0 c.in-Ok.ensures.cases.1 (c.in-Err.ensures.memory (search rules))
