@@ -9,12 +9,9 @@ ghost use Rattle.ink_out.specs.Opened.{section_kind};
 ghost use Rattle.ink_out.specs.Writing.{Notes};
 
 use crate::section::Section;
-use ink_model::{Fault, Mark, Text};
+use ink_model::{Fault, MAX_MARKS, Mark, Text};
 use std::alloc::{AllocError, Global};
 use std::marker::Model;
-
-// As many marks as the line may have.
-const MAX_MARKS: usize = 100_000;
 
 #[derive(Clone, Copy)]
 pub(crate) enum Kind {

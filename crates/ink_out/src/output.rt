@@ -5,26 +5,21 @@ ghost use Rattle.std.specs.List.{list_any};
 ghost use Rattle.ink_model.specs.Clean.{clean};
 ghost use Rattle.ink_model.specs.Configuration.{string_section, tag_section};
 ghost use Rattle.ink_model.specs.Mark.{cut, tags};
+ghost use Rattle.ink_model.specs.Memory.{Hands, Leaves};
 ghost use Rattle.ink_model.specs.Output.{writes_marks, writes_value, writes_text, writes_newline, writes_glue, begins_function, ends_function, opens, closes_string, closes_tag, prints_text, ends_line, empty_page, is_string, is_text, kept_text, let_through};
 ghost use Rattle.ink_model.specs.declared.limits.TheConstants.{MAX_MARKS};
 ghost use Rattle.ink_model.specs.Shown.{shown_text, is_shown, open_newline, more_from};
 ghost use Rattle.ink_model.specs.Value.{printed};
 ghost use Rattle.ink_out.specs.Opened.{section_kind};
-ghost use Rattle.ink_out.specs.Writing.{Leaves, Hands, closed};
+ghost use Rattle.ink_out.specs.Writing.{closed};
 
 use crate::cutting::cut_text;
 use crate::opened::{Kind, Opened, note, note_all, note_below};
 use crate::section::Section;
-use ink_model::{Fault, Mark, Seq, Text, Value};
+use ink_model::{Fault, MAX_SECTIONS, MAX_TEXT, Mark, Seq, Text, Value};
 use ink_value::printed;
 use std::alloc::{AllocError, Global};
 use std::marker::Model;
-
-// As many strings and tags as may be open.
-const MAX_SECTIONS: usize = 1_000;
-
-// As many bytes as a text may have.
-const MAX_TEXT: usize = 1_048_576;
 
 /// The text being written: the marks of the line, and the string and tag sections that are open on it. A contract sees the
 /// page.

@@ -5,4 +5,4 @@ use Rattle.ink_out.proofs.output.Output.newline.Goals as goal
 pub returns-then-fresh : goal.returns-then-fresh
 returns-then-fresh c =
     let written = nothing_written c.self.inside.line c.self.inside.sections.items c.self.inside.next_enter c.self.invariant in
-    rw (c.if-fresh.true, ← c.self.view_is, written) refl
+    rw (c.if-fresh.true, ← c.self.view_is, written) (refl, tt)
