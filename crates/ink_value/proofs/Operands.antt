@@ -6,7 +6,8 @@ use Rattle.ink_model.specs.declared.fault.Fault.{Fault}
 use Rattle.ink_model.specs.declared.operator.Op.{Op}
 use Rattle.ink_model.specs.declared.value.Value.{Value}
 use Rattle.ink_model.specs.declared.value.Value.TheVariants.{Int, Bool as Truth, Text, Target, Pointer, Void, Tag}
-use Rattle.ink_value.specs.Words.{Gives, number_of, number_text}
+use Rattle.ink_model.specs.Memory.{Gives}
+use Rattle.ink_value.specs.Words.{number_of, number_text}
 
 pub operand_number : (v : Value) (z : ℤ) → number_of v ≡ Some z → operand v ≡ number z (number_text v)
 operand_number (Int x) z h = cc
