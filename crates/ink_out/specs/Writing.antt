@@ -1,13 +1,21 @@
 -- The text being written, as contracts see it.
-use Rattle.std.specs.Prelude.{ℕ, List, drop, reverse, Result}
+use Rattle.std.specs.Prelude.{ℕ, List, [], Bool, true, false, drop, reverse, Result}
 use Rattle.ink_model.specs.Configuration.{Page, Section}
 use Rattle.ink_model.specs.Memory.{Leaves}
 use Rattle.ink_model.specs.Output.{writes_marks}
 use Rattle.ink_model.specs.declared.fault.Fault.{Fault}
 use Rattle.ink_model.specs.declared.mark.Mark.{Mark}
+use Rattle.ink_model.specs.declared.value.Value.{Value}
+use Rattle.ink_model.specs.declared.value.Value.TheVariants.{Void, Text}
 
 pub record Writing : Type 0 where
   pub page : Page
+
+-- a value that prints nothing: void, and a text without bytes
+abbrev pub prints_nothing : Value → Bool
+prints_nothing Void = true
+prints_nothing (Text []) = true
+prints_nothing v = false
 
 -- without the section that is open
 abbrev pub closed : Page → Page
