@@ -4,6 +4,7 @@ ghost use Rattle.std.specs.Prelude.{◌≡◌, [], ◌∷◌, ◌++◌, length, 
 ghost use Rattle.ink_model.specs.Clean.{clean};
 ghost use Rattle.ink_model.specs.Mark.{tags};
 ghost use Rattle.ink_model.specs.Shown.{is_shown, more_from, open_newline, shown_text};
+ghost use Rattle.ink_out.specs.Stands.{is_past};
 
 use crate::cleaning::clean_text;
 use crate::copying::copied_marks;
@@ -149,10 +150,7 @@ impl Section {
     pub(crate) fn more_from(&self, index: usize) -> bool
         ensures { result ≡ more_from self.now index }
     {
-        match self.state.more {
-            Some(at) => index <= at,
-            None => false,
-        }
+        is_past(index, self.state.more)
     }
 
     /// The shown text, cleaned (docs/TEXT.md). The one error is a refused request for memory, which is never made where
@@ -192,5 +190,15 @@ impl Section {
         self.past.clear();
         self.state = State::new();
         self.enters.clear();
+    }
+}
+
+// The index of the last text or tag, if there is one, is past an index or the same.
+fn is_past(index: usize, last: Option<usize>) -> bool
+    ensures { result ≡ is_past index last }
+{
+    match last {
+        Some(last) => index <= last,
+        None => false,
     }
 }
