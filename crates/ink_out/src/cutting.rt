@@ -3,14 +3,7 @@
 ghost use Rattle.std.specs.Prelude.{◌≡◌, [], ◌∷◌, ◌++◌, not, IfOk, OnOk, IfSome, is_some, slice_index};
 ghost use Rattle.std.specs.List.{list_any, prefix_len, suffix_len};
 ghost use Rattle.ink_model.specs.Mark.{cut, cut_end, piece};
-ghost use Rattle.ink_model.specs.Bytes.{has_newline};
-ghost use Rattle.ink_model.specs.Bytes.{is_blank};
-ghost use Rattle.ink_model.specs.Bytes.{is_newline};
-ghost use Rattle.ink_model.specs.Bytes.{is_white};
-ghost use Rattle.ink_model.specs.Bytes.{leading};
-ghost use Rattle.ink_model.specs.Bytes.{trailing};
-ghost use Rattle.ink_model.specs.Bytes.{trimmed};
-ghost use Rattle.ink_model.specs.Bytes.{without};
+ghost use Rattle.ink_model.specs.Bytes.{has_newline, is_blank, is_newline, is_white, leading, trailing, trimmed, without};
 
 use ink_model::{Mark, Text};
 use std::alloc::{AllocError, Global};
