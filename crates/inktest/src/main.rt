@@ -5,8 +5,15 @@
 //! are any. The status is 0 where none failed.
 #![tactic(auto)]
 
+mod answer;
+mod contents;
+mod forms;
 mod lines;
 mod operators;
+mod output;
+mod paths;
+mod refusals;
+mod stories;
 mod table;
 mod tally;
 mod words;
@@ -20,7 +27,15 @@ use table::run_table;
 use tally::Tally;
 
 /// The tables that are read where none are named.
-const TABLES: [&str; 1] = ["operators.txt"];
+const TABLES: [&str; 7] = [
+    "operators.txt",
+    "output.txt",
+    "forms.txt",
+    "refusals.txt",
+    "refusals_large.txt",
+    "paths.txt",
+    "stories.txt",
+];
 
 fn main(rt: HostRuntime) -> ExitCode {
     let mut tally = Tally::new();

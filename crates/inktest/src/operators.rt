@@ -1,45 +1,37 @@
 //! Values: operators on them, their truth, their printed text, copies of them, and the evaluation stack.
 
-use crate::words::{shown_fault, shown_value, value_of};
-use ink_model::{Fault, Op, Value};
+use crate::answer::{Answer, NoAnswer, append, told};
+use crate::words::{number, shown_value, value_of};
+use ink_model::{Op, Value};
 use ink_value::{EvalStack, apply, is_true, printed};
-use std::alloc::{AllocError, Global};
+use std::alloc::Global;
 
 /// The answer to an operator and its operands, `truth VALUE`, `printed VALUE`, `copied VALUE`, or `stack CALL..`.
-pub(crate) fn answer(alloc: Global, question: &str) -> Result<String, AllocError> {
+pub(crate) fn answer(alloc: Global, question: &str) -> Answer {
     let (word, rest) = question.split_once(' ').unwrap_or((question, ""));
     if word == "stack" {
         return stack_answers(alloc, rest);
     }
     let mut values = Vec::new(alloc);
     for value in rest.split_whitespace() {
-        match value_of(alloc, value)? {
-            Some(value) => values.push(value)?,
-            None => return format!(in alloc; "{value} is no value"),
-        }
+        values.push(value_of(alloc, value)?)?;
     }
-    match operator_of(word) {
-        Some(operator) => shown(alloc, apply(alloc, operator, values.as_slice())),
-        None => of_value(alloc, word, values.as_slice()),
-    }
+    let value = result_of(alloc, word, values.as_slice())?;
+    Ok(shown_value(alloc, &value)?)
 }
 
-fn shown(alloc: Global, outcome: Result<Value, Fault>) -> Result<String, AllocError> {
-    match outcome {
-        Ok(value) => shown_value(alloc, &value),
-        Err(fault) => shown_fault(alloc, fault),
+fn result_of(alloc: Global, word: &str, values: &[Value]) -> Result<Value, NoAnswer> {
+    if let Some(operator) = operator_of(word) {
+        return Ok(apply(alloc, operator, values)?);
     }
-}
-
-fn of_value(alloc: Global, word: &str, values: &[Value]) -> Result<String, AllocError> {
     let [value] = values else {
-        return format!(in alloc; "{word} of one value");
+        return Err(NoAnswer::NoQuestion);
     };
     match word {
-        "truth" => shown(alloc, is_true(value).map(Value::Bool)),
-        "printed" => shown(alloc, printed(alloc, value).map(Value::Text)),
-        "copied" => shown_value(alloc, &value.clone_in(alloc)?),
-        _ => format!(in alloc; "{word} is no operator"),
+        "truth" => Ok(Value::Bool(is_true(value)?)),
+        "printed" => Ok(Value::Text(printed(alloc, value)?)),
+        "copied" => Ok(value.clone_in(alloc)?),
+        _ => Err(NoAnswer::NoQuestion),
     }
 }
 
@@ -74,57 +66,32 @@ fn operator_of(word: &str) -> Option<Op> {
 // ---- the evaluation stack
 
 /// The answers of calls: `push:VALUE`, `fill:COUNT`, `pop`, `peek:DEPTH` and `len`.
-fn stack_answers(alloc: Global, calls: &str) -> Result<String, AllocError> {
+fn stack_answers(alloc: Global, calls: &str) -> Answer {
     let mut stack = EvalStack::new(alloc);
     let mut answers = String::new(alloc);
     for call in calls.split_whitespace() {
-        let answer = stack_answer(alloc, &mut stack, call)?;
-        if !answers.is_empty() {
-            answers.push(' ')?;
-        }
-        answers.push_str(answer.as_str())?;
+        let answer = told(alloc, stack_answer(alloc, &mut stack, call))?;
+        append(&mut answers, answer.as_str())?;
     }
     Ok(answers)
 }
 
-fn stack_answer(alloc: Global, stack: &mut EvalStack, call: &str) -> Result<String, AllocError> {
-    if let Some(value) = call.strip_prefix("push:") {
-        return match value_of(alloc, value)? {
-            Some(value) => done(alloc, stack.push(value)),
-            None => format!(in alloc; "{value} is no value"),
-        };
+fn stack_answer(alloc: Global, stack: &mut EvalStack, call: &str) -> Answer {
+    match call.split_once(':').unwrap_or((call, "")) {
+        ("push", value) => stack.push(value_of(alloc, value)?)?,
+        ("fill", count) => fill(stack, number(count)?)?,
+        ("peek", depth) => return Ok(shown_value(alloc, stack.peek(number(depth)?)?)?),
+        ("pop", _) => return Ok(shown_value(alloc, &stack.pop()?)?),
+        ("len", _) => return Ok(format!(in alloc; "{}", stack.len())?),
+        _ => return Err(NoAnswer::NoQuestion),
     }
-    if let Some(depth) = call.strip_prefix("peek:") {
-        return peeked(alloc, stack, depth.parse::<usize>().unwrap_or(usize::MAX));
-    }
-    if let Some(count) = call.strip_prefix("fill:") {
-        return done(alloc, fill(stack, count.parse::<i32>().unwrap_or(0)));
-    }
-    match call {
-        "pop" => shown(alloc, stack.pop()),
-        "len" => format!(in alloc; "{}", stack.len()),
-        _ => format!(in alloc; "{call} is no call"),
-    }
-}
-
-fn peeked(alloc: Global, stack: &EvalStack, depth: usize) -> Result<String, AllocError> {
-    match stack.peek(depth) {
-        Ok(value) => shown_value(alloc, value),
-        Err(fault) => shown_fault(alloc, fault),
-    }
+    Ok(String::from_str(alloc, "ok")?)
 }
 
 /// Pushes so many numbers, from 0 on.
-fn fill(stack: &mut EvalStack, count: i32) -> Result<(), Fault> {
+fn fill(stack: &mut EvalStack, count: i32) -> Result<(), NoAnswer> {
     for number in 0..count {
         stack.push(Value::Int(number))?;
     }
     Ok(())
-}
-
-fn done(alloc: Global, outcome: Result<(), Fault>) -> Result<String, AllocError> {
-    match outcome {
-        Ok(()) => String::from_str(alloc, "ok"),
-        Err(fault) => shown_fault(alloc, fault),
-    }
 }

@@ -18,7 +18,22 @@ pub(crate) struct Table<'t> {
 #[derive(Clone, Copy, PartialEq, Eq)]
 pub(crate) enum Kind {
     Operators,
+    Output,
+    Forms,
+    Refusals,
+    Paths,
+    Stories,
 }
+
+/// How the names of files begin, and the kinds that this tells.
+const KINDS: [(&str, Kind); 6] = [
+    ("operators", Kind::Operators),
+    ("output", Kind::Output),
+    ("forms", Kind::Forms),
+    ("refusals", Kind::Refusals),
+    ("paths", Kind::Paths),
+    ("stories", Kind::Stories),
+];
 
 impl<'t> Table<'t> {
     /// A case of this table: the line where it begins, counted from 1, and what it wants.
@@ -49,11 +64,12 @@ fn kind_of(file: &str) -> Option<Kind> {
         Some((_, name)) => name,
         None => file,
     };
-    if name.starts_with("operators") {
-        Some(Kind::Operators)
-    } else {
-        None
+    for (beginning, kind) in KINDS {
+        if name.starts_with(beginning) {
+            return Some(kind);
+        }
     }
+    None
 }
 
 fn read(files: &impl Files, alloc: Global, file: &str) -> io::Result<Vec<u8>> {
@@ -71,17 +87,11 @@ fn run_bytes(
     tally: &mut Tally,
 ) {
     match str::from_utf8(bytes) {
-        Ok(text) => run(rt, alloc, Table { kind, file, text }, tally),
+        Ok(text) => run_lines(rt, alloc, Table { kind, file, text }, tally),
         Err(_) => {
             let _ = println!(rt; "{file}: no text");
             tally.fail();
         }
-    }
-}
-
-fn run(rt: &impl Print, alloc: Global, table: Table<'_>, tally: &mut Tally) {
-    match table.kind {
-        Kind::Operators => run_lines(rt, alloc, table, tally),
     }
 }
 

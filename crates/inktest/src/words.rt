@@ -2,9 +2,14 @@
 //! `*` in front repeat what follows. A value is a number, `true`, `false`, `void`, `^TEXT`, `->PATH`, `&NAME:FRAME` or
 //! `#TEXT`. A place is its parts joined by dots, or `root`.
 
-use ink_model::{Fault, Part, ReadRefusal, Text, Value};
+use crate::answer::NoAnswer;
+use ink_model::{Part, Text, Value};
 use ink_tree::{print_path, read_path};
 use std::alloc::{AllocError, Global};
+use std::str::FromStr;
+
+/// Of the parts of a place that are all 0, the most that are shown one by one.
+const MOST_ZEROS: usize = 20;
 
 /// The longest text that is shown as it is.
 const MOST_SHOWN: usize = 99;
@@ -60,46 +65,38 @@ fn long(alloc: Global, text: &str) -> Result<String, AllocError> {
     }
 }
 
-/// A value of a table; none where the word is no value.
-pub(crate) fn value_of(alloc: Global, word: &str) -> Result<Option<Value>, AllocError> {
+/// A value of a table.
+pub(crate) fn value_of(alloc: Global, word: &str) -> Result<Value, NoAnswer> {
     if let Some(text) = word.strip_prefix('^') {
-        return Ok(Some(Value::Text(Text::from_string(decoded(alloc, text)?))));
+        return Ok(Value::Text(Text::from_string(decoded(alloc, text)?)));
     }
     if let Some(text) = word.strip_prefix('#') {
-        return Ok(Some(Value::Tag(Text::from_string(decoded(alloc, text)?))));
+        return Ok(Value::Tag(Text::from_string(decoded(alloc, text)?)));
     }
     if let Some(path) = word.strip_prefix("->") {
-        return target_of(alloc, path);
+        return Ok(Value::Target(read_path(alloc, path)?));
     }
     if let Some(pointer) = word.strip_prefix('&') {
-        return pointer_of(alloc, pointer);
+        let (name, frame) = pointer.split_once(':').ok_or(NoAnswer::NoQuestion)?;
+        return Ok(Value::Pointer(Text::from_str(alloc, name)?, number(frame)?));
     }
     Ok(match word {
-        "true" => Some(Value::Bool(true)),
-        "false" => Some(Value::Bool(false)),
-        "void" => Some(Value::Void),
-        number => number.parse::<i32>().ok().map(Value::Int),
+        "true" => Value::Bool(true),
+        "false" => Value::Bool(false),
+        "void" => Value::Void,
+        digits => Value::Int(number(digits)?),
     })
 }
 
-fn target_of(alloc: Global, path: &str) -> Result<Option<Value>, AllocError> {
-    match read_path(alloc, path) {
-        Ok(path) => Ok(Some(Value::Target(path))),
-        Err(refusal) => {
-            unless_memory(&refusal)?;
-            Ok(None)
-        }
+/// A number of a table.
+pub(crate) fn number<N: FromStr>(digits: &str) -> Result<N, NoAnswer>
+where
+    N::Err: Drop,
+{
+    match digits.parse::<N>() {
+        Ok(number) => Ok(number),
+        Err(_) => Err(NoAnswer::NoQuestion),
     }
-}
-
-fn pointer_of(alloc: Global, pointer: &str) -> Result<Option<Value>, AllocError> {
-    let Some((name, frame)) = pointer.split_once(':') else {
-        return Ok(None);
-    };
-    let Ok(frame) = frame.parse::<i32>() else {
-        return Ok(None);
-    };
-    Ok(Some(Value::Pointer(Text::from_str(alloc, name)?, frame)))
 }
 
 /// A value as a table has it.
@@ -143,6 +140,9 @@ pub(crate) fn shown_parts(alloc: Global, parts: &[Part]) -> Result<String, Alloc
     if parts.is_empty() {
         return String::from_str(alloc, "root");
     }
+    if parts.len() > MOST_ZEROS && parts.iter().all(is_first) {
+        return format!(in alloc; "{}*0", parts.len());
+    }
     let mut text = String::new(alloc);
     for part in parts {
         if !text.is_empty() {
@@ -156,18 +156,6 @@ pub(crate) fn shown_parts(alloc: Global, parts: &[Part]) -> Result<String, Alloc
     Ok(text)
 }
 
-/// A fault by its name, unless it is the want of memory.
-pub(crate) fn shown_fault(alloc: Global, fault: Fault) -> Result<String, AllocError> {
-    if fault == Fault::OutOfMemory {
-        return Err(AllocError);
-    }
-    format!(in alloc; "{fault}")
-}
-
-/// An error where a story or a path is refused for want of memory.
-pub(crate) fn unless_memory(refusal: &ReadRefusal) -> Result<(), AllocError> {
-    if refusal.cause == ink_model::Cause::OutOfMemory {
-        return Err(AllocError);
-    }
-    Ok(())
+fn is_first(part: &Part) -> bool {
+    matches!(part, Part::Index(0))
 }
