@@ -3,9 +3,8 @@
 use crate::answer::{Answer, NoAnswer, append};
 use crate::contents::shown_content;
 use crate::words::{number, parts_of, shown_parts};
-use ink_check::{Story, check};
+use ink_check::check;
 use ink_json::read_story;
-use ink_player::runnable;
 use ink_tree::{NodeId, Spot, Tree, read_path};
 use std::alloc::{AllocError, Global};
 
@@ -17,7 +16,7 @@ use std::alloc::{AllocError, Global};
 /// - `start`, `land PLACE`, `next PLACE`: where flow starts, lands and goes on
 /// - `entered PLACE PLACE`: the containers that a landing at the second enters, coming from the first, which may be `nowhere`
 /// - `resolve PLACE PATH`: where a path of the content there leads
-/// - `target NODE`: where the written path of a content leads; `runnable`: the first content that can't be run
+/// - `target NODE`: where the written path of a content leads
 ///
 /// A node is a number, a spot a node, and behind a colon perhaps an index.
 pub(crate) fn answer(alloc: Global, story: &str, question: &str) -> Answer {
@@ -28,18 +27,11 @@ pub(crate) fn answer(alloc: Global, story: &str, question: &str) -> Answer {
             let parts = parts_of(alloc, rest)?;
             Ok(shown_content(alloc, raw.at(parts.as_slice()))?)
         }
-        "target" | "runnable" => of_story(alloc, &check(alloc, raw)?, word, rest),
+        "target" => {
+            let story = check(alloc, raw)?;
+            shown_target(alloc, story.tree(), story.target(node_of(rest)?))
+        }
         _ => of_tree(alloc, &Tree::build(alloc, raw)?, word, rest),
-    }
-}
-
-fn of_story(alloc: Global, story: &Story, word: &str, rest: &str) -> Answer {
-    if word == "target" {
-        return shown_target(alloc, story.tree(), story.target(node_of(rest)?));
-    }
-    match runnable(alloc, story)? {
-        Some(place) => Ok(shown_parts(alloc, place.parts())?),
-        None => Ok(String::from_str(alloc, "yes")?),
     }
 }
 
