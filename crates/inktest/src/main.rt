@@ -27,9 +27,10 @@ use table::run_table;
 use tally::Tally;
 
 /// The tables that are read where none are named.
-const TABLES: [&str; 7] = [
+const TABLES: [&str; 8] = [
     "operators.txt",
     "output.txt",
+    "output_large.txt",
     "forms.txt",
     "refusals.txt",
     "refusals_large.txt",
