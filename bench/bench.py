@@ -9,10 +9,13 @@ Each time is the least of three runs, in milliseconds, with the program's start 
 within one run.
 """
 import os
-import shutil
 import subprocess
 import sys
 import time
+
+TOP = os.path.dirname(os.path.dirname(os.path.abspath(__file__)))
+sys.path.insert(0, os.path.join(TOP, "tests"))
+import toolchain
 
 MIB = 1 << 20
 SIZES = (1, 4, 16)
@@ -96,18 +99,16 @@ def row(name, times):
     print("%-34s %s %8.2f" % (name, " ".join("%9.1f" % t for t in times), times[-1] / times[-2]))
 
 
-def worker_of(top):
+def worker_of():
     """The program that does the work to be timed, proved and built first."""
-    crate = os.path.join(top, "crates/inkbench")
-    rt = shutil.which("rt") or "/opt/rattle/bin/rt"
-    subprocess.run([rt, "run"], cwd=crate, stdin=subprocess.DEVNULL, stdout=subprocess.DEVNULL, stderr=subprocess.DEVNULL, check=True)
+    crate = os.path.join(TOP, "crates/inkbench")
+    subprocess.run([toolchain.rt(), "run"], cwd=crate, stdin=subprocess.DEVNULL, stdout=subprocess.DEVNULL, stderr=subprocess.DEVNULL, check=True)
     return os.path.join(crate, "out/inkbench")
 
 
 def main():
-    top = os.path.dirname(os.path.dirname(os.path.abspath(__file__)))
-    program = sys.argv[1] if len(sys.argv) > 1 else os.path.join(top, "inkplay")
-    worker = sys.argv[2] if len(sys.argv) > 2 else worker_of(top)
+    program = sys.argv[1] if len(sys.argv) > 1 else os.path.join(TOP, "inkplay")
+    worker = sys.argv[2] if len(sys.argv) > 2 else worker_of()
     best(program, '{"inkVersion":21,"root":["done",null]}\n')  # built, and in the cache
     print("%-34s %s %8s" % ("ms", " ".join("%5d MiB" % s for s in SIZES), "16 / 4"))
     for name, make in (("texts of 200 bytes", long_texts), ("texts of 4 bytes", short_texts),

@@ -12,10 +12,11 @@ last line tells the number of runs; the status is 0 only where all hold.
 """
 import json
 import os
-import shutil
 import subprocess
 import sys
 import tempfile
+
+import toolchain
 
 SHIM = r"""
 #define _GNU_SOURCE
@@ -93,7 +94,7 @@ def test_binary(top):
     crate = os.path.join(top, "crates/ink_player")
     binary = os.path.join(crate, "out/ink_player_tests")
     if not os.path.exists(binary):
-        subprocess.run([shutil.which("rt") or "/opt/rattle/bin/rt", "test"], cwd=crate, stdout=subprocess.DEVNULL, check=True)
+        subprocess.run([toolchain.rt(), "test"], cwd=crate, stdout=subprocess.DEVNULL, check=True)
     return binary
 
 
