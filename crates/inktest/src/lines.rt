@@ -1,6 +1,7 @@
 //! Tables with a case a line: a question, ` => ` and the answer that is wanted.
 
 use crate::operators;
+use crate::sizes;
 use crate::table::{Kind, Table};
 use crate::tally::{Tally, Verdict};
 use std::alloc::{AllocError, Global};
@@ -28,5 +29,7 @@ fn verdict(alloc: Global, kind: Kind, question: &str, wanted: &str) -> Verdict {
 fn answer(alloc: Global, kind: Kind, question: &str) -> Result<String, AllocError> {
     match kind {
         Kind::Operators => operators::answer(alloc, question),
+        Kind::Sizes => sizes::answer(alloc, question),
+        Kind::Sessions => format!(in alloc; "no line"),
     }
 }

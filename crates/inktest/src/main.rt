@@ -5,8 +5,15 @@
 //! are any. The status is 0 where none failed.
 #![tactic(auto)]
 
+mod calls;
+mod ends;
 mod lines;
 mod operators;
+mod repeats;
+mod session;
+mod sessions;
+mod sizes;
+mod streams;
 mod table;
 mod tally;
 mod words;

@@ -1,6 +1,7 @@
 //! Tables: what kind of cases a file has, and running them.
 
 use crate::lines::run_lines;
+use crate::sessions::run_sessions;
 use crate::tally::{Case, Tally};
 use std::alloc::Global;
 use std::fs::{File, Files};
@@ -18,6 +19,8 @@ pub(crate) struct Table<'t> {
 #[derive(Clone, Copy, PartialEq, Eq)]
 pub(crate) enum Kind {
     Operators,
+    Sessions,
+    Sizes,
 }
 
 impl<'t> Table<'t> {
@@ -51,6 +54,10 @@ fn kind_of(file: &str) -> Option<Kind> {
     };
     if name.starts_with("operators") {
         Some(Kind::Operators)
+    } else if name.starts_with("sessions") {
+        Some(Kind::Sessions)
+    } else if name.starts_with("sizes") {
+        Some(Kind::Sizes)
     } else {
         None
     }
@@ -81,7 +88,8 @@ fn run_bytes(
 
 fn run(rt: &impl Print, alloc: Global, table: Table<'_>, tally: &mut Tally) {
     match table.kind {
-        Kind::Operators => run_lines(rt, alloc, table, tally),
+        Kind::Operators | Kind::Sizes => run_lines(rt, alloc, table, tally),
+        Kind::Sessions => run_sessions(rt, alloc, table, tally),
     }
 }
 
