@@ -59,12 +59,13 @@ fn differing(
     if !came.as_str().ends_with("OutOfMemory") {
         return Ok(Verdict::Differs(format!(in alloc; "{call}: {came}")?));
     }
-    Ok(match player {
-        Some(player) if call == "through" && !is_broken(player) => {
-            Verdict::Differs(String::from_str(alloc, "not broken by the want of memory")?)
+    if let Some(player) = player {
+        if call == "through" && !is_broken(player) {
+            let said = String::from_str(alloc, "not broken by the want of memory")?;
+            return Ok(Verdict::Differs(said));
         }
-        _ => Verdict::OutOfMemory,
-    })
+    }
+    Ok(Verdict::OutOfMemory)
 }
 
 /// Whether the want of memory has broken a player.
@@ -109,7 +110,10 @@ fn named_answer(alloc: Global, player: &mut Player, call: &str) -> Result<String
     if let Some(name) = call.strip_prefix("get ") {
         return got(alloc, player.get(name));
     }
-    let Some((name, value)) = call.strip_prefix("set ").and_then(|rest| rest.split_once(' ')) else {
+    let Some((name, value)) = call
+        .strip_prefix("set ")
+        .and_then(|rest| rest.split_once(' '))
+    else {
         return String::from_str(alloc, "no call");
     };
     let Some(value) = given(alloc, value)? else {
@@ -179,10 +183,7 @@ fn shown_passage(alloc: Global, passage: &Passage) -> Result<String, AllocError>
 fn shown_halt(alloc: Global, halt: Halt) -> Result<String, AllocError> {
     match halt {
         Halt::Refused(refusal) => shown_refusal(alloc, refusal),
-        Halt::Fault { fault, events } if events.as_slice().is_empty() => {
-            format!(in alloc; "fault {fault}")
-        }
-        Halt::Fault { fault, events: _ } => format!(in alloc; "events and fault {fault}"),
+        Halt::Fault { fault, events: _ } => format!(in alloc; "fault {fault}"),
     }
 }
 
@@ -229,7 +230,13 @@ fn opened(alloc: Global, story: &[u8]) -> Result<String, AllocError> {
             player.close().close();
             String::from_str(alloc, "opened")
         }
-        Err(OpenFault { fault, story: _, desk }) => {
+        Err(
+            OpenFault {
+                fault,
+                story: _,
+                desk,
+            },
+        ) => {
             desk.close();
             format!(in alloc; "fault {fault}")
         }

@@ -1,9 +1,8 @@
 //! Tables with a case a line: a question, ` => ` and the answer that is wanted.
 
-use crate::operators;
-use crate::sizes;
 use crate::table::{Kind, Table};
 use crate::tally::{Tally, Verdict};
+use crate::{operators, sizes};
 use std::alloc::{AllocError, Global};
 
 /// Runs the cases of a table.

@@ -24,12 +24,7 @@ use std::alloc::{AllocError, Global};
 const SHORT: usize = 65_536;
 
 /// Plays the sessions of a table.
-pub(crate) fn run_sessions(
-    rt: &impl Print,
-    alloc: Global,
-    table: Table<'_>,
-    tally: &mut Tally,
-) {
+pub(crate) fn run_sessions(rt: &impl Print, alloc: Global, table: Table<'_>, tally: &mut Tally) {
     let mut session: Option<Session<'_>> = None;
     for (index, line) in table.text.lines().enumerate() {
         if let Some(name) = line.strip_prefix("= ") {
@@ -130,7 +125,12 @@ fn played(
 }
 
 fn played_verdict(alloc: Global, session: &Session<'_>) -> Result<Verdict, AllocError> {
-    played(alloc, whole(&session.input), page(alloc), Wanted::of(session))
+    played(
+        alloc,
+        whole(&session.input),
+        page(alloc),
+        Wanted::of(session),
+    )
 }
 
 /// Plays by few bytes at a time, and by `open_story` and `run`.
@@ -243,9 +243,11 @@ fn compared(
     if writer.found_none || end.is_want || says_want(line) {
         return Ok(Verdict::OutOfMemory);
     }
-    Ok(Verdict::Differs(
-        format!(in alloc; "{}, ended {:?}", start_of(alloc, line)?, end.text.as_str())?,
-    ))
+    Ok(Verdict::Differs(format!(in alloc;
+        "{}, ended {:?}",
+        start_of(alloc, line)?,
+        end.text.as_str()
+    )?))
 }
 
 /// The first line that is not the one that is wanted there.

@@ -1,7 +1,8 @@
 //! Sessions of a size: long answers, lines that end at the edge of what is read at once, many globals.
 
 use super::{Failed, story_of};
-use ink_model::{Fault, Given, Halt, Refusal, Text, Value};
+use crate::words::shown_value;
+use ink_model::{Fault, Given, Halt, Refusal, Text};
 use ink_player::{Desk, PlayEnd, PlayFault, Player, RunFault, open_story, play};
 use std::alloc::{AllocError, Global};
 
@@ -9,9 +10,12 @@ use std::alloc::{AllocError, Global};
 const MEBIBYTE: usize = 1_048_576;
 
 const NO_VARIABLE: &str = "{\"refused\":\"NoSuchVariable\"}\n";
+
 const CANNOT: &str = "{\"refused\":\"CannotContinue\"}\n";
+
 const NOTHING: &str =
     "{\"choices\":[],\"events\":[],\"loose\":false,\"more\":false,\"tags\":[],\"text\":\"\"}\n";
+
 const DONE: &str = r#"{"inkVersion":21,"root":["done",null]}"#;
 
 /// What is said of a session of this kind and size; none where it is another kind.
@@ -54,7 +58,10 @@ fn played(alloc: Global, input: &str, wanted: &str) -> Result<String, Failed> {
     if writer.as_slice() == wanted.as_bytes() {
         return Ok(String::from_str(alloc, "as wanted")?);
     }
-    if str::from_utf8(&writer).unwrap_or("").contains("OutOfMemory") {
+    if str::from_utf8(&writer)
+        .unwrap_or("")
+        .contains("OutOfMemory")
+    {
         return Err(Failed::Fault(Fault::OutOfMemory));
     }
     Ok(String::from_str(alloc, "other answers")?)
@@ -159,23 +166,20 @@ fn globals(alloc: Global, number: usize) -> Result<String, Failed> {
 
 fn globals_said(alloc: Global, player: &mut Player, number: usize) -> Result<String, Failed> {
     let name = format!(in alloc; "v{}", number.saturating_sub(1))?;
-    let first = got(player, "v0")?;
-    let last = got(player, name.as_str())?;
+    let first = got(alloc, player, "v0")?;
+    let last = got(alloc, player, name.as_str())?;
     done(player.set(name.as_str(), Given::Int(-1)).is_ok())?;
-    let set = got(player, name.as_str())?;
+    let set = got(alloc, player, name.as_str())?;
     done(player.restart().is_ok())?;
-    let again = got(player, name.as_str())?;
+    let again = got(alloc, player, name.as_str())?;
     Ok(format!(in alloc; "{first} to {last}, {set} and {again} again")?)
 }
 
-/// A global's number, and of a text its length.
-fn got(player: &Player, name: &str) -> Result<i64, Failed> {
+fn got(alloc: Global, player: &Player, name: &str) -> Result<String, Failed> {
     match player.get(name) {
-        Ok(Value::Int(number)) => Ok(i64::from(number)),
-        Ok(Value::Text(text)) => Ok(i64::try_from(text.as_str().len()).unwrap_or(-2)),
-        Ok(_) => Ok(-3),
+        Ok(value) => Ok(shown_value(alloc, &value)?),
         Err(Refusal::OutOfMemory) => Err(Failed::Fault(Fault::OutOfMemory)),
-        Err(_) => Ok(-4),
+        Err(refusal) => Ok(format!(in alloc; "{refusal}")?),
     }
 }
 
@@ -189,7 +193,8 @@ fn done(is_done: bool) -> Result<(), Failed> {
 
 /// A global is set to a text of so many bytes.
 fn global_text(alloc: Global, number: usize) -> Result<String, Failed> {
-    let story = r#"{"inkVersion":21,"root":["done",{"global decl":["ev",1,{"VAR=":"x"},"/ev","end",null]}]}"#;
+    let story =
+        r#"{"inkVersion":21,"root":["done",{"global decl":["ev",1,{"VAR=":"x"},"/ev","end",null]}]}"#;
     let mut player = opened(alloc, story)?;
     let said = text_said(alloc, &mut player, number);
     player.close().close();
@@ -205,5 +210,5 @@ fn text_said(alloc: Global, player: &mut Player, number: usize) -> Result<String
         }
         Err(_) => return Ok(String::from_str(alloc, "not set")?),
     }
-    Ok(format!(in alloc; "{} bytes", got(player, "x")?)?)
+    got(alloc, player, "x")
 }

@@ -10,11 +10,7 @@ use ink_tree::{NodeId, Spot, Tree, read_path};
 use std::alloc::{AllocError, Global};
 
 /// What is said of a story of this kind and size; none where it is another kind.
-pub(super) fn of_story(
-    alloc: Global,
-    kind: &str,
-    number: usize,
-) -> Result<Option<String>, Failed> {
+pub(super) fn of_story(alloc: Global, kind: &str, number: usize) -> Result<Option<String>, Failed> {
     Ok(Some(match kind {
         "contents" => contents(alloc, story_of(alloc, number, r#""^x","#, "null")?.as_str())?,
         "numbers" => contents(alloc, story_of(alloc, number, "1,", "null")?.as_str())?,
