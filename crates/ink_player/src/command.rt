@@ -6,9 +6,6 @@ ghost use Rattle.serde_json.specs.View.{view, number_view};
 ghost use Rattle.ink_model.specs.Command.{command_of, command_word, after as after_word, at_space as parts_at_space, get_command as get_of, set_command as set_of, given_of as given_in, given_by as given_from, given_integer, given_text};
 ghost use Rattle.ink_player.specs.Commands.{NeedsMemory};
 
-#[cfg(test)]
-mod tests;
-
 use ink_model::{Command, Given, Text};
 use serde_json::{Number, Value};
 use std::alloc::{AllocError, Global};

@@ -9,9 +9,6 @@ ghost use Rattle.ink_player.specs.Words.{state_of, story_of};
 ghost use Rattle.ink_player.specs.Lines.{reads_fail};
 ghost use Rattle.ink_player.specs.Serving.{Answers, Turns, Runs, max_input, writes_fail};
 
-#[cfg(test)]
-mod tests;
-
 use crate::answer::{Outcome, answer_text};
 use crate::command::read_command;
 use crate::end::RunFault;

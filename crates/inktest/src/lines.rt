@@ -1,9 +1,9 @@
 //! Tables with a case a line: a question, ` => ` and the answer that is wanted.
 
-use crate::answer::{Answer, told};
+use crate::answer::{Answer, NoAnswer, told};
 use crate::table::{Kind, Table};
 use crate::tally::{Tally, Verdict};
-use crate::{forms, operators, output, paths, refusals, stories};
+use crate::{forms, operators, output, paths, refusals, sizes, stories};
 use std::alloc::Global;
 
 /// Runs the cases of a table. In a table of stories a line that begins with `{` is no case but the story of the lines below.
@@ -39,5 +39,7 @@ fn answer(alloc: Global, kind: Kind, story: &str, question: &str) -> Answer {
         Kind::Refusals => refusals::answer(alloc, question),
         Kind::Paths => paths::answer(alloc, question),
         Kind::Stories => stories::answer(alloc, story, question),
+        Kind::Sizes => sizes::answer(alloc, question),
+        Kind::Sessions => Err(NoAnswer::NoQuestion),
     }
 }

@@ -6,14 +6,21 @@
 #![tactic(auto)]
 
 mod answer;
+mod calls;
 mod contents;
+mod ends;
 mod forms;
 mod lines;
 mod operators;
 mod output;
 mod paths;
 mod refusals;
+mod repeats;
+mod session;
+mod sessions;
+mod sizes;
 mod stories;
+mod streams;
 mod table;
 mod tally;
 mod words;
@@ -27,7 +34,7 @@ use table::run_table;
 use tally::Tally;
 
 /// The tables that are read where none are named.
-const TABLES: [&str; 8] = [
+const TABLES: [&str; 14] = [
     "operators.txt",
     "output.txt",
     "output_large.txt",
@@ -36,6 +43,12 @@ const TABLES: [&str; 8] = [
     "refusals_large.txt",
     "paths.txt",
     "stories.txt",
+    "sessions.txt",
+    "sessions_calls.txt",
+    "sessions_cut.txt",
+    "sessions_limits.txt",
+    "sessions_refused.txt",
+    "sizes.txt",
 ];
 
 fn main(rt: HostRuntime) -> ExitCode {

@@ -1,6 +1,7 @@
 //! Tables: what kind of cases a file has, and running them.
 
 use crate::lines::run_lines;
+use crate::sessions::run_sessions;
 use crate::tally::{Case, Tally};
 use std::alloc::Global;
 use std::fs::{File, Files};
@@ -23,16 +24,20 @@ pub(crate) enum Kind {
     Refusals,
     Paths,
     Stories,
+    Sizes,
+    Sessions,
 }
 
 /// How the names of files begin, and the kinds that this tells.
-const KINDS: [(&str, Kind); 6] = [
+const KINDS: [(&str, Kind); 8] = [
     ("operators", Kind::Operators),
     ("output", Kind::Output),
     ("forms", Kind::Forms),
     ("refusals", Kind::Refusals),
     ("paths", Kind::Paths),
     ("stories", Kind::Stories),
+    ("sizes", Kind::Sizes),
+    ("sessions", Kind::Sessions),
 ];
 
 impl<'t> Table<'t> {
@@ -87,11 +92,18 @@ fn run_bytes(
     tally: &mut Tally,
 ) {
     match str::from_utf8(bytes) {
-        Ok(text) => run_lines(rt, alloc, Table { kind, file, text }, tally),
+        Ok(text) => run_cases(rt, alloc, Table { kind, file, text }, tally),
         Err(_) => {
             let _ = println!(rt; "{file}: no text");
             tally.fail();
         }
+    }
+}
+
+fn run_cases(rt: &impl Print, alloc: Global, table: Table<'_>, tally: &mut Tally) {
+    match table.kind {
+        Kind::Sessions => run_sessions(rt, alloc, table, tally),
+        _ => run_lines(rt, alloc, table, tally),
     }
 }
 
