@@ -153,13 +153,17 @@ fn given(alloc: Global, word: &str) -> Result<Option<Given>, AllocError> {
     let mut bytes = Vec::new(alloc);
     expand(&mut bytes, word)?;
     let word = str::from_utf8(&bytes).unwrap_or("");
-    Ok(match value_of(alloc, word)? {
-        Some(Value::Int(number)) => Some(Given::Int(number)),
-        Some(Value::Bool(truth)) => Some(Given::Bool(truth)),
-        Some(Value::Text(text)) => Some(Given::Text(text)),
-        Some(Value::Void) => Some(Given::Void),
-        _ => None,
-    })
+    Ok(value_of(alloc, word)?.and_then(given_of))
+}
+
+fn given_of(value: Value) -> Option<Given> {
+    match value {
+        Value::Int(number) => Some(Given::Int(number)),
+        Value::Bool(truth) => Some(Given::Bool(truth)),
+        Value::Text(text) => Some(Given::Text(text)),
+        Value::Void => Some(Given::Void),
+        _other => None,
+    }
 }
 
 fn shown_passage(alloc: Global, passage: &Passage) -> Result<String, AllocError> {
