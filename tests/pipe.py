@@ -45,7 +45,7 @@ def is_silent(pipe, held):
 
 def send(pipe, text, pieces):
     """Sends a text in so many pieces, some time apart."""
-    size = -(-len(text) // pieces)
+    size = max(1, -(-len(text) // pieces))
     for at in range(0, len(text), size):
         pipe.write(text[at:at + size])
         pipe.flush()

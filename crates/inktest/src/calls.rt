@@ -155,12 +155,19 @@ fn given(alloc: Global, word: &str) -> Result<Option<Given>, AllocError> {
     expand(&mut bytes, word)?;
     let word = str::from_utf8(&bytes).unwrap_or("");
     match value_of(alloc, word) {
-        Ok(Value::Int(number)) => Ok(Some(Given::Int(number))),
-        Ok(Value::Bool(truth)) => Ok(Some(Given::Bool(truth))),
-        Ok(Value::Text(text)) => Ok(Some(Given::Text(text))),
-        Ok(Value::Void) => Ok(Some(Given::Void)),
+        Ok(value) => Ok(given_of(value)),
         Err(NoAnswer::OutOfMemory) => Err(AllocError),
-        _ => Ok(None),
+        Err(_) => Ok(None),
+    }
+}
+
+fn given_of(value: Value) -> Option<Given> {
+    match value {
+        Value::Int(number) => Some(Given::Int(number)),
+        Value::Bool(truth) => Some(Given::Bool(truth)),
+        Value::Text(text) => Some(Given::Text(text)),
+        Value::Void => Some(Given::Void),
+        _other => None,
     }
 }
 
