@@ -2,12 +2,14 @@
 """Times reading, checking and running stories of 1, 4 and 16 MiB, long arithmetic, and long passages, and prints the times
 side by side.
 
-    bench/bench.py [PROGRAM [WORKER]]      ./inkplay, and crates/inkbench, unless others are named
+    bench/bench.py [--program PROGRAM] [--worker WORKER] [reading] [arithmetic] [passages]
+        ./inkplay, crates/inkbench and all three, unless others are named
 
 Each time is the least of three runs, in milliseconds, with the program's start in it. The last column is the time at
 16 MiB over that at 4 MiB: work that grows with the bytes alone grows about four times. Machines are noisy, so compare
 within one run.
 """
+import argparse
 import os
 import subprocess
 import sys
@@ -99,17 +101,8 @@ def row(name, times):
     print("%-34s %s %8.2f" % (name, " ".join("%9.1f" % t for t in times), times[-1] / times[-2]))
 
 
-def worker_of():
-    """The program that does the work to be timed, proved and built first."""
-    crate = os.path.join(TOP, "crates/inkbench")
-    subprocess.run([toolchain.rt(), "run"], cwd=crate, stdin=subprocess.DEVNULL, stdout=subprocess.DEVNULL, stderr=subprocess.DEVNULL, check=True)
-    return os.path.join(crate, "out/inkbench")
-
-
-def main():
-    program = sys.argv[1] if len(sys.argv) > 1 else os.path.join(TOP, "inkplay")
-    worker = sys.argv[2] if len(sys.argv) > 2 else worker_of()
-    best(program, '{"inkVersion":21,"root":["done",null]}\n')  # built, and in the cache
+def reading(program, worker):
+    """Stories of three sizes, read and checked."""
     print("%-34s %s %8s" % ("ms", " ".join("%5d MiB" % s for s in SIZES), "16 / 4"))
     for name, make in (("texts of 200 bytes", long_texts), ("texts of 4 bytes", short_texts),
                        ("containers nested to the limit", nested), ("texts of just under 1 MiB", huge_texts)):
@@ -128,22 +121,46 @@ def main():
     row("knots of 20 elements, read, checked", [best_work(worker, ["story"], s) for s in stories])
     row("  .. the same bytes by serde_json", [best_work(worker, ["json"], s) for s in stories])
 
-    print()
+
+def steps(program, _worker):
+    """Steps of arithmetic, without the time that reading takes."""
     print("%-34s %9s %9s %9s" % ("arithmetic, run through", "steps", "ms", "ns a step"))
-    for steps in (14 * 15000, 14 * 60000):
-        story = arithmetic(steps)
-        reading = best(program, story + "\n")[0]
+    for count in (14 * 15000, 14 * 60000):
+        story = arithmetic(count)
+        read = best(program, story + "\n")[0]
         took, written = best(program, story + "\nthrough\n")
         if b'"text":""' not in written:
             sys.exit("bench: %r" % written[:200])
-        print("%-34s %9d %9.1f %9.0f" % ("", steps, took - reading, (took - reading) * 1e6 / steps))
+        print("%-34s %9d %9.1f %9.0f" % ("", count, took - read, (took - read) * 1e6 / count))
 
-    print()
+
+def passages(_program, worker):
+    """Marks, written and shown."""
     print("%-34s %9s %9s %9s" % ("a passage, written and shown", "marks", "ns a mark", "asked"))
     start = best_work(worker, ["marks", 0, 0])
     for marks, rounds in ((25000, 80), (100000, 20)):
         plain, asked = (best_work(worker, [what, marks, rounds]) - start for what in ("marks", "asked"))
         print("%-34s %9d %9.0f %9.2f" % ("", marks, plain * 1e6 / (marks * rounds), asked / plain))
+
+
+BENCHES = {"reading": reading, "arithmetic": steps, "passages": passages}
+
+
+def main():
+    parser = argparse.ArgumentParser()
+    parser.add_argument("--program", default=os.path.join(TOP, "inkplay"))
+    parser.add_argument("--worker")
+    parser.add_argument("names", nargs="*", metavar="NAME", help=" or ".join(BENCHES))
+    words = parser.parse_args()
+    for name in words.names:
+        if name not in BENCHES:
+            parser.error("there is no %s" % name)
+    worker = words.worker or toolchain.program("inkbench")
+    best(words.program, '{"inkVersion":21,"root":["done",null]}\n')  # built, and in the cache
+    for place, name in enumerate(words.names or BENCHES):
+        if place:
+            print()
+        BENCHES[name](words.program, worker)
 
 
 if __name__ == "__main__":

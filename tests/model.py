@@ -3,8 +3,9 @@
 
     tests/model.py [--runs N] [--seed N] [PROGRAM]      2,000 runs of ./inkplay unless other ones are named
 
-The model shares nothing with the program or its definitions. Prints the first runs that differ, and last how many do; the
-status is 0 only where none does.
+The model shares nothing with the program or its definitions. Prints the first runs that differ, and last how many do, with
+how many really played, and how many were left out since the model takes too long for them. The status is 0 only where none
+differs.
 """
 import argparse
 import json
@@ -24,7 +25,7 @@ class Fault(Exception):
 
 
 class TooSlow(Exception):
-    """A run that the model leaves alone: tests/cases.py has the limits."""
+    """A run that the model leaves alone: crates/inktest/data has the limits."""
 
 
 # ---- values: int, bool and str stand for themselves, None for void
@@ -639,6 +640,21 @@ def expected(story, commands):
     return [json.dumps(a, separators=(",", ":"), sort_keys=True, ensure_ascii=False) for a in answers], "", 0
 
 
+def random_commands(chance):
+    """Command lines that mostly begin by running the story."""
+    first = ["through"] if chance.random() < 0.85 else []
+    return first + [chance.choice(COMMANDS) for _ in range(chance.randrange(1, 8))]
+
+
+def kind_of(wanted):
+    """What a run shows: a refused story, one that cannot be opened, or whether something was played."""
+    answers, error, _ = wanted
+    if error:
+        return "refused" if "refused" in error else "not opened"
+    played = ('"text":', '"events":[],"fault":')
+    return "played" if any(part in answer for answer in answers for part in played) else "asked"
+
+
 def main():
     top = os.path.dirname(os.path.dirname(os.path.abspath(__file__)))
     parser = argparse.ArgumentParser()
@@ -647,22 +663,26 @@ def main():
     parser.add_argument("program", nargs="?", default=os.path.join(top, "inkplay"))
     words = parser.parse_args()
     differ = 0
+    counts = dict.fromkeys(("played", "asked", "refused", "not opened", "left out"), 0)
     for number in range(words.runs):
         chance = random.Random("%d.%d" % (words.seed, number))
         story = random_story(chance)
-        commands = [chance.choice(COMMANDS) for _ in range(chance.randrange(1, 8))]
+        commands = random_commands(chance)
         text = "\n".join([json.dumps(story, ensure_ascii=chance.random() < 0.5)] + commands) + "\n"
         try:
             wanted = expected(story, commands)
         except TooSlow:
+            counts["left out"] += 1
             continue
+        counts[kind_of(wanted)] += 1
         done = subprocess.run([words.program], input=text.encode(), stdout=subprocess.PIPE, stderr=subprocess.PIPE)
         told = (done.stdout.decode().splitlines(), done.stderr.decode(), done.returncode)
         if told != wanted:
             differ += 1
             if differ <= 3:
                 print("%s\nwanted %s\ntold   %s\n" % (text, wanted, told))
-    print("%d runs, %d differ" % (words.runs, differ))
+    print("%d runs: %d played, %d only set and asked, %d stories refused, %d not opened, %d left out; %d differ"
+          % (words.runs, counts["played"], counts["asked"], counts["refused"], counts["not opened"], counts["left out"], differ))
     return 1 if differ else 0
 
 

@@ -1,30 +1,40 @@
 #!/usr/bin/env python3
-"""Refuses each request for memory in turn while a story is played, and looks at what is answered: by the program, and by
-calls of the library.
+"""Refuses each request for memory in turn, and looks at what is answered: by the program that plays stories, and by the
+libraries' public calls, which inktest makes.
 
-    tests/refuse_memory.py [PROGRAM]      the program is ./inkplay's unless another is named
+    tests/refuse_memory.py [--seconds N] [--program PROGRAM] [TABLE..]
+        for inktest some 480 seconds; the program is ./inkplay's, the tables are crates/inktest/data/*, unless others are named
 
 A small library, built here with cc and loaded in front of the C library, refuses the n-th request. For each story below n
 goes from 1 on until no request is left to refuse. Each run has to end as docs/PROTOCOL.md says: the named error for want of
 memory, or the same answers as with ample memory up to the command that found none, the fault OutOfMemory there, and what a
-broken player answers to the lines after it. Two tests of the library that hold under any refusal are run in the same way. The
-last line tells the number of runs; the status is 0 only where all hold.
+broken player answers to the lines after it.
+
+Then inktest runs each table, and with each request that is refused no case may fail: a case holds, or found no memory. Where
+a table makes more requests than the time allows, every k-th is refused. Printed is how many of how many; the status is 0 only
+where all holds.
 """
+import argparse
 import json
 import os
+import re
 import subprocess
 import sys
 import tempfile
+import time
+from concurrent.futures import ThreadPoolExecutor
 
 import toolchain
 
 SHIM = r"""
 #define _GNU_SOURCE
 #include <dlfcn.h>
+#include <stdio.h>
 #include <stdlib.h>
 #include <unistd.h>
-static long left = -1;
+static long left = -1, made;
 static int refuses(void) {
+  made++;
   if (left < 0) { const char *n = getenv("REFUSE"); left = n ? atol(n) : 0; }
   if (left > 0 && --left == 0) { (void)!write(atoi(getenv("TELL")), "x", 1); return 1; }
   return 0;
@@ -38,6 +48,9 @@ void *realloc(void *at, size_t size) {
   static void *(*real)(void *, size_t);
   if (!real) real = dlsym(RTLD_NEXT, "realloc");
   return refuses() ? 0 : real(at, size);
+}
+__attribute__((destructor)) static void count(void) {
+  if (getenv("COUNT")) dprintf(atoi(getenv("TELL")), "%ld", made);
 }
 """
 
@@ -70,9 +83,9 @@ STORIES = (
      ("through", "get t", "restart", "get t")),
     ('{"inkVersion":21,"root":[["^A","\\n","ev",1,0,"/","out","/ev","\\n",["done",{"#n":"g-0"}],null],"done",null]}',
      ("through", "through", "restart", "through")),
+    ('{"inkVersion":21,"root":["ev",{"VAR?":"x"},2,"*",{"VAR=":"x","re":true},"/ev","done",{"global decl":["ev",3,{"VAR=":"x"},"/ev","end",null]}]}',
+     ("set x 7", "get x", "through", "get x", "restart", "get x")),
 )
-
-TESTS = ("player::tests::want_of_memory_is_told", "player::tests::want_of_memory_leaves_globals")
 
 BROKEN = b'{"fault":"OutOfMemory","refused":"Broken"}'
 BAD_COMMAND = b'{"refused":"BadCommand"}'
@@ -87,15 +100,6 @@ def play(words, text, shim=None, refuse=0):
                               pass_fds=(told.fileno(),))
         told.seek(0)
         return done.returncode, done.stdout.splitlines(), done.stderr, bool(told.read())
-
-
-def test_binary(top):
-    """The library's tests, which are proved and built first where that has not been done."""
-    crate = os.path.join(top, "crates/ink_player")
-    binary = os.path.join(crate, "out/ink_player_tests")
-    if not os.path.exists(binary):
-        subprocess.run([toolchain.rt(), "test"], cwd=crate, stdout=subprocess.DEVNULL, check=True)
-    return binary
 
 
 NO_MEMORY = b'{"refused":"OutOfMemory"}'
@@ -147,36 +151,89 @@ def broken_from(program, story, before, after):
     return rest
 
 
-def main():
-    top = os.path.dirname(os.path.dirname(os.path.abspath(__file__)))
-    subprocess.run([os.path.join(top, "inkplay")], input=(HELLO + "\n").encode(), check=True)  # built
-    program = sys.argv[1] if len(sys.argv) > 1 else os.path.join(top, "crates/inkplay/out/inkplay")
+def shim_in(folder):
+    """The library that refuses requests, built."""
+    source, shim = os.path.join(folder, "shim.c"), os.path.join(folder, "shim.so")
+    with open(source, "w") as f:
+        f.write(SHIM)
+    subprocess.run(["cc", "-shared", "-fPIC", "-O1", "-o", shim, source, "-ldl"], check=True)
+    return shim
+
+
+def wrong_stories(program, shim):
+    """How many runs of the program there were, and how many of them were wrong."""
     wrong = runs = 0
+    for story, commands in STORIES:
+        text = "\n".join((story,) + commands) + "\n"
+        ample = play([program], text)[:3]
+        for n in range(1, 100000):
+            status, lines, error, refused = play([program], text, shim, n)
+            if not refused:
+                break
+            runs += 1
+            if not is_right(program, story, commands, ample, status, lines, error):
+                wrong += 1
+                print("request %d of %s: status %d, %r, %r" % (n, story[:60], status, lines, error))
+    return runs, wrong
+
+
+# ---- inktest
+
+HELD = re.compile(r"(\d+) cases, 0 failed(, \d+ out of memory)?")
+
+
+def run_table(worker, table, shim, **env):
+    """Status, the lines of output, and what the library tells."""
+    with tempfile.TemporaryFile() as told:
+        env = dict(os.environ, LD_PRELOAD=shim, TELL=str(told.fileno()), **env)
+        done = subprocess.run([worker, table], stdin=subprocess.DEVNULL, stdout=subprocess.PIPE, env=env, pass_fds=(told.fileno(),))
+        told.seek(0)
+        return done.returncode, done.stdout.decode(errors="replace").splitlines(), told.read().decode()
+
+
+def is_held(worker, table, shim, n):
+    """Whether no case fails where the n-th request is refused."""
+    status, lines, told = run_table(worker, table, shim, REFUSE=str(n))
+    holds = status == 0 and len(lines) == 1 and HELD.fullmatch(lines[0]) is not None
+    if not holds:
+        print("request %d of %s: status %d, %s" % (n, os.path.basename(table), status, " | ".join(lines)[:300]), flush=True)
+    return holds and told == "x"
+
+
+def wrong_requests(worker, table, shim, seconds, jobs):
+    """How many requests of a table were refused, and how many of these runs were wrong."""
+    begun = time.monotonic()
+    status, lines, told = run_table(worker, table, shim, COUNT="1")
+    took = time.monotonic() - begun
+    if status != 0 or not told:
+        print("%s with ample memory: status %d, %s" % (table, status, " | ".join(lines)[:300]))
+        return 1, 1
+    total = int(told)
+    step = max(1, -(-total // max(1, int(seconds * jobs / took))))
+    with ThreadPoolExecutor(jobs) as pool:
+        held = list(pool.map(lambda n: is_held(worker, table, shim, n), range(1, total + 1, step)))
+    print("%s: %d of %d requests refused, %d wrong" % (os.path.basename(table), len(held), total, held.count(False)), flush=True)
+    return len(held), held.count(False)
+
+
+def main():
+    parser = argparse.ArgumentParser()
+    parser.add_argument("--seconds", type=float, default=480)
+    parser.add_argument("--program", default=os.path.join(toolchain.TOP, "crates/inkplay/out/inkplay"))
+    parser.add_argument("tables", nargs="*")
+    words = parser.parse_args()
+    subprocess.run([os.path.join(toolchain.TOP, "inkplay")], input=(HELLO + "\n").encode(), check=True)  # built
+    worker = toolchain.program("inktest", ["data/operators.txt"])
+    data = os.path.join(toolchain.TOP, "crates/inktest/data")
+    tables = words.tables or [os.path.join(data, name) for name in sorted(os.listdir(data))]
+    jobs = os.cpu_count() or 1
     with tempfile.TemporaryDirectory() as folder:
-        source, shim = os.path.join(folder, "shim.c"), os.path.join(folder, "shim.so")
-        with open(source, "w") as f:
-            f.write(SHIM)
-        subprocess.run(["cc", "-shared", "-fPIC", "-O1", "-o", shim, source, "-ldl"], check=True)
-        for story, commands in STORIES:
-            text = "\n".join((story,) + commands) + "\n"
-            ample = play([program], text)[:3]
-            for n in range(1, 100000):
-                status, lines, error, refused = play([program], text, shim, n)
-                if not refused:
-                    break
-                runs += 1
-                if not is_right(program, story, commands, ample, status, lines, error):
-                    wrong += 1
-                    print("request %d of %s: status %d, %r, %r" % (n, story[:60], status, lines, error))
-        for test in TESTS:
-            for n in range(1, 100000):
-                status, lines, error, refused = play([test_binary(top), test], "", shim, n)
-                if not refused:
-                    break
-                runs += 1
-                if status != 0:
-                    wrong += 1
-                    print("request %d of %s: status %d, %r, %r" % (n, test, status, lines, error))
+        shim = shim_in(folder)
+        runs, wrong = wrong_stories(words.program, shim)
+        print("stories: %d requests refused, %d wrong" % (runs, wrong), flush=True)
+        for table in tables:
+            more, failed = wrong_requests(worker, table, shim, words.seconds / len(tables), jobs)
+            runs, wrong = runs + more, wrong + failed
     print("%d runs, %d wrong" % (runs, wrong))
     return 1 if wrong or not runs else 0
 

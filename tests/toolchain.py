@@ -1,7 +1,10 @@
-"""Where the toolchain is found."""
+"""Where the toolchain is found, and the programs that it builds."""
 import os
 import shutil
+import subprocess
 import sys
+
+TOP = os.path.dirname(os.path.dirname(os.path.abspath(__file__)))
 
 
 def rt():
@@ -12,3 +15,15 @@ def rt():
         print("%s: no toolchain: put rt on the path, or name it by the variable RT" % os.path.basename(sys.argv[0]), file=sys.stderr)
         sys.exit(2)
     return os.path.realpath(found)
+
+
+def program(crate, words=()):
+    """The path of a crate's program, which is proved and built first where something has changed: rt runs it with these
+    words. Ends with status 2 where there is none then."""
+    folder = os.path.join(TOP, "crates", crate)
+    built = os.path.join(folder, "out", crate)
+    command = [rt(), "run"] + (["--"] + list(words) if words else [])
+    done = subprocess.run(command, cwd=folder, stdin=subprocess.DEVNULL, stdout=subprocess.DEVNULL, stderr=subprocess.PIPE)
+    if not os.path.exists(built):
+        sys.exit("%s: %s is not built\n%s" % (os.path.basename(sys.argv[0]), crate, done.stderr.decode()[-2000:]))
+    return built

@@ -9,6 +9,3 @@ mod story;
 
 pub use checking::check;
 pub use story::Story;
-
-#[cfg(test)]
-mod tests;

@@ -18,6 +18,3 @@ mod word;
 
 pub use reading::read_story;
 pub use story::RawStory;
-
-#[cfg(test)]
-mod tests;

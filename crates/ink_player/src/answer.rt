@@ -9,9 +9,6 @@ ghost use Rattle.serde_json.specs.Data.{string};
 ghost use Rattle.ink_player.specs.Answers.{shown_list, passage_with};
 ghost use Rattle.ink_player.specs.Replies.{reply_by};
 
-#[cfg(test)]
-mod tests;
-
 use ink_model::{Event, Fault, Halt, Passage, Path, Refusal, Seq, Shown, Text, Value};
 use ink_tree::print_path;
 use serde_json::{Number, Value as Json, json};

@@ -12,9 +12,6 @@ ghost use Rattle.ink_model.specs.ValueJson.{given_integer};
 ghost use Rattle.ink_model.specs.ValueJson.{given_text};
 ghost use Rattle.ink_player.specs.Commands.{NeedsMemory};
 
-#[cfg(test)]
-mod tests;
-
 use ink_model::{Command, Given, Text};
 use serde_json::{Number, Value};
 use std::alloc::{AllocError, Global};

@@ -25,6 +25,3 @@ pub use supported::runnable;
 pub use player::{OpenFault, Player};
 pub use playing::{open_story, play, serve_story};
 pub use session::{run, serve};
-
-#[cfg(test)]
-mod tests;

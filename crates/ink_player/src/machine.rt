@@ -126,6 +126,3 @@ impl Machine {
         self.output.clear();
     }
 }
-
-#[cfg(test)]
-mod tests;

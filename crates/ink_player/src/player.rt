@@ -11,9 +11,6 @@ ghost use Rattle.ink_model.specs.State.{is_running, fault_in};
 ghost use Rattle.ink_model.specs.Step.{nothing_bound};
 ghost use Rattle.ink_model.specs.declared.fault.Fault.TheVariants.{OutOfMemory};
 
-#[cfg(test)]
-mod tests;
-
 use crate::desk::Desk;
 use crate::machine::Machine;
 use ink_check::Story;

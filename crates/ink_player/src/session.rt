@@ -10,9 +10,6 @@ ghost use Rattle.ink_player.specs.Lines.{reads_fail};
 ghost use Rattle.ink_player.specs.Serving.{Answers, ServesNext, Runs, writes_fail};
 ghost use Rattle.ink_model.specs.declared.limits.TheConstants.{MAX_INPUT};
 
-#[cfg(test)]
-mod tests;
-
 use crate::answer::{Outcome, answer_text};
 use crate::command::read_command;
 use crate::end::RunFault;

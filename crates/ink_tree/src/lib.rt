@@ -15,8 +15,3 @@ mod tree;
 pub use path::{print_path, read_path};
 pub use spot::{NodeId, Spot};
 pub use tree::Tree;
-
-#[cfg(test)]
-mod tests;
-#[cfg(test)]
-mod tests_moving;
