@@ -1,14 +1,10 @@
 //! The evaluation stack.
 
 ghost use Rattle.std.specs.Prelude.{◌≡◌, ◌≢◌, ◌≤◌, ◌↔◌, ◌⊎◌, [], ◌∷◌, ◌++◌, length, reverse, slice_get, OnOk, OnErr, IfOk, IfErr, MatchResult};
-ghost use Rattle.ink_model.specs.declared.limits.TheConstants.{MAX_STACK};
 
-use ink_model::{Fault, Value};
-use std::alloc::Global;
+use ink_model::{Fault, MAX_STACK, Value};
+use std::alloc::{AllocError, Global};
 use std::marker::Model;
-
-// As many values as it can hold.
-const MAX_STACK: usize = 10_000;
 
 /// The values that are being evaluated. A contract sees them from the bottom up.
 #[derive(Drop)]
@@ -36,6 +32,19 @@ impl EvalStack {
         EvalStack {
             items: Vec::new(alloc),
         }
+    }
+
+    /// A copy with the same values. The one error is a refused request for memory, which an empty stack never makes.
+    pub fn clone_in(&self, alloc: Global) -> Result<EvalStack, AllocError>
+        ensures copy { IfOk result (λ copy. copy.items ≡ self.now.items) }
+        ensures memory { OnErr result (self.now.items ≢ []) }
+    {
+        let mut items = Vec::new(alloc);
+        for value in &self.items {
+            let copy = value.clone_in(alloc)?;
+            items.push(copy)?;
+        }
+        Ok(EvalStack { items })
     }
 
     /// Puts a value on top. `TooDeep` where 10,000 values are there; `OutOfMemory` for a refused request for memory. On an
