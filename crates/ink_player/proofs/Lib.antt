@@ -13,3 +13,4 @@ pub mod Playable
 pub mod Stacks
 pub mod Storing
 pub mod Opening
+pub mod Faults
