@@ -48,6 +48,15 @@ leaving new (Err f) = Err f
 abbrev pub Leaves : {A S : Type 0} → Result S Fault → S → S → Result A Fault → Type 0
 Leaves rule old new result = Gives (leaving new result) rule × OnErr result (new ≡ old)
 
+-- what a call hands out and leaves, where it did not fail
+abbrev pub handing : {A S : Type 0} → S → Result A Fault → Result (A × S) Fault
+handing new (Ok a) = Ok (a, new)
+handing new (Err f) = Err f
+
+-- The same of a call that also hands something out.
+abbrev pub Hands : {A S : Type 0} → Result (A × S) Fault → S → S → Result A Fault → Type 0
+Hands rule old new result = Gives (handing new result) rule × OnErr result (new ≡ old)
+
 -- ---- values
 
 -- a copy of the value takes memory
