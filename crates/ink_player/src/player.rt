@@ -1,7 +1,7 @@
 //! The player.
 
 ghost use Rattle.std.specs.Prelude.{◌≡◌, [], Some, IfOk, IfErr, Ok};
-ghost use Rattle.ink_model.specs.Answer.{reply_of, reply_of_events, reply_of_value};
+ghost use Rattle.ink_model.specs.Answer.{Breaks, reply_of, reply_of_events, reply_of_halt, reply_of_value};
 ghost use Rattle.ink_model.specs.Configuration.{Configuration};
 ghost use Rattle.ink_model.specs.Opening.{opening, opened};
 ghost use Rattle.ink_model.specs.Supported.{unsupported};
@@ -90,13 +90,19 @@ impl Player {
         }
         match self.machine.through(&self.story) {
             Ok(passage) => Ok(passage),
-            Err(fault) => {
-                self.broken = Some(fault);
-                Err(Halt::Fault {
-                    fault,
-                    events: Seq::new(self.alloc),
-                })
-            }
+            Err(fault) => Err(self.break_by(fault)),
+        }
+    }
+
+    /// A fault breaks the player.
+    fn break_by(&mut self, fault: Fault) -> Halt
+        ensures reply { reply_of_halt result ≡ Breaks fault [] }
+        ensures player { self.new ≡ record self.old { broken = Some fault } }
+    {
+        self.broken = Some(fault);
+        Halt::Fault {
+            fault,
+            events: Seq::new(self.alloc),
         }
     }
 
@@ -159,11 +165,7 @@ impl Player {
             ) => Err(Halt::Refused(Refusal::OutOfMemory)),
             Err(Unopened { fault, globals }) => {
                 self.machine = Machine::at_start(self.alloc, &self.story, globals);
-                self.broken = Some(fault);
-                Err(Halt::Fault {
-                    fault,
-                    events: Seq::new(self.alloc),
-                })
+                Err(self.break_by(fault))
             }
         }
     }
