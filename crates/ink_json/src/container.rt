@@ -7,7 +7,7 @@ ghost use Rattle.ink_model.specs.Grammar.{content, content_of, tree_of, keyed_la
 ghost use Rattle.ink_model.specs.View.{view, trees_view, keyed_view};
 ghost use Rattle.ink_model.specs.declared.place.Part.TheVariants.{Index, Name};
 ghost use Rattle.ink_json.specs.Reading.{Reads, IsFirst, Holds, faults_last, faults_named, put_key};
-ghost use Rattle.ink_json.specs.Size.{size, items_size, members_size};
+ghost use Rattle.ink_json.specs.Size.{Fits, size, items_size, members_size};
 
 use crate::error::{ReadFailure, at_index, at_name, refused};
 use crate::leaf::{read_number, read_object, read_string};
@@ -33,8 +33,7 @@ fn read_content(
     nesting: usize,
     misnamed: bool,
 ) -> Result<Content, ReadFailure>
-    requires nests { nesting ≤ MAX_NESTING + 1 }
-    requires small { size (json_view value.now) < 2 ^ 32 }
+    requires { Fits nesting (json_view value.now) }
     ensures { Reads view result (content 21 nesting misnamed true (json_view value.now)) }
 {
     match value {
@@ -114,8 +113,7 @@ fn read_element(
     nesting: usize,
     misnamed: bool,
 ) -> Result<Content, ReadFailure>
-    requires nests { nesting ≤ MAX_NESTING + 1 }
-    requires small { size (json_view value.now) < 2 ^ 32 }
+    requires { Fits nesting (json_view value.now) }
     ensures { Reads view result
         (first (map (under (Index index)) (faults 21 nesting misnamed (json_view value.now))) (tree_of 21 true (json_view value.now))) }
 {
@@ -180,8 +178,7 @@ fn read_named(
     nesting: usize,
     misnamed: bool,
 ) -> Result<Content, ReadFailure>
-    requires nests { nesting ≤ MAX_NESTING + 1 }
-    requires small { size (json_view value.now) < 2 ^ 32 }
+    requires { Fits nesting (json_view value.now) }
     ensures { Reads view result
         (first (map (under (Name key.now)) (faults_named 21 nesting misnamed (json_view value.now))) (tree_of 21 false (json_view value.now))) }
 {

@@ -8,6 +8,7 @@ pub mod Answering
 pub mod Writing
 pub mod Reading
 pub mod Sessions
+pub mod Refusing
 pub mod Playings
 pub mod Playable
 pub mod Stacks

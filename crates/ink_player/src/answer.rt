@@ -3,7 +3,7 @@
 ghost use Rattle.std.specs.Prelude.{◌≡◌, [], IfOk, string_bytes};
 ghost use Rattle.serde_json.specs.View.{view};
 ghost use Rattle.serde_json.specs.Written.{compact_text, has_float};
-ghost use Rattle.ink_model.specs.Answer.{answer, fault_name as name_of_fault, refusal_name as name_of_refusal, refusal_data, reply_data, reply_of_halt, Acts, Shows, texts_data, shown_data, passage_data, events_data, items_of, Breaks};
+ghost use Rattle.ink_model.specs.Answer.{answer, refusal_data, reply_data, reply_of_halt, Acts, Shows, texts_data, shown_data, passage_data, events_data, items_of, Breaks};
 ghost use Rattle.ink_model.specs.ValueJson.{value_data};
 ghost use Rattle.serde_json.specs.Data.{string};
 ghost use Rattle.ink_player.specs.Answers.{shown_list, passage_with};
@@ -168,9 +168,9 @@ fn texts_json(alloc: Global, texts: &[Text]) -> Result<Json, AllocError>
 fn refusal_json(alloc: Global, refusal: Refusal) -> Result<Json, AllocError>
     ensures { IfOk result (λ v. view v ≡ refusal_data refusal) }
 {
-    let name = refusal_name(refusal);
+    let name = refusal.name();
     match refusal {
-        Refusal::Broken(fault) => json!(in alloc; { "fault": fault_name(fault), "refused": name }),
+        Refusal::Broken(fault) => json!(in alloc; { "fault": fault.name(), "refused": name }),
         Refusal::CannotContinue
         | Refusal::NoSuchVariable
         | Refusal::BadValue
@@ -182,36 +182,5 @@ fn refusal_json(alloc: Global, refusal: Refusal) -> Result<Json, AllocError>
 fn fault_json(alloc: Global, fault: Fault) -> Result<Json, AllocError>
     ensures { IfOk result (λ v. view v ≡ reply_data (Breaks fault [])) }
 {
-    json!(in alloc; { "events": [], "fault": fault_name(fault) })
-}
-
-fn fault_name(fault: Fault) -> &'static str
-    ensures { result.now ≡ name_of_fault fault }
-{
-    match fault {
-        Fault::StackEmpty => "StackEmpty",
-        Fault::BadOperands => "BadOperands",
-        Fault::Divide => "Divide",
-        Fault::BadMode => "BadMode",
-        Fault::BadTarget => "BadTarget",
-        Fault::NoTemp => "NoTemp",
-        Fault::HostRefused => "HostRefused",
-        Fault::StopInString => "StopInString",
-        Fault::TooDeep => "TooDeep",
-        Fault::OutOfSteps => "OutOfSteps",
-        Fault::OutOfMemory => "OutOfMemory",
-    }
-}
-
-fn refusal_name(refusal: Refusal) -> &'static str
-    ensures { result.now ≡ name_of_refusal refusal }
-{
-    match refusal {
-        Refusal::CannotContinue => "CannotContinue",
-        Refusal::NoSuchVariable => "NoSuchVariable",
-        Refusal::BadValue => "BadValue",
-        Refusal::BadCommand => "BadCommand",
-        Refusal::Broken(_) => "Broken",
-        Refusal::OutOfMemory => "OutOfMemory",
-    }
+    json!(in alloc; { "events": [], "fault": fault.name() })
 }

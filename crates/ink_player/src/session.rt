@@ -5,9 +5,9 @@ ghost use Rattle.ink_model.specs.Answer.{Refuses};
 ghost use Rattle.ink_model.specs.Session.{Does, Serves, Set};
 ghost use Rattle.ink_model.specs.Step.{nothing_bound};
 ghost use Rattle.ink_player.specs.Replies.{reply_by};
-ghost use Rattle.ink_player.specs.Words.{state_of, story_of};
-ghost use Rattle.ink_player.specs.Lines.{reads_fail};
-ghost use Rattle.ink_player.specs.Serving.{Answers, ServesNext, Runs, writes_fail};
+ghost use Rattle.ink_player.specs.Words.{desk_of, state_of, story_of};
+ghost use Rattle.ink_player.specs.Ends.{reads_fail, writes_fail};
+ghost use Rattle.ink_player.specs.Serving.{Answers, ServesNext, Runs};
 ghost use Rattle.ink_model.specs.declared.limits.TheConstants.{MAX_INPUT};
 
 #[cfg(test)]
@@ -20,18 +20,12 @@ use crate::input::{Ahead, Reader, Source};
 use crate::lines::{Line, next_line};
 use crate::output::{Sink, WriteFailed, Writer, write_whole};
 use crate::player::Player;
-use ink_model::{Command, Given, Refusal};
+use ink_model::{Command, Given, MAX_INPUT, MAX_LINE, Refusal};
 use std::alloc::{AllocError, Global};
 use std::io::{Read, Write};
 
-/// The most bytes of a command line, without its newline.
-const MAX_LINE: usize = 1_048_576;
-
-/// The most bytes of an input, its newlines counted.
-pub(crate) const MAX_INPUT: usize = 67_108_864;
-
 /// Whether a session goes on after a line.
-pub(crate) enum Turn {
+pub(crate) enum Served {
     More,
     Done,
 }
@@ -49,9 +43,10 @@ pub fn run<R: Read, W: Write>(
     writer: &mut W,
     player: &mut Player,
 ) -> Result<(), RunFault>
-    ensures runs { Runs (story_of player.old) MAX_INPUT [] (R.remaining reader.old) (R.remaining reader.new)
+    ensures runs { Runs (story_of player.old) nothing_bound [] MAX_INPUT [] (R.remaining reader.old) (R.remaining reader.new)
         (W.contents writer.old) (W.contents writer.new) (state_of player.old) (state_of player.new) result }
     ensures story { story_of player.new ≡ story_of player.old }
+    ensures desk { desk_of player.new ≡ desk_of player.old }
 {
     let mut source = Reader {
         inner: reader,
@@ -76,9 +71,10 @@ pub fn serve<S: Source, T: Sink>(
     sink: &mut T,
     player: &mut Player,
 ) -> Result<(), RunFault>
-    ensures runs { Runs (story_of player.old) MAX_INPUT [] (S.remaining source.old) (S.remaining source.new)
+    ensures runs { Runs (story_of player.old) nothing_bound [] MAX_INPUT [] (S.remaining source.old) (S.remaining source.new)
         (T.contents sink.old) (T.contents sink.new) (state_of player.old) (state_of player.new) result }
     ensures story { story_of player.new ≡ story_of player.old }
+    ensures desk { desk_of player.new ≡ desk_of player.old }
     ensures read_cause { S.has_failed source.new ≡ (reads_fail result || S.has_failed source.old) }
     ensures write_cause { T.has_failed sink.new ≡ (writes_fail result || T.has_failed sink.old) }
     ensures source_name { S.name source.new ≡ S.name source.old }
@@ -96,9 +92,10 @@ pub(crate) fn serve_lines<S: Source, T: Sink>(
     sink: &mut T,
     player: &mut Player,
 ) -> Result<(), RunFault>
-    ensures runs { Runs (story_of player.old) ahead.old.spare ahead.old.unread (S.remaining source.old) (S.remaining source.new)
+    ensures runs { Runs (story_of player.old) nothing_bound [] ahead.old.spare ahead.old.unread (S.remaining source.old) (S.remaining source.new)
         (T.contents sink.old) (T.contents sink.new) (state_of player.old) (state_of player.new) result }
     ensures story { story_of player.new ≡ story_of player.old }
+    ensures desk { desk_of player.new ≡ desk_of player.old }
     ensures read_cause { S.has_failed source.new ≡ (reads_fail result || S.has_failed source.old) }
     ensures write_cause { T.has_failed sink.new ≡ (writes_fail result || T.has_failed sink.old) }
     ensures source_name { S.name source.new ≡ S.name source.old }
@@ -106,8 +103,8 @@ pub(crate) fn serve_lines<S: Source, T: Sink>(
 {
     'lines: loop {
         match serve_line(alloc, ahead, source, sink, player) {
-            Ok(Turn::More) => {}
-            Ok(Turn::Done) => return Ok(()),
+            Ok(Served::More) => {}
+            Ok(Served::Done) => return Ok(()),
             Err(fault) => return Err(fault),
         }
     }
@@ -120,15 +117,17 @@ fn serve_line<S: Source, T: Sink>(
     source: &mut S,
     sink: &mut T,
     player: &mut Player,
-) -> Result<Turn, RunFault>
-    ensures turns { ServesNext (story_of player.old) (S.remaining source.old) (S.remaining source.new) (T.contents sink.old) (T.contents sink.new)
+) -> Result<Served, RunFault>
+    ensures next { ServesNext (story_of player.old) nothing_bound [] (S.remaining source.old) (S.remaining source.new) (T.contents sink.old) (T.contents sink.new)
         ahead.old ahead.new (state_of player.old) (state_of player.new) result }
     ensures story { story_of player.new ≡ story_of player.old }
+    ensures desk { desk_of player.new ≡ desk_of player.old }
     ensures read_cause { S.has_failed source.new ≡ (reads_fail result || S.has_failed source.old) }
     ensures write_cause { T.has_failed sink.new ≡ (writes_fail result || T.has_failed sink.old) }
     ensures source_name { S.name source.new ≡ S.name source.old }
     ensures sink_name { T.name sink.new ≡ T.name sink.old }
 {
+    ahead.bounds();
     let line = match next_line(alloc, ahead, source, MAX_LINE) {
         Ok(line) => line,
         Err(fault) => return Err(fault),
@@ -138,16 +137,16 @@ fn serve_line<S: Source, T: Sink>(
             if let Err(fault) = answer_line(alloc, sink, player, &line) {
                 return Err(fault);
             }
-            Ok(Turn::More)
+            Ok(Served::More)
         }
         Line::Last(line) => {
             if line.is_empty() {
-                return Ok(Turn::Done);
+                return Ok(Served::Done);
             }
             if let Err(fault) = answer_line(alloc, sink, player, &line) {
                 return Err(fault);
             }
-            Ok(Turn::Done)
+            Ok(Served::Done)
         }
     }
 }
@@ -159,8 +158,9 @@ fn answer_line<T: Sink>(
     player: &mut Player,
     line: &[u8],
 ) -> Result<(), RunFault>
-    ensures answers { Answers (story_of player.old) line.now (T.contents sink.old) (T.contents sink.new) (state_of player.old) (state_of player.new) result }
+    ensures answers { Answers (story_of player.old) nothing_bound [] line.now (T.contents sink.old) (T.contents sink.new) (state_of player.old) (state_of player.new) result }
     ensures story { story_of player.new ≡ story_of player.old }
+    ensures desk { desk_of player.new ≡ desk_of player.old }
     ensures write_cause { T.has_failed sink.new ≡ (writes_fail result || T.has_failed sink.old) }
     ensures sink_name { T.name sink.new ≡ T.name sink.old }
 {
@@ -176,8 +176,9 @@ fn answer_line<T: Sink>(
 
 // Performs the command of a line, unless memory is refused for reading it.
 fn outcome_of(alloc: Global, player: &mut Player, line: &[u8]) -> Outcome
-    ensures serves { Serves (story_of player.old) nothing_bound line.now (state_of player.old) (reply_by result) (state_of player.new) }
+    ensures serves { Serves (story_of player.old) nothing_bound [] line.now (state_of player.old) (reply_by result) (state_of player.new) }
     ensures story { story_of player.new ≡ story_of player.old }
+    ensures desk { desk_of player.new ≡ desk_of player.old }
 {
     match read_command(alloc, line) {
         Ok(command) => perform(player, command),
@@ -186,8 +187,9 @@ fn outcome_of(alloc: Global, player: &mut Player, line: &[u8]) -> Outcome
 }
 
 fn perform(player: &mut Player, command: Option<Command>) -> Outcome
-    ensures does { Does (story_of player.old) nothing_bound command (state_of player.old) (reply_by result) (state_of player.new) }
+    ensures does { Does (story_of player.old) nothing_bound [] command (state_of player.old) (reply_by result) (state_of player.new) }
     ensures story { story_of player.new ≡ story_of player.old }
+    ensures desk { desk_of player.new ≡ desk_of player.old }
 {
     match command {
         Some(Command::Through) => Outcome::Passage(player.through()),
@@ -202,6 +204,7 @@ fn perform(player: &mut Player, command: Option<Command>) -> Outcome
 fn set(player: &mut Player, name: &str, value: Option<Given>) -> Outcome
     ensures does { Set name.now value (state_of player.old) (reply_by result) (state_of player.new) }
     ensures story { story_of player.new ≡ story_of player.old }
+    ensures desk { desk_of player.new ≡ desk_of player.old }
 {
     let Some(value) = value else {
         return Outcome::Refused(no_value(player));

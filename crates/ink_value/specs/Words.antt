@@ -1,7 +1,8 @@
 -- What values stand for, and which operators make a text of them.
-use Rattle.std.specs.Prelude.{ℕ, ℤ, List, [], ◌∷◌, Bool, true, false, ◌&&◌, ◌||◌, Option, Some, None}
+use Rattle.std.specs.Prelude.{ℕ, ℤ, List, [], ◌∷◌, Bool, true, false, ◌++◌, ◌&&◌, ◌||◌, Option, Some, None, is_ok}
 use Rattle.std.specs.Fmt.{signed_decimal}
-use Rattle.ink_model.specs.Operator.{truth_number}
+use Rattle.ink_model.specs.Bytes.{fits_text}
+use Rattle.ink_model.specs.Operator.{truth_number, of_texts}
 use Rattle.ink_model.specs.Value.{truth_text}
 use Rattle.ink_model.specs.declared.operator.Op.{Op}
 use Rattle.ink_model.specs.declared.operator.Op.TheVariants as op
@@ -33,23 +34,18 @@ abbrev pub has_number : List Value → Bool
 has_number [] = false
 has_number (v ∷ vs) = is_number v || has_number vs
 
--- the operator joins two texts
-abbrev pub is_join : Op → Bool
-is_join op.Add = true
-is_join operator = false
+-- these are two texts, which the operator joins to one within the limit
+abbrev pub joins : Op → List Value → Bool
+joins op.Add (Text s ∷ Text t ∷ []) = fits_text (s ++ t)
+joins operator vs = false
 
--- the operator has a result for two texts
+-- the operator is one on texts: it has a result for two that are empty
 abbrev pub is_for_texts : Op → Bool
-is_for_texts op.Add = true
-is_for_texts op.Equal = true
-is_for_texts op.NotEqual = true
-is_for_texts op.Has = true
-is_for_texts op.HasNot = true
-is_for_texts operator = false
+is_for_texts operator = is_ok (of_texts operator [] [])
 
--- An operator makes a text of these values: it joins texts, or it prints the number beside a text.
+-- An operator makes a text of these values: it joins two, or prints the number beside one.
 abbrev pub makes_text : Op → List Value → Bool
-makes_text operator vs = has_text vs && (is_join operator || has_number vs)
+makes_text operator vs = joins operator vs || (has_text vs && has_number vs)
 
 -- the text of a number
 abbrev pub number_text : Value → List ℕ

@@ -5,7 +5,7 @@ ghost use Rattle.ink_model.specs.Memory.{Gives};
 ghost use Rattle.ink_model.specs.Operator as rules;
 ghost use Rattle.ink_model.specs.Operator.{operand, both};
 ghost use Rattle.ink_value.specs.Words as words;
-ghost use Rattle.ink_value.specs.Words.{is_join, is_number, is_text, makes_text};
+ghost use Rattle.ink_value.specs.Words.{is_number, is_text, makes_text};
 
 use crate::numbers::of_numbers;
 use crate::printing::printed;
@@ -18,8 +18,9 @@ use std::alloc::Global;
 ///
 /// `BadOperands` where the operator has no result for values of these kinds, or for as many; `Divide` for a divisor that is 0,
 /// and for the least integer by -1; `TooDeep` for a text that would be longer than a text may be; `OutOfMemory` for a
-/// refused request for memory. Memory is asked for only where texts are joined, and for the text of a number beside a text:
-/// never for values without a text, for comparisons of two texts, and where the answer is `BadOperands` or `Divide`.
+/// refused request for memory. Memory is asked for only where two texts are joined to one within its limit, and for the text of
+/// a number beside a text: never for values without a text, for comparisons of two texts, and where the answer is
+/// `BadOperands` or `Divide`.
 #[tactic(auto, unfolding(ink_model::specs::Operator::apply))]
 pub fn apply(alloc: Global, operator: Op, values: &[Value]) -> Result<Value, Fault>
     ensures result { Gives result (rules.apply operator values.now) }
@@ -106,7 +107,7 @@ fn after_number(
 #[tactic(auto, unfolding(ink_model::specs::Value::printed))]
 fn after_text(alloc: Global, operator: Op, left: &str, right: &Value) -> Result<Value, Fault>
     ensures result { Gives result (rules.of_two operator (both (rules.words left.now) (operand right.now))) }
-    ensures memory { is_join operator || is_number right.now ≡ false → result ≢ Err Fault.OutOfMemory }
+    ensures memory { words.joins operator (Value.Text left.now ∷ right.now ∷ []) || is_number right.now ≡ false → result ≢ Err Fault.OutOfMemory }
 {
     match right {
         Value::Text(text) => of_texts(alloc, operator, left, text.as_str()),

@@ -1,6 +1,6 @@
 //! Operators on two texts.
 
-ghost use Rattle.std.specs.Prelude.{◌≡◌, ◌≢◌, ◌++◌, false};
+ghost use Rattle.std.specs.Prelude.{◌≡◌, ◌≢◌, [], ◌∷◌, ◌++◌, false};
 ghost use Rattle.ink_model.specs.Bytes as bytes;
 ghost use Rattle.ink_model.specs.Memory.{Gives};
 ghost use Rattle.ink_model.specs.Operator as rules;
@@ -21,7 +21,7 @@ pub(crate) fn is_for_texts(operator: Op) -> bool
 
 pub(crate) fn of_texts(alloc: Global, operator: Op, left: &str, right: &str) -> Result<Value, Fault>
     ensures result { Gives result (rules.of_texts operator left.now right.now) }
-    ensures memory { words.is_join operator ≡ false → result ≢ Err Fault.OutOfMemory }
+    ensures memory { words.joins operator (Value.Text left.now ∷ Value.Text right.now ∷ []) ≡ false → result ≢ Err Fault.OutOfMemory }
 {
     match operator {
         Op::Add => joined(alloc, left, right),
@@ -34,7 +34,8 @@ pub(crate) fn of_texts(alloc: Global, operator: Op, left: &str, right: &str) -> 
 }
 
 fn joined(alloc: Global, left: &str, right: &str) -> Result<Value, Fault>
-    ensures { Gives result (rules.joined_text (left.now ++ right.now)) }
+    ensures result { Gives result (rules.joined_text (left.now ++ right.now)) }
+    ensures memory { bytes.fits_text (left.now ++ right.now) ≡ false → result ≢ Err Fault.OutOfMemory }
 {
     if left.len() + right.len() > MAX_TEXT {
         return Err(Fault::TooDeep);
