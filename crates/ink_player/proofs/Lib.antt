@@ -10,7 +10,7 @@ pub mod Reading
 pub mod Sessions
 pub mod Refusing
 pub mod Playings
-pub mod Playable
+pub mod Supporting
 pub mod Stacks
 pub mod Storing
 pub mod Opening
