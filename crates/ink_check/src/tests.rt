@@ -79,7 +79,7 @@ fn accept(alloc: Global, root: &str) -> Result<Result<Story, ReadRefusal>, Alloc
 
 fn place_of(alloc: Global, story: &Story, target: Option<Spot>) -> Result<String, AllocError> {
     match target {
-        Some(spot) => spelled(alloc, story.tree().place(alloc, spot)?.parts()),
+        Some(spot) => spelled(alloc, story.tree().place(spot)?.parts()),
         None => String::from_str(alloc, "none"),
     }
 }

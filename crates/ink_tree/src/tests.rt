@@ -75,7 +75,7 @@ fn content_has_numbers_in_reading_order(rt: HostRuntime) -> Result<(), Fail> {
     };
     assert_eq!(rt; tree.len(), 15);
     for number in 0..15 {
-        let place = tree.place(alloc, on(number))?;
+        let place = tree.place(on(number))?;
         assert!(rt;
             tree.find(place.parts(), None) == Some(node(number)),
             "{number}"
@@ -127,7 +127,7 @@ fn places_have_spots(rt: HostRuntime) -> Result<(), Fail> {
         (inside(4, 2), None),
         (inside(5, 0), None),
     ] {
-        let place = tree.place(alloc, spot)?;
+        let place = tree.place(spot)?;
         assert_eq!(rt; tree.spot(place.parts()), same);
     }
     Ok(())
@@ -144,7 +144,7 @@ fn a_number_beyond_the_story_is_the_root(rt: HostRuntime) -> Result<(), Fail> {
         assert!(rt; false, "not built");
         return Ok(());
     };
-    assert!(rt; tree.place(alloc, on(15))?.parts().is_empty());
+    assert!(rt; tree.place(on(15))?.parts().is_empty());
     assert_eq!(rt; tree.node(on(usize::MAX)), Some(node(0)));
     assert_eq!(rt; tree.node(inside(99, 1)), Some(node(8)));
     assert_eq!(rt; tree.flags(node(15)), 1);

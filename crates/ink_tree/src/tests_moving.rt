@@ -38,7 +38,7 @@ fn spelled(alloc: Global, tree: &Tree, spot: Option<Spot>) -> Result<String, All
         text.push_str("nowhere")?;
         return Ok(text);
     };
-    for part in tree.place(alloc, spot)?.parts() {
+    for part in tree.place(spot)?.parts() {
         match part {
             Part::Index(index) => write!(text, "{index}.")?,
             Part::Name(name) => write!(text, "{}.", name.as_str())?,
@@ -137,7 +137,7 @@ fn landings_enter_containers(rt: HostRuntime) -> Result<(), Fail> {
             continue;
         };
         let mut text = String::new(alloc);
-        for holder in tree.entered(alloc, previous, at)?.as_slice() {
+        for holder in tree.entered(previous, at)?.as_slice() {
             let place = spelled(
                 alloc,
                 &tree,
