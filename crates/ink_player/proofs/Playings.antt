@@ -11,7 +11,7 @@ use Rattle.ink_player.specs.Buffered.{Buffered}
 use Rattle.ink_player.specs.Input.{Takes}
 use Rattle.ink_player.specs.Lines.{TakesLine, GivesLine}
 use Rattle.ink_player.specs.Playing.{IsStoryLine, PlaysOn, EndsEarly, PlayFails, PlayEnds, Plays, play_fault, OpenFails, Opens}
-use Rattle.ink_player.specs.Serving.{WantsByte, RunEnds, Runs}
+use Rattle.ink_player.specs.Serving.{HasRoom, RunEnds, Runs}
 use Rattle.ink_player.specs.Words.{state_of, story_of}
 use Rattle.ink_player.specs.declared.desk.Desk.{Desk}
 use Rattle.ink_player.specs.declared.end.PlayEnd.{PlayEnd}
@@ -20,7 +20,7 @@ use Rattle.ink_player.specs.declared.end.PlayFault.TheVariants as play
 use Rattle.ink_player.specs.declared.end.RunFault.{RunFault}
 use Rattle.ink_player.specs.declared.end.RunFault.TheVariants as fault
 use Rattle.ink_player.specs.declared.player.Player.{Player}
-use Rattle.ink_player.proofs.Reading.{wants}
+use Rattle.ink_player.proofs.Reading.{has_room}
 
 abbrev fresh : Buffered
 fresh = record { unread = []; spare = MAX_INPUT }
@@ -77,7 +77,7 @@ no_story_for a b h o n fault.TooLong d e g =
 no_story_for a b h o n fault.OutOfMemory d e g =
     let none : length o.unread ≡ 0 = ap (λ z. length z.unread) e in
     let bound : length (g.part ++ n.unread) ≤ MAX_STORY + 1 = omega (arith, g.takes.room, none, length-append g.part n.unread) in
-    let w = subst (λ m. WantsByte MAX_STORY m (g.part ++ n.unread) (g.part ++ n.unread)) (ap (λ z. z.spare) e) (wants a b o n MAX_STORY (omega (arith, none)) g) in
+    let w = subst (λ m. HasRoom MAX_STORY m (g.part ++ n.unread) (g.part ++ n.unread)) (ap (λ z. z.spare) e) (has_room a b o n MAX_STORY (omega (arith, none)) g) in
     plays_early a b h o n g.part _ e g.takes.takes bound (early _ bound, inr (inl (refl, w)))
 
 pub no_story : (a b h : Option (List ℕ)) (o n : Buffered) (f : RunFault) (pf : PlayFault) (d : Desk) → o ≡ fresh → GivesLine a b o n MAX_STORY (Err f) → pf ≡ play_fault f
@@ -88,7 +88,7 @@ no_story a b h o n f pf d e g k =
 fails_early : (left : Option (List ℕ)) (bytes line input : List ℕ) (f : PlayFault) → IsStoryLine left bytes line input → length bytes ≤ MAX_STORY + 1 → OpenFails line f → PlayFails left bytes [] f
 fails_early left bytes line input (play.Story r) l bound p = (early bytes bound, inl (line, input, l, p))
 fails_early left bytes line input (play.Start f) l bound p =
-    (early bytes bound, record { line = line; input = input; story_line = l; tree = p.0; reads = p.1; globals = p.2.0; why = p.2.1 })
+    (early bytes bound, record { tree = p.0; story = record { line = line; input = input; story_line = l; reads = p.1 }; globals = p.2.0; why = p.2.1 })
 fails_early left bytes line input (play.Run f) l bound p = absurd p
 
 -- a story that ended at its newline, or at the reader's end
@@ -122,11 +122,8 @@ unopened_last a b h o n line x e t p =
 pub plays_last : (a b h : Option (List ℕ)) (o n : Buffered) (line : List ℕ) (p : Player) (d : Desk) → o ≡ fresh → TakesAll a b o n line → Opens line (Ok p) → Plays a b h h (Ok d)
 plays_last a b h o n line p d e t opens =
     plays_early a b h o n line (Ok d) e t.0.takes (story_bound a b o n line line e t.0) (record {
-      line = line;
-      input = [];
-      story_line = all_is a b o n line t;
       tree = story_of p;
-      reads = opens.0;
+      story = record { line = line; input = []; story_line = all_is a b o n line t; reads = opens.0 };
       first = opens.1.0;
       opens = opens.1.1;
       new = opened opens.1.0;
@@ -149,11 +146,13 @@ plays_from a b c h j o n line p new r x e t opens q into =
       written = q.written;
       appended = q.appended;
       ends = into (got ++ q.bytes) q.written (record {
-        line = line;
-        input = n.unread ++ q.bytes;
-        story_line = record { plain = t.0.plain; within = t.1; whole = inl bytes };
         tree = story_of p;
-        reads = opens.0;
+        story = record {
+          line = line;
+          input = n.unread ++ q.bytes;
+          story_line = record { plain = t.0.plain; within = t.1; whole = inl bytes };
+          reads = opens.0;
+        };
         first = opens.1.0;
         opens = opens.1.1;
         new = new;

@@ -6,7 +6,7 @@ use Rattle.ink_model.specs.Bytes.{has_newline, is_newline}
 use Rattle.ink_player.specs.Buffered.{Buffered}
 use Rattle.ink_player.specs.Input.{Takes}
 use Rattle.ink_player.specs.Lines.{TakesLine, LacksMemory, GivesLine, Pushes}
-use Rattle.ink_player.specs.Serving.{WantsByte}
+use Rattle.ink_player.specs.Serving.{HasRoom}
 use Rattle.ink_player.specs.declared.end.RunFault.{RunFault}
 use Rattle.ink_player.specs.declared.end.RunFault.TheVariants as fault
 
@@ -79,10 +79,10 @@ module _ (a b c : Option (List ℕ)) (o m n : Buffered) (limit : ℕ) (line : Li
   }
 
 -- memory was refused for a byte of a line: there is a byte, and no more was read than the line and the input may have
-wants_first : (limit most : ℕ) (part unread : List ℕ) → 0 < length part → has_newline part ≡ false → length (part ++ unread) ≤ limit → length (part ++ unread) ≤ most
-    → WantsByte limit most (part ++ unread) (part ++ unread)
-wants_first limit most [] unread some plain in_line in_input = let no : ⊥ = omega arith in absurd no
-wants_first limit most (c ∷ cs) unread some plain in_line in_input = record {
+room_first : (limit most : ℕ) (part unread : List ℕ) → 0 < length part → has_newline part ≡ false → length (part ++ unread) ≤ limit → length (part ++ unread) ≤ most
+    → HasRoom limit most (part ++ unread) (part ++ unread)
+room_first limit most [] unread some plain in_line in_input = let no : ⊥ = omega arith in absurd no
+room_first limit most (c ∷ cs) unread some plain in_line in_input = record {
   byte = c;
   more = cs ++ unread;
   whole = refl;
@@ -91,7 +91,7 @@ wants_first limit most (c ∷ cs) unread some plain in_line in_input = record {
   in_input = in_input;
 }
 
-pub wants : (a b : Option (List ℕ)) (o n : Buffered) (limit : ℕ) → length o.unread ≤ limit → (m : LacksMemory a b o n limit) → WantsByte limit o.spare (m.part ++ n.unread) (m.part ++ n.unread)
-wants a b o n limit few m =
-    wants_first limit o.spare m.part n.unread m.some m.takes.plain (omega (arith, m.takes.room, length-append m.part n.unread))
+pub has_room : (a b : Option (List ℕ)) (o n : Buffered) (limit : ℕ) → length o.unread ≤ limit → (m : LacksMemory a b o n limit) → HasRoom limit o.spare (m.part ++ n.unread) (m.part ++ n.unread)
+has_room a b o n limit few m =
+    room_first limit o.spare m.part n.unread m.some m.takes.plain (omega (arith, m.takes.room, length-append m.part n.unread))
     (omega (arith, m.takes.takes.count, m.within, length-append m.part n.unread))

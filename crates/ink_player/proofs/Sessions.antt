@@ -17,11 +17,11 @@ use Rattle.ink_player.specs.Buffered.{Buffered}
 use Rattle.ink_player.specs.Ends.{Falls}
 use Rattle.ink_player.specs.Input.{Takes}
 use Rattle.ink_player.specs.Lines.{TakesLine, GivesLine}
-use Rattle.ink_player.specs.Serving.{IsLine, spelled, Splits, IsFirst, IsLongInput, WantsByte, RunEnds, Runs, Answered, Answers, ServesLine}
+use Rattle.ink_player.specs.Serving.{IsLine, spelled, Splits, IsFirst, ServesFront, IsLongInput, HasRoom, RunEnds, Runs, Answered, Answers, ServesLine}
 use Rattle.ink_model.specs.declared.limits.TheConstants.{MAX_LINE}
 use Rattle.ink_player.specs.declared.end.RunFault.{RunFault}
 use Rattle.ink_player.specs.declared.end.RunFault.TheVariants as fault
-use Rattle.ink_player.proofs.Reading.{neither, wants}
+use Rattle.ink_player.proofs.Reading.{neither, has_room}
 
 -- ---- lines of an input
 
@@ -56,8 +56,8 @@ over_more most all line served rest e p = record {
   long = p.long;
 }
 
-wants_more : (most all : ℕ) (line input rest : List ℕ) → most + (length line + 1) ≡ all → WantsByte MAX_LINE most input rest → WantsByte MAX_LINE all (line ++ 10 ∷ input) rest
-wants_more most all line input rest e p = record {
+room_more : (most all : ℕ) (line input rest : List ℕ) → most + (length line + 1) ≡ all → HasRoom MAX_LINE most input rest → HasRoom MAX_LINE all (line ++ 10 ∷ input) rest
+room_more most all line input rest e p = record {
   byte = p.byte;
   more = p.more;
   whole = p.whole;
@@ -69,59 +69,52 @@ wants_more most all line input rest e p = record {
 calls_more : (first made before after : List Made) → made ≡ before ++ after → first ++ made ≡ (first ++ before) ++ after
 calls_more first made before after e = ap (λ l. first ++ l) e ∙ sym (append_assoc first before after)
 
-module _ (s : StoryTree) (host : Bound) (first made : List Made) (most all : ℕ) (left : Option (List ℕ)) (line input : List ℕ) (old mid : State) (reply : Reply) (written : List ℕ) (new : State)
-    (is : IsLine line) (serves : Serves s host first line old reply mid) (e : most + (length line + 1) ≡ all) where
-  ends_more : (r : Result (Unit {0}) RunFault) → RunEnds s host made most left input mid written new r → RunEnds s host (first ++ made) all left (line ++ 10 ∷ input) old (answer reply ++ written) new r
-  ends_more (Ok x) p = record {
-    at_end = p.at_end;
-    within = omega (arith, p.within, length-append line (10 ∷ input));
-    each = subst (AllByRecursion IsLine) (sym (lines_first line input is.plain)) (is, p.each);
-    session = subst (λ ls. Session s host (first ++ made) ls old (answer reply ++ written) new) (sym (lines_first line input is.plain))
-        (reply, mid, written, first, made, refl, serves, refl, p.session);
-  }
-  ends_more (Err fault.Read) p = record {
-    served = line ∷ p.served;
+module _ (s : StoryTree) (host : Bound) (first : List Made) (line input : List ℕ) (old mid : State) (reply : Reply) (is : IsLine line) (serves : Serves s host first line old reply mid) where
+  abbrev front_more : (made : List Made) (written : List ℕ) (new : State) → ServesFront s host made input mid written new → ServesFront s host (first ++ made) (line ++ 10 ∷ input) old (answer reply ++ written) new
+  front_more made written new p = record {
+    lines = line ∷ p.lines;
     rest = p.rest;
-    splits = splits_more line input p.served p.rest is p.splits;
+    splits = splits_more line input p.lines p.rest is p.splits;
     session = (reply, mid, written, first, made, refl, serves, refl, p.session);
-    plain = p.plain;
   }
-  ends_more (Err fault.Write) p = record {
-    served = line ∷ p.served;
-    rest = p.rest;
-    splits = splits_more line input p.served p.rest is p.splits;
-    mid = p.mid;
-    before = first ++ p.before;
-    after = p.after;
-    calls = calls_more first made p.before p.after p.calls;
-    answers = answer reply ++ p.answers;
-    session = (reply, mid, p.answers, first, p.before, refl, serves, refl, p.session);
-    reply = p.reply;
-    first = p.first;
-    part = p.part;
-    unwritten = p.unwritten;
-    whole = p.whole;
-    cut = p.cut;
-    ends = ap (λ l. answer reply ++ l) p.ends ∙ sym (append_assoc (answer reply) p.answers p.part);
-  }
-  ends_more (Err fault.TooLong) p = record {
-    served = line ∷ p.served;
-    rest = p.rest;
-    splits = splits_more line input p.served p.rest is p.splits;
-    session = (reply, mid, written, first, made, refl, serves, refl, p.session);
-    over = elim p.over [ inl q ↦ inl q | inr q ↦ inr (over_more most all line p.served p.rest e q) ];
-  }
-  ends_more (Err fault.OutOfMemory) p = record {
-    served = line ∷ p.served;
-    rest = p.rest;
-    splits = splits_more line input p.served p.rest is p.splits;
-    mid = p.mid;
-    before = first ++ p.before;
-    after = p.after;
-    calls = calls_more first made p.before p.after p.calls;
-    session = (reply, mid, written, first, p.before, refl, serves, refl, p.session);
-    next = elim p.next [ inl q ↦ inl (wants_more most all line input p.rest e q.0, q.1, q.2) | inr q ↦ inr q ];
-  }
+
+  module _ (made : List Made) (most all : ℕ) (left : Option (List ℕ)) (written : List ℕ) (new : State) (e : most + (length line + 1) ≡ all) where
+    ends_more : (r : Result (Unit {0}) RunFault) → RunEnds s host made most left input mid written new r → RunEnds s host (first ++ made) all left (line ++ 10 ∷ input) old (answer reply ++ written) new r
+    ends_more (Ok x) p = record {
+      at_end = p.at_end;
+      within = omega (arith, p.within, length-append line (10 ∷ input));
+      each = subst (AllByRecursion IsLine) (sym (lines_first line input is.plain)) (is, p.each);
+      session = subst (λ ls. Session s host (first ++ made) ls old (answer reply ++ written) new) (sym (lines_first line input is.plain))
+          (reply, mid, written, first, made, refl, serves, refl, p.session);
+    }
+    ends_more (Err fault.Read) p = record { served = front_more made written new p.served; plain = p.plain }
+    ends_more (Err fault.Write) p = record {
+      before = first ++ p.before;
+      after = p.after;
+      calls = calls_more first made p.before p.after p.calls;
+      mid = p.mid;
+      answers = answer reply ++ p.answers;
+      served = front_more p.before p.answers p.mid p.served;
+      reply = p.reply;
+      first = p.first;
+      part = p.part;
+      unwritten = p.unwritten;
+      whole = p.whole;
+      cut = p.cut;
+      ends = ap (λ l. answer reply ++ l) p.ends ∙ sym (append_assoc (answer reply) p.answers p.part);
+    }
+    ends_more (Err fault.TooLong) p = record {
+      served = front_more made written new p.served;
+      over = elim p.over [ inl q ↦ inl q | inr q ↦ inr (over_more most all line p.served.lines p.served.rest e q) ];
+    }
+    ends_more (Err fault.OutOfMemory) p = record {
+      before = first ++ p.before;
+      after = p.after;
+      calls = calls_more first made p.before p.after p.calls;
+      mid = p.mid;
+      served = front_more p.before written p.mid p.served;
+      next = elim p.next [ inl q ↦ inl (room_more most all line input p.served.rest e q.0, q.1, q.2) | inr q ↦ inr q ];
+    }
 
 pub runs_more : (s t : StoryTree) (host : Bound) (first made : List Made) (a b c h i j : Option (List ℕ)) (o m : Buffered) (old mid new : State) (r : Result (Unit {0}) RunFault)
     → ServesLine s host first a b h i o m old mid → t ≡ s → Runs t host made m.spare m.unread b c i j mid new r → Runs s host (first ++ made) o.spare o.unread a c h j old new r
@@ -137,13 +130,13 @@ runs_more s t host first made a b c h i j o m old mid new r l e p =
       written = answer l.answered.reply ++ q.written;
       appended = Appends-trans h i j (answer l.answered.reply) q.written l.answered.appended q.appended;
       ends = subst (λ x. RunEnds s host (first ++ made) o.spare c x old (answer l.answered.reply ++ q.written) new r) (sym bytes)
-          (ends_more s host first made m.spare o.spare c l.line (m.unread ++ q.bytes) old mid l.answered.reply q.written new l.is_line l.answered.serves count r q.ends);
+          (ends_more s host first l.line (m.unread ++ q.bytes) old mid l.answered.reply l.is_line l.answered.serves made m.spare o.spare c q.written new count r q.ends);
     }
 
 -- ---- ends
 
-none_served : (input : List ℕ) → Splits input [] input
-none_served input = record { whole = refl; each = tt }
+abbrev none_served : (s : StoryTree) (host : Bound) (input : List ℕ) (old : State) → ServesFront s host [] input old [] old
+none_served s host input old = record { lines = []; rest = input; splits = record { whole = refl; each = tt }; session = (refl, refl, refl) }
 
 -- the last line, which ends at the reader's end
 abbrev pub TakesLast : Option (List ℕ) → Option (List ℕ) → Buffered → Buffered → List ℕ → Type 0
@@ -172,22 +165,13 @@ module _ (s : StoryTree) (host : Bound) (a b h : Option (List ℕ)) (o n : Buffe
   -- there is no line
   pub no_line : (f : RunFault) → length o.unread ≤ 4096 → GivesLine a b o n MAX_LINE (Err f) → Runs s host [] o.spare o.unread a b h h old old (Err f)
   no_line fault.Read few g =
-      let t = g.0.takes in
-      ends_at g.0.part (Err fault.Read) t.takes (record {
-        served = [];
-        rest = g.0.part ++ n.unread;
-        splits = none_served _;
-        session = (refl, refl, refl);
-        plain = ap has_newline (all_taken g.0.part n.unread g.1) ∙ t.plain;
-      })
+      ends_at g.0.part (Err fault.Read) g.0.takes.takes
+      (record { served = none_served s host _ old; plain = ap has_newline (all_taken g.0.part n.unread g.1) ∙ g.0.takes.plain })
   no_line fault.Write few g = absurd g
   no_line fault.TooLong few g =
       let t = g.0.takes in
       ends_at g.0.part (Err fault.TooLong) t.takes (record {
-        served = [];
-        rest = g.0.part ++ n.unread;
-        splits = none_served _;
-        session = (refl, refl, refl);
+        served = none_served s host _ old;
         over = elim g.1 [
           | inl q ↦ inl (record { front = g.0.part; more = n.unread; whole = refl; plain = t.plain; long = q })
           | inr q ↦ inr (record { front = g.0.part; more = n.unread; whole = refl; plain = t.plain; count = omega (arith, t.takes.count, q.1); long = q.2 })
@@ -195,15 +179,12 @@ module _ (s : StoryTree) (host : Bound) (a b h : Option (List ℕ)) (o n : Buffe
       })
   no_line fault.OutOfMemory few g =
       ends_at g.part (Err fault.OutOfMemory) g.takes.takes (record {
-        served = [];
-        rest = g.part ++ n.unread;
-        splits = none_served _;
-        mid = old;
         before = [];
         after = [];
         calls = refl;
-        session = (refl, refl, refl);
-        next = inl (wants a b o n MAX_LINE (omega arith) g, refl, refl);
+        mid = old;
+        served = none_served s host _ old;
+        next = inl (has_room a b o n MAX_LINE (omega arith) g, refl, refl);
       })
 
   pub no_last : (line : List ℕ) → TakesLast a b o n line → line ≡ [] → Runs s host [] o.spare o.unread a b h h old old (Ok tt)
@@ -223,15 +204,12 @@ module _ (s : StoryTree) (host : Bound) (a b h : Option (List ℕ)) (o n : Buffe
     unserved taken fault.Read t l first p = absurd p
     unserved taken fault.Write t l first p =
         runs_of made i taken p.falls.part new (Err fault.Write) t p.falls.appended (record {
-          served = [];
-          rest = taken ++ n.unread;
-          splits = none_served _;
-          mid = old;
           before = [];
           after = made;
           calls = refl;
+          mid = old;
           answers = [];
-          session = (refl, refl, refl);
+          served = none_served s host _ old;
           reply = p.reply;
           first = record { line = line; is_line = l; first = first; serves = p.serves };
           part = p.falls.part;
@@ -243,14 +221,11 @@ module _ (s : StoryTree) (host : Bound) (a b h : Option (List ℕ)) (o n : Buffe
     unserved taken fault.TooLong t l first p = absurd p
     unserved taken fault.OutOfMemory t l first p =
         runs_of made i taken [] new (Err fault.OutOfMemory) t p.appended (record {
-          served = [];
-          rest = taken ++ n.unread;
-          splits = none_served _;
-          mid = old;
           before = [];
           after = made;
           calls = refl;
-          session = (refl, refl, refl);
+          mid = old;
+          served = none_served s host _ old;
           next = inr (p.reply, record { line = line; is_line = l; first = first; serves = p.serves });
         })
 

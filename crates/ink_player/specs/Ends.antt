@@ -1,5 +1,5 @@
 -- What a call of a source or a sink counts as a failure, and whose failure ended a session.
-use Rattle.std.specs.Prelude.{◌≡◌, ◌<◌, ℕ, List, [], ◌∷◌, ◌++◌, length, Bool, true, false, ◌==◌, ◌&&◌, Option, Result, Ok, Err}
+use Rattle.std.specs.Prelude.{◌≡◌, ◌<◌, ℕ, List, [], ◌∷◌, ◌++◌, length, Bool, true, false, ◌==◌, ◌&&◌, ◌||◌, Option, Result, Ok, Err}
 use Rattle.std.specs.Io.KnownBytes.{Appends}
 use Rattle.ink_model.specs.Bytes.{is_filled}
 use Rattle.ink_player.specs.declared.desk.Desk.{Desk}
@@ -25,6 +25,10 @@ pub record Falls (old new : Option (List ℕ)) (bytes : List ℕ) : Type 0 where
 abbrev pub Writes : {T E : Type 0} → Option (List ℕ) → Option (List ℕ) → List ℕ → Result T E → Type 0
 Writes old new bytes (Ok x) = Appends old new bytes
 Writes old new bytes (Err e) = Falls old new bytes
+
+-- A source or a sink after a call: it has failed where it had, or where the call says so, and it is the same one.
+abbrev pub Reports : Bool → Bool → Bool → ℕ → ℕ → Type 0
+Reports fails had has name name' = (has ≡ (fails || had)) × (name' ≡ name)
 
 -- ---- whose failure ended a session
 

@@ -15,7 +15,7 @@ use Rattle.ink_model.specs.Tree.{StoryTree}
 use Rattle.ink_model.specs.declared.fault.Cause.TheVariants as cause
 use Rattle.ink_model.specs.declared.fault.Fault.{Fault}
 use Rattle.ink_model.specs.declared.fault.ReadRefusal.{ReadRefusal}
-use Rattle.ink_player.specs.Serving.{WantsByte, RunEnds}
+use Rattle.ink_player.specs.Serving.{HasRoom, RunEnds}
 use Rattle.ink_player.specs.Steps.{FailsToOpen}
 use Rattle.ink_player.specs.Words.{desk_of, state_of, story_of}
 use Rattle.ink_player.specs.declared.desk.Desk.{Desk}
@@ -33,18 +33,22 @@ pub record IsStoryLine (left : Option (List ℕ)) (bytes line input : List ℕ) 
   pub within : length line ≤ MAX_STORY
   pub whole : (bytes ≡ line ++ 10 ∷ input) ⊎ ((bytes ≡ line) × (input ≡ []) × IsAtEnd left)
 
--- The story was opened, and the lines behind it were served to the reader's end or to what ended the session. The input's
--- limit counts the story and its newline.
-pub record PlaysOn (left : Option (List ℕ)) (bytes written : List ℕ) (result : Result (Unit {0}) RunFault) : Type 0 where
+-- the story line spells this story, which is supported
+pub record BringsStory (left : Option (List ℕ)) (bytes : List ℕ) (tree : StoryTree) : Type 0 where
   pub line : List ℕ
   pub input : List ℕ
   pub story_line : IsStoryLine left bytes line input
-  pub tree : StoryTree
   pub reads : supported_story line ≡ Ok tree
+
+-- The story was opened, and the lines behind it were served to the reader's end or to what ended the session. The input's
+-- limit counts the story and its newline.
+pub record PlaysOn (left : Option (List ℕ)) (bytes written : List ℕ) (result : Result (Unit {0}) RunFault) : Type 0 where
+  pub tree : StoryTree
+  pub story : BringsStory left bytes tree
   pub first : Configuration
   pub opens : opening tree ≡ Ok first
   pub new : State
-  pub ends : RunEnds tree nothing_bound [] (MAX_INPUT - (length line + 1)) left input (opened first) written new result
+  pub ends : RunEnds tree nothing_bound [] (MAX_INPUT - (length story.line + 1)) left story.input (opened first) written new result
 
 -- the story ended what came: nothing was written, and no more was read than tells that a story is over its limit
 pub record EndsEarly (bytes written : List ℕ) : Type 0 where
@@ -60,15 +64,12 @@ IsRefused line r = ((r ≡ here cause.OutOfMemory) × (is_parsed line ≡ true))
 abbrev pub IsStoryRefused : Option (List ℕ) → List ℕ → ReadRefusal → Type 0
 IsStoryRefused left bytes r =
     ((line : List ℕ) × (input : List ℕ) × IsStoryLine left bytes line input × IsRefused line r)
-    ⊎ (((r ≡ here cause.OutOfMemory) × WantsByte MAX_STORY MAX_INPUT bytes bytes)
+    ⊎ (((r ≡ here cause.OutOfMemory) × HasRoom MAX_STORY MAX_INPUT bytes bytes)
     ⊎ ((r ≡ here cause.Limit) × (has_newline bytes ≡ false) × (MAX_STORY < length bytes)))
 
 pub record IsUnopened (left : Option (List ℕ)) (bytes : List ℕ) (f : Fault) : Type 0 where
-  pub line : List ℕ
-  pub input : List ℕ
-  pub story_line : IsStoryLine left bytes line input
   pub tree : StoryTree
-  pub reads : supported_story line ≡ Ok tree
+  pub story : BringsStory left bytes tree
   pub globals : Values
   pub why : FailsToOpen tree f globals
 

@@ -14,10 +14,16 @@ use Rattle.ink_model.specs.declared.limits.TheConstants.{MAX_LINE}
 use Rattle.ink_player.specs.Buffered.{Buffered}
 use Rattle.ink_player.specs.Ends.{Falls}
 use Rattle.ink_player.specs.Input.{Takes}
+use Rattle.ink_player.specs.Words.{desk_of, story_of}
+use Rattle.ink_player.specs.declared.player.Player.{Player}
 use Rattle.ink_player.specs.declared.end.RunFault.{RunFault}
 use Rattle.ink_player.specs.declared.end.RunFault.TheVariants as fault
 use Rattle.ink_player.specs.declared.session.Served.{Served}
 use Rattle.ink_player.specs.declared.session.Served.TheVariants.{More, Done}
+
+-- a player has the same story and the same desk
+abbrev pub SamePlay : Player → Player → Type 0
+SamePlay old new = (story_of new ≡ story_of old) × (desk_of new ≡ desk_of old)
 
 -- ---- lines
 
@@ -49,13 +55,17 @@ pub record ServesAll (s : StoryTree) (b : Bound) (made : List Made) (most : ℕ)
   pub each : AllByRecursion IsLine (lines_of input)
   pub session : Session s b made (lines_of input) old written new
 
+-- whole lines with which the input begins were served, and rest stands behind them
+pub record ServesFront (s : StoryTree) (b : Bound) (made : List Made) (input : List ℕ) (old : State) (written : List ℕ) (new : State) : Type 0 where
+  pub lines : List (List ℕ)
+  pub rest : List ℕ
+  pub splits : Splits input lines rest
+  pub session : Session s b made lines old written new
+
 -- the reader failed: every line was served that came whole
 pub record LosesReader (s : StoryTree) (b : Bound) (made : List Made) (input : List ℕ) (old : State) (written : List ℕ) (new : State) : Type 0 where
-  pub served : List (List ℕ)
-  pub rest : List ℕ
-  pub splits : Splits input served rest
-  pub session : Session s b made served old written new
-  pub plain : has_newline rest ≡ false
+  pub served : ServesFront s b made input old written new
+  pub plain : has_newline served.rest ≡ false
 
 -- rest begins with more bytes than a line may have, and no newline among them
 pub record IsLongLine (rest : List ℕ) : Type 0 where
@@ -76,11 +86,8 @@ pub record IsLongInput (most : ℕ) (served : List (List ℕ)) (rest : List ℕ)
 
 -- the next line, or the input, is over its limit: the lines before were served
 pub record GoesOver (s : StoryTree) (b : Bound) (made : List Made) (most : ℕ) (input : List ℕ) (old : State) (written : List ℕ) (new : State) : Type 0 where
-  pub served : List (List ℕ)
-  pub rest : List ℕ
-  pub splits : Splits input served rest
-  pub session : Session s b made served old written new
-  pub over : IsLongLine rest ⊎ IsLongInput most served rest
+  pub served : ServesFront s b made input old written new
+  pub over : IsLongLine served.rest ⊎ IsLongInput most served.lines served.rest
 
 -- the first line of rest is served
 pub record ServesFirst (s : StoryTree) (b : Bound) (made : List Made) (left : Option (List ℕ)) (rest : List ℕ) (old : State) (reply : Reply) (new : State) : Type 0 where
@@ -89,9 +96,9 @@ pub record ServesFirst (s : StoryTree) (b : Bound) (made : List Made) (left : Op
   pub first : IsFirst left rest line
   pub serves : Serves s b made line old reply new
 
--- Memory was refused for a byte of the line with which rest begins: there is one, and what was read shows neither the line nor the
--- input over its limit.
-pub record WantsByte (limit most : ℕ) (input rest : List ℕ) : Type 0 where
+-- Memory may be refused for a byte of the line with which rest begins: there is such a byte, and what was read shows neither the
+-- line nor the input over its limit.
+pub record HasRoom (limit most : ℕ) (input rest : List ℕ) : Type 0 where
   pub byte : ℕ
   pub more : List ℕ
   pub whole : rest ≡ byte ∷ more
@@ -102,30 +109,24 @@ pub record WantsByte (limit most : ℕ) (input rest : List ℕ) : Type 0 where
 -- Memory was refused: for a line, and the lines before it were served; or for an answer's text, and its command has taken
 -- effect too.
 pub record RunsOutOfMemory (s : StoryTree) (b : Bound) (made : List Made) (most : ℕ) (left : Option (List ℕ)) (input : List ℕ) (old : State) (written : List ℕ) (new : State) : Type 0 where
-  pub served : List (List ℕ)
-  pub rest : List ℕ
-  pub splits : Splits input served rest
-  pub mid : State
   pub before : List Made
   pub after : List Made
   pub calls : made ≡ before ++ after
-  pub session : Session s b before served old written mid
-  pub next : (WantsByte MAX_LINE most input rest × (after ≡ []) × (new ≡ mid)) ⊎ ((reply : Reply) × ServesFirst s b after left rest mid reply new)
+  pub mid : State
+  pub served : ServesFront s b before input old written mid
+  pub next : (HasRoom MAX_LINE most input served.rest × (after ≡ []) × (new ≡ mid)) ⊎ ((reply : Reply) × ServesFirst s b after left served.rest mid reply new)
 
 -- The writer failed or took no byte: the lines before were served, the next command has taken effect, and of its answer a
 -- front is written with something left behind it.
 pub record LosesWriter (s : StoryTree) (b : Bound) (made : List Made) (left : Option (List ℕ)) (input : List ℕ) (old : State) (written : List ℕ) (new : State) : Type 0 where
-  pub served : List (List ℕ)
-  pub rest : List ℕ
-  pub splits : Splits input served rest
-  pub mid : State
   pub before : List Made
   pub after : List Made
   pub calls : made ≡ before ++ after
+  pub mid : State
   pub answers : List ℕ
-  pub session : Session s b before served old answers mid
+  pub served : ServesFront s b before input old answers mid
   pub reply : Reply
-  pub first : ServesFirst s b after left rest mid reply new
+  pub first : ServesFirst s b after left served.rest mid reply new
   pub part : List ℕ
   pub unwritten : List ℕ
   pub whole : answer reply ≡ part ++ unwritten

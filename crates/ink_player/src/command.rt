@@ -1,4 +1,4 @@
-//! The commands that lines spell.
+//! The commands that lines spell (docs/PROTOCOL.md, "Command lines").
 
 ghost use Rattle.std.specs.Prelude.{◌≡◌, IfOk, OnErr, option_map, option_and_then, string_bytes};
 ghost use Rattle.serde_json.specs.Find.{as_integer};

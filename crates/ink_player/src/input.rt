@@ -4,6 +4,7 @@ ghost use Rattle.std.specs.Prelude.{◌≡◌, ◌<◌, ◌≤◌, ◌+◌, ◌-
 ghost use Rattle.std.specs.Io.{ReadsAtMost};
 ghost use Rattle.std.specs.Io.KnownBytes.{Consumes, Keeps, IsAtEnd, ReadConsumes};
 
+use crate::watched::Watched;
 use std::io::Read;
 use std::marker::Model;
 
@@ -32,14 +33,7 @@ pub trait Source {
         ensures name { name self.new ≡ name self.old };
 }
 
-/// Any reader as a source.
-#[derive(Drop)]
-pub(crate) struct Reader<'a, R> {
-    pub(crate) inner: &'a mut R,
-    pub(crate) has_failed: bool,
-}
-
-impl<R: Read> Source for Reader<'_, R> {
+impl<R: Read> Source for Watched<'_, R> {
     ghost remaining = { λ s. R.remaining s.inner.now };
 
     ghost has_failed = { λ s. s.has_failed };

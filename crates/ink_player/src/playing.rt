@@ -4,17 +4,18 @@ ghost use Rattle.std.specs.Prelude.{◌≡◌, ◌||◌, [], Ok, IfOk, IfErr};
 ghost use Rattle.ink_check.specs.Words.{story_tree};
 ghost use Rattle.ink_model.specs.Supported as rules;
 ghost use Rattle.ink_model.specs.Supported.{unsupported};
-ghost use Rattle.ink_player.specs.Ends.{play_reads_fail, play_writes_fail};
+ghost use Rattle.ink_player.specs.Ends.{Reports, play_reads_fail, play_writes_fail};
 ghost use Rattle.ink_player.specs.Playing.{IsRefused, Opens, Plays, desk_left, opened_desk, play_fault};
 
 use crate::desk::Desk;
 use crate::end::{PlayEnd, PlayFault, RunFault};
-use crate::input::{Ahead, Reader, Source};
+use crate::input::{Ahead, Source};
 use crate::lines::{Line, next_line};
-use crate::output::{Sink, Writer};
+use crate::output::Sink;
 use crate::supported::runnable;
 use crate::player::{OpenFault, Player};
 use crate::session::serve_lines;
+use crate::watched::Watched;
 use ink_check::{Story, check};
 use ink_json::read_story;
 use ink_model::{Cause, MAX_INPUT, MAX_STORY, ReadRefusal};
@@ -37,19 +38,9 @@ pub fn play<R: Read, W: Write>(
     ensures plays { Plays (R.remaining reader.old) (R.remaining reader.new) (W.contents writer.old) (W.contents writer.new) result }
     ensures desk { desk_left result ≡ desk }
 {
-    let mut source = Reader {
-        inner: reader,
-        has_failed: false,
-    };
-    let mut sink = Writer {
-        inner: writer,
-        has_failed: false,
-    };
-    let outcome = serve_story(alloc, &mut source, &mut sink, desk);
-    // No effect at run time. The proof reads what the reader and the writer came to from these.
-    let _ = &*source.inner;
-    let _ = &*sink.inner;
-    outcome
+    let mut source = Watched::over(reader);
+    let mut sink = Watched::over(writer);
+    serve_story(alloc, &mut source, &mut sink, desk)
 }
 
 /// Plays a story as `play` does, over a source and a sink, which say whether they have failed: the source has failed in this
@@ -62,10 +53,8 @@ pub fn serve_story<S: Source, T: Sink>(
 ) -> Result<Desk, PlayEnd>
     ensures plays { Plays (S.remaining source.old) (S.remaining source.new) (T.contents sink.old) (T.contents sink.new) result }
     ensures desk { desk_left result ≡ desk }
-    ensures read_cause { S.has_failed source.new ≡ (play_reads_fail result || S.has_failed source.old) }
-    ensures write_cause { T.has_failed sink.new ≡ (play_writes_fail result || T.has_failed sink.old) }
-    ensures source_name { S.name source.new ≡ S.name source.old }
-    ensures sink_name { T.name sink.new ≡ T.name sink.old }
+    ensures source { Reports (play_reads_fail result) (S.has_failed source.old) (S.has_failed source.new) (S.name source.old) (S.name source.new) }
+    ensures sink { Reports (play_writes_fail result) (T.has_failed sink.old) (T.has_failed sink.new) (T.name sink.old) (T.name sink.new) }
 {
     let mut ahead = Ahead::new(MAX_INPUT);
     let line = match next_line(alloc, &mut ahead, source, MAX_STORY) {
