@@ -1,4 +1,3 @@
-pub mod Moving
 pub mod Stepping
 pub mod Diverting
 pub mod Telling

@@ -16,7 +16,7 @@ fn accepted(alloc: Global, bytes: &[u8]) -> Result<Story, ReadRefusal> {
 
 /// A player at the start of a story, or the fault of opening it; where memory is refused for finding out what is played, too.
 fn open(alloc: Global, story: Story) -> Result<Player, Fault> {
-    match runnable(alloc, &story) {
+    match runnable(&story) {
         Ok(None) => {}
         Ok(Some(_)) => return Err(Fault::StopInString),
         Err(_) => return Err(Fault::OutOfMemory),
@@ -261,13 +261,13 @@ fn the_first_content_that_is_not_played_is_found(rt: HostRuntime) {
     let Ok(story) = accepted(alloc, played) else {
         panic!(rt; "refused");
     };
-    assert!(rt; matches!(runnable(alloc, &story), Ok(None)));
+    assert!(rt; matches!(runnable(&story), Ok(None)));
 
     let beyond = br##"{"inkVersion":21,"root":["^A",["^B",{"x()":"f"},"<>",null],"done",null]}"##;
     let Ok(story) = accepted(alloc, beyond) else {
         panic!(rt; "refused");
     };
-    let Ok(Some(place)) = runnable(alloc, &story) else {
+    let Ok(Some(place)) = runnable(&story) else {
         panic!(rt; "none found");
     };
     assert!(rt; matches!(place.parts(), [Part::Index(1), Part::Index(1)]));
