@@ -5,13 +5,11 @@ use Rattle.std.proofs.lemmas.Bool.{or_left, eq-eqb}
 use Rattle.std.proofs.lemmas.List.{reverse-reverse, append-nil, length_push}
 use Rattle.ink_model.specs.Shown.{newlines_before, is_among, open_newline, has_more, more_from}
 use Rattle.ink_model.specs.declared.mark.Mark.{Mark}
-use Rattle.ink_out.specs.declared.tracker.Hides.{Hides}
-use Rattle.ink_out.specs.declared.tracker.Hides.TheVariants.{Near, Any, Never}
 use Rattle.ink_out.specs.declared.tracker.Tracker.{Tracker}
 use Rattle.ink_out.specs.declared.tracker.Waiting.{Waiting}
 use Rattle.ink_out.specs.declared.state.Past.{Past}
 use Rattle.ink_out.specs.declared.state.State.{State}
-use Rattle.ink_out.specs.Tracks.{hidden_by, waits, Tracks, Fits, FitsNewline}
+use Rattle.ink_out.specs.Tracks.{waits, Tracks, Fits, FitsNewline}
 use Rattle.ink_out.specs.Stands.{Stands, is_past}
 use Rattle.ink_out.proofs.Tracking.{hidden_now}
 use Rattle.ink_out.proofs.Opens.{more_is, opens_there, open_none, open_followed}
