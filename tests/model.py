@@ -270,7 +270,7 @@ def is_bad(root, place, content):
     return False
 
 
-def is_unplayed(content):
+def is_unsupported(content):
     if isinstance(content, dict):
         return not any(head in content for head in ("->", "^->", "VAR=", "VAR?"))
     return content in ("~ret", "->->", "thread", "choiceCnt", "turn", "turns", "readc", "visit")
@@ -278,7 +278,7 @@ def is_unplayed(content):
 
 def refusal(root):
     """What is wrong with the story, at which place, where something is."""
-    for why, test in (("BadPath", lambda place, content: is_bad(root, place, content)), ("Unsupported", lambda _, content: is_unplayed(content))):
+    for why, test in (("BadPath", lambda place, content: is_bad(root, place, content)), ("Unsupported", lambda _, content: is_unsupported(content))):
         for place in places(root):
             if test(place, found(root, place)):
                 return "%s at %s" % (why, ".".join(map(str, place)) or "root")
@@ -601,7 +601,7 @@ def random_story(chance):
                 if content.get(head) == WAY:
                     content[head] = random_path(chance, root, place, head)
     if chance.random() < 0.05:
-        add_unplayed(chance, root)
+        add_unsupported(chance, root)
     return {"inkVersion": 21, "root": root, "listDefs": {}}
 
 
@@ -622,7 +622,7 @@ def random_path(chance, root, place, head):
     return "." + ".".join(["^"] * (len(place) - common) + [str(part) for part in named_end[common:]])
 
 
-def add_unplayed(chance, root):
+def add_unsupported(chance, root):
     container = chance.choice([found(root, place) for place in places(root) if isinstance(found(root, place), list)])
     content = chance.choice(("visit", "~ret", {"x()": "f"}, {"temp=": "t"}, {"^var": "x"}, {"f()": "x", "var": True}))
     container.insert(chance.randrange(len(container)), content)

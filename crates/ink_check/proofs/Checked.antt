@@ -1,22 +1,22 @@
 -- What the check of a story comes to, place by place.
 use Rattle.std.proofs.Common.{◌≡◌, ℕ, suc, ◌+◌, ◌-◌, ◌<◌, Bool, true, false, List, [], ◌∷◌, ◌++◌, map, length, take, drop, refl, sym, ap, ◌∙◌, arith, Option, Some, None, Ok, Err}
 use Rattle.std.specs.List.{filter, slice_get}
-use Rattle.std.specs.Option.{option_flatten, option_map, option_or, unwrap_or}
+use Rattle.std.specs.Option.{option_map, option_or, unwrap_or}
 use Rattle.std.proofs.Math.Seq.{drop-cons}
 use Rattle.std.proofs.lemmas.List.{map-append, take_more}
-use Rattle.std.proofs.lemmas.Option.{none-some, same_Some, slice_get-map, unwrap_or-slice_get}
-use Rattle.ink_model.specs.Acceptance.{accepted, bad_path, bad_places, good_content, has_bad_path, written_target}
+use Rattle.std.proofs.lemmas.Option.{none-some, slice_get-map, unwrap_or-slice_get}
+use Rattle.ink_model.specs.Acceptance.{accepted, bad_path, bad_places, good_content, has_bad_path}
 use Rattle.ink_model.specs.Path.{ends_in_index}
 use Rattle.ink_model.specs.Places.{places}
 use Rattle.ink_model.specs.Tree.{StoryTree, leaf, container, at}
 use Rattle.ink_model.specs.declared.place.Part.{Part}
 use Rattle.ink_model.specs.declared.place.Part.TheVariants.{Index, Name}
-use Rattle.ink_tree.specs.Nodes.{node_place, place_of}
+use Rattle.ink_model.specs.declared.fault.Failure.{Failure}
+use Rattle.ink_model.specs.declared.fault.Failure.TheVariants.{OutOfMemory, Refused}
+use Rattle.ink_tree.specs.Nodes.{node_place}
 use Rattle.ink_tree.specs.declared.spot.NodeId.{NodeId}
-use Rattle.ink_tree.specs.declared.spot.Spot.{Spot}
-use Rattle.ink_check.specs.Outcome.{Gives, IsFirstBad}
-use Rattle.ink_check.specs.declared.error.CheckError.{CheckError}
-use Rattle.ink_check.specs.declared.error.CheckError.TheVariants.{OutOfMemory, BadPath}
+use Rattle.ink_check.specs.Outcome.{Follows, IsFirstBad}
+use Rattle.ink_check.specs.declared.link.Link.{Link}
 
 -- ---- a path's last component
 
@@ -70,57 +70,44 @@ bad_here : (s : StoryTree) (n : ℕ) → n < length (places s) → bad_places s 
 unfolding accepted
 bad_here s n h so_far bad = rw (so_far ∙ bad_next s n h bad) refl
 
-pub first_bad : (s : StoryTree) (n : ℕ) (e : CheckError) → n < length (places s) → bad_places s ≡ bad_from s n
-    → Gives s (node n) (is_good s (node_place s (node n))) (written_target s (node_place s (node n))) (Err e) → IsFirstBad s e
-first_bad s n OutOfMemory h so_far gives = tt
-first_bad s n (BadPath m) h so_far (same, bad) = rw same (bad_here s n h so_far bad)
+pub first_bad : (s : StoryTree) (n : ℕ) (e : Failure NodeId) → n < length (places s) → bad_places s ≡ bad_from s n
+    → Follows s (node n) (at s (node_place s (node n))) (Err e) → IsFirstBad s e
+first_bad s n OutOfMemory h so_far follows = tt
+first_bad s n (Refused m) h so_far (same, bad) = rw same (bad_here s n h so_far bad)
 
 pub all_good : (s : StoryTree) → bad_places s ≡ [] → accepted s ≡ Ok s
 unfolding accepted
 all_good s good = rw good refl
 
--- ---- targets
-
-pub target_next : (s : StoryTree) (n : ℕ) (ts new : List (Option Spot)) (t : Option Spot) → n < length (places s)
-    → option_map (place_of s) t ≡ written_target s (node_place s (node n)) → new ≡ ts ++ t ∷ []
-    → map (option_map (place_of s)) ts ≡ map (written_target s) (take n (places s))
-    → map (option_map (place_of s)) new ≡ map (written_target s) (take (n + 1) (places s))
-target_next s n ts new t h leads kept so_far =
-    ap (map (option_map (place_of s))) kept
-    ∙ map-append (option_map (place_of s)) ts (t ∷ [])
-    ∙ ap (λ l. l ++ option_map (place_of s) t ∷ []) so_far
-    ∙ ap (λ l. map (written_target s) (take n (places s)) ++ l ∷ []) leads
-    ∙ sym (map-append (written_target s) (take n (places s)) (node_place s (node n) ∷ []))
-    ∙ ap (map (written_target s)) (sym (take_next (places s) n h))
-
--- of a node, or of the root where there is no node of that number
-target_or : (s : StoryTree) (a b : Option (Option Spot)) (p : Option (List Part))
-    → option_map (option_map (place_of s)) a ≡ option_map (written_target s) p
-    → option_map (option_map (place_of s)) b ≡ Some (written_target s [])
-    → option_map (option_map (place_of s)) (option_or a b) ≡ Some (written_target s (unwrap_or p []))
-target_or s None b None here root = root
-target_or s (Some t) b None here root = absurd (none-some _ (sym here))
-target_or s None b (Some p) here root = absurd (none-some _ here)
-target_or s (Some t) b (Some p) here root = here
+-- ---- links
 
 root_place : (s : StoryTree) → slice_get (places s) 0 ≡ Some []
 root_place (leaf l) = refl
 root_place (container name flags content named) = refl
 
-target_at : (s : StoryTree) (ts : List (Option Spot)) (n : ℕ)
-    → map (option_map (place_of s)) ts ≡ map (written_target s) (places s)
-    → option_map (option_map (place_of s)) (slice_get ts n) ≡ option_map (written_target s) (slice_get (places s) n)
-target_at s ts n same =
-    sym (slice_get-map (option_map (place_of s)) ts n) ∙ ap (λ l. slice_get l n) same ∙ slice_get-map (written_target s) (places s) n
+-- what is kept of each node's link, and what the definition says of its place
+module _ (s : StoryTree) (kept : Link → Option (List Part)) (said : List Part → Option (List Part)) where
+  pub link_next : (n : ℕ) (ls new : List Link) (l : Link) → n < length (places s) → kept l ≡ said (node_place s (node n)) → new ≡ ls ++ l ∷ []
+      → map kept ls ≡ map said (take n (places s)) → map kept new ≡ map said (take (n + 1) (places s))
+  link_next n ls new l h is more so_far =
+      ap (map kept) more
+      ∙ map-append kept ls (l ∷ [])
+      ∙ ap (λ ps. ps ++ kept l ∷ []) so_far
+      ∙ ap (λ p. map said (take n (places s)) ++ p ∷ []) is
+      ∙ sym (map-append said (take n (places s)) (node_place s (node n) ∷ []))
+      ∙ ap (map said) (sym (take_next (places s) n h))
 
-flattened : (s : StoryTree) (t : Option (Option Spot)) (p : Option (List Part)) → option_map (option_map (place_of s)) t ≡ Some p → option_map (place_of s) (option_flatten t) ≡ p
-flattened s None p e = absurd (none-some p e)
-flattened s (Some t) p e = same_Some (option_map (place_of s) t) p e
+  module _ (ls : List Link) (same : map kept ls ≡ map said (places s)) where
+    link_at : (n : ℕ) → option_map kept (slice_get ls n) ≡ option_map said (slice_get (places s) n)
+    link_at n = sym (slice_get-map kept ls n) ∙ ap (λ ps. slice_get ps n) same ∙ slice_get-map said (places s) n
 
-pub target_of : (s : StoryTree) (ts : List (Option Spot)) (n : NodeId)
-    → map (option_map (place_of s)) ts ≡ map (written_target s) (places s)
-    → option_map (place_of s) (option_flatten (option_or (slice_get ts n.number) (slice_get ts 0))) ≡ written_target s (node_place s n)
-target_of s ts n same =
-    flattened s (option_or (slice_get ts n.number) (slice_get ts 0)) (written_target s (node_place s n))
-    (target_or s (slice_get ts n.number) (slice_get ts 0) (slice_get (places s) n.number) (target_at s ts n.number same)
-    (target_at s ts 0 same ∙ ap (option_map (written_target s)) (root_place s)))
+    -- of a node, or of the root where there is no node of that number
+    link_or : (a b : Option Link) (p : Option (List Part)) → option_map kept a ≡ option_map said p → option_map kept b ≡ Some (said [])
+        → option_map kept (option_or a b) ≡ Some (said (unwrap_or p []))
+    link_or None b None here root = root
+    link_or (Some l) b None here root = absurd (none-some _ (sym here))
+    link_or None b (Some p) here root = absurd (none-some _ here)
+    link_or (Some l) b (Some p) here root = here
+
+    pub link_of : (n : NodeId) → option_map kept (option_or (slice_get ls n.number) (slice_get ls 0)) ≡ Some (said (node_place s n))
+    link_of n = link_or (slice_get ls n.number) (slice_get ls 0) (slice_get (places s) n.number) (link_at n.number) (link_at 0 ∙ ap (option_map said) (root_place s))

@@ -2,9 +2,9 @@
 #![tactic(auto)]
 
 mod checking;
-mod error;
 mod forms;
 mod leading;
+mod link;
 mod story;
 
 pub use checking::check;

@@ -1,28 +1,34 @@
 //! Accepted stories (docs/STORY_FORMAT.md, "Paths").
 
-ghost use Rattle.std.specs.Prelude.{◌≡◌, [], map, option_map, slice_get};
-ghost use Rattle.ink_model.specs.Acceptance.{bad_places, written_target};
+ghost use Rattle.std.specs.Prelude.{◌≡◌, Some, [], map, option_map, slice_get};
+ghost use Rattle.ink_check.specs.Links.{counted_place, target_place};
+ghost use Rattle.ink_model.specs.Acceptance.{bad_places, counted_container, written_target};
+ghost use Rattle.ink_model.specs.Grammar.{IsSpelled};
 ghost use Rattle.ink_model.specs.Places.{places};
 ghost use Rattle.ink_tree.specs.Nodes as nodes;
 
+use crate::link::Link;
 use ink_tree::{NodeId, Spot, Tree};
 
 /// An accepted story: each written path in it leads somewhere. It never changes.
 #[derive(Drop)]
 pub struct Story {
     pub(crate) tree: Tree,
-    pub(crate) targets: Vec<Option<Spot>>,
+    pub(crate) links: Vec<Link>,
     ghost good: { bad_places (nodes.story_tree tree) ≡ [] },
-    ghost leading: { let s = nodes.story_tree tree in map (option_map (nodes.place_of s)) targets.items ≡ map (written_target s) (places s) },
+    ghost spelled: { IsSpelled (nodes.story_tree tree) },
+    ghost leading: { let s = nodes.story_tree tree in map (target_place s) links.items ≡ map (written_target s) (places s) },
+    ghost counting: { let s = nodes.story_tree tree in map (counted_place s) links.items ≡ map (counted_container s) (places s) },
 }
 
 impl Story {
     ghost use Rattle.ink_check.specs.Words.{story_tree};
 
-    /// The story's content, by number. Takes no memory.
+    /// The story's content, by number. Some bytes spell it, so that all limits hold in it. Takes no memory.
     pub fn tree(&self) -> &Tree
         ensures tree { nodes.story_tree result.now ≡ story_tree self.now }
         ensures good { bad_places (story_tree self.now) ≡ [] }
+        ensures spelled { IsSpelled (story_tree self.now) }
     {
         &self.tree
     }
@@ -33,13 +39,30 @@ impl Story {
         ensures { option_map (nodes.place_of (story_tree self.now)) result
             ≡ written_target (story_tree self.now) (nodes.node_place (story_tree self.now) node) }
     {
-        let root = NodeId { number: 0 };
-        self.entry(node).or(self.entry(root)).flatten()
+        self.link(node)?.target
     }
 
-    fn entry(&self, node: NodeId) -> Option<Option<Spot>>
-        ensures { result ≡ slice_get self.now.targets.items node.number }
+    /// The container whose visits a content asks for: a count, or a choice that is offered once only; none for other content.
+    /// A choice lands inside that container, unless it is empty. Takes no memory.
+    pub fn counted(&self, node: NodeId) -> Option<NodeId>
+        ensures { option_map (nodes.node_place (story_tree self.now)) result
+            ≡ counted_container (story_tree self.now) (nodes.node_place (story_tree self.now) node) }
     {
-        self.targets.get(node.number).copied()
+        self.link(node)?.counted
+    }
+
+    // What the written path of a content comes to; a number beyond the story's content stands for the root.
+    fn link(&self, node: NodeId) -> Option<Link>
+        ensures target { let s = story_tree self.now in option_map (target_place s) result ≡ Some (written_target s (nodes.node_place s node)) }
+        ensures counted { let s = story_tree self.now in option_map (counted_place s) result ≡ Some (counted_container s (nodes.node_place s node)) }
+    {
+        let root = NodeId { number: 0 };
+        self.entry(node).or(self.entry(root))
+    }
+
+    fn entry(&self, node: NodeId) -> Option<Link>
+        ensures { result ≡ slice_get self.now.links.items node.number }
+    {
+        self.links.get(node.number).copied()
     }
 }

@@ -1,6 +1,5 @@
 -- From bytes to the value of their JSON, and from it to the root.
-use Rattle.std.proofs.Common.{◌≡◌, ℕ, ◌+◌, ◌≤◌, List, [], ◌∷◌, length, Bool, true, false, nat_lt, Option, Some, None, ok_or, Ok, Err, IsUtf8, IsTrue, ◌↔◌, Ordering, Less, Equal, Greater, nat_cmp, refl, sym, ap, ◌∙◌, arith}
-use Rattle.std.proofs.lemmas.Bool.Decides.{nat_tests}
+use Rattle.std.proofs.Common.{◌≡◌, ℕ, ◌+◌, ◌<◌, ◌≤◌, List, [], ◌∷◌, length, Bool, true, false, nat_lt, Option, Some, None, ok_or, Result, Ok, Err, IsUtf8, IsTrue, ◌↔◌, Ordering, Less, Equal, Greater, nat_cmp, refl, sym, ap, ◌∙◌, arith}
 use Rattle.std.proofs.lemmas.Str.{IsUtf8-from_is_utf8, is_utf8-from_IsUtf8}
 use Rattle.std.specs.Cmp.Lexicographic.{slice_cmp}
 use Rattle.std.specs.Ordering.{match_ordering}
@@ -9,12 +8,19 @@ use Rattle.serde_json.specs.Data.{Data, null, boolean, number, string, array, ob
 use Rattle.serde_json.specs.Find.{get, get_member}
 use Rattle.serde_json.specs.Read.{read}
 use Rattle.serde_json.specs.View.{members_view}
+use Rattle.serde_json.proofs.OnLiterals.{serde_json_on_literals}
 use Rattle.serde_json.proofs.Views.{Entry}
-use Rattle.ink_model.specs.Limits.{max_story}
-use Rattle.ink_model.specs.Grammar.{here, json, unmarked, of_value, story, is_blank_object}
+use Rattle.ink_model.specs.Bytes.{is_filled}
+use Rattle.ink_model.specs.declared.limits.TheConstants.{MAX_STORY}
+use Rattle.ink_model.specs.Grammar.{here, json, unmarked, of_json, of_value, story, is_blank_object}
 use Rattle.ink_model.specs.declared.fault.Cause.TheVariants.{NotJson}
+use Rattle.ink_model.specs.declared.fault.Failure.{Failure}
+use Rattle.ink_model.specs.declared.fault.Failure.TheVariants.{OutOfMemory, Refused}
+use Rattle.ink_model.specs.declared.fault.ReadRefusal.{ReadRefusal}
+use Rattle.ink_json.specs.Reading.{is_parsable, is_parsed, FailsOr, Reads, ReadsOr}
 use Rattle.ink_json.specs.Size.{size, members_size}
 use Rattle.ink_json.proofs.Size.{read_size}
+use Rattle.ink_json.proofs.Tests.{not_above}
 
 -- ---- text and JSON
 
@@ -31,6 +37,23 @@ json_some bytes text d same utf8 is =
     let found : read bytes ≡ Some d = ap read (sym same) ∙ is in
     rw (e, found) refl
 
+-- text of which there is a byte
+pub parsable : (bytes text : List ℕ) → text ≡ bytes → IsUtf8 bytes → 0 < length text → is_parsable bytes ≡ true
+parsable [] text same utf8 some = absurd (omega (arith, ap length same))
+parsable (c ∷ cs) text same utf8 some = let e = is_utf8-from_IsUtf8 (c ∷ cs) utf8 in rw e refl
+
+nothing_read : read [] ≡ None
+unfolding serde_json_on_literals
+nothing_read = refl
+
+read_text : (bytes : List ℕ) (d : Data) → read bytes ≡ Some d → is_filled bytes ≡ true
+read_text [] d e = absurd (cc nothing_read)
+read_text (c ∷ cs) d e = refl
+
+json_text : (bytes : List ℕ) (b : Bool) (d : Data) → is_utf8 bytes ≡ b → json bytes ≡ Some d → is_parsable bytes ≡ true
+json_text bytes true d e is = let found : read bytes ≡ Some d = rw e at is in rw (e, read_text bytes d found) refl
+json_text bytes false d e is = let none : None ≡ Some d = rw e at is in absurd cc
+
 pub json_size : (bytes text : List ℕ) (d : Data) → text ≡ bytes → read text ≡ Some d → size d ≤ length bytes + 1
 json_size bytes text d same is = omega (arith, read_size text d is, ap length same)
 
@@ -40,12 +63,32 @@ found : (o : Option Data) (d : Data) → ok_or o (here NotJson) ≡ Ok d → o �
 found None d e = absurd cc
 found (Some x) d e = cc
 
-within : (n : ℕ) → n ≤ max_story → nat_lt max_story n ≡ false
-within n h = grind (arith, nat_tests)
-
-pub story_is : (bytes : List ℕ) (d : Data) → length bytes ≤ max_story → ok_or (json (unmarked bytes)) (here NotJson) ≡ Ok d → story bytes ≡ of_value d
+pub story_is : (bytes : List ℕ) (d : Data) → length bytes ≤ MAX_STORY → ok_or (json (unmarked bytes)) (here NotJson) ≡ Ok d → story bytes ≡ of_value d
 unfolding story
-story_is bytes d h e = let short = within (length bytes) h in let is = found (json (unmarked bytes)) d e in rw (short, is) refl
+story_is bytes d h e = let short = not_above MAX_STORY (length bytes) h in let is = found (json (unmarked bytes)) d e in rw (short, is) refl
+
+-- bytes in which a value was found were parsed
+pub parsed : (bytes : List ℕ) (d : Data) → length bytes ≤ MAX_STORY → ok_or (json (unmarked bytes)) (here NotJson) ≡ Ok d → is_parsed bytes ≡ true
+parsed bytes d h e =
+    let short = not_above MAX_STORY (length bytes) h in
+    let text = json_text (unmarked bytes) (is_utf8 (unmarked bytes)) d refl (found (json (unmarked bytes)) d e) in
+    rw (short, text) refl
+
+not_json : (o : Option Data) (r : ReadRefusal) → ok_or o (here NotJson) ≡ Err r → of_json o ≡ Err r
+not_json None r e = let same : here NotJson ≡ r = cc in ap Err same
+not_json (Some d) r e = absurd cc
+
+-- where no value is found, there is no story
+pub no_story : (bytes : List ℕ) (e : Failure ReadRefusal) → length bytes ≤ MAX_STORY → FailsOr (is_parsable (unmarked bytes)) e (ok_or (json (unmarked bytes)) (here NotJson)) → FailsOr (is_parsed bytes) e (story bytes)
+unfolding story
+no_story bytes OutOfMemory h stops = rw (not_above MAX_STORY (length bytes) h) stops
+no_story bytes (Refused r) h stops = rw (not_above MAX_STORY (length bytes) h) (not_json (json (unmarked bytes)) r stops)
+
+-- where memory may be refused anyhow
+pub reads_or : {X A : Type 0} (may : Bool) (view : X → A) (result : Result X (Failure ReadRefusal)) (read : Result A ReadRefusal) → may ≡ true → Reads view result read → ReadsOr may view result read
+reads_or may view (Ok x) read m h = h
+reads_or may view (Err OutOfMemory) read m h = m
+reads_or may view (Err (Refused r)) read m h = h
 
 -- ---- sizes of what is found
 

@@ -1,6 +1,5 @@
 -- Reading content element by element and key by key, beside its faults and its tree.
-use Rattle.std.proofs.Common.{◌≡◌, ℕ, zero, suc, ◌+◌, ◌-◌, ◌<◌, ◌≤◌, List, [], ◌∷◌, ◌++◌, map, length, get_or, drop, Bool, true, false, ◌&&◌, nat_lt, cond, Option, Some, None, Ok, Err, String, Global, Vec, BTreeMap, Ordering, Less, Equal, Greater, string_bytes, string_cmp, nat_cmp, refl, sym, ap, subst, ◌∙◌, append_assoc, arith, rules, add-one, drop-cons}
-use Rattle.std.proofs.lemmas.Bool.Decides.{nat_tests}
+use Rattle.std.proofs.Common.{◌≡◌, ℕ, zero, suc, ◌+◌, ◌-◌, ◌<◌, ◌≤◌, List, [], ◌∷◌, ◌++◌, map, length, get_or, drop, Bool, true, false, cond, Option, Some, None, Ok, Err, String, Global, Vec, BTreeMap, Ordering, Less, Equal, Greater, string_bytes, string_cmp, nat_cmp, refl, sym, ap, subst, ◌∙◌, append_assoc, arith, rules, add-one, drop-cons}
 use Rattle.std.proofs.lemmas.List.{map_push}
 use Rattle.std.proofs.lemmas.Cmp.{nat_list_cmp_total}
 use Rattle.std.specs.BTreeMap.{insert_entry}
@@ -9,20 +8,22 @@ use Rattle.std.specs.List.Sorted.{IsStrictlySortedBy}
 use Rattle.std.specs.Map.{keys_of}
 use Rattle.std.specs.Cmp.Lexicographic.{slice_cmp}
 use Rattle.std.specs.Ordering.{match_ordering, ordering_reverse}
-use Rattle.serde_json.specs.Data.{Data, null, boolean, number, string, array, object, Items, item, Members}
+use Rattle.serde_json.specs.Data.{Data, null, boolean, number, string, array, object, Items, no_items, item, Members, no_members, member}
 use Rattle.serde_json.specs.View.{view as json_view, items_view, members_view}
 use Rattle.serde_json.specs.declared.value.Value.{Value}
 use Rattle.ink_model.specs.Tree.{StoryTree, container, Trees, no_trees, tree, Keyed, key}
 use Rattle.ink_model.specs.View.{view, trees_of, trees_view, keyed_view}
-use Rattle.ink_model.specs.Limits.{max_nesting}
+use Rattle.ink_model.specs.declared.limits.TheConstants.{MAX_NESTING}
 use Rattle.ink_model.specs.Grammar.{under, first, own, own_after, is_empty, is_last, are_flags, member_of, flags_key, flags_of, name_in, name_of, is_misnamed, is_taken, with_name, is_own, content, faults, faults_inside, faults_keyed, faults_by, tree_of, content_of, keyed_in, keyed_last, keyed_by}
 use Rattle.ink_model.specs.declared.content.Content.{Content, Container, the_lemmas}
+use Rattle.ink_model.specs.declared.fault.Failure.{Failure}
+use Rattle.ink_model.specs.declared.fault.Failure.TheVariants.{OutOfMemory, Refused}
 use Rattle.ink_model.specs.declared.fault.ReadRefusal.{ReadRefusal}
+use Rattle.ink_model.specs.declared.place.Part.{Part}
 use Rattle.ink_model.specs.declared.place.Part.TheVariants.{Index, Name}
-use Rattle.ink_json.specs.declared.error.ReadError.{ReadError}
-use Rattle.ink_json.specs.declared.error.ReadError.TheVariants.{Memory, Refused}
-use Rattle.ink_json.specs.Reading.{Fails, IsFirst, is_whole, faults_last, faults_named, put_key}
+use Rattle.ink_json.specs.Reading.{takes_memory, Fails, IsFirst, is_whole, faults_last, faults_named, put_key}
 use Rattle.ink_json.specs.Size.{size, items_size, members_size}
+use Rattle.ink_json.proofs.Tests.{both, not_above}
 
 abbrev pub Entry : Type 0
 Entry = String Global × Value
@@ -66,34 +67,57 @@ first_ok [] a b e = (refl, cc)
 first_ok (f ∷ fs) a b e = absurd cc
 
 -- an error of the front is one of the whole
-pub fails_first : {A : Type 0} (e : ReadError) (fs more : List ReadRefusal) (a : A) → Fails e (first fs a) → IsFirst e (fs ++ more)
-fails_first Memory fs more a h = tt
+pub fails_first : {A : Type 0} (e : Failure ReadRefusal) (fs more : List ReadRefusal) (a : A) → Fails e (first fs a) → IsFirst e (fs ++ more)
+fails_first OutOfMemory fs more a h = tt
 fails_first (Refused r) [] more a h = absurd cc
 fails_first (Refused r) (f ∷ fs) more a h = cc
 
-pub fails_more : {A B : Type 0} (e : ReadError) (fs more : List ReadRefusal) (a : A) (b : B) → Fails e (first fs a) → Fails e (first (fs ++ more) b)
-fails_more Memory fs more a b h = tt
-fails_more (Refused r) [] more a b h = absurd cc
-fails_more (Refused r) (f ∷ fs) more a b h = cc
+pub fails_more : {A B : Type 0} (e : Failure ReadRefusal) (fs more : List ReadRefusal) (a : A) (b : B) → takes_memory (first more b) ≡ true → Fails e (first fs a) → Fails e (first (fs ++ more) b)
+fails_more OutOfMemory [] more a b m h = m
+fails_more OutOfMemory (f ∷ fs) more a b m h = h
+fails_more (Refused r) [] more a b m h = absurd cc
+fails_more (Refused r) (f ∷ fs) more a b m h = cc
 
-pub first_fails : {A : Type 0} (e : ReadError) (fs : List ReadRefusal) (a : A) → IsFirst e fs → Fails e (first fs a)
-first_fails Memory fs a h = tt
-first_fails (Refused r) [] a h = absurd h
-first_fails (Refused r) (f ∷ fs) a h = ap Err h
+pub first_fails : {A : Type 0} (e : Failure ReadRefusal) (fs : List ReadRefusal) (a : A) → takes_memory (first fs a) ≡ true → IsFirst e fs → Fails e (first fs a)
+first_fails OutOfMemory fs a m h = m
+first_fails (Refused r) [] a m h = absurd h
+first_fails (Refused r) (f ∷ fs) a m h = ap Err h
+
+-- what is wrong below, and what follows it, takes memory for its place
+below_takes : {A : Type 0} (p : Part) (fs more : List ReadRefusal) (a : A) → takes_memory (first more a) ≡ true → takes_memory (first (map (under p) fs ++ more) a) ≡ true
+below_takes p [] more a h = h
+below_takes p (f ∷ fs) more a h = refl
+
+unless_takes : {A : Type 0} (b : Bool) (fs gs : List ReadRefusal) (a : A) → takes_memory (first fs a) ≡ true → takes_memory (first gs a) ≡ true → takes_memory (first (cond b fs gs) a) ≡ true
+unless_takes true fs gs a h k = h
+unless_takes false fs gs a h k = k
+
+pub by_takes : {A : Type 0} (version nesting : ℕ) (taken : List (List ℕ)) (ms : Members) (a : A) → takes_memory (first (faults_by version nesting taken ms) a) ≡ true
+by_takes version nesting taken no_members a = refl
+by_takes version nesting taken (member k d ms) a =
+    let rest = by_takes version nesting taken ms a in
+    unless_takes (is_own k) _ _ a rest (below_takes (Name k) _ _ a rest)
+
+keyed_takes : {A : Type 0} (version nesting : ℕ) (taken : List (List ℕ)) (d : Data) (a : A) → takes_memory (first (faults_keyed version nesting taken d) a) ≡ true
+keyed_takes version nesting taken null a = refl
+keyed_takes version nesting taken (boolean b) a = refl
+keyed_takes version nesting taken (number n) a = refl
+keyed_takes version nesting taken (string s) a = refl
+keyed_takes version nesting taken (array ds) a = refl
+keyed_takes version nesting taken (object ms) a = by_takes version nesting taken ms a
+
+-- nothing that is wrong inside a container is wrong at its very place
+pub inside_takes : {A : Type 0} (version nesting i : ℕ) (taken : List (List ℕ)) (ds : Items) (a : A) → takes_memory (first (faults_inside version nesting i taken ds) a) ≡ true
+inside_takes version nesting i taken no_items a = refl
+inside_takes version nesting i taken (item d ds) a =
+    unless_takes (is_empty ds) _ _ a (keyed_takes version nesting taken d a) (below_takes (Index i) _ _ a (inside_takes version nesting (i + 1) (with_name taken (name_of d)) ds a))
 
 -- ---- a container's own object
 
-both : (a b : Bool) → (a && b) ≡ true → (a ≡ true) × (b ≡ true)
-both true b h = (refl, h)
-both false b h = absurd cc
-
-above : (n : ℕ) → n ≤ max_nesting → nat_lt max_nesting n ≡ false
-above n h = grind (arith, nat_tests)
-
-faults_are_inside : (version nesting : ℕ) (misnamed : Bool) (ds : Items) → nesting ≤ max_nesting → is_whole (own ds) ≡ true → misnamed ≡ false
+faults_are_inside : (version nesting : ℕ) (misnamed : Bool) (ds : Items) → nesting ≤ MAX_NESTING → is_whole (own ds) ≡ true → misnamed ≡ false
     → faults version nesting misnamed (array ds) ≡ faults_inside version nesting 0 [] ds
 faults_are_inside version nesting misnamed ds h w m =
-    let deep = above nesting h in
+    let deep = not_above MAX_NESTING nesting h in
     let two = both (is_last (own ds)) (are_flags (member_of flags_key (own ds))) w in
     let last = two.0 in
     let flags = two.1 in
@@ -103,19 +127,25 @@ pub whole_has : (vs : List Value) → is_whole (own (items_view vs)) ≡ true �
 whole_has [] w = absurd cc
 whole_has (v ∷ vs) w = omega arith
 
+-- a container whose own object is good takes memory, whatever is wrong inside
+pub container_takes : (version nesting : ℕ) (misnamed listed : Bool) (ds : Items) → nesting ≤ MAX_NESTING → is_whole (own ds) ≡ true → misnamed ≡ false → takes_memory (content version nesting misnamed listed (array ds)) ≡ true
+container_takes version nesting misnamed listed ds h w m =
+    rw (faults_are_inside version nesting misnamed ds h w m) (inside_takes version nesting 0 [] ds (tree_of version listed (array ds)))
+
 -- a container stops at the first fault among its elements
-pub container_stops : (version nesting : ℕ) (misnamed listed : Bool) (ds : Items) (e : ReadError) → nesting ≤ max_nesting → is_whole (own ds) ≡ true → misnamed ≡ false
+pub container_stops : (version nesting : ℕ) (misnamed listed : Bool) (ds : Items) (e : Failure ReadRefusal) → nesting ≤ MAX_NESTING → is_whole (own ds) ≡ true → misnamed ≡ false
     → IsFirst e (faults_inside version nesting 0 [] ds) → Fails e (content version nesting misnamed listed (array ds))
 container_stops version nesting misnamed listed ds e h w m stops =
-    rw (faults_are_inside version nesting misnamed ds h w m) (first_fails e (faults_inside version nesting 0 [] ds) (tree_of version listed (array ds)) stops)
+    rw (faults_are_inside version nesting misnamed ds h w m) (first_fails e (faults_inside version nesting 0 [] ds) (tree_of version listed (array ds)) (inside_takes version nesting 0 [] ds _) stops)
 
-pub fails_alike : {A B : Type 0} (e : ReadError) (fs : List ReadRefusal) (a : A) (b : B) → Fails e (first fs a) → Fails e (first fs b)
-fails_alike Memory fs a b h = tt
+pub fails_alike : {A B : Type 0} (e : Failure ReadRefusal) (fs : List ReadRefusal) (a : A) (b : B) → Fails e (first fs a) → Fails e (first fs b)
+fails_alike OutOfMemory [] a b h = refl
+fails_alike OutOfMemory (f ∷ fs) a b h = h
 fails_alike (Refused r) [] a b h = absurd cc
 fails_alike (Refused r) (f ∷ fs) a b h = cc
 
 -- .. or among the containers by key
-pub container_stops_late : (version nesting : ℕ) (misnamed listed : Bool) (ds : Items) (last : Data) (taken : List (List ℕ)) (e : ReadError) → nesting ≤ max_nesting → is_whole (own ds) ≡ true → misnamed ≡ false
+pub container_stops_late : (version nesting : ℕ) (misnamed listed : Bool) (ds : Items) (last : Data) (taken : List (List ℕ)) (e : Failure ReadRefusal) → nesting ≤ MAX_NESTING → is_whole (own ds) ≡ true → misnamed ≡ false
     → own ds ≡ Some last → faults_inside version nesting 0 [] ds ≡ faults_last version nesting taken (own ds)
     → Fails e (first (faults_keyed version nesting taken last) (keyed_last version last)) → Fails e (content version nesting misnamed listed (array ds))
 container_stops_late version nesting misnamed listed ds last taken e h w m o same stops =
@@ -123,7 +153,7 @@ container_stops_late version nesting misnamed listed ds last taken e h w m o sam
     rw (faults_are_inside version nesting misnamed ds h w m, all) (fails_alike e (faults_keyed version nesting taken last) (keyed_last version last) (tree_of version listed (array ds)) stops)
 
 -- and is read where there is none
-pub container_read : (version nesting : ℕ) (misnamed listed : Bool) (ds : Items) (last : Data) (taken : List (List ℕ)) (name : Option (List ℕ)) (flags : ℕ) (inside : Trees) (keyed : Keyed) → nesting ≤ max_nesting → is_whole (own ds) ≡ true → misnamed ≡ false
+pub container_read : (version nesting : ℕ) (misnamed listed : Bool) (ds : Items) (last : Data) (taken : List (List ℕ)) (name : Option (List ℕ)) (flags : ℕ) (inside : Trees) (keyed : Keyed) → nesting ≤ MAX_NESTING → is_whole (own ds) ≡ true → misnamed ≡ false
     → own ds ≡ Some last → keyed_in version ds ≡ keyed_last version last → faults_inside version nesting 0 [] ds ≡ faults_last version nesting taken (own ds)
     → first (faults_keyed version nesting taken last) (keyed_last version last) ≡ Ok keyed
     → name ≡ cond listed (name_in (own ds)) None → flags ≡ flags_of (own ds) → inside ≡ content_of version ds
@@ -182,7 +212,7 @@ element_goes version nesting vs i v is taken read all more e given =
       content_from version nesting vs i v is more ∙ ap (λ t. tree t (content_of version (items_view (drop (i + 1) vs)))) k.1,
     )
 
-pub element_stops : (version nesting : ℕ) (vs : List Value) (i : ℕ) (v : Value) (is : v ≡ get_or vs i v) (taken : List (List ℕ)) (e : ReadError) (all : List ReadRefusal) → i < length vs - 1
+pub element_stops : (version nesting : ℕ) (vs : List Value) (i : ℕ) (v : Value) (is : v ≡ get_or vs i v) (taken : List (List ℕ)) (e : Failure ReadRefusal) (all : List ReadRefusal) → i < length vs - 1
     → all ≡ faults_inside version nesting i taken (items_view (drop i vs))
     → Fails e (first (map (under (Index i)) (faults version (nesting + 1) (is_misnamed taken (json_view v)) (json_view v))) (tree_of version true (json_view v)))
     → IsFirst e all
@@ -283,10 +313,10 @@ module _ (version nesting : ℕ) (e : Entry) (more : List Entry) (name : List �
       → faults_by version nesting taken (members_view (e ∷ more)) ≡ map (under (Name name)) (faults_named version (nesting + 1) misnamed (json_view e.1)) ++ faults_by version nesting taken (members_view more)
   key_faults taken given = let own : is_own (string_bytes e.0) ≡ false = ap is_own (sym is) ∙ named in rw (own, given, is) refl
 
-  pub key_stops : (error : ReadError) (whole : Keyed) (taken : List (List ℕ)) (all : List ReadRefusal) → misnamed ≡ is_taken taken (Some name) → all ≡ faults_by version nesting taken (members_view (e ∷ more))
+  pub key_stops : (error : Failure ReadRefusal) (whole : Keyed) (taken : List (List ℕ)) (all : List ReadRefusal) → misnamed ≡ is_taken taken (Some name) → all ≡ faults_by version nesting taken (members_view (e ∷ more))
       → Fails error (first (map (under (Name name)) (faults_named version (nesting + 1) misnamed (json_view e.1))) (tree_of version false (json_view e.1))) → Fails error (first all whole)
   key_stops error whole taken all given same stops =
-      rw (same, key_faults taken given) (fails_more error _ _ (tree_of version false (json_view e.1)) whole stops)
+      rw (same, key_faults taken given) (fails_more error _ _ (tree_of version false (json_view e.1)) whole (by_takes version nesting taken (members_view more) whole) stops)
 
   module _ (read : StoryTree) (good : first (map (under (Name name)) (faults_named version (nesting + 1) misnamed (json_view e.1))) (tree_of version false (json_view e.1)) ≡ Ok read) where
     pub key_goes : (taken : List (List ℕ)) (all : List ReadRefusal) → misnamed ≡ is_taken taken (Some name) → all ≡ faults_by version nesting taken (members_view (e ∷ more)) → all ≡ faults_by version nesting taken (members_view more)

@@ -7,14 +7,11 @@ use Rattle.ink_model.specs.Tree.{StoryTree, leaf, container, Trees, no_trees, tr
 use Rattle.ink_model.specs.Narrow.{is_narrow, are_narrow, are_keyed_narrow}
 use Rattle.ink_model.specs.declared.place.Part.{Part}
 use Rattle.ink_model.specs.declared.place.Part.TheVariants.{Index, Name}
+use Rattle.ink_json.proofs.Tests.{both}
 
 abbrev IsNarrow : Option StoryTree → Type 0
 IsNarrow None = Unit {0}
 IsNarrow (Some t) = is_narrow t ≡ true
-
-both : (a b : Bool) → (a && b) ≡ true → (a ≡ true) × (b ≡ true)
-both true b h = (refl, h)
-both false b h = absurd cc
 
 nth_narrow : (n : ℕ) (ts : Trees) → are_narrow ts ≡ true → IsNarrow (nth n ts)
 nth_narrow n no_trees h = tt

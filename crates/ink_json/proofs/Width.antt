@@ -7,7 +7,7 @@ use Rattle.serde_json.specs.Find.{get}
 use Rattle.serde_json.specs.Read.{read}
 use Rattle.ink_model.specs.Tree.{StoryTree, Keyed, key, count}
 use Rattle.ink_model.specs.Narrow.{is_narrow, are_narrow, are_keyed_narrow}
-use Rattle.ink_model.specs.Limits.{max_story}
+use Rattle.ink_model.specs.declared.limits.TheConstants.{MAX_STORY}
 use Rattle.ink_model.specs.Leaves.{whole}
 use Rattle.ink_model.specs.Grammar.{here, is_object, is_version, is_blank_object, is_own, tree_of, content_of, keyed_in, keyed_last, keyed_by, faults, unmarked, json, of_json, of_value, root_of, story}
 use Rattle.ink_model.specs.declared.fault.Cause.TheVariants.{Shape, Version, Unsupported}
@@ -111,10 +111,10 @@ json_narrow : (o : Option Data) (t : StoryTree) → ((d : Data) → o ≡ Some d
 json_narrow None t h e = absurd cc
 json_narrow (Some d) t h e = value_narrow d t (h d refl) e
 
-bytes_narrow : (b : Bool) (bytes : List ℕ) (r : ReadRefusal) (t : StoryTree) → nat_lt max_story (length bytes) ≡ b → cond b (Err r) (of_json (json (unmarked bytes))) ≡ Ok t → is_narrow t ≡ true
+bytes_narrow : (b : Bool) (bytes : List ℕ) (r : ReadRefusal) (t : StoryTree) → nat_lt MAX_STORY (length bytes) ≡ b → cond b (Err r) (of_json (json (unmarked bytes))) ≡ Ok t → is_narrow t ≡ true
 bytes_narrow true bytes r t h e = absurd cc
 bytes_narrow false bytes r t h e =
-    let short : length bytes ≤ max_story = grind (arith, nat_tests) in
+    let short : length bytes ≤ MAX_STORY = grind (arith, nat_tests) in
     json_narrow (json (unmarked bytes)) t (λ d is. omega (arith, json_size (is_utf8 (unmarked bytes)) (unmarked bytes) d is, unmarked_shorter bytes)) e
 
 pub story_narrow : (bytes : List ℕ) (t : StoryTree) → story bytes ≡ Ok t → is_narrow t ≡ true

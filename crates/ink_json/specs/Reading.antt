@@ -1,41 +1,69 @@
 -- What reading functions return, beside the definition of the story that bytes spell.
-use Rattle.std.specs.Prelude.{◌≡◌, ℕ, List, [], ◌∷◌, Bool, ◌&&◌, bytes_eq, Option, Some, None, is_some, if◌then◌else◌, Result, Ok, Err}
+use Rattle.std.specs.Prelude.{◌≡◌, ℕ, List, [], ◌∷◌, length, Bool, true, false, not, ◌&&◌, nat_lt, bytes_eq, Option, Some, None, is_some, if◌then◌else◌, Result, Ok, Err}
 use Rattle.std.specs.Borrow.{Bor}
 use Rattle.std.specs.BTreeSet.{BTreeSet, contains_by}
 use Rattle.std.specs.Cmp.Lexicographic.{slice_cmp}
 use Rattle.std.specs.List.{list_any}
 use Rattle.std.specs.Ordering.{nat_cmp, match_ordering}
+use Rattle.std.specs.Str.{is_utf8}
 use Rattle.serde_json.specs.Data.{Data}
 use Rattle.serde_json.specs.Find.{as_array}
-use Rattle.ink_model.specs.Grammar.{here, under, is_last, are_flags, member_of, flags_key, faults, faults_keyed}
+use Rattle.ink_model.specs.Bytes.{is_filled}
+use Rattle.ink_model.specs.Grammar.{here, under, unmarked, is_last, are_flags, member_of, flags_key, faults, faults_keyed}
 use Rattle.ink_model.specs.Tree.{StoryTree, Keyed, no_keys, key}
+use Rattle.ink_model.specs.declared.limits.TheConstants.{MAX_STORY}
 use Rattle.ink_model.specs.declared.fault.Cause.{Cause}
 use Rattle.ink_model.specs.declared.fault.Cause.TheVariants.{Shape}
+use Rattle.ink_model.specs.declared.fault.Failure.{Failure}
+use Rattle.ink_model.specs.declared.fault.Failure.TheVariants.{OutOfMemory, Refused}
 use Rattle.ink_model.specs.declared.fault.ReadRefusal.{ReadRefusal}
 use Rattle.ink_model.specs.declared.place.Part.{Part}
-use Rattle.ink_json.specs.declared.error.ReadError.{ReadError}
-use Rattle.ink_json.specs.declared.error.ReadError.TheVariants.{Memory, Refused}
 
--- an error is that of the definition, unless memory ran out
-abbrev pub Fails : {A : Type 0} → ReadError → Result A ReadRefusal → Type 0
-Fails Memory read = Unit {0}
-Fails (Refused r) read = read ≡ Err r
+-- there is a byte, and all are text
+abbrev pub is_parsable : List ℕ → Bool
+is_parsable bytes = is_utf8 bytes && is_filled bytes
 
--- what a function returned, seen by view, is what the definition reads, unless memory ran out
-abbrev pub Gives : {X A : Type 0} → (X → A) → Result X ReadError → Result A ReadRefusal → Type 0
-Gives view (Ok x) read = read ≡ Ok (view x)
-Gives view (Err e) read = Fails e read
+-- The bytes are parsed as JSON, which takes memory: they are within the limit, and those behind the byte order mark are text.
+abbrev pub is_parsed : List ℕ → Bool
+is_parsed bytes = not (nat_lt MAX_STORY (length bytes)) && is_parsable (unmarked bytes)
 
--- an error is the first of the faults, unless memory ran out
-abbrev pub IsFirst : ReadError → List ReadRefusal → Type 0
-IsFirst Memory faults = Unit {0}
+-- a place is not the very place
+abbrev pub has_parts : List Part → Bool
+has_parts [] = false
+has_parts (p ∷ ps) = true
+
+-- What is read takes memory: content does, and the place of a refusal below. A refusal at the very place takes none.
+abbrev pub takes_memory : {A : Type 0} → Result A ReadRefusal → Bool
+takes_memory (Ok a) = true
+takes_memory (Err r) = has_parts r.place
+
+-- a failure is that of the definition; or memory was refused, where it may be
+abbrev pub FailsOr : {A : Type 0} → Bool → Failure ReadRefusal → Result A ReadRefusal → Type 0
+FailsOr may OutOfMemory read = may ≡ true
+FailsOr may (Refused r) read = read ≡ Err r
+
+-- what a function returned, seen by view, is what the definition reads; or memory was refused, where it may be
+abbrev pub ReadsOr : {X A : Type 0} → Bool → (X → A) → Result X (Failure ReadRefusal) → Result A ReadRefusal → Type 0
+ReadsOr may view (Ok x) read = read ≡ Ok (view x)
+ReadsOr may view (Err e) read = FailsOr may e read
+
+-- the same, where memory may be refused for what takes it
+abbrev pub Fails : {A : Type 0} → Failure ReadRefusal → Result A ReadRefusal → Type 0
+Fails e read = FailsOr (takes_memory read) e read
+
+abbrev pub Reads : {X A : Type 0} → (X → A) → Result X (Failure ReadRefusal) → Result A ReadRefusal → Type 0
+Reads view result read = ReadsOr (takes_memory read) view result read
+
+-- a failure is the first of the faults, or memory was refused
+abbrev pub IsFirst : Failure ReadRefusal → List ReadRefusal → Type 0
+IsFirst OutOfMemory faults = Unit {0}
 IsFirst (Refused r) [] = ⊥
 IsFirst (Refused r) (f ∷ faults) = f ≡ r
 
--- the second error is the first one, found under a part; memory may run out over it
-abbrev pub IsUnder : Part → ReadError → ReadError → Type 0
-IsUnder p e Memory = Unit {0}
-IsUnder p Memory (Refused q) = ⊥
+-- the second failure is the first one, found under a part, for which memory may be refused
+abbrev pub IsUnder : Part → Failure ReadRefusal → Failure ReadRefusal → Type 0
+IsUnder p e OutOfMemory = Unit {0}
+IsUnder p OutOfMemory (Refused q) = ⊥
 IsUnder p (Refused r) (Refused q) = q ≡ under p r
 
 -- what is wrong with something is wrong at its very place

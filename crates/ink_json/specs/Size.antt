@@ -1,5 +1,6 @@
 -- How many values a JSON value is made of, itself included.
-use Rattle.std.specs.Prelude.{ℕ, ◌+◌}
+use Rattle.std.specs.Prelude.{ℕ, ◌+◌, ◌^◌, ◌≤◌, ◌<◌}
+use Rattle.ink_model.specs.declared.limits.TheConstants.{MAX_NESTING}
 use Rattle.serde_json.specs.Data.{Data, null, boolean, number, string, array, object, Items, no_items, item, Members, no_members, member}
 
 abbrev mutual
@@ -18,3 +19,7 @@ abbrev mutual
   pub members_size : Members → ℕ
   members_size no_members = 0
   members_size (member k d ms) = size d + members_size ms
+
+-- Content that is looked at: its nesting is one above the limit at most, and what it is made of can be counted.
+abbrev pub Fits : ℕ → Data → Type 0
+Fits nesting d = (nesting ≤ MAX_NESTING + 1) × (size d < 2 ^ 32)

@@ -3,19 +3,17 @@
 ghost use Rattle.std.specs.Prelude.{◌≡◌, ◌+◌, ◌≤◌, ◌<◌, ◌^◌, ℕ, List, [], IfOk, IfErr, OnOk, map, vec_len, true, false};
 ghost use Rattle.serde_json.specs.Data.{array};
 ghost use Rattle.serde_json.specs.View.{view as json_view, items_view, members_view};
-ghost use Rattle.ink_model.specs.Limits.{max_nesting};
 ghost use Rattle.ink_model.specs.Grammar.{content, content_of, tree_of, keyed_last, keyed_by, faults, faults_inside, faults_keyed, faults_by, first, under, own};
 ghost use Rattle.ink_model.specs.View.{view, trees_view, keyed_view};
 ghost use Rattle.ink_model.specs.declared.place.Part.TheVariants.{Index, Name};
-ghost use Rattle.ink_json.specs.Reading.{Gives, IsFirst, Holds, faults_last, faults_named, put_key};
-ghost use Rattle.ink_json.specs.Size.{size, items_size, members_size};
+ghost use Rattle.ink_json.specs.Reading.{Reads, IsFirst, Holds, faults_last, faults_named, put_key};
+ghost use Rattle.ink_json.specs.Size.{Fits, size, items_size, members_size};
 
-use crate::error::ReadError;
+use crate::error::{ReadFailure, at_index, at_name, refused};
 use crate::leaf::{read_number, read_object, read_string};
-use crate::limits::MAX_NESTING;
 use crate::names::{give, is_misnamed};
 use crate::own::{copy_name, is_own, name_of, read_own};
-use ink_model::{Cause, Content, Leaf};
+use ink_model::{Cause, Content, Leaf, MAX_NESTING};
 use serde_json::{Map, Value};
 use std::alloc::{AllocError, Global};
 use std::collections::{BTreeMap, BTreeSet};
@@ -32,12 +30,11 @@ struct Inside<'v> {
 fn read_content(
     alloc: Global,
     value: &Value,
-    nesting: u32,
+    nesting: usize,
     misnamed: bool,
-) -> Result<Content, ReadError>
-    requires nests { nesting ≤ max_nesting + 1 }
-    requires small { size (json_view value.now) < 2 ^ 32 }
-    ensures { Gives view result (content 21 nesting misnamed true (json_view value.now)) }
+) -> Result<Content, ReadFailure>
+    requires { Fits nesting (json_view value.now) }
+    ensures { Reads view result (content 21 nesting misnamed true (json_view value.now)) }
 {
     match value {
         Value::Array(items) => read_container(alloc, items, nesting, misnamed, true),
@@ -45,7 +42,7 @@ fn read_content(
         Value::Bool(truth) => Ok(Content::Leaf(Leaf::Bool(*truth))),
         Value::Number(number) => read_number(alloc, number),
         Value::Object(_) => read_object(alloc, value),
-        Value::Null => Err(ReadError::here(alloc, Cause::Shape)),
+        Value::Null => Err(refused(alloc, Cause::Shape)),
     }
 }
 
@@ -54,22 +51,22 @@ fn read_content(
 pub(crate) fn read_container(
     alloc: Global,
     items: &Vec<Value>,
-    nesting: u32,
+    nesting: usize,
     misnamed: bool,
     listed: bool,
-) -> Result<Content, ReadError>
-    requires nests { nesting ≤ max_nesting + 1 }
+) -> Result<Content, ReadFailure>
+    requires nests { nesting ≤ MAX_NESTING + 1 }
     requires small { items_size (items_view items.now.items) < 2 ^ 32 }
-    ensures { Gives view result (content 21 nesting misnamed listed (array (items_view items.now.items))) }
+    ensures { Reads view result (content 21 nesting misnamed listed (array (items_view items.now.items))) }
 {
     if nesting > MAX_NESTING {
-        return Err(ReadError::here(alloc, Cause::Limit));
+        return Err(refused(alloc, Cause::Limit));
     }
     let Some(own) = read_own(items, listed) else {
-        return Err(ReadError::here(alloc, Cause::Shape));
+        return Err(refused(alloc, Cause::Shape));
     };
     if misnamed {
-        return Err(ReadError::here(alloc, Cause::Shape));
+        return Err(refused(alloc, Cause::Shape));
     }
     let Inside { content, names } = read_elements(alloc, items, nesting)?;
     let named = read_last(alloc, &items[items.len() - 1], nesting, &names)?;
@@ -83,8 +80,12 @@ pub(crate) fn read_container(
 
 /// The content that stands in a list, which is all elements but the last.
 #[cycle(content)]
-fn read_elements(alloc: Global, items: &Vec<Value>, nesting: u32) -> Result<Inside<'_>, ReadError>
-    requires nests { nesting ≤ max_nesting }
+fn read_elements(
+    alloc: Global,
+    items: &Vec<Value>,
+    nesting: usize,
+) -> Result<Inside<'_>, ReadFailure>
+    requires nests { nesting ≤ MAX_NESTING }
     requires small { items_size (items_view items.now.items) < 2 ^ 32 }
     requires last { 0 < vec_len items.now }
     ensures content { IfOk result (λ x. trees_view x.content.items ≡ content_of 21 (items_view items.now.items)) }
@@ -109,17 +110,16 @@ fn read_element(
     alloc: Global,
     value: &Value,
     index: u32,
-    nesting: u32,
+    nesting: usize,
     misnamed: bool,
-) -> Result<Content, ReadError>
-    requires nests { nesting ≤ max_nesting + 1 }
-    requires small { size (json_view value.now) < 2 ^ 32 }
-    ensures { Gives view result
+) -> Result<Content, ReadFailure>
+    requires { Fits nesting (json_view value.now) }
+    ensures { Reads view result
         (first (map (under (Index index)) (faults 21 nesting misnamed (json_view value.now))) (tree_of 21 true (json_view value.now))) }
 {
     match read_content(alloc, value, nesting, misnamed) {
         Ok(content) => Ok(content),
-        Err(error) => Err(error.at_index(index)),
+        Err(error) => Err(at_index(error, index)),
     }
 }
 
@@ -128,12 +128,12 @@ fn read_element(
 fn read_last(
     alloc: Global,
     last: &Value,
-    nesting: u32,
+    nesting: usize,
     names: &BTreeSet<&str>,
-) -> Result<BTreeMap<String, Content>, ReadError>
-    requires nests { nesting ≤ max_nesting }
+) -> Result<BTreeMap<String, Content>, ReadFailure>
+    requires nests { nesting ≤ MAX_NESTING }
     requires small { size (json_view last.now) < 2 ^ 32 }
-    ensures { (taken : List (List ℕ)) → Holds names.now taken → Gives (λ m. keyed_view m.entries) result
+    ensures { (taken : List (List ℕ)) → Holds names.now taken → Reads (λ m. keyed_view m.entries) result
         (first (faults_keyed 21 nesting taken (json_view last.now)) (keyed_last 21 (json_view last.now))) }
 {
     match last {
@@ -149,12 +149,12 @@ fn read_last(
 fn read_keyed(
     alloc: Global,
     keys: &Map<String, Value>,
-    nesting: u32,
+    nesting: usize,
     names: &BTreeSet<&str>,
-) -> Result<BTreeMap<String, Content>, ReadError>
-    requires nests { nesting ≤ max_nesting }
+) -> Result<BTreeMap<String, Content>, ReadFailure>
+    requires nests { nesting ≤ MAX_NESTING }
     requires small { members_size (members_view keys.now.entries) < 2 ^ 32 }
-    ensures { (taken : List (List ℕ)) → Holds names.now taken → Gives (λ m. keyed_view m.entries) result
+    ensures { (taken : List (List ℕ)) → Holds names.now taken → Reads (λ m. keyed_view m.entries) result
         (first (faults_by 21 nesting taken (members_view keys.now.entries)) (keyed_by 21 (members_view keys.now.entries))) }
 {
     let mut named = BTreeMap::new(alloc);
@@ -175,21 +175,20 @@ fn read_named(
     alloc: Global,
     key: &str,
     value: &Value,
-    nesting: u32,
+    nesting: usize,
     misnamed: bool,
-) -> Result<Content, ReadError>
-    requires nests { nesting ≤ max_nesting + 1 }
-    requires small { size (json_view value.now) < 2 ^ 32 }
-    ensures { Gives view result
+) -> Result<Content, ReadFailure>
+    requires { Fits nesting (json_view value.now) }
+    ensures { Reads view result
         (first (map (under (Name key.now)) (faults_named 21 nesting misnamed (json_view value.now))) (tree_of 21 false (json_view value.now))) }
 {
     let read = match value {
         Value::Array(items) => read_container(alloc, items, nesting, misnamed, false),
-        _ => Err(ReadError::here(alloc, Cause::Shape)),
+        _ => Err(refused(alloc, Cause::Shape)),
     };
     match read {
         Ok(content) => Ok(content),
-        Err(error) => Err(error.at_name(alloc, key)),
+        Err(error) => Err(at_name(alloc, error, key)),
     }
 }
 

@@ -1,82 +1,55 @@
 //! Why reading stops.
 
 ghost use Rattle.std.specs.Prelude.{◌≡◌};
-ghost use Rattle.ink_json.specs.declared.error.ReadError.TheVariants.{Memory, Refused};
+ghost use Rattle.ink_model.specs.Grammar.{here};
+ghost use Rattle.ink_model.specs.declared.place.Part.TheVariants.{Index, Name};
+ghost use Rattle.ink_json.specs.Reading.{IsUnder};
 
-use ink_model::{Cause, Part, Place, ReadRefusal, Text};
-use std::alloc::{AllocError, AllocFailed, Global};
+use ink_model::{Cause, Failure, Part, ReadRefusal, Text};
+use std::alloc::Global;
 
 /// A request for memory was refused, or the story is.
-#[derive(Drop)]
-pub(crate) enum ReadError {
-    Memory,
-    Refused(ReadRefusal),
+pub(crate) type ReadFailure = Failure<ReadRefusal>;
+
+/// What is being read is refused, for this cause.
+pub(crate) fn refused(alloc: Global, cause: Cause) -> ReadFailure
+    ensures { result ≡ Failure.Refused (here cause) }
+{
+    Failure::Refused(ReadRefusal::at_root(alloc, cause))
 }
 
-impl From<AllocError> for ReadError {
-    ghost from_gives = { λ _ e. e ≡ Memory };
+/// The same failure, of content that stands at this index.
+pub(crate) fn at_index(failure: ReadFailure, index: u32) -> ReadFailure
+    ensures { IsUnder (Index index) failure result }
+{
+    under(failure, Part::Index(index))
+}
 
-    fn from(_refused: AllocError) -> ReadError {
-        ReadError::Memory
+/// The same failure, of a container that stands at this key.
+pub(crate) fn at_name(alloc: Global, failure: ReadFailure, name: &str) -> ReadFailure
+    ensures { IsUnder (Name name.now) failure result }
+{
+    match Text::from_str(alloc, name) {
+        Ok(name) => under(failure, Part::Name(name)),
+        Err(_) => Failure::OutOfMemory,
     }
 }
 
-impl<T: Drop> From<AllocFailed<T>> for ReadError {
-    ghost from_gives = { λ _ e. e ≡ Memory };
-
-    fn from(_refused: AllocFailed<T>) -> ReadError {
-        ReadError::Memory
+fn under(failure: ReadFailure, part: Part) -> ReadFailure
+    ensures { IsUnder part failure result }
+{
+    match failure {
+        Failure::OutOfMemory => Failure::OutOfMemory,
+        Failure::Refused(refusal) => refused_under(refusal, part),
     }
 }
 
-impl ReadError {
-    ghost use Rattle.ink_model.specs.Grammar.{here};
-    ghost use Rattle.ink_model.specs.declared.place.Part.TheVariants.{Index, Name};
-    ghost use Rattle.ink_json.specs.Reading.{IsUnder};
-
-    /// What is being read is refused, for this cause.
-    pub(crate) fn here(alloc: Global, cause: Cause) -> ReadError
-        ensures { result ≡ Refused (here cause) }
-    {
-        ReadError::Refused(ReadRefusal {
-            cause,
-            place: Place::root(alloc),
-        })
-    }
-
-    /// The same error, of content that stands at this index.
-    pub(crate) fn at_index(self, index: u32) -> ReadError
-        ensures { IsUnder (Index index) self result }
-    {
-        self.under(Part::Index(index))
-    }
-
-    /// The same error, of a container that stands at this key.
-    pub(crate) fn at_name(self, alloc: Global, name: &str) -> ReadError
-        ensures { IsUnder (Name name.now) self result }
-    {
-        match Text::from_str(alloc, name) {
-            Ok(name) => self.under(Part::Name(name)),
-            Err(_) => ReadError::Memory,
-        }
-    }
-
-    fn under(self, part: Part) -> ReadError
-        ensures { IsUnder part self result }
-    {
-        match self {
-            ReadError::Memory => ReadError::Memory,
-            ReadError::Refused(refusal) => ReadError::refused_under(refusal, part),
-        }
-    }
-
-    fn refused_under(refusal: ReadRefusal, part: Part) -> ReadError
-        ensures { IsUnder part (Refused refusal) result }
-    {
-        let ReadRefusal { cause, place } = refusal;
-        match place.under(part) {
-            Ok(place) => ReadError::Refused(ReadRefusal { cause, place }),
-            Err(_) => ReadError::Memory,
-        }
+fn refused_under(refusal: ReadRefusal, part: Part) -> ReadFailure
+    ensures { IsUnder part (Failure.Refused refusal) result }
+{
+    let ReadRefusal { cause, place } = refusal;
+    match place.under(part) {
+        Ok(place) => Failure::Refused(ReadRefusal { cause, place }),
+        Err(_) => Failure::OutOfMemory,
     }
 }

@@ -1,28 +1,24 @@
 //! The heads of an object, which say what it is.
 
-ghost use Rattle.std.specs.Prelude.{List, ◌++◌, Result};
+ghost use Rattle.std.specs.Prelude.{◌++◌};
 ghost use Rattle.serde_json.specs.View.{view as json_view};
 ghost use Rattle.ink_model.specs.Leaves.{by_head, jump_readings, value_readings, store_readings};
-ghost use Rattle.ink_model.specs.declared.fault.Cause.{Cause};
-ghost use Rattle.ink_model.specs.declared.content.Leaf.{Leaf};
-ghost use Rattle.ink_json.specs.Heads.{Counts, reading};
+ghost use Rattle.ink_json.specs.Heads.{Counts, Adds, reading};
 
+use crate::readings::{Jump, Scope};
 use serde_json::Value;
 
 /// The key that says what an object is.
 #[derive(Clone, Copy)]
 pub(crate) enum Head {
-    Divert,
-    Call,
-    Tunnel,
+    Jump(Jump),
     External,
     Choice,
     Target,
     Pointer,
     Variable,
     Count,
-    Global,
-    Temporary,
+    Store(Scope),
 }
 
 /// The heads that were found in an object; where it is one, with its value.
@@ -45,20 +41,18 @@ pub(crate) fn heads(object: &Value) -> Found<'_>
 
 #[tactic(auto, unfolding(ink_model::specs::Leaves::jump_readings))]
 fn add_jumps<'v>(found: Found<'v>, object: &'v Value) -> Found<'v>
-    ensures { (rs : List (Result Leaf Cause)) → Counts found.entry (json_view object.now) rs
-        → Counts result (json_view object.now) (rs ++ jump_readings (json_view object.now)) }
+    ensures { Adds jump_readings found.entry (json_view object.now) result }
 {
-    let found = add(found, object, "->", Head::Divert);
-    let found = add(found, object, "f()", Head::Call);
-    let found = add(found, object, "->t->", Head::Tunnel);
+    let found = add(found, object, "->", Head::Jump(Jump::Divert));
+    let found = add(found, object, "f()", Head::Jump(Jump::Call));
+    let found = add(found, object, "->t->", Head::Jump(Jump::Tunnel));
     let found = add(found, object, "x()", Head::External);
     add(found, object, "*", Head::Choice)
 }
 
 #[tactic(auto, unfolding(ink_model::specs::Leaves::value_readings))]
 fn add_values<'v>(found: Found<'v>, object: &'v Value) -> Found<'v>
-    ensures { (rs : List (Result Leaf Cause)) → Counts found.entry (json_view object.now) rs
-        → Counts result (json_view object.now) (rs ++ value_readings (json_view object.now)) }
+    ensures { Adds value_readings found.entry (json_view object.now) result }
 {
     let found = add(found, object, "^->", Head::Target);
     let found = add(found, object, "^var", Head::Pointer);
@@ -68,17 +62,15 @@ fn add_values<'v>(found: Found<'v>, object: &'v Value) -> Found<'v>
 
 #[tactic(auto, unfolding(ink_model::specs::Leaves::store_readings))]
 fn add_stores<'v>(found: Found<'v>, object: &'v Value) -> Found<'v>
-    ensures { (rs : List (Result Leaf Cause)) → Counts found.entry (json_view object.now) rs
-        → Counts result (json_view object.now) (rs ++ store_readings (json_view object.now)) }
+    ensures { Adds store_readings found.entry (json_view object.now) result }
 {
-    let found = add(found, object, "VAR=", Head::Global);
-    add(found, object, "temp=", Head::Temporary)
+    let found = add(found, object, "VAR=", Head::Store(Scope::Global));
+    add(found, object, "temp=", Head::Store(Scope::Temporary))
 }
 
 /// The heads found before, and this one where the object has it.
 fn add<'v>(found: Found<'v>, object: &'v Value, key: &str, head: Head) -> Found<'v>
-    ensures { (rs : List (Result Leaf Cause)) → Counts found.entry (json_view object.now) rs
-        → Counts result (json_view object.now) (rs ++ by_head key.now (reading head) (json_view object.now)) }
+    ensures { Adds (by_head key.now (reading head)) found.entry (json_view object.now) result }
 {
     let Some(value) = object.get(key) else {
         return found;

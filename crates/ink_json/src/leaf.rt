@@ -4,25 +4,24 @@ ghost use Rattle.std.specs.Prelude.{length, nat_lt, Ok, Err, if◌then◌else◌
 ghost use Rattle.std.specs.Result.{result_unwrap_or};
 ghost use Rattle.serde_json.specs.Find.{as_integer};
 ghost use Rattle.serde_json.specs.View.{view as json_view, number_view};
-ghost use Rattle.ink_model.specs.Limits.{max_text};
 ghost use Rattle.ink_model.specs.Word.{word};
 ghost use Rattle.ink_model.specs.Leaves.{string_leaf, integer_leaf, object_leaf};
 ghost use Rattle.ink_model.specs.Grammar.{leaf_faults, first};
 ghost use Rattle.ink_model.specs.Tree.{leaf};
 ghost use Rattle.ink_model.specs.View.{view};
-ghost use Rattle.ink_json.specs.Reading.{Gives, placed};
+ghost use Rattle.ink_json.specs.Reading.{Reads, placed};
 
-use crate::error::ReadError;
-use crate::limits::{LEAST, MAX_TEXT, MOST};
+use crate::error::{ReadFailure, refused};
+use crate::limits::{LEAST, MOST};
 use crate::object::read_object_leaf;
 use crate::word::word_leaf;
-use ink_model::{Cause, Content, Leaf, Text};
+use ink_model::{Cause, Content, Leaf, MAX_TEXT, Text};
 use serde_json::{Number, Value};
 use std::alloc::Global;
 
 /// The content that a string is.
-pub(crate) fn read_string(alloc: Global, text: &str) -> Result<Content, ReadError>
-    ensures { Gives view result
+pub(crate) fn read_string(alloc: Global, text: &str) -> Result<Content, ReadFailure>
+    ensures { Reads view result
         (first (leaf_faults (string_leaf text.now)) (leaf (result_unwrap_or (string_leaf text.now) Leaf.Newline))) }
 {
     let leaf = read_leaf(alloc, text)?;
@@ -30,8 +29,8 @@ pub(crate) fn read_string(alloc: Global, text: &str) -> Result<Content, ReadErro
 }
 
 /// The content that a number is.
-pub(crate) fn read_number(alloc: Global, number: &Number) -> Result<Content, ReadError>
-    ensures { Gives view result
+pub(crate) fn read_number(alloc: Global, number: &Number) -> Result<Content, ReadFailure>
+    ensures { Reads view result
         (first (leaf_faults (integer_leaf (as_integer (number_view number.now)))) (leaf (result_unwrap_or (integer_leaf (as_integer (number_view number.now))) Leaf.Newline))) }
 {
     let leaf = read_integer(alloc, number)?;
@@ -39,8 +38,8 @@ pub(crate) fn read_number(alloc: Global, number: &Number) -> Result<Content, Rea
 }
 
 /// The content that an object is.
-pub(crate) fn read_object(alloc: Global, object: &Value) -> Result<Content, ReadError>
-    ensures { Gives view result
+pub(crate) fn read_object(alloc: Global, object: &Value) -> Result<Content, ReadFailure>
+    ensures { Reads view result
         (first (leaf_faults (object_leaf (json_view object.now))) (leaf (result_unwrap_or (object_leaf (json_view object.now)) Leaf.Newline))) }
 {
     let leaf = read_object_leaf(alloc, object)?;
@@ -48,8 +47,8 @@ pub(crate) fn read_object(alloc: Global, object: &Value) -> Result<Content, Read
 }
 
 #[tactic(auto, unfolding(ink_model::specs::Leaves::string_leaf))]
-fn read_leaf(alloc: Global, text: &str) -> Result<Leaf, ReadError>
-    ensures { Gives (λ l. l) result (placed (string_leaf text.now)) }
+fn read_leaf(alloc: Global, text: &str) -> Result<Leaf, ReadFailure>
+    ensures { Reads (λ l. l) result (placed (string_leaf text.now)) }
 {
     match text.strip_prefix('^') {
         Some(written) => read_written(alloc, written),
@@ -57,33 +56,31 @@ fn read_leaf(alloc: Global, text: &str) -> Result<Leaf, ReadError>
     }
 }
 
-fn read_written(alloc: Global, written: &str) -> Result<Leaf, ReadError>
-    ensures { Gives (λ l. l) result
-        (placed (if nat_lt max_text (length written.now) then Err Cause.Limit else Ok (Leaf.Text written.now))) }
+fn read_written(alloc: Global, written: &str) -> Result<Leaf, ReadFailure>
+    ensures { Reads (λ l. l) result
+        (placed (if nat_lt MAX_TEXT (length written.now) then Err Cause.Limit else Ok (Leaf.Text written.now))) }
 {
     if written.len() > MAX_TEXT {
-        return Err(ReadError::here(alloc, Cause::Limit));
+        return Err(refused(alloc, Cause::Limit));
     }
     Ok(Leaf::Text(Text::from_str(alloc, written)?))
 }
 
-fn read_word(alloc: Global, text: &str) -> Result<Leaf, ReadError>
-    ensures { Gives (λ l. l) result (placed (ok_or (word text.now) Cause.Unsupported)) }
+fn read_word(alloc: Global, text: &str) -> Result<Leaf, ReadFailure>
+    ensures { Reads (λ l. l) result (placed (ok_or (word text.now) Cause.Unsupported)) }
 {
     match word_leaf(text) {
         Some(leaf) => Ok(leaf),
-        None => Err(ReadError::here(alloc, Cause::Unsupported)),
+        None => Err(refused(alloc, Cause::Unsupported)),
     }
 }
 
-fn read_integer(alloc: Global, number: &Number) -> Result<Leaf, ReadError>
-    ensures { Gives (λ l. l) result (placed (integer_leaf (as_integer (number_view number.now)))) }
+fn read_integer(alloc: Global, number: &Number) -> Result<Leaf, ReadFailure>
+    ensures { Reads (λ l. l) result (placed (integer_leaf (as_integer (number_view number.now)))) }
 {
     match number.as_i128() {
-        Some(number) if number < LEAST || number > MOST => {
-            Err(ReadError::here(alloc, Cause::Limit))
-        }
+        Some(number) if number < LEAST || number > MOST => { Err(refused(alloc, Cause::Limit)) }
         Some(number) => Ok(Leaf::Int(number as i32)),
-        None => Err(ReadError::here(alloc, Cause::Unsupported)),
+        None => Err(refused(alloc, Cause::Unsupported)),
     }
 }

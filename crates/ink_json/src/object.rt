@@ -3,34 +3,34 @@
 ghost use Rattle.std.specs.Prelude.{◌≡◌};
 ghost use Rattle.serde_json.specs.View.{view as json_view};
 ghost use Rattle.ink_model.specs.Leaves.{object_leaf, is_beyond};
-ghost use Rattle.ink_json.specs.Reading.{Gives, placed};
+ghost use Rattle.ink_json.specs.Reading.{Reads, placed};
 ghost use Rattle.ink_json.specs.Heads.{reading};
 
-use crate::error::ReadError;
+use crate::error::{ReadFailure, refused};
 use crate::heads::{Found, Head, heads};
 use crate::readings::{
-    read_call, read_choice, read_count, read_divert, read_external, read_global, read_pointer,
-    read_target, read_temporary, read_tunnel, read_variable,
+    read_choice, read_count, read_external, read_jump, read_pointer, read_store, read_target,
+    read_variable,
 };
 use ink_model::{Cause, Leaf};
 use serde_json::Value;
 use std::alloc::Global;
 
-/// The leaf that an object is: it has exactly one head, and none of content that is not played.
+/// The leaf that an object is: it has exactly one head, and none of content that is not supported.
 #[tactic(auto, unfolding(ink_model::specs::Leaves::object_leaf))]
-pub(crate) fn read_object_leaf(alloc: Global, object: &Value) -> Result<Leaf, ReadError>
-    ensures { Gives (λ l. l) result (placed (object_leaf (json_view object.now))) }
+pub(crate) fn read_object_leaf(alloc: Global, object: &Value) -> Result<Leaf, ReadFailure>
+    ensures { Reads (λ l. l) result (placed (object_leaf (json_view object.now))) }
 {
     if is_beyond(object) {
-        return Err(ReadError::here(alloc, Cause::Unsupported));
+        return Err(refused(alloc, Cause::Unsupported));
     }
     match heads(object) {
         Found::One(head, value) => read_by(alloc, head, object, value),
-        Found::Nothing | Found::Several => Err(ReadError::here(alloc, Cause::Shape)),
+        Found::Nothing | Found::Several => Err(refused(alloc, Cause::Shape)),
     }
 }
 
-/// Whether an object has a head of content that is not played.
+/// Whether an object has a head of content that is not supported.
 fn is_beyond(object: &Value) -> bool
     ensures { result ≡ is_beyond (json_view object.now) }
 {
@@ -38,20 +38,17 @@ fn is_beyond(object: &Value) -> bool
 }
 
 /// The leaf that an object is by this head, which has this value.
-fn read_by(alloc: Global, head: Head, object: &Value, value: &Value) -> Result<Leaf, ReadError>
-    ensures { Gives (λ l. l) result (placed (reading head (json_view object.now) (json_view value.now))) }
+fn read_by(alloc: Global, head: Head, object: &Value, value: &Value) -> Result<Leaf, ReadFailure>
+    ensures { Reads (λ l. l) result (placed (reading head (json_view object.now) (json_view value.now))) }
 {
     match head {
-        Head::Divert => read_divert(alloc, object, value),
-        Head::Call => read_call(alloc, object, value),
-        Head::Tunnel => read_tunnel(alloc, object, value),
+        Head::Jump(jump) => read_jump(alloc, object, value, jump),
         Head::External => read_external(alloc, object, value),
         Head::Choice => read_choice(alloc, object, value),
         Head::Target => read_target(alloc, value),
         Head::Pointer => read_pointer(alloc, object, value),
         Head::Variable => read_variable(alloc, value),
         Head::Count => read_count(alloc, value),
-        Head::Global => read_global(alloc, object, value),
-        Head::Temporary => read_temporary(alloc, object, value),
+        Head::Store(scope) => read_store(alloc, object, value, scope),
     }
 }

@@ -1,8 +1,9 @@
 -- Which stories are accepted: each written path leads somewhere (docs/STORY_FORMAT.md, "Paths").
-use Rattle.std.specs.Prelude.{ℕ, ◌/◌, ◌%◌, List, map, filter, Bool, true, false, not, ◌&&◌, ◌==◌, if◌then◌else◌, Option, Some, None, option_and_then, is_some, Result}
+use Rattle.std.specs.Prelude.{ℕ, List, map, filter, Bool, true, false, not, ◌&&◌, if◌then◌else◌, Option, Some, None, option_and_then, is_some, Result}
 use Rattle.std.specs.Option.{option_map}
 use Rattle.ink_model.specs.Tree.{StoryTree, leaf, container, at}
 use Rattle.ink_model.specs.Entered.{flags_at}
+use Rattle.ink_model.specs.Flags.{counts_visits, is_once_only}
 use Rattle.ink_model.specs.Grammar.{first}
 use Rattle.ink_model.specs.Path.{read_path, target, landing}
 use Rattle.ink_model.specs.Places.{places}
@@ -48,20 +49,32 @@ content_target s p (Some (leaf l)) = leaf_target s p l
 unfoldable pub written_target : StoryTree → List Part → Option (List Part)
 written_target s p = content_target s p (at s p)
 
+-- The container whose visits a leaf asks for: a count does, and a choice that is offered once only. Where a choice lands is
+-- another place: inside that container, or in it where it is empty.
+abbrev pub leaf_counted : StoryTree → List Part → Leaf → Option (List Part)
+leaf_counted s p (leaves.Count text) = leads s p text
+leaf_counted s p (leaves.Choice text flags) = if is_once_only flags then leads s p text else None
+leaf_counted s p l = None
+
+abbrev pub content_counted : StoryTree → List Part → Option StoryTree → Option (List Part)
+content_counted s p None = None
+content_counted s p (Some (container name flags content named)) = None
+content_counted s p (Some (leaf l)) = leaf_counted s p l
+
+-- the container whose visits the content at a place asks for
+unfoldable pub counted_container : StoryTree → List Part → Option (List Part)
+counted_container s p = content_counted s p (at s p)
+
 -- ---- what is asked of them
 
--- the flag 1: visits are counted
+-- visits are counted there
 abbrev pub is_counted : StoryTree → Option (List Part) → Bool
 is_counted s None = false
-is_counted s (Some p) = flags_at (at s p) % 2 == 1
+is_counted s (Some p) = counts_visits (flags_at (at s p))
 
 abbrev pub is_absolute : Option Path → Bool
 is_absolute None = false
 is_absolute (Some path) = not path.relative
-
--- the flag 16 of a choice: it is offered once only
-abbrev pub once_only : ℕ → Bool
-once_only flags = (flags / 16) % 2 == 1
 
 abbrev pub good_destination : StoryTree → List Part → Destination → Bool
 good_destination s p (destination.Path text) = is_some (leads s p text)
@@ -74,7 +87,7 @@ good_leaf s p (leaves.Count text) = is_counted s (leads s p text)
 good_leaf s p (leaves.Divert to conditional) = good_destination s p to
 good_leaf s p (leaves.Call to conditional) = good_destination s p to
 good_leaf s p (leaves.Tunnel to conditional) = good_destination s p to
-good_leaf s p (leaves.Choice text flags) = if once_only flags then is_counted s (leads s p text) else is_some (leads s p text)
+good_leaf s p (leaves.Choice text flags) = if is_once_only flags then is_counted s (leads s p text) else is_some (leads s p text)
 good_leaf s p l = true
 
 abbrev pub good_content : StoryTree → List Part → Option StoryTree → Bool

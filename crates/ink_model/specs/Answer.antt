@@ -1,9 +1,10 @@
 -- Answers (docs/PROTOCOL.md, "Answers").
 use Rattle.std.specs.Prelude.{ℕ, List, [], ◌∷◌, ◌++◌, map, codes, decimal, if◌then◌else◌, Result, Ok, Err}
+use Rattle.ink_model.specs.ValueJson.{value_data}
 use Rattle.serde_json.specs.Data.{Data, null, boolean, number, string, array, object, Items, no_items, item, no_members, member}
 use Rattle.serde_json.specs.Find.{of_integer}
 use Rattle.serde_json.specs.Written.{compact_text}
-use Rattle.ink_model.specs.Clean.{joined}
+use Rattle.ink_model.specs.Bytes.{joined}
 use Rattle.ink_model.specs.declared.fault.Fault.{Fault}
 use Rattle.ink_model.specs.declared.fault.Fault.TheVariants as fault
 use Rattle.ink_model.specs.declared.fault.Refusal.{Refusal}
@@ -92,23 +93,6 @@ passage_data p = object
     (member (codes "more") (boolean p.more)
     (member (codes "tags") (texts_data p.tags)
     (member (codes "text") (string p.text) no_members))))))
-
--- a path as it is written: its components joined by dots, and a dot before a relative one
-abbrev pub part_text : Part → List ℕ
-part_text (Index i) = decimal i
-part_text (Name n) = n
-
-abbrev pub path_text : Path → List ℕ
-path_text p = (if p.relative then 46 ∷ [] else []) ++ joined 46 (map part_text p.parts)
-
-abbrev pub value_data : Value → Data
-value_data (value.Int z) = number (of_integer z)
-value_data (value.Bool b) = boolean b
-value_data (value.Text t) = string t
-value_data (value.Target p) = object (member (codes "->") (string (path_text p)) no_members)
-value_data (value.Pointer n i) = object (member (codes "ci") (number (of_integer i)) (member (codes "var") (string n) no_members))
-value_data value.Void = null
-value_data (value.Tag t) = object (member (codes "tag") (string t) no_members)
 
 abbrev pub refusal_data : Refusal → Data
 refusal_data (refusal.Broken f) =

@@ -77,12 +77,12 @@ Configuration = ConfigurationOf (List Part)
 
 -- ---- where flow is
 
-abbrev pub place_of : Configuration → Option (List Part)
-place_of c = c.flow.threads.thread.frame.place
+abbrev pub current_place : Configuration → Option (List Part)
+current_place c = c.flow.threads.thread.frame.place
 
 -- flow has not stopped
 abbrev pub can_go_on : Configuration → Bool
-can_go_on c = is_some (place_of c)
+can_go_on c = is_some (current_place c)
 
 abbrev pub with_flow : FlowOf (List Part) → Configuration → Configuration
 with_flow f c = record c { flow = f }

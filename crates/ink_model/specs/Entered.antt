@@ -1,6 +1,7 @@
 -- Which containers a landing enters (docs/RUNNING.md, "Visits").
-use Rattle.std.specs.Prelude.{ℕ, ◌/◌, ◌%◌, List, [], ◌∷◌, reverse, Bool, true, false, not, ◌&&◌, ◌||◌, ◌==◌, if◌then◌else◌, Option, Some, None}
+use Rattle.std.specs.Prelude.{ℕ, List, [], ◌∷◌, reverse, Bool, true, false, not, ◌&&◌, ◌||◌, ◌==◌, if◌then◌else◌, Option, Some, None}
 use Rattle.ink_model.specs.Tree.{StoryTree, leaf, container, at}
+use Rattle.ink_model.specs.Flags.{counts_at_start}
 use Rattle.ink_model.specs.Value.{same_part}
 use Rattle.ink_model.specs.declared.place.Part.{Part}
 use Rattle.ink_model.specs.declared.place.Part.TheVariants.{Index, Name}
@@ -20,9 +21,9 @@ flags_at None = 0
 flags_at (Some (leaf l)) = 0
 flags_at (Some (container own flags content named)) = flags
 
--- the flag 4: only entry at the start counts
+-- only entry at the start counts there
 abbrev pub starts_only : StoryTree → List Part → Bool
-starts_only s p = (flags_at (at s p) / 4) % 2 == 1
+starts_only s p = counts_at_start (flags_at (at s p))
 
 abbrev pub is_first : Part → Bool
 is_first (Index i) = i == 0

@@ -1,5 +1,5 @@
 -- Small worked examples of the rules, each proved by computation.
-use Rattle.std.specs.Prelude.{◌≡◌, ℤ, pos, negsuc, ℕ, zero, suc, ◌+◌, List, [], ◌∷◌, ◌++◌, refl, codes, true, false, Option, Some, None, Ok, Err}
+use Rattle.std.specs.Prelude.{◌≡◌, ℤ, pos, negsuc, ℕ, zero, suc, ◌+◌, List, [], ◌∷◌, ◌++◌, refl, codes, length, nat_lt, true, false, Option, Some, None, Ok, Err}
 use Rattle.std.proofs.Common.{inl, inr, ap, arith, zero-add, suc-add}
 use Rattle.std.proofs.lemmas.Str.{is_utf8-from_IsUtf8}
 use Rattle.std.specs.Char.{encode_utf8}
@@ -13,11 +13,14 @@ use Rattle.ink_model.specs.Leaves.{string_leaf}
 use Rattle.ink_model.specs.Word.{word, operator_word}
 use Rattle.ink_model.specs.Mark.{cut}
 use Rattle.ink_model.specs.Clean.{clean}
-use Rattle.ink_model.specs.Configuration.{Configuration, with_mode, with_stack, with_globals, start, fresh_at, ended, with_safe, put_at, moved, settled, begun}
-use Rattle.ink_model.specs.Step.{Bound, Faults, pushes, step, go_on, nothing_bound, Next, Stop, with_page}
-use Rattle.ink_model.specs.Run.{Made, moment, next, run, through, cut_off, At, Stopped}
+use Rattle.ink_model.specs.Configuration.{Configuration, with_mode, with_stack, with_globals, start, fresh_at, ended, with_safe, put_at, moved, settled, begun, can_go_on}
+use Rattle.ink_model.specs.Step.{Bound, Faults, push, step, go_on, nothing_bound, Next, Stop, with_page}
+use Rattle.ink_model.specs.Run.{Made, Moment, moment, next, run, through, cut_off, answered_at, At, Stopped}
 use Rattle.ink_model.specs.Command.{lines_of, command_of}
 use Rattle.ink_model.specs.Answer.{answer, Tells, Acts, Shows, Refuses, Breaks}
+use Rattle.ink_model.specs.Bytes.{fits_text}
+use Rattle.ink_model.specs.declared.limits.TheConstants.{MAX_STACK}
+use Rattle.ink_model.specs.Memory.{GetsTo, asks}
 use Rattle.ink_model.specs.Session.{Session, Serves, Set, Get, Restart, passage}
 use Rattle.ink_model.specs.State.{State, Ready, Broken}
 use Rattle.ink_model.specs.Opening.{opened, opened_by, opening}
@@ -38,6 +41,7 @@ use Rattle.ink_model.specs.declared.fault.Cause.TheVariants.{NotJson, Version, S
 use Rattle.ink_model.specs.declared.fault.Fault.TheVariants as fault
 use Rattle.ink_model.specs.declared.fault.Refusal.TheVariants as refusal
 use Rattle.ink_model.specs.declared.mark.Mark.TheVariants.{Text, Blank, Newline}
+use Rattle.ink_model.specs.declared.place.Part.{Part}
 use Rattle.ink_model.specs.declared.place.Part.TheVariants.{Index, Name}
 
 -- ---- a story: ["^Hi","\n",["done",{"#n":"g"}],null], and a container by key that flow never comes to
@@ -231,21 +235,29 @@ abbrev broken : State
 broken = record { condition = Broken fault.TooDeep []; stamp = 0 }
 
 -- where flow has stopped, running is refused, and so is a line that is no command; nothing changes
-a_session : Session small nothing_bound (codes "through" ∷ codes "bye" ∷ []) stopped (cannot ++ bad_command) stopped
-unfolding Serves start fresh_at
-a_session = (
+a_stopped_session : (c : Configuration) → can_go_on c ≡ false → let after : State = record { condition = Ready c; stamp = 0 } in
+    Session small nothing_bound [] (codes "through" ∷ codes "bye" ∷ []) after (cannot ++ bad_command) after
+unfolding Serves
+a_stopped_session c stays_there = let after : State = record { condition = Ready c; stamp = 0 } in (
   Refuses refusal.CannotContinue,
-  stopped,
+  after,
   bad_command,
-  rw through_line (refl, refl),
+  [],
+  [],
+  refl,
+  rw through_line (inl (rw stays_there (refl, (refl, refl)))),
   rw a_refusal refl,
-  (Refuses refusal.BadCommand, stopped, [], rw other_line (refl, refl), rw a_bad_command refl, (refl, refl)),
+  (Refuses refusal.BadCommand, after, [], [], [], refl, rw other_line (inl (refl, (refl, refl))), rw a_bad_command refl, (refl, refl, refl)),
 )
 
+a_session : Session small nothing_bound [] (codes "through" ∷ codes "bye" ∷ []) stopped (cannot ++ bad_command) stopped
+unfolding start fresh_at
+a_session = a_stopped_session (put_at None (start small [])) refl
+
 -- after a fault a command that runs is answered by the fault
-a_broken_session : Session small nothing_bound (codes "through" ∷ []) broken (codes "{\"fault\":\"TooDeep\",\"refused\":\"Broken\"}\n") broken
+a_broken_session : Session small nothing_bound [] (codes "through" ∷ []) broken (codes "{\"fault\":\"TooDeep\",\"refused\":\"Broken\"}\n") broken
 unfolding Serves
-a_broken_session = (Refuses (refusal.Broken fault.TooDeep), broken, [], rw through_line (refl, refl), rw a_broken_answer refl, (refl, refl))
+a_broken_session = (Refuses (refusal.Broken fault.TooDeep), broken, [], [], [], refl, rw through_line (inl (refl, (refl, refl))), rw a_broken_answer refl, (refl, refl, refl))
 
 -- a run that has stopped stays as it is
 stays : (s : StoryTree) (b : Bound) (c d : Configuration) (k j : ℕ) (left answers : List (Option Given)) (made : List Made)
@@ -273,38 +285,41 @@ abbrev after_small : State
 after_small = record { condition = Ready (settled small_end); stamp = 0 }
 
 -- a story is played to its end; then running is refused, and so is a line that is no command
-a_whole_session : Session small nothing_bound (codes "through" ∷ codes "through" ∷ codes "bye" ∷ []) (opened (start small [])) (small_passage ++ (cannot ++ bad_command)) after_small
+a_whole_session : Session small nothing_bound [] (codes "through" ∷ codes "through" ∷ codes "bye" ∷ []) (opened (start small [])) (small_passage ++ (cannot ++ bad_command)) after_small
 unfolding Serves start fresh_at settled
 a_whole_session = (
   Tells (passage small_end),
   after_small,
   cannot ++ bad_command,
-  rw through_line (inl ([], rw small_through (refl, refl)), refl),
+  [],
+  [],
+  refl,
+  rw through_line (inl (inl (rw small_through (refl, refl, refl)), refl)),
   rw a_told_answer refl,
-  (
-    Refuses refusal.CannotContinue,
-    after_small,
-    bad_command,
-    rw through_line (refl, refl),
-    rw a_refusal refl,
-    (Refuses refusal.BadCommand, after_small, [], rw other_line (refl, refl), rw a_bad_command refl, (refl, refl)),
-  ),
+  a_stopped_session (settled small_end) refl,
 )
 
 abbrev no_memory : State
 no_memory = record { condition = Broken fault.OutOfMemory []; stamp = 0 }
 
--- where memory is refused at some step, the fault says so, and the player is broken by it
-a_short_session : Session small nothing_bound (codes "through" ∷ codes "bye" ∷ []) (opened (start small []))
+abbrev first_step : GetsTo small nothing_bound (begun (start small [])) [] (begun (start small []))
+unfolding start fresh_at run asks entered
+first_step = record { steps = 0; within = omega arith; got_there = refl; asking = refl }
+
+-- where memory is refused at some step, the fault is OutOfMemory, and the player is broken by it
+a_short_session : Session small nothing_bound [] (codes "through" ∷ codes "bye" ∷ []) (opened (start small []))
     (codes "{\"events\":[],\"fault\":\"OutOfMemory\"}\n" ++ bad_command) no_memory
-unfolding Serves start fresh_at answer run serde_json_on_literals
+unfolding Serves start fresh_at answer serde_json_on_literals
 a_short_session = (
   Breaks fault.OutOfMemory [],
   no_memory,
   bad_command,
-  rw through_line (inr (record { given = []; steps = 0; reached = begun (start small []); left = []; made = []; within = omega arith; got_there = inl refl; says = refl; breaks = refl }), refl),
+  [],
+  [],
   refl,
-  (Refuses refusal.BadCommand, no_memory, [], rw other_line (refl, refl), refl, (refl, refl)),
+  rw through_line (inl (inr (record { reached = begun (start small []); got_there = inl first_step; replies = refl; breaks = refl }), refl)),
+  refl,
+  (Refuses refusal.BadCommand, no_memory, [], [], [], refl, rw other_line (inl (refl, (refl, refl))), refl, (refl, refl, refl)),
 )
 
 -- ---- evaluation, globals and opening
@@ -328,7 +343,7 @@ at_first vs = with_stack vs (fresh_at (Index 0 ∷ []))
 -- in evaluation mode a text is pushed and not written
 a_text_pushed : step (story_of (tree (text (codes "x")) (tree newline no_trees))) nothing_bound (evaluating (at_first []))
     ≡ Next (with_stack (value.Text (codes "x") ∷ []) (moved (Index 0 ∷ []) (Some (Index 1 ∷ [])) (evaluating (at_first []))))
-unfolding step fresh_at entered pushes go_on next_place cut
+unfolding step fresh_at entered push go_on next_place cut
 a_text_pushed = refl
 
 -- outside it an integer does nothing
@@ -368,7 +383,7 @@ lacking_an_operand = refl
 
 a_quotient : step (story_of (tree (leaf (leaves.Op op.Divide)) (tree newline no_trees))) nothing_bound (at_first (value.Int (negsuc 6) ∷ value.Int (pos 2) ∷ []))
     ≡ Next (with_stack (value.Int (negsuc 2) ∷ []) (moved (Index 0 ∷ []) (Some (Index 1 ∷ [])) (at_first [])))
-unfolding step fresh_at entered apply pushes go_on next_place
+unfolding step fresh_at entered apply push go_on next_place
 a_quotient = refl
 
 -- a global is declared; one that is there keeps its place when it is declared again
@@ -385,7 +400,7 @@ assigned_absent = refl
 
 read_absent : step (story_of (tree (leaf (leaves.Variable (codes "x"))) (tree newline no_trees))) nothing_bound (at_first [])
     ≡ Next (with_stack (value.Int (pos 0) ∷ []) (moved (Index 0 ∷ []) (Some (Index 1 ∷ [])) (at_first [])))
-unfolding step fresh_at entered pushes go_on next_place
+unfolding step fresh_at entered push go_on next_place
 read_absent = refl
 
 -- ["ev",1,{"VAR=":"x"},"end",null] as the knot `global decl`
@@ -410,7 +425,7 @@ abbrev declared_end : Configuration
 declared_end = ended (with_globals ((codes "x", value.Int (pos 1)) ∷ []) (fresh_at (Name (codes "global decl") ∷ Index 0 ∷ [])))
 
 declarations_run : moment declaring nothing_bound (fresh_at (Name (codes "global decl") ∷ Index 0 ∷ [])) [] 4 ≡ Stopped declared_end [] []
-unfolding run step fresh_at entered pushes go_on next_place
+unfolding run step fresh_at entered push go_on next_place
 declarations_run = refl
 
 -- a story is opened with the globals that it declares
@@ -422,13 +437,40 @@ an_opening = ap (λ m. opened_by declaring (cut_off m))
 abbrev with_x : State
 with_x = opened (start declaring ((codes "x", value.Int (pos 1)) ∷ []))
 
--- a bad value is told before an absent variable
+-- a bad value comes before an absent variable
 a_bad_value : Set (codes "y") None with_x (Refuses refusal.BadValue) with_x
-a_bad_value = inl (refl, refl)
+a_bad_value = (refl, refl)
 
 an_absent_variable : Set (codes "y") (Some (given.Int (pos 1))) with_x (Refuses refusal.NoSuchVariable) with_x
 unfolding start fresh_at
-an_absent_variable = inl (refl, refl)
+an_absent_variable = (refl, refl)
+
+-- an answer of the host is pushed within the stack's limit, and no text over its limit is
+a_full_stack : (s : StoryTree) (p : List Part) (c : Configuration) → nat_lt (length c.flow.stack) MAX_STACK ≡ false
+    → answered_at s (value.Int (pos 1)) (Some p) c ≡ Faults fault.TooDeep
+unfolding push
+a_full_stack s p c full = rw full refl
+
+a_long_answer : (s : StoryTree) (p : List Part) (c : Configuration) (t : List ℕ) → fits_text t ≡ false
+    → answered_at s (value.Text t) (Some p) c ≡ Faults fault.TooDeep
+a_long_answer s p c t long = rw long refl
+
+-- declarations that fault leave the globals as they stood before the step that faulted
+abbrev declaring_half : StoryTree
+declaring_half = container None 0 no_trees (key (codes "global decl") (container None 0
+    (tree (leaf (leaves.Control control.BeginEval)) (tree (leaf (leaves.Int (pos 1))) (tree (leaf (leaves.Declare (codes "x")))
+    (tree (leaf (leaves.Declare (codes "y"))) no_trees)))) no_keys) no_keys)
+
+abbrev half_start : Configuration
+half_start = fresh_at (Name (codes "global decl") ∷ Index 0 ∷ [])
+
+abbrev half_moment : Moment
+half_moment = moment declaring_half nothing_bound half_start [] 4
+
+half_fault : opened_by declaring_half half_moment
+    ≡ Err (record { fault = fault.StackEmpty; globals = (codes "x", value.Int (pos 1)) ∷ [] })
+unfolding run step fresh_at entered push go_on next_place
+half_fault = refl
 
 -- a broken player still shows its globals, and begins anew
 a_broken_get : Get (codes "x") (record { condition = Broken fault.Divide ((codes "x", value.Int (pos 3)) ∷ []); stamp = 0 }) (Shows (value.Int (pos 3)))

@@ -1,5 +1,5 @@
 -- The story that bytes spell, and what is wrong with them, first things first (docs/STORY_FORMAT.md).
-use Rattle.std.specs.Prelude.{ℕ, ◌+◌, List, [], ◌∷◌, ◌++◌, map, length, Bool, true, false, not, ◌||◌, ◌&&◌, ◌==◌, bytes_eq, codes, nat_lt, if◌then◌else◌, Option, Some, None, option_and_then, is_some, unwrap_or, Result, Ok, Err}
+use Rattle.std.specs.Prelude.{ℕ, ◌+◌, List, [], ◌∷◌, ◌++◌, map, length, Bool, true, false, not, ◌||◌, ◌&&◌, ◌==◌, bytes_eq, codes, nat_lt, if◌then◌else◌, Option, Some, None, option_and_then, is_some, unwrap_or, Result, Ok, Err, ◌≡◌}
 use Rattle.std.specs.List.{list_any}
 use Rattle.std.specs.Str.{is_utf8}
 use Rattle.std.specs.Result.{result_unwrap_or}
@@ -7,7 +7,7 @@ use Rattle.serde_json.specs.Data.{Data, null, boolean, number, string, array, ob
 use Rattle.serde_json.specs.Read.{read}
 use Rattle.serde_json.specs.Find.{get, as_str, as_array}
 use Rattle.ink_model.specs.Tree.{StoryTree, leaf, container, Trees, no_trees, tree, Keyed, no_keys, key}
-use Rattle.ink_model.specs.Limits.{max_story, max_nesting}
+use Rattle.ink_model.specs.declared.limits.TheConstants.{MAX_STORY, MAX_NESTING}
 use Rattle.ink_model.specs.Leaves.{leaf_of, whole}
 use Rattle.ink_model.specs.declared.content.Leaf.{Leaf}
 use Rattle.ink_model.specs.declared.content.Leaf.TheVariants as leaves
@@ -125,7 +125,7 @@ abbrev mutual
   faults version nesting misnamed (number n) = leaf_faults (leaf_of version (number n))
   faults version nesting misnamed (string s) = leaf_faults (leaf_of version (string s))
   faults version nesting misnamed (object ms) = leaf_faults (leaf_of version (object ms))
-  faults version nesting misnamed (array ds) = when (nat_lt max_nesting nesting) Limit
+  faults version nesting misnamed (array ds) = when (nat_lt MAX_NESTING nesting) Limit
       ++ when (not (is_last (own ds)) || (not (are_flags (member_of flags_key (own ds))) || misnamed)) Shape
       ++ faults_inside version nesting 0 [] ds
 
@@ -242,4 +242,8 @@ of_json (Some d) = of_value d
 
 -- the story that bytes spell, or why they spell none
 unfoldable pub story : List ℕ → Result StoryTree ReadRefusal
-story bytes = if nat_lt max_story (length bytes) then Err (here Limit) else of_json (json (unmarked bytes))
+story bytes = if nat_lt MAX_STORY (length bytes) then Err (here Limit) else of_json (json (unmarked bytes))
+
+-- some bytes spell the story, so that all limits hold in it
+abbrev pub IsSpelled : StoryTree → Type 0
+IsSpelled s = ∥ ((bytes : List ℕ) × (story bytes ≡ Ok s)) ∥₁

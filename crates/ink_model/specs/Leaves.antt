@@ -3,7 +3,7 @@ use Rattle.std.specs.Prelude.{ℕ, zero, suc, ◌^◌, ℤ, pos, negsuc, List, [
 use Rattle.std.specs.Option.{ok_or}
 use Rattle.serde_json.specs.Data.{Data, null, boolean, number, string, array, object}
 use Rattle.serde_json.specs.Find.{get, as_bool, as_str, as_number, as_u64, as_integer}
-use Rattle.ink_model.specs.Limits.{max_text}
+use Rattle.ink_model.specs.declared.limits.TheConstants.{MAX_TEXT}
 use Rattle.ink_model.specs.Word.{word}
 use Rattle.ink_model.specs.declared.content.Destination.{Destination}
 use Rattle.ink_model.specs.declared.content.Destination.TheVariants as destination
@@ -17,7 +17,7 @@ use Rattle.ink_model.specs.declared.fault.Cause.TheVariants.{Shape, Unsupported,
 -- a text's first byte, `^`, says that the rest is written as it stands
 abbrev pub written_leaf : List ℕ → Option (Result Leaf Cause)
 written_leaf [] = None
-written_leaf (c ∷ cs) = if c == 94 then Some (if nat_lt max_text (length cs) then Err Limit else Ok (leaves.Text cs)) else None
+written_leaf (c ∷ cs) = if c == 94 then Some (if nat_lt MAX_TEXT (length cs) then Err Limit else Ok (leaves.Text cs)) else None
 
 unfoldable pub string_leaf : List ℕ → Result Leaf Cause
 string_leaf s = unwrap_or (written_leaf s) (ok_or (word s) Unsupported)
@@ -139,7 +139,7 @@ sole [] = Err Shape
 sole (r ∷ []) = r
 sole (r ∷ q ∷ rs) = Err Shape
 
--- the heads that ink has beyond what is played
+-- the heads that ink has beyond what is supported
 abbrev pub is_beyond : Data → Bool
 is_beyond d = is_some (get (codes "list") d) || is_some (get (codes "#") d)
 

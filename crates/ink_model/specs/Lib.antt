@@ -1,8 +1,9 @@
 pub mod Tree
 pub mod View
 pub mod Narrow
+pub mod Flags
+pub mod Bytes
 pub mod Place
-pub mod Limits
 pub mod Word
 pub mod Leaves
 pub mod Grammar
@@ -15,7 +16,7 @@ pub mod Path
 pub mod Places
 pub mod Entered
 pub mod Acceptance
-pub mod Played
+pub mod Supported
 pub mod Operator
 pub mod Store
 pub mod Stack
@@ -25,11 +26,12 @@ pub mod Output
 pub mod Step
 pub mod Run
 pub mod Opening
+pub mod ValueJson
 pub mod Command
 pub mod Answer
 pub mod State
-pub mod Session
 pub mod Memory
+pub mod Session
 pub mod PathExamples
 pub mod StoryExamples
 pub mod OutputExamples

@@ -1,40 +1,11 @@
 -- Which marks a written text leaves, and the tags among marks (docs/TEXT.md).
 use Rattle.std.specs.Prelude.{ℕ, List, [], ◌∷◌, ◌++◌, reverse, Bool, not, ◌||◌, ◌==◌, if◌then◌else◌}
 use Rattle.std.specs.List.{list_any}
+use Rattle.ink_model.specs.Bytes.{is_blank, is_white, has_newline, leading, without, trailing, trimmed}
 use Rattle.ink_model.specs.declared.mark.Mark.{Mark}
 use Rattle.ink_model.specs.declared.mark.Mark.TheVariants.{Text, Blank, Newline, Tag}
 
 -- ---- cutting
-
-abbrev pub is_newline : ℕ → Bool
-is_newline c = c == 10
-
--- a space or a tab
-abbrev pub is_blank : ℕ → Bool
-is_blank c = c == 32 || c == 9
-
--- a space, a tab or a newline
-abbrev pub is_white : ℕ → Bool
-is_white c = is_blank c || is_newline c
-
-abbrev pub has_newline : List ℕ → Bool
-has_newline cs = list_any is_newline cs
-
--- the longest beginning of which each byte passes, and the rest
-abbrev pub leading : (ℕ → Bool) → List ℕ → List ℕ
-leading test [] = []
-leading test (c ∷ cs) = if test c then c ∷ leading test cs else []
-
-abbrev pub without : (ℕ → Bool) → List ℕ → List ℕ
-without test [] = []
-without test (c ∷ cs) = if test c then without test cs else c ∷ cs
-
--- the same at the end
-abbrev pub trailing : (ℕ → Bool) → List ℕ → List ℕ
-trailing test cs = reverse (leading test (reverse cs))
-
-abbrev pub trimmed : (ℕ → Bool) → List ℕ → List ℕ
-trimmed test cs = reverse (without test (reverse cs))
 
 -- a piece without newlines at its ends: nothing, blanks alone, or a text
 abbrev pub piece : List ℕ → List Mark

@@ -3,8 +3,8 @@ use Rattle.std.specs.Prelude.{ℕ, ℤ, pos, negsuc, List, [], ◌∷◌, ◌++�
 use Rattle.std.specs.Fmt.{signed_decimal}
 use Rattle.std.specs.Int.{w32, int_wrapping_add, int_wrapping_sub, int_wrapping_mul, int_wrapping_neg, int_min, int_max}
 use Rattle.std.specs.Ordering.{int_eq}
-use Rattle.ink_model.specs.Limits.{max_text}
-use Rattle.ink_model.specs.Value.{truth_text, is_filled, same_path}
+use Rattle.ink_model.specs.Value.{truth_text, same_path}
+use Rattle.ink_model.specs.Bytes.{is_filled, fits_text, has}
 use Rattle.ink_model.specs.declared.fault.Fault.{Fault}
 use Rattle.ink_model.specs.declared.fault.Fault.TheVariants.{BadOperands, Divide, TooDeep}
 use Rattle.ink_model.specs.declared.operator.Op.{Op}
@@ -89,19 +89,8 @@ of_numbers operator x y = Err BadOperands
 
 -- ---- texts
 
--- a text begins with another
-abbrev pub begins_with : List ℕ → List ℕ → Bool
-begins_with cs [] = true
-begins_with [] (d ∷ ds) = false
-begins_with (c ∷ cs) (d ∷ ds) = c == d && begins_with cs ds
-
--- a text stands in another
-abbrev pub has : List ℕ → List ℕ → Bool
-has [] ds = not (is_filled ds)
-has (c ∷ cs) ds = begins_with (c ∷ cs) ds || has cs ds
-
 abbrev pub joined_text : List ℕ → Result Value Fault
-joined_text t = if nat_lt max_text (length t) then Err TooDeep else Ok (Text t)
+joined_text t = if fits_text t then Ok (Text t) else Err TooDeep
 
 abbrev pub of_texts : Op → List ℕ → List ℕ → Result Value Fault
 of_texts op.Add s t = joined_text (s ++ t)

@@ -1,9 +1,10 @@
 -- The text being written: what each call writes into it, and when it may not (docs/TEXT.md, "Sections").
 use Rattle.std.specs.Prelude.{ℕ, suc, ◌+◌, ◌^◌, List, [], ◌∷◌, ◌++◌, length, Bool, true, false, ◌&&◌, nat_lt, if◌then◌else◌, Option, Some, None, is_some, Result, Ok, Err}
 use Rattle.std.specs.List.{list_any}
+use Rattle.ink_model.specs.declared.limits.TheConstants.{MAX_MARKS, MAX_SECTIONS}
+use Rattle.ink_model.specs.Bytes.{fits_text}
 use Rattle.ink_model.specs.Clean.{clean}
 use Rattle.ink_model.specs.Configuration.{Page, Section, SectionKind, string_section, tag_section}
-use Rattle.ink_model.specs.Limits.{max_text}
 use Rattle.ink_model.specs.Mark.{cut}
 use Rattle.ink_model.specs.Shown.{shown_text, open_newline}
 use Rattle.ink_model.specs.Value.{printed}
@@ -12,13 +13,6 @@ use Rattle.ink_model.specs.declared.fault.Fault.TheVariants.{BadMode, TooDeep}
 use Rattle.ink_model.specs.declared.mark.Mark.{Mark}
 use Rattle.ink_model.specs.declared.mark.Mark.TheVariants.{Text, Newline, Glue, Tag, Enter, Leave}
 use Rattle.ink_model.specs.declared.value.Value.{Value}
-
--- marks that a line may have; sections that may be open on it
-abbrev pub max_marks : ℕ
-max_marks = 100000
-
-abbrev pub max_sections : ℕ
-max_sections = 1000
 
 -- ---- marks in the open section
 
@@ -36,7 +30,7 @@ noted ms page = noted_in ms page.line page.sections page.next_enter
 
 -- the marks of the line alone are limited
 abbrev pub is_crowded : List Mark → Page → Bool
-is_crowded ms page = is_line page.sections && nat_lt max_marks (length page.line + length ms)
+is_crowded ms page = is_line page.sections && nat_lt MAX_MARKS (length page.line + length ms)
 
 -- the marks that a call writes, where there is room for them all
 abbrev pub writes_marks : List Mark → Page → Result Page Fault
@@ -92,12 +86,12 @@ ends_function number page = writes_marks (Leave number ∷ []) page
 -- ---- strings and tags
 
 abbrev pub opens : SectionKind → Page → Result Page Fault
-opens kind page = if nat_lt (length page.sections) max_sections
+opens kind page = if nat_lt (length page.sections) MAX_SECTIONS
     then Ok (record page { sections = record { kind = kind; marks = [] } ∷ page.sections }) else Err TooDeep
 
 -- a text within its limit
 abbrev pub kept_text : {A : Type 0} → List ℕ → A → Result A Fault
-kept_text t a = if nat_lt max_text (length t) then Err TooDeep else Ok a
+kept_text t a = if fits_text t then Ok a else Err TooDeep
 
 -- the open string's text as it is shown, uncleaned, and the page without it
 abbrev pub closes_string_of : Page → List Section → Result (List ℕ × Page) Fault
@@ -118,7 +112,7 @@ is_string x = is_string_kind x.kind
     is_string_kind string_section = true
     is_string_kind tag_section = false
 
--- a closed tag is told to the string that is open, or else is a mark
+-- a closed tag is handed out where a string is open, and else is a mark
 abbrev pub tagged : List ℕ → Page → Result (Option (List ℕ) × Page) Fault
 tagged t page = if list_any is_string page.sections then Ok (Some t, page) else marked (writes_marks (Tag t ∷ []) page)
   where
@@ -132,13 +126,13 @@ closes_tag_of page (x ∷ rest) = closes_tag_kind x.kind (clean (shown_text x.ma
   where
     closes_tag_kind : SectionKind → List ℕ → Page → Result (Option (List ℕ) × Page) Fault
     closes_tag_kind string_section t p = Err BadMode
-    closes_tag_kind tag_section t p = if nat_lt max_text (length t) then Err TooDeep else tagged t p
+    closes_tag_kind tag_section t p = if fits_text t then tagged t p else Err TooDeep
 
 -- the open tag's cleaned text
 abbrev pub closes_tag : Page → Result (Option (List ℕ) × Page) Fault
 closes_tag page = closes_tag_of page page.sections
 
--- ---- what is told
+-- ---- what is asked of a page
 
 -- The line alone is open, and a Newline is shown in it that no Text or Tag follows.
 abbrev pub ends_line : Page → Bool

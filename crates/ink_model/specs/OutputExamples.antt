@@ -6,7 +6,7 @@ use Rattle.ink_model.specs.Mark.{cut}
 use Rattle.ink_model.specs.Clean.{clean}
 use Rattle.ink_model.specs.Configuration.{Configuration, Page, string_section, tag_section, with_mode, with_stack, with_safe, put_at, fresh_at, moved}
 use Rattle.ink_model.specs.Output.{let_through, writes_text, writes_newline, begins_function, ends_function, closes_string, closes_tag, ends_line, empty_page}
-use Rattle.ink_model.specs.Step.{step, nothing_bound, Next, Stop, Faults, pushes, go_on, with_page}
+use Rattle.ink_model.specs.Step.{step, nothing_bound, Next, Stop, Faults, push, go_on, with_page}
 use Rattle.ink_model.specs.Value.{printed}
 use Rattle.ink_model.specs.declared.content.Control.{Control}
 use Rattle.ink_model.specs.declared.content.Control.TheVariants as control
@@ -108,7 +108,7 @@ unfolding step fresh_at entered
 not_in_evaluation = refl
 
 a_string_ends : step (story control.EndString) nothing_bound (at_first (in_string [] (a ∷ [])) []) ≡ Next (at_second (with_mode true (at_first empty_page (value.Text (codes "a") ∷ []))))
-unfolding step fresh_at entered go_on next_place pushes
+unfolding step fresh_at entered go_on next_place push
 a_string_ends = refl
 
 a_tag_begins : step (story control.BeginTag) nothing_bound (at_first (line_of (a ∷ [])) []) ≡ Next (at_second (at_first (in_tag (a ∷ []) []) []))

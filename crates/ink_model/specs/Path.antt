@@ -1,27 +1,15 @@
 -- Paths: their spelling, and where they lead (docs/STORY_FORMAT.md, "Paths").
-use Rattle.std.specs.Prelude.{ℕ, ◌+◌, ◌-◌, ◌*◌, ◌^◌, List, [], ◌∷◌, ◌++◌, reverse, Bool, true, false, not, ◌&&◌, ◌==◌, bytes_eq, codes, ◌||◌, nat_eq, nat_lt, nat_le, is_some, if◌then◌else◌, Option, Some, None, option_and_then}
+use Rattle.std.specs.Prelude.{map, ℕ, ◌+◌, ◌-◌, ◌*◌, ◌^◌, List, [], ◌∷◌, ◌++◌, reverse, Bool, true, false, not, ◌&&◌, ◌==◌, bytes_eq, codes, ◌||◌, nat_eq, nat_lt, nat_le, is_some, if◌then◌else◌, Option, Some, None, option_and_then, decimal}
 use Rattle.std.specs.List.{list_all}
 use Rattle.std.specs.Option.{option_map}
 use Rattle.ink_model.specs.Tree.{StoryTree, leaf, container, at, width}
 use Rattle.ink_model.specs.Place.{landed, named_index}
-use Rattle.ink_model.specs.Clean.{pieces}
-use Rattle.ink_model.specs.Value.{is_filled}
+use Rattle.ink_model.specs.Bytes.{pieces, is_filled, is_digit, is_dot, number_from, joined}
 use Rattle.ink_model.specs.declared.place.Part.{Part}
 use Rattle.ink_model.specs.declared.place.Part.TheVariants.{Index, Name}
 use Rattle.ink_model.specs.declared.place.Path.{Path}
 
 -- ---- spelling
-
-abbrev pub is_dot : ℕ → Bool
-is_dot c = c == 46
-
-abbrev pub is_digit : ℕ → Bool
-is_digit c = nat_le 48 c && nat_le c 57
-
--- the number of some digits
-abbrev pub number_from : ℕ → List ℕ → ℕ
-number_from n [] = n
-number_from n (c ∷ cs) = number_from (n * 10 + (c - 48)) cs
 
 -- digits are an index, which is below 2 ^ 31; all else that is not empty is a name, `^` among them
 abbrev pub component : List ℕ → Option Part
@@ -109,3 +97,13 @@ ends_at s (Index i ∷ up) = is_container (at s (reverse up)) && nat_eq i (width
 -- a place of the story: of content, or a container's end
 unfoldable pub is_place : StoryTree → List Part → Bool
 is_place s p = is_some (at s p) || ends_at s (reverse p)
+
+-- ---- a path as it is written
+
+-- a path as it is written: its components joined by dots, and a dot before a relative one
+abbrev pub part_text : Part → List ℕ
+part_text (Index i) = decimal i
+part_text (Name n) = n
+
+abbrev pub path_text : Path → List ℕ
+path_text p = (if p.relative then 46 ∷ [] else []) ++ joined 46 (map part_text p.parts)

@@ -119,7 +119,7 @@ abbrev flagged : ℕ → ℕ → StoryTree
 flagged outer inner_flags = container None 0 no_trees
     (key (codes "k") (container None outer (tree (container None inner_flags (tree x (tree x no_trees)) no_keys) (tree x no_trees)) no_keys) no_keys)
 
--- containers that note turns, or nothing at all, are entered like those that count; which of them count is told by their flags
+-- containers that note turns, or nothing at all, are entered like those that count; their flags say which of them count
 that_note_turns : entered_places (flagged 2 0) None (inner (Index 1 ∷ [])) ≡ inner [] ∷ (Name (codes "k") ∷ []) ∷ [] ∷ []
 unfolding entered_places
 that_note_turns = refl

@@ -7,22 +7,22 @@ use Rattle.ink_model.specs.declared.place.Part.TheVariants.{Index, Name}
 
 -- the way from content down to its first content that holds no other by index
 abbrev mutual
-  pub way_in : StoryTree → List Part
-  way_in (leaf l) = []
-  way_in (container name flags content named) = way_into content
+  pub first_content : StoryTree → List Part
+  first_content (leaf l) = []
+  first_content (container name flags content named) = first_content_of content
 
-  pub way_into : Trees → List Part
-  way_into no_trees = []
-  way_into (tree t ts) = Index 0 ∷ way_in t
+  pub first_content_of : Trees → List Part
+  first_content_of no_trees = []
+  first_content_of (tree t ts) = Index 0 ∷ first_content t
 
 -- the same for what is found at a place; where nothing is, there is no way
-abbrev pub way_from : Option StoryTree → List Part
-way_from None = []
-way_from (Some t) = way_in t
+abbrev pub first_content_at : Option StoryTree → List Part
+first_content_at None = []
+first_content_at (Some t) = first_content t
 
 -- where a step at a place gets to before it performs
 unfoldable pub entered : StoryTree → List Part → List Part
-entered s p = p ++ way_from (at s p)
+entered s p = p ++ first_content_at (at s p)
 
 -- A story starts at the root's first content, or at the root itself where it is empty.
 abbrev pub start_place : StoryTree → List Part

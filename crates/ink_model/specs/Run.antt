@@ -1,11 +1,13 @@
 -- A forward run, by its moments (docs/RUNNING.md, "Runs").
-use Rattle.std.specs.Prelude.{ℕ, zero, suc, List, [], ◌∷◌, ◌++◌, Option, Some, None}
+use Rattle.std.specs.Prelude.{ℕ, zero, suc, List, [], ◌∷◌, ◌++◌, map, Bool, true, if◌then◌else◌, Option, Some, None}
+use Rattle.ink_model.specs.declared.limits.TheConstants.{MAX_STEPS}
+use Rattle.ink_model.specs.Bytes.{fits_text}
 use Rattle.ink_model.specs.Tree.{StoryTree}
 use Rattle.ink_model.specs.Place.{entered}
-use Rattle.ink_model.specs.Configuration.{Configuration, place_of, with_flow, begun}
-use Rattle.ink_model.specs.Step.{Bound, Outcome, Next, Stop, Wants, Faults, step, go_on}
+use Rattle.ink_model.specs.Configuration.{Configuration, current_place, begun}
+use Rattle.ink_model.specs.Step.{Bound, Outcome, Next, Stop, Wants, Faults, step, push}
 use Rattle.ink_model.specs.declared.fault.Fault.{Fault}
-use Rattle.ink_model.specs.declared.fault.Fault.TheVariants.{HostRefused, OutOfSteps}
+use Rattle.ink_model.specs.declared.fault.Fault.TheVariants.{HostRefused, OutOfSteps, TooDeep}
 use Rattle.ink_model.specs.declared.host.Given.{Given}
 use Rattle.ink_model.specs.declared.host.Given.TheVariants as given
 use Rattle.ink_model.specs.declared.place.Part.{Part}
@@ -20,23 +22,33 @@ value_given (given.Bool b) = value.Bool b
 value_given (given.Text t) = value.Text t
 value_given given.Void = value.Void
 
-abbrev pub pushed : Value → Configuration → Configuration
-pushed v c = with_flow (record c.flow { stack = c.flow.stack ++ v ∷ [] }) c
+-- a text that is given is within its limit
+abbrev pub fits_value : Value → Bool
+fits_value (value.Text t) = fits_text t
+fits_value v = true
+
+-- an answer is pushed as any other value is: within the limits of a text and of the stack
+abbrev pub push_answer : StoryTree → List Part → Value → Configuration → Outcome
+push_answer s p v c = if fits_value v then push s p v c else Faults TooDeep
 
 abbrev pub answered_at : StoryTree → Value → Option (List Part) → Configuration → Outcome
 answered_at s v None c = Stop c
-answered_at s v (Some p) c = go_on s (entered s p) (pushed v c)
+answered_at s v (Some p) c = push_answer s (entered s p) v c
 
 -- a wanted call was answered, or refused: the answer is pushed, and flow goes on
 abbrev pub answered : StoryTree → Configuration → Option Given → Outcome
 answered s c None = Faults HostRefused
-answered s c (Some g) = answered_at s (value_given g) (place_of c) c
+answered s c (Some g) = answered_at s (value_given g) (current_place c) c
 
 -- a call that was made, and what came of it
 pub record Made : Type 0 where
   pub name : List ℕ
   pub arguments : List Value
   pub gave : Option Given
+
+-- what the calls gave, in order
+abbrev pub answers_of : List Made → List (Option Given)
+answers_of made = map (λ m. m.gave) made
 
 -- ---- moments
 
@@ -74,10 +86,6 @@ run s b (suc n) m = next s b (run s b n m)
 abbrev pub moment : StoryTree → Bound → Configuration → List (Option Given) → ℕ → Moment
 moment s b c answers n = run s b n (At c answers [])
 
--- steps that a command may take
-abbrev pub max_steps : ℕ
-max_steps = 1000000
-
 -- a run that needs one more step than it may take
 abbrev pub cut_off : Moment → Moment
 cut_off (At c left made) = Faulted OutOfSteps c left made
@@ -87,4 +95,4 @@ cut_off (Waits name made) = Waits name made
 
 -- the run of a command to its end
 abbrev pub through : StoryTree → Bound → Configuration → List (Option Given) → Moment
-through s b c answers = cut_off (moment s b (begun c) answers max_steps)
+through s b c answers = cut_off (moment s b (begun c) answers MAX_STEPS)

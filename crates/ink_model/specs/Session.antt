@@ -1,19 +1,19 @@
 -- What a player answers to command lines (docs/PROTOCOL.md, "Sessions").
 use Rattle.std.specs.Prelude.{length, nat_lt, is_some, Result, Ok, Err, ◌≡◌, ℕ, List, [], ◌∷◌, ◌++◌, Bool, true, false, not, ◌&&◌, ◌⊎◌, Option, Some, None, if◌then◌else◌, MatchBool}
+use Rattle.ink_model.specs.Bytes.{fits_text}
 use Rattle.ink_model.specs.Tree.{StoryTree}
 use Rattle.ink_model.specs.Mark.{tags}
 use Rattle.ink_model.specs.Shown.{shown_text}
 use Rattle.ink_model.specs.Clean.{clean}
 use Rattle.ink_model.specs.Configuration.{Configuration, ChoiceOf, can_go_on, settled, with_globals}
 use Rattle.ink_model.specs.Step.{Bound}
-use Rattle.ink_model.specs.Run.{value_given, Moment, Stopped, Faulted, through}
-use Rattle.ink_model.specs.Memory.{FallsShort}
-use Rattle.ink_model.specs.Command.{command_of}
+use Rattle.ink_model.specs.Run.{value_given, Made, answers_of, Moment, Stopped, Faulted, through}
+use Rattle.ink_model.specs.Memory.{FallsShort, OpensShort, holds_memory}
+use Rattle.ink_model.specs.Command.{command_of, NeedsMemory}
 use Rattle.ink_model.specs.Answer.{Reply, Tells, Acts, Shows, Refuses, Breaks, answer}
 use Rattle.ink_model.specs.State.{State, Condition, Ready, Broken, globals_of}
 use Rattle.ink_model.specs.Store.{stored, store}
-use Rattle.ink_model.specs.Opening.{opening}
-use Rattle.ink_model.specs.Limits.{max_text}
+use Rattle.ink_model.specs.Opening.{opening, Unopened}
 use Rattle.ink_model.specs.declared.command.Command.{Command}
 use Rattle.ink_model.specs.declared.command.Command.TheVariants as command
 use Rattle.ink_model.specs.declared.fault.Refusal.TheVariants as refusal
@@ -41,7 +41,7 @@ has_none (choice ∷ choices) = false
 abbrev pub is_loose : Configuration → Bool
 is_loose c = not (can_go_on c) && (has_none c.flow.choices && not c.flow.safe)
 
--- what is told of a configuration when a running command ends
+-- what a running command answers of the configuration in which it ends
 unfoldable pub passage : Configuration → Passage
 passage c = record {
   text = clean (shown_text c.page.line);
@@ -54,66 +54,68 @@ passage c = record {
 
 -- ---- one command
 
--- The end of a run, with all answers used, gives this reply and leaves this.
-abbrev pub EndsAs : Moment → Reply → Condition → Type 0
-EndsAs (Stopped c [] made) reply new = (reply ≡ Tells (passage c)) × (new ≡ Ready (settled c))
-EndsAs (Faulted f c [] made) reply new = (reply ≡ Breaks f []) × (new ≡ Broken f c.shared.globals)
-EndsAs m reply new = ⊥
+-- The end of a run, with the answers of all calls that were made used, gives this reply and leaves this.
+abbrev pub EndsAs : Moment → List Made → Reply → Condition → Type 0
+EndsAs (Stopped c [] calls) made reply new = (calls ≡ made) × (reply ≡ Tells (passage c)) × (new ≡ Ready (settled c))
+EndsAs (Faulted f c [] calls) made reply new = (calls ≡ made) × (reply ≡ Breaks f []) × (new ≡ Broken f c.shared.globals)
+EndsAs m made reply new = ⊥
 
--- From a configuration in which flow has not stopped: the end of the run under the answers that were given. Only where
--- memory was refused it may fall short of that.
-abbrev pub RunsThrough : StoryTree → Bound → Configuration → Reply → Condition → Type 0
-RunsThrough s b c reply new = ((given : List (Option Given)) × EndsAs (through s b c given) reply new) ⊎ FallsShort s b c reply new
+-- From a configuration in which flow has not stopped: the end of the run under the answers of the calls that were made. Only
+-- where memory was refused it may fall short of that.
+abbrev pub RunsThrough : StoryTree → Bound → Configuration → List Made → Reply → Condition → Type 0
+RunsThrough s b c made reply new = EndsAs (through s b c (answers_of made)) made reply new ⊎ FallsShort s b c made reply new
 
 -- what a refusal answers and leaves
 abbrev pub Keeps : Reply → State → Reply → State → Type 0
 Keeps refused old reply new = (reply ≡ refused) × (new ≡ old)
 
-abbrev pub ThroughFrom : StoryTree → Bound → Condition → State → Reply → State → Type 0
-ThroughFrom s b (Broken f globals) old reply new = Keeps (Refuses (refusal.Broken f)) old reply new
-ThroughFrom s b (Ready c) old reply new = MatchBool (can_go_on c)
-    (RunsThrough s b c reply new.condition × (new.stamp ≡ old.stamp))
-    (Keeps (Refuses refusal.CannotContinue) old reply new)
+abbrev pub ThroughFrom : StoryTree → Bound → List Made → Condition → State → Reply → State → Type 0
+ThroughFrom s b made (Broken f globals) old reply new = (made ≡ []) × Keeps (Refuses (refusal.Broken f)) old reply new
+ThroughFrom s b made (Ready c) old reply new = MatchBool (can_go_on c)
+    (RunsThrough s b c made reply new.condition × (new.stamp ≡ old.stamp))
+    ((made ≡ []) × Keeps (Refuses refusal.CannotContinue) old reply new)
 
--- `through`
-abbrev pub Through : StoryTree → Bound → State → Reply → State → Type 0
-Through s b old reply new = ThroughFrom s b old.condition old reply new
+-- `through`, with the calls that it made
+abbrev pub Through : StoryTree → Bound → List Made → State → Reply → State → Type 0
+Through s b made old reply new = ThroughFrom s b made old.condition old reply new
 
--- where memory was refused for a command that does not run the story: nothing has changed
-abbrev pub LacksMemory : State → Reply → State → Type 0
-LacksMemory old reply new = Keeps (Refuses refusal.OutOfMemory) old reply new
+-- memory was refused for a command that does not run the story: nothing has changed
+abbrev pub FailsAllocation : State → Reply → State → Type 0
+FailsAllocation old reply new = Keeps (Refuses refusal.OutOfMemory) old reply new
 
 abbrev pub with_condition : Condition → State → State
 with_condition c st = record st { condition = c }
 
--- `restart`, by what opening comes to: as the story was opened, with the stamps going on
-abbrev pub RestartsAs : Result Configuration Fault → State → Reply → State → Type 0
+-- `restart`, by what opening comes to: as the story was opened, with the stamps going on; or broken by the declarations, with
+-- the globals as they stood before the step that faulted
+abbrev pub RestartsAs : Result Configuration Unopened → State → Reply → State → Type 0
 RestartsAs (Ok c) old reply new = (reply ≡ Acts []) × (new ≡ with_condition (Ready c) old)
-RestartsAs (Err f) old reply new = (reply ≡ Breaks f []) × (new ≡ with_condition (Broken f (globals_of old.condition)) old)
+RestartsAs (Err e) old reply new = (reply ≡ Breaks e.fault []) × (new ≡ with_condition (Broken e.fault e.globals) old)
 
 abbrev pub Restart : StoryTree → State → Reply → State → Type 0
-Restart s old reply new = RestartsAs (opening s) old reply new ⊎ LacksMemory old reply new
+Restart s old reply new = RestartsAs (opening s) old reply new ⊎ (OpensShort s × FailsAllocation old reply new)
 
--- `get`, also of a broken player
+-- `get`, also of a broken player; only a value that holds memory may find none for its copy
 abbrev pub GetsFrom : Option Value → State → Reply → State → Type 0
 GetsFrom None old reply new = Keeps (Refuses refusal.NoSuchVariable) old reply new
-GetsFrom (Some v) old reply new = Keeps (Shows v) old reply new
+GetsFrom (Some v) old reply new = Keeps (Shows v) old reply new ⊎ ((holds_memory v ≡ true) × FailsAllocation old reply new)
 
 abbrev pub Get : List ℕ → State → Reply → State → Type 0
-Get name old reply new = GetsFrom (stored name (globals_of old.condition)) old reply new ⊎ LacksMemory old reply new
+Get name old reply new = GetsFrom (stored name (globals_of old.condition)) old reply new
 
 -- a value that may be set: no void, and no text over its limit
 abbrev pub settable : Given → Bool
 settable (given.Int z) = true
 settable (given.Bool b) = true
-settable (given.Text t) = not (nat_lt max_text (length t))
+settable (given.Text t) = fits_text t
 settable given.Void = false
 
--- `set` of a value: a bad value is told before an absent variable
+-- `set` of a value: a bad value comes before an absent variable; only storing it takes memory
 abbrev pub SetsIn : List ℕ → Given → Configuration → State → Reply → State → Type 0
 SetsIn name g c old reply new = MatchBool (settable g)
     (MatchBool (is_some (stored name c.shared.globals))
-    ((reply ≡ Acts []) × (new ≡ with_condition (Ready (with_globals (store name (value_given g) c.shared.globals) c)) old))
+    (((reply ≡ Acts []) × (new ≡ with_condition (Ready (with_globals (store name (value_given g) c.shared.globals) c)) old))
+    ⊎ FailsAllocation old reply new)
     (Keeps (Refuses refusal.NoSuchVariable) old reply new))
     (Keeps (Refuses refusal.BadValue) old reply new)
 
@@ -126,24 +128,30 @@ SetsFrom name value (Broken f globals) old reply new = Keeps (Refuses (refusal.B
 SetsFrom name value (Ready c) old reply new = SetsBy name value c old reply new
 
 abbrev pub Set : List ℕ → Option Given → State → Reply → State → Type 0
-Set name value old reply new = SetsFrom name value old.condition old reply new ⊎ LacksMemory old reply new
+Set name value old reply new = SetsFrom name value old.condition old reply new
 
-abbrev pub Does : StoryTree → Bound → Option Command → State → Reply → State → Type 0
-Does s b None old reply new = Keeps (Refuses refusal.BadCommand) old reply new
-Does s b (Some command.Through) old reply new = Through s b old reply new
-Does s b (Some (command.Set name value)) old reply new = Set name value old reply new
-Does s b (Some (command.Get name)) old reply new = Get name old reply new
-Does s b (Some command.Restart) old reply new = Restart s old reply new
+-- one command, with the calls that it made
+abbrev pub Does : StoryTree → Bound → List Made → Option Command → State → Reply → State → Type 0
+Does s b made None old reply new = (made ≡ []) × Keeps (Refuses refusal.BadCommand) old reply new
+Does s b made (Some command.Through) old reply new = Through s b made old reply new
+Does s b made (Some (command.Set name value)) old reply new = (made ≡ []) × Set name value old reply new
+Does s b made (Some (command.Get name)) old reply new = (made ≡ []) × Get name old reply new
+Does s b made (Some command.Restart) old reply new = (made ≡ []) × Restart s old reply new
 
--- one line: its reply, and the state after it
-unfoldable pub Serves : StoryTree → Bound → List ℕ → State → Reply → State → Type 0
-Serves s b line old reply new = Does s b (command_of line) old reply new
+-- memory was refused for reading a line, which only a line with a name needs
+abbrev pub LineFails : Option Command → State → Reply → State → Type 0
+LineFails command old reply new = NeedsMemory command × FailsAllocation old reply new
+
+-- one line: the calls that it made, its reply, and the state after it
+unfoldable pub Serves : StoryTree → Bound → List Made → List ℕ → State → Reply → State → Type 0
+Serves s b made line old reply new =
+    Does s b made (command_of line) old reply new ⊎ ((made ≡ []) × LineFails (command_of line) old reply new)
 
 -- ---- sessions
 
--- These lines, one after another, are answered by these bytes, and leave this state.
-abbrev pub Session : StoryTree → Bound → List (List ℕ) → State → List ℕ → State → Type 0
-Session s b [] old written new = (written ≡ []) × (new ≡ old)
-Session s b (line ∷ lines) old written new =
-    (reply : Reply) × (mid : State) × (rest : List ℕ)
-    × Serves s b line old reply mid × (written ≡ answer reply ++ rest) × Session s b lines mid rest new
+-- These lines, one after another, make these calls, are answered by these bytes, and leave this state.
+abbrev pub Session : StoryTree → Bound → List Made → List (List ℕ) → State → List ℕ → State → Type 0
+Session s b made [] old written new = (made ≡ []) × (written ≡ []) × (new ≡ old)
+Session s b made (line ∷ lines) old written new =
+    (reply : Reply) × (mid : State) × (rest : List ℕ) × (first : List Made) × (later : List Made)
+    × (made ≡ first ++ later) × Serves s b first line old reply mid × (written ≡ answer reply ++ rest) × Session s b later lines mid rest new

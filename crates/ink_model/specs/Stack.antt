@@ -3,10 +3,6 @@ use Rattle.std.specs.Prelude.{ℕ, zero, suc, List, [], ◌∷◌, Option, Some,
 use Rattle.std.specs.Option.{option_map}
 use Rattle.ink_model.specs.declared.value.Value.{Value}
 
--- values that a stack may have
-abbrev pub max_stack : ℕ
-max_stack = 10000
-
 -- the top, and what is below it
 abbrev pub popped : List Value → Option (Value × List Value)
 popped [] = None

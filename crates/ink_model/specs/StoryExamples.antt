@@ -2,13 +2,13 @@
 use Rattle.std.specs.Prelude.{◌≡◌, pos, ℕ, List, [], ◌∷◌, refl, codes, Bool, true, false, Some, None, Ok, Err}
 use Rattle.serde_json.specs.Data.{unsigned, Data, null, boolean, number, string, array, object, no_items, item, Members, no_members, member}
 use Rattle.ink_model.specs.Tree.{StoryTree, leaf, container, no_trees, tree, no_keys, key}
-use Rattle.ink_model.specs.Acceptance.{accepted, bad_places, bad_path, written_target}
+use Rattle.ink_model.specs.Acceptance.{accepted, bad_places, bad_path, written_target, counted_container}
 use Rattle.ink_model.specs.Grammar.{content, here}
 use Rattle.ink_model.specs.Leaves.{object_leaf, jump_readings, value_readings, store_readings}
 use Rattle.ink_model.specs.Path.{read_path, target, is_place}
 use Rattle.ink_model.specs.Place.{entered, landed, next_place}
 use Rattle.ink_model.specs.Places.{places}
-use Rattle.ink_model.specs.Played.{unplayed}
+use Rattle.ink_model.specs.Supported.{unsupported}
 use Rattle.ink_model.specs.Configuration.{Configuration, with_stack, with_globals, fresh_at, moved}
 use Rattle.ink_model.specs.Step.{step, nothing_bound, Next, Faults, go_on}
 use Rattle.ink_model.specs.Value.{is_true}
@@ -32,11 +32,11 @@ text t = string t
 abbrev count : ℕ → Data
 count n = number (unsigned n)
 
--- nesting is told before what is wrong with the container itself
+-- nesting comes before what is wrong with the container itself
 nesting_first : content 21 121 false true (array (item (object (of (codes "#f") (count 8) no_members)) no_items)) ≡ Err (here Limit)
 nesting_first = refl
 
--- what ink has beyond is told before the shape
+-- what ink has beyond comes before the shape
 beyond_first : object_leaf (object (of (codes "->") (count 1) (of (codes "list") null no_members))) ≡ Err Unsupported
 unfolding object_leaf
 beyond_first = refl
@@ -136,9 +136,9 @@ a_relative_value : accepted (container None 0 (tree (leaf (leaves.Target (codes 
 unfolding accepted bad_places read_path target
 a_relative_value = refl
 
-the_first_unplayed : unplayed (counting (codes "n")) ≡ (Index 0 ∷ []) ∷ []
-unfolding unplayed
-the_first_unplayed = refl
+the_first_unsupported : unsupported (counting (codes "n")) ≡ (Index 0 ∷ []) ∷ []
+unfolding unsupported
+the_first_unsupported = refl
 
 -- ---- places
 
@@ -161,6 +161,23 @@ out_of_a_name = refl
 lands_inside : written_target to_k (Index 1 ∷ Index 0 ∷ []) ≡ Some (Name (codes "k") ∷ Index 0 ∷ [])
 unfolding written_target read_path target landed
 lands_inside = refl
+
+-- a choice that is offered once only counts the container to which its path leads, and lands inside it
+abbrev choosing : ℕ → StoryTree
+choosing flags = container None 0 (tree (leaf (leaves.Choice (codes "n") flags)) no_trees)
+    (key (codes "n") (container None 1 (tree (leaf leaves.Newline) no_trees) no_keys) no_keys)
+
+counts_the_container : counted_container (choosing 16) (Index 0 ∷ []) ≡ Some (Name (codes "n") ∷ [])
+unfolding counted_container read_path target
+counts_the_container = refl
+
+lands_in_the_container : written_target (choosing 16) (Index 0 ∷ []) ≡ Some (Name (codes "n") ∷ Index 0 ∷ [])
+unfolding written_target read_path target landed
+lands_in_the_container = refl
+
+counts_nothing : counted_container (choosing 0) (Index 0 ∷ []) ≡ None
+unfolding counted_container
+counts_nothing = refl
 
 -- ---- diverts
 

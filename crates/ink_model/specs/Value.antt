@@ -2,6 +2,7 @@
 use Rattle.std.specs.Prelude.{ℕ, pos, List, [], ◌∷◌, Bool, true, false, not, ◌&&◌, bytes_eq, codes, nat_eq, Result, Ok, Err}
 use Rattle.std.specs.Fmt.{signed_decimal}
 use Rattle.std.specs.Ordering.{int_eq}
+use Rattle.ink_model.specs.Bytes.{is_filled}
 use Rattle.ink_model.specs.declared.fault.Fault.{Fault}
 use Rattle.ink_model.specs.declared.fault.Fault.TheVariants.{BadOperands}
 use Rattle.ink_model.specs.declared.place.Part.{Part}
@@ -27,10 +28,6 @@ printed (Pointer n i) = Err BadOperands
 printed (Tag t) = Err BadOperands
 
 -- ---- truth
-
-abbrev pub is_filled : List ℕ → Bool
-is_filled [] = false
-is_filled (c ∷ cs) = true
 
 -- an integer that is not 0, `true`, and a text that is not empty are true; void is false
 unfoldable pub is_true : Value → Result Bool Fault

@@ -4,7 +4,7 @@ use crate::operator::Op;
 use crate::text::Text;
 use std::collections::BTreeMap;
 
-/// A command of the story (docs/STORY_FORMAT.md, "Content"; what each does is told in docs/RUNNING.md). `Return` is that of
+/// A command of the story (docs/STORY_FORMAT.md, "Content"; what each does: docs/RUNNING.md). `Return` is that of
 /// a function; `Turns` are those since a target was entered.
 #[derive(Clone, Copy, Debug, PartialEq, Eq)]
 pub enum Control {

@@ -6,7 +6,7 @@ ghost use Rattle.ink_model.specs.declared.fault.Fault.TheVariants.{OutOfMemory};
 use crate::host::Event;
 use crate::place::Place;
 use crate::seq::Seq;
-use std::alloc::{AllocError, AllocFailed};
+use std::alloc::{AllocError, AllocFailed, Global};
 
 /// Why a story is refused.
 #[derive(Clone, Copy, Debug, PartialEq, Eq, thiserror::Error)]
@@ -85,6 +85,61 @@ pub enum Halt {
     Fault { fault: Fault, events: Seq<Event> },
 }
 
+impl Fault {
+    ghost use Rattle.ink_model.specs.Answer.{fault_name};
+
+    /// The fault's name, as answers have it (docs/PROTOCOL.md, "Answers").
+    pub fn name(self) -> &'static str
+        ensures { result.now ≡ fault_name self }
+    {
+        match self {
+            Fault::StackEmpty => "StackEmpty",
+            Fault::BadOperands => "BadOperands",
+            Fault::Divide => "Divide",
+            Fault::BadMode => "BadMode",
+            Fault::BadTarget => "BadTarget",
+            Fault::NoTemp => "NoTemp",
+            Fault::HostRefused => "HostRefused",
+            Fault::StopInString => "StopInString",
+            Fault::TooDeep => "TooDeep",
+            Fault::OutOfSteps => "OutOfSteps",
+            Fault::OutOfMemory => "OutOfMemory",
+        }
+    }
+}
+
+impl Refusal {
+    ghost use Rattle.ink_model.specs.Answer.{refusal_name};
+
+    /// The refusal's name, as answers have it (docs/PROTOCOL.md, "Answers").
+    pub fn name(self) -> &'static str
+        ensures { result.now ≡ refusal_name self }
+    {
+        match self {
+            Refusal::CannotContinue => "CannotContinue",
+            Refusal::NoSuchVariable => "NoSuchVariable",
+            Refusal::BadValue => "BadValue",
+            Refusal::BadCommand => "BadCommand",
+            Refusal::Broken(_) => "Broken",
+            Refusal::OutOfMemory => "OutOfMemory",
+        }
+    }
+}
+
+impl ReadRefusal {
+    ghost use Rattle.ink_model.specs.Grammar.{here};
+
+    /// A refusal of the story as a whole, at its root. Takes no memory.
+    pub fn at_root(alloc: Global, cause: Cause) -> ReadRefusal
+        ensures { result ≡ here cause }
+    {
+        ReadRefusal {
+            cause,
+            place: Place::root(alloc),
+        }
+    }
+}
+
 impl From<AllocError> for Fault {
     ghost from_gives = { λ _ e. e ≡ OutOfMemory };
 
@@ -98,5 +153,32 @@ impl<T: Drop> From<AllocFailed<T>> for Fault {
 
     fn from(_refused: AllocFailed<T>) -> Fault {
         Fault::OutOfMemory
+    }
+}
+
+/// Why something was not made: memory was refused, or it was refused itself.
+#[derive(Drop)]
+pub enum Failure<E> {
+    OutOfMemory,
+    Refused(E),
+}
+
+impl<E> From<AllocError> for Failure<E> {
+    ghost use Rattle.ink_model.specs.declared.fault.Failure.TheVariants as failure;
+
+    ghost from_gives = { λ _ e. e ≡ failure.OutOfMemory };
+
+    fn from(_refused: AllocError) -> Failure<E> {
+        Failure::OutOfMemory
+    }
+}
+
+impl<E, T: Drop> From<AllocFailed<T>> for Failure<E> {
+    ghost use Rattle.ink_model.specs.declared.fault.Failure.TheVariants as failure;
+
+    ghost from_gives = { λ _ e. e ≡ failure.OutOfMemory };
+
+    fn from(_refused: AllocFailed<T>) -> Failure<E> {
+        Failure::OutOfMemory
     }
 }

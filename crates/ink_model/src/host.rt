@@ -1,4 +1,4 @@
-//! What a host gives and is told.
+//! What a host gives, and what happened between it and a player.
 
 use crate::text::Text;
 

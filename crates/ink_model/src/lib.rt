@@ -4,8 +4,10 @@
 mod command;
 mod content;
 mod fault;
+pub mod flags;
 mod frame;
 mod host;
+mod limits;
 mod mark;
 mod operator;
 mod passage;
@@ -16,9 +18,13 @@ mod value;
 
 pub use command::Command;
 pub use content::{Content, Control, Destination, Leaf};
-pub use fault::{Cause, Fault, Halt, ReadRefusal, Refusal};
+pub use fault::{Cause, Failure, Fault, Halt, ReadRefusal, Refusal};
 pub use frame::FrameKind;
 pub use host::{Event, Given};
+pub use limits::{
+    MAX_INPUT, MAX_LINE, MAX_MARKS, MAX_NESTING, MAX_SECTIONS, MAX_STACK, MAX_STEPS, MAX_STORY,
+    MAX_TEXT,
+};
 pub use mark::Mark;
 pub use operator::Op;
 pub use passage::{Passage, Shown};

@@ -1,6 +1,6 @@
 //! Values.
 
-ghost use Rattle.std.specs.Prelude.{◌≡◌, IfOk};
+ghost use Rattle.std.specs.Prelude.{◌≡◌, true, IfOk, OnErr};
 
 use crate::place::Path;
 use crate::text::Text;
@@ -19,9 +19,12 @@ pub enum Value {
 }
 
 impl Value {
-    /// A copy. The one error is a refused request for memory.
+    ghost use Rattle.ink_model.specs.Memory.{holds_memory};
+
+    /// A copy. The one error is a refused request for memory, which a number, a truth value and void never make.
     pub fn clone_in(&self, alloc: Global) -> Result<Value, AllocError>
-        ensures { IfOk result (λ copy. copy ≡ self.now) }
+        ensures copy { IfOk result (λ copy. copy ≡ self.now) }
+        ensures memory { OnErr result (holds_memory self.now ≡ true) }
     {
         match self {
             Value::Int(number) => Ok(Value::Int(*number)),

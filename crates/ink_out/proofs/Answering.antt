@@ -13,17 +13,12 @@ use Rattle.ink_out.specs.declared.state.Past.{Past}
 use Rattle.ink_out.specs.declared.state.State.{State}
 use Rattle.ink_out.specs.Tracks.{hidden_by, waits, Tracks, Fits, FitsNewline}
 use Rattle.ink_out.specs.Stands.{Stands, is_past}
+use Rattle.ink_out.proofs.Tracking.{hidden_now}
 use Rattle.ink_out.proofs.Opens.{more_is, opens_there, open_none, open_followed}
 
 pub more_of : (marks : List Mark) (past : List Past) (s : State) (i : ℕ) → Stands (reverse marks) past s → is_past i s.more ≡ more_from marks i
 more_of marks past s i h =
     ap (is_past i) h.more ∙ sym (more_is (reverse marks) i) ∙ ap (λ ms. has_more (drop i ms)) (reverse-reverse marks)
-
--- nothing that follows hides it yet
-hidden_now : (h : Hides) → hidden_by h [] ≡ false
-hidden_now Near = refl
-hidden_now Any = refl
-hidden_now Never = refl
 
 waits_now : (before : List Mark) (w : Waiting) → waits before w [] ≡ true
 waits_now before w = rw (hidden_now w.hides) refl
@@ -36,7 +31,7 @@ open_waiting marks past s w is untagged h =
     let fits : FitsNewline (reverse marks) s.tracker w = subst (λ o. Fits (reverse marks) s.tracker o) is h.tracks.fits in
     let now = shown_now (reverse marks) s.tracker h.settled w is h.tracks in
     let among : is_among w.at (newlines_before (reverse marks) []) ≡ true = ap (is_among w.at) now ∙ or_left (eqb w.at w.at) (is_among w.at h.settled) (eq-eqb w.at w.at refl) in
-    sym (opens_there (reverse marks) [] w.at among (sym fits.tagged ∙ untagged))
+    sym (opens_there (reverse marks) [] w.at among (sym fits.tagged ∙ untagged)).1
 
 pub open_tagged : (marks : List Mark) (past : List Past) (s : State) (w : Waiting) → s.tracker.newline ≡ Some w → w.tagged ≡ true → Stands (reverse marks) past s → None ≡ open_newline marks
 open_tagged marks past s w is tagged h =

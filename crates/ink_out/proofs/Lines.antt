@@ -4,8 +4,8 @@ use Rattle.std.proofs.lemmas.Bool.{cases_lt, ne_eqb, or_parts}
 use Rattle.std.proofs.lemmas.List.{append-nil, append_assoc}
 use Rattle.std.proofs.lemmas.Str.{inside_one, length-encode, len_utf8_bounds}
 use lib.Utf8.{encode}
-use Rattle.ink_model.specs.Mark.{is_newline, is_blank, is_white}
-use Rattle.ink_model.specs.Clean.{onto, pieces, joined, has_bytes, clean_line, clean}
+use Rattle.ink_model.specs.Bytes.{is_newline, is_blank, is_white, onto, pieces, joined, is_filled}
+use Rattle.ink_model.specs.Clean.{clean_line, clean}
 use Rattle.ink_out.specs.Cleaning.{space}
 use Rattle.ink_out.specs.declared.cleaning.Before.{Before}
 use Rattle.ink_out.specs.declared.cleaning.Before.TheVariants.{Nothing, Word, Gap}
@@ -39,10 +39,10 @@ spaced (word ∷ words) = 32 ∷ joined 32 (word ∷ words)
 
 -- what a line's pieces give where a word or a gap stands before them
 abbrev behind : Before → List (List ℕ) → List ℕ
-behind Nothing ps = joined 32 (filter has_bytes ps)
-behind Gap ps = spaced (filter has_bytes ps)
+behind Nothing ps = joined 32 (filter is_filled ps)
+behind Gap ps = spaced (filter is_filled ps)
 behind Word [] = []
-behind Word (p ∷ ps) = p ++ spaced (filter has_bytes ps)
+behind Word (p ∷ ps) = p ++ spaced (filter is_filled ps)
 
 joined_spaced : (word : List ℕ) (words : List (List ℕ)) → joined 32 (word ∷ words) ≡ word ++ spaced words
 joined_spaced word [] = sym (append-nil word)
@@ -59,9 +59,9 @@ behind_byte : (before : Before) (c : ℕ) (ps : List (List ℕ)) → space befor
 behind_byte Nothing c [] = refl
 behind_byte Word c [] = refl
 behind_byte Gap c [] = refl
-behind_byte Nothing c (p ∷ ps) = sym (joined_spaced (c ∷ p) (filter has_bytes ps))
+behind_byte Nothing c (p ∷ ps) = sym (joined_spaced (c ∷ p) (filter is_filled ps))
 behind_byte Word c (p ∷ ps) = refl
-behind_byte Gap c (p ∷ ps) = ap (λ cs. 32 ∷ cs) (sym (joined_spaced (c ∷ p) (filter has_bytes ps)))
+behind_byte Gap c (p ∷ ps) = ap (λ cs. 32 ∷ cs) (sym (joined_spaced (c ∷ p) (filter is_filled ps)))
 
 words_on_is : (before : Before) (cs : List ℕ) → words_on before cs ≡ behind before (pieces is_blank cs)
 words_on_is Nothing [] = refl

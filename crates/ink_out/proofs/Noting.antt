@@ -1,11 +1,13 @@
 -- Marks written at the end of the open section.
-use Rattle.std.proofs.Common.{◌≡◌, ℕ, suc, ◌+◌, ◌-◌, ◌<◌, ◌≤◌, nat_lt, false, List, [], ◌∷◌, ◌++◌, length, get_or, set, take, drop, reverse, Result, Ok, refl, sym, ap, ◌∙◌, arith}
+use Rattle.std.proofs.Common.{◌≡◌, ℕ, suc, ◌+◌, ◌-◌, ◌<◌, ◌≤◌, nat_lt, Bool, false, List, [], ◌∷◌, ◌++◌, length, get_or, set, take, drop, reverse, Result, Ok, refl, sym, ap, ◌∙◌, arith}
 use Rattle.std.proofs.Math.Bool.{and-false}
 use Rattle.std.proofs.lemmas.Bool.{le-ltb}
 use Rattle.std.proofs.Math.Seq.{split_at}
 use Rattle.std.proofs.lemmas.List.{append-nil, reverse-append, set_split, drop_all}
 use Rattle.ink_model.specs.Configuration.{Page, Section}
-use Rattle.ink_model.specs.Output.{writes_marks, let_through, noted_in, is_line, max_marks}
+use Rattle.ink_model.specs.Mark.{cut}
+use Rattle.ink_model.specs.Output.{writes_marks, writes_text, let_through, noted_in, is_line}
+use Rattle.ink_model.specs.declared.limits.TheConstants.{MAX_MARKS}
 use Rattle.ink_model.specs.declared.fault.Fault.{Fault}
 use Rattle.ink_model.specs.declared.mark.Mark.{Mark}
 use Rattle.ink_model.specs.declared.mark.Mark.TheVariants.{Text, Blank, Newline, Glue, Tag, Enter, Leave}
@@ -45,10 +47,15 @@ pub noted_in-nil : (line : List Mark) (sections : List Section) (n : ℕ) → no
 noted_in-nil line [] n = rw append-nil refl
 noted_in-nil line (x ∷ rest) n = rw append-nil refl
 
-pub nothing_written : (line : List Mark) (sections : List Section) (n : ℕ) → length line ≤ max_marks → writes_marks [] (page_of line sections n) ≡ Ok (page_of line sections n)
+pub nothing_written : (line : List Mark) (sections : List Section) (n : ℕ) → length line ≤ MAX_MARKS → writes_marks [] (page_of line sections n) ≡ Ok (page_of line sections n)
 nothing_written line sections n fits =
-    let room : nat_lt max_marks (length line + 0) ≡ false = le-ltb max_marks (length line + 0) (omega arith) in
+    let room : nat_lt MAX_MARKS (length line + 0) ≡ false = le-ltb MAX_MARKS (length line + 0) (omega arith) in
     rw (room, and-false (is_line (reverse sections)), noted_in-nil line (reverse sections) n) refl
+
+-- a text without bytes
+pub empty_text : (fresh : Bool) (text : List ℕ) (line : List Mark) (sections : List Section) (n : ℕ) → text ≡ [] → length line ≤ MAX_MARKS → writes_text fresh text (page_of line sections n) ≡ Ok (page_of line sections n)
+unfolding cut
+empty_text fresh text line sections n e fits = rw e (nothing_written line sections n fits)
 
 pub let_through-false : (ms : List Mark) → let_through false ms ≡ ms
 let_through-false [] = refl

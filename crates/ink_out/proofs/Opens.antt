@@ -27,9 +27,8 @@ newlines_within (Tag t ∷ before) after i e = omega (arith, newlines_within bef
 newlines_within (Enter n ∷ before) after i e = omega (arith, newlines_within before (Enter n ∷ after) i e)
 newlines_within (Leave n ∷ before) after i e = omega (arith, newlines_within before (Leave n ∷ after) i e)
 
-head_within : (before after : List Mark) (k : ℕ) (ks : List ℕ) → newlines_before before after ≡ k ∷ ks → k < length before
-head_within before after k ks e =
-    newlines_within before after k (ap (is_among k) e ∙ or_left (eqb k k) (is_among k ks) (eq-eqb k k refl))
+head_among : (before after : List Mark) (k : ℕ) (ks : List ℕ) → newlines_before before after ≡ k ∷ ks → is_among k (newlines_before before after) ≡ true
+head_among before after k ks e = ap (is_among k) e ∙ or_left (eqb k k) (is_among k ks) (eq-eqb k k refl)
 
 -- ---- what stands behind an index
 
@@ -40,6 +39,13 @@ followed m before i more h = rw (since_more m before i h) (more (since before i)
 over : (m : Mark) (before : List Mark) (i : ℕ) → ((ms : List Mark) → has_more (m ∷ ms) ≡ has_more ms) → i < length before → has_more (since (m ∷ before) i) ≡ has_more (since before i)
 over m before i same h = rw (since_more m before i h) (same (since before i))
 
+-- the same of a shown newline, which stands before
+marked_behind : (m : Mark) (before after : List Mark) (i : ℕ) → ((ms : List Mark) → has_more (m ∷ ms) ≡ true) → is_among i (newlines_before before (m ∷ after)) ≡ true → has_more (since (m ∷ before) i) ≡ false → ⊥
+marked_behind m before after i more e h = both_ways (has_more (since (m ∷ before) i)) h (followed m before i more (newlines_within before (m ∷ after) i e))
+
+plain_behind : (m : Mark) (before after : List Mark) (i : ℕ) (b : Bool) → ((ms : List Mark) → has_more (m ∷ ms) ≡ has_more ms) → is_among i (newlines_before before (m ∷ after)) ≡ true → has_more (since (m ∷ before) i) ≡ b → has_more (since before i) ≡ b
+plain_behind m before after i b same e h = sym (over m before i same (newlines_within before (m ∷ after) i e)) ∙ h
+
 -- ---- the last shown mark is a newline
 
 shown_clear : (x s e : Bool) → (x && (s && not e)) ≡ true → ((x && s) ≡ true) × (e ≡ false)
@@ -48,60 +54,32 @@ shown_clear true true true h = absurd (false≢true h)
 shown_clear true false e h = absurd (false≢true h)
 shown_clear false s e h = absurd (false≢true h)
 
--- a shown newline that no Text or Tag follows is the last one shown
-pub ends_there : (before after : List Mark) (i : ℕ) → is_among i (newlines_before before after) ≡ true → has_more (since before i) ≡ false → ends before after ≡ true
-ends_there [] after i e h = absurd (false≢true e)
-ends_there (Text t ∷ before) after i e h =
-    absurd (both_ways _ h (followed (Text t) before i (λ ms. refl) (newlines_within before (Text t ∷ after) i e)))
-ends_there (Tag t ∷ before) after i e h =
-    absurd (both_ways _ h (followed (Tag t) before i (λ ms. refl) (newlines_within before (Tag t ∷ after) i e)))
-ends_there (Newline ∷ before) after i e h =
-    elim (cases_Bool (newline_shown before after)) [
-      | inl s ↦ or_left (clear before after && some before (Newline ∷ after)) (ends before (Newline ∷ after)) (shown_clear (clear before after) (some before (Newline ∷ after)) (ends before (Newline ∷ after)) s).0
-      | inr s ↦
-          let among : is_among i (newlines_before before (Newline ∷ after)) ≡ true = rw s at e in
-          or_right (clear before after && some before (Newline ∷ after)) (ends before (Newline ∷ after))
-          (ends_there before (Newline ∷ after) i among (sym (over Newline before i (λ ms. refl) (newlines_within before (Newline ∷ after) i among)) ∙ h))
-    ]
-ends_there (Blank t ∷ before) after i e h =
-    ends_there before (Blank t ∷ after) i e (sym (over (Blank t) before i (λ ms. refl) (newlines_within before (Blank t ∷ after) i e)) ∙ h)
-ends_there (Glue ∷ before) after i e h =
-    ends_there before (Glue ∷ after) i e (sym (over Glue before i (λ ms. refl) (newlines_within before (Glue ∷ after) i e)) ∙ h)
-ends_there (Enter n ∷ before) after i e h =
-    ends_there before (Enter n ∷ after) i e (sym (over (Enter n) before i (λ ms. refl) (newlines_within before (Enter n ∷ after) i e)) ∙ h)
-ends_there (Leave n ∷ before) after i e h =
-    ends_there before (Leave n ∷ after) i e (sym (over (Leave n) before i (λ ms. refl) (newlines_within before (Leave n ∷ after) i e)) ∙ h)
-
--- and it is the open one
-pub opens_there : (before after : List Mark) (i : ℕ) → is_among i (newlines_before before after) ≡ true → has_more (since before i) ≡ false → open_before before after ≡ Some i
+-- a shown newline that no Text or Tag follows is the last one shown, and it is the open one
+pub opens_there : (before after : List Mark) (i : ℕ) → is_among i (newlines_before before after) ≡ true → has_more (since before i) ≡ false → (ends before after ≡ true) × (open_before before after ≡ Some i)
 opens_there [] after i e h = absurd (false≢true e)
-opens_there (Text t ∷ before) after i e h =
-    absurd (both_ways _ h (followed (Text t) before i (λ ms. refl) (newlines_within before (Text t ∷ after) i e)))
-opens_there (Tag t ∷ before) after i e h =
-    absurd (both_ways _ h (followed (Tag t) before i (λ ms. refl) (newlines_within before (Tag t ∷ after) i e)))
+opens_there (Text t ∷ before) after i e h = absurd (marked_behind (Text t) before after i (λ ms. refl) e h)
+opens_there (Tag t ∷ before) after i e h = absurd (marked_behind (Tag t) before after i (λ ms. refl) e h)
 opens_there (Newline ∷ before) after i e h =
+    let shows = clear before after && some before (Newline ∷ after) in
+    let ended = ends before (Newline ∷ after) in
+    let there : is_among i (newlines_before before (Newline ∷ after)) ≡ true → (ended ≡ true) × (open_before before (Newline ∷ after) ≡ Some i) =
+    λ among. opens_there before (Newline ∷ after) i among (plain_behind Newline before after i false (λ ms. refl) among h) in
     elim (cases_Bool (newline_shown before after)) [
       | inl s ↦
           let among : is_among i (length before ∷ newlines_before before (Newline ∷ after)) ≡ true = rw s at e in
-          rw s (elim (or_cases (eqb i (length before)) (is_among i (newlines_before before (Newline ∷ after))) among) [
-            | inl k ↦ ap Some (sym (eqb-true i (length before) k))
-            | inr k ↦
-                let ended = (shown_clear (clear before after) (some before (Newline ∷ after)) (ends before (Newline ∷ after)) s).1 in
-                let there = ends_there before (Newline ∷ after) i k (sym (over Newline before i (λ ms. refl) (newlines_within before (Newline ∷ after) i k)) ∙ h) in
-                absurd (both_ways (ends before (Newline ∷ after)) ended there)
-          ])
+          let (here, last) = shown_clear (clear before after) (some before (Newline ∷ after)) ended s in (
+            or_left shows ended here,
+            rw s (elim (or_cases (eqb i (length before)) (is_among i (newlines_before before (Newline ∷ after))) among)
+                [ inl k ↦ ap Some (sym (eqb-true i (length before) k)) | inr k ↦ absurd (both_ways ended last (there k).0) ]),
+          )
       | inr s ↦
-          let among : is_among i (newlines_before before (Newline ∷ after)) ≡ true = rw s at e in
-          rw s (opens_there before (Newline ∷ after) i among (sym (over Newline before i (λ ms. refl) (newlines_within before (Newline ∷ after) i among)) ∙ h))
+          let found = there (rw s at e) in
+          (or_right shows ended found.0, rw s found.1)
     ]
-opens_there (Blank t ∷ before) after i e h =
-    opens_there before (Blank t ∷ after) i e (sym (over (Blank t) before i (λ ms. refl) (newlines_within before (Blank t ∷ after) i e)) ∙ h)
-opens_there (Glue ∷ before) after i e h =
-    opens_there before (Glue ∷ after) i e (sym (over Glue before i (λ ms. refl) (newlines_within before (Glue ∷ after) i e)) ∙ h)
-opens_there (Enter n ∷ before) after i e h =
-    opens_there before (Enter n ∷ after) i e (sym (over (Enter n) before i (λ ms. refl) (newlines_within before (Enter n ∷ after) i e)) ∙ h)
-opens_there (Leave n ∷ before) after i e h =
-    opens_there before (Leave n ∷ after) i e (sym (over (Leave n) before i (λ ms. refl) (newlines_within before (Leave n ∷ after) i e)) ∙ h)
+opens_there (Blank t ∷ before) after i e h = opens_there before (Blank t ∷ after) i e (plain_behind (Blank t) before after i false (λ ms. refl) e h)
+opens_there (Glue ∷ before) after i e h = opens_there before (Glue ∷ after) i e (plain_behind Glue before after i false (λ ms. refl) e h)
+opens_there (Enter n ∷ before) after i e h = opens_there before (Enter n ∷ after) i e (plain_behind (Enter n) before after i false (λ ms. refl) e h)
+opens_there (Leave n ∷ before) after i e h = opens_there before (Leave n ∷ after) i e (plain_behind (Leave n) before after i false (λ ms. refl) e h)
 
 -- ---- none is open
 
@@ -135,16 +113,12 @@ open_followed (Newline ∷ before) after k ks e h =
           absurd (both_ways (has_more (since (Newline ∷ before) k)) none h)
       | inr s ↦
           let here = rw s at e in
-          rw s (open_followed before (Newline ∷ after) k ks here (sym (over Newline before k (λ ms. refl) (head_within before (Newline ∷ after) k ks here)) ∙ h))
+          rw s (open_followed before (Newline ∷ after) k ks here (plain_behind Newline before after k true (λ ms. refl) (head_among before (Newline ∷ after) k ks here) h))
     ]
-open_followed (Blank t ∷ before) after k ks e h =
-    open_followed before (Blank t ∷ after) k ks e (sym (over (Blank t) before k (λ ms. refl) (head_within before (Blank t ∷ after) k ks e)) ∙ h)
-open_followed (Glue ∷ before) after k ks e h =
-    open_followed before (Glue ∷ after) k ks e (sym (over Glue before k (λ ms. refl) (head_within before (Glue ∷ after) k ks e)) ∙ h)
-open_followed (Enter n ∷ before) after k ks e h =
-    open_followed before (Enter n ∷ after) k ks e (sym (over (Enter n) before k (λ ms. refl) (head_within before (Enter n ∷ after) k ks e)) ∙ h)
-open_followed (Leave n ∷ before) after k ks e h =
-    open_followed before (Leave n ∷ after) k ks e (sym (over (Leave n) before k (λ ms. refl) (head_within before (Leave n ∷ after) k ks e)) ∙ h)
+open_followed (Blank t ∷ before) after k ks e h = open_followed before (Blank t ∷ after) k ks e (plain_behind (Blank t) before after k true (λ ms. refl) (head_among before (Blank t ∷ after) k ks e) h)
+open_followed (Glue ∷ before) after k ks e h = open_followed before (Glue ∷ after) k ks e (plain_behind Glue before after k true (λ ms. refl) (head_among before (Glue ∷ after) k ks e) h)
+open_followed (Enter n ∷ before) after k ks e h = open_followed before (Enter n ∷ after) k ks e (plain_behind (Enter n) before after k true (λ ms. refl) (head_among before (Enter n ∷ after) k ks e) h)
+open_followed (Leave n ∷ before) after k ks e h = open_followed before (Leave n ∷ after) k ks e (plain_behind (Leave n) before after k true (λ ms. refl) (head_among before (Leave n ∷ after) k ks e) h)
 
 -- ---- a Text or Tag from an index on
 
@@ -245,4 +219,4 @@ more_since ms i =
 
 -- a shown newline that no Text or Tag follows is the open one, so there is one of that kind
 pub is_open : (ms : List Mark) (i : ℕ) → is_shown ms i ≡ true → more_from ms (suc i) ≡ false → open_newline ms ≡ Some i
-is_open ms i shown more = opens_there (reverse ms) [] i shown (sym (more_since ms i) ∙ more)
+is_open ms i shown more = (opens_there (reverse ms) [] i shown (sym (more_since ms i) ∙ more)).1

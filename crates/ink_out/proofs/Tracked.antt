@@ -15,7 +15,7 @@ use Rattle.ink_out.specs.declared.tracker.Tracker.{Tracker}
 use Rattle.ink_out.specs.Tracks.{since, hidden_by, waits, waiting, waiting_at, IsBroken, FitsNewline, Fits, stays, FitsFirst, Tracks, reach_of, settled_by}
 use Rattle.ink_out.specs.Next.{hides_behind, hides_next, newline_left, blank_left}
 use Rattle.ink_out.proofs.Covers.{since_more, since_here}
-use Rattle.ink_out.proofs.Tracking.{Plain, fits_over, first_over, waiting_over, waiting_at_over, stays_over, bare, bare_end, plain_newline, plain_blank, newline_more, newline_next, blank_more, left}
+use Rattle.ink_out.proofs.Tracking.{Plain, hidden_now, fits_over, first_over, waiting_kept, stays_over, bare, bare_end, plain_newline, plain_blank, newline_more, newline_next, blank_more, left}
 
 -- some tracker of these marks
 record Tracked (before : List Mark) : Type 0 where
@@ -76,8 +76,8 @@ first_blank t before s settled textless none k =
       breaks = k.breaks;
       fits = fits_first t before s s.newline k.fits;
       first = record { within = omega arith; breaks = λ h. h; textless = textless };
-      newlines = λ after. k.newlines (m ∷ after) ∙ ap (λ ks. ks ++ settled) (sym (waiting_at_over m p before after s s.newline k.fits));
-      ends = λ after. k.ends (m ∷ after) ∙ sym (waiting_over m p before after s s.newline k.fits);
+      newlines = λ after. (waiting_kept m p before after s settled k).0;
+      ends = λ after. (waiting_kept m p before after s settled k).1;
       some = λ after.
           let nothing : some before (m ∷ after) ≡ false = k.some (m ∷ after) ∙ rw (textless, none) refl in
           bare_end (not (covered [] after || (broken before && joins after))) (some before (m ∷ after)) nothing
@@ -281,14 +281,11 @@ after_tag t before k =
 
 -- ---- the start and the end of a function's text
 
-plain_enter : (n : ℕ) → Plain (Enter n)
-plain_enter n = record { glues = λ after. refl; joins = λ after. refl; covered = λ between after. refl }
-
 after_enter : (n : ℕ) (before : List Mark) → Tracked before → Tracked (Enter n ∷ before)
 after_enter n before k =
     let s = k.tracker in
     let m = Enter n in
-    let p = plain_enter n in
+    let p : Plain m = record { glues = λ after. refl; joins = λ after. refl; covered = λ between after. refl } in
     record {
       tracker = s;
       settled = k.settled;
@@ -298,8 +295,8 @@ after_enter n before k =
         breaks = k.tracks.breaks;
         fits = fits_over m before s s.newline (λ ms. refl) k.tracks.fits;
         first = first_over m before s s s.blank refl (λ h. h) k.tracks.first;
-        newlines = λ after. k.tracks.newlines (m ∷ after) ∙ ap (λ ks. ks ++ k.settled) (sym (waiting_at_over m p before after s s.newline k.tracks.fits));
-        ends = λ after. k.tracks.ends (m ∷ after) ∙ sym (waiting_over m p before after s s.newline k.tracks.fits);
+        newlines = λ after. (waiting_kept m p before after s k.settled k.tracks).0;
+        ends = λ after. (waiting_kept m p before after s k.settled k.tracks).1;
         some = λ after. k.tracks.some (m ∷ after) ∙ ap (λ b. s.text || b) (sym (stays_over m p before after s s.blank k.tracks.first));
       };
     }
@@ -324,11 +321,6 @@ tracked (Enter n ∷ before) = after_enter n before (tracked before)
 tracked (Leave n ∷ before) = after_leave n before (tracked before)
 
 -- ---- for the layers above
-
-hidden_now : (h : Hides) → hidden_by h [] ≡ false
-hidden_now Near = refl
-hidden_now Any = refl
-hidden_now Never = refl
 
 among_more : (b : Bool) (k i : ℕ) (ks : List ℕ) → is_among i (cond b (k ∷ []) [] ++ ks) ≡ true → is_among i (k ∷ ks) ≡ true
 among_more true k i ks h = h

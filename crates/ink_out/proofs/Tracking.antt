@@ -28,6 +28,12 @@ same_behind true true false h = absurd (false≢true (h refl refl))
 same_behind true false e h = refl
 same_behind false s e h = refl
 
+-- nothing that follows hides it yet
+pub hidden_now : (h : Hides) → hidden_by h [] ≡ false
+hidden_now Near = refl
+hidden_now Any = refl
+hidden_now Never = refl
+
 -- ---- a newline while one waits
 
 unjoined : (before after : List Mark) (o : Option First) → IsBroken o → stays before o (Newline ∷ after) ≡ true → joins after ≡ false
@@ -76,13 +82,20 @@ pub stays_over : (m : Mark) → Plain m → (before after : List Mark) (s : Trac
 stays_over m p before after s None f = refl
 stays_over m p before after s (Some b) f = rw (since_more m before b.at f.within, p.joins after, p.covered (since before b.at) after) refl
 
-pub waiting_over : (m : Mark) → Plain m → (before after : List Mark) (s : Tracker) (o : Option Waiting) → Fits before s o → waiting (m ∷ before) o after ≡ waiting before o (m ∷ after)
+waiting_over : (m : Mark) → Plain m → (before after : List Mark) (s : Tracker) (o : Option Waiting) → Fits before s o → waiting (m ∷ before) o after ≡ waiting before o (m ∷ after)
 waiting_over m p before after s None f = refl
 waiting_over m p before after s (Some w) f = waits_over m p before after w f.within
 
-pub waiting_at_over : (m : Mark) → Plain m → (before after : List Mark) (s : Tracker) (o : Option Waiting) → Fits before s o → waiting_at (m ∷ before) o after ≡ waiting_at before o (m ∷ after)
+waiting_at_over : (m : Mark) → Plain m → (before after : List Mark) (s : Tracker) (o : Option Waiting) → Fits before s o → waiting_at (m ∷ before) o after ≡ waiting_at before o (m ∷ after)
 waiting_at_over m p before after s None f = refl
 waiting_at_over m p before after s (Some w) f = ap (λ b. cond b (w.at ∷ []) []) (waits_over m p before after w f.within)
+
+-- the newline that waits goes on waiting
+pub waiting_kept : (m : Mark) → Plain m → (before after : List Mark) (s : Tracker) (settled : List ℕ) → Tracks before s settled → (newlines_before before (m ∷ after) ≡ waiting_at (m ∷ before) s.newline after ++ settled) × (ends before (m ∷ after) ≡ waiting (m ∷ before) s.newline after)
+waiting_kept m p before after s settled t = (
+  t.newlines (m ∷ after) ∙ ap (λ ks. ks ++ settled) (sym (waiting_at_over m p before after s s.newline t.fits)),
+  t.ends (m ∷ after) ∙ sym (waiting_over m p before after s s.newline t.fits),
+)
 
 pub first_over : (m : Mark) (before : List Mark) (s r : Tracker) (o : Option First) → r.text ≡ s.text → (s.broken ≡ true → r.broken ≡ true) → FitsFirst before s o → FitsFirst (m ∷ before) r o
 first_over m before s r None e b f = f
@@ -246,8 +259,8 @@ blank_more before text s settled h t =
       breaks = t.breaks;
       fits = fits_over m before s s.newline (λ ms. refl) t.fits;
       first = first_over m before s s s.blank refl (λ h. h) t.first;
-      newlines = λ after. t.newlines (m ∷ after) ∙ ap (λ ks. ks ++ settled) (sym (waiting_at_over m p before after s s.newline t.fits));
-      ends = λ after. t.ends (m ∷ after) ∙ sym (waiting_over m p before after s s.newline t.fits);
+      newlines = λ after. (waiting_kept m p before after s settled t).0;
+      ends = λ after. (waiting_kept m p before after s settled t).1;
       some = λ after.
           let over = sym (stays_over m p before after s s.blank t.first) in
           ap (λ b. not (covered [] after || (broken before && joins after)) || b) (t.some (m ∷ after) ∙ ap (λ b. s.text || b) over)
@@ -262,22 +275,13 @@ left_hidden n after Near = refl
 left_hidden n after Any = refl
 left_hidden n after Never = refl
 
-left_waits : (n : Option ℕ) (before after : List Mark) (s : Tracker) (o : Option Waiting) → Fits before s o → waiting before o (Leave n ∷ after) ≡ waiting (Leave n ∷ before) (newline_left o (reach_of n before)) after
-left_waits n before after s None f = refl
-left_waits n before after s (Some w) f =
+left_waiting : (n : Option ℕ) (before after : List Mark) (s : Tracker) (o : Option Waiting) → Fits before s o → (waiting before o (Leave n ∷ after) ≡ waiting (Leave n ∷ before) (newline_left o (reach_of n before)) after) × (waiting_at before o (Leave n ∷ after) ≡ waiting_at (Leave n ∷ before) (newline_left o (reach_of n before)) after)
+left_waiting n before after s None f = (refl, refl)
+left_waiting n before after s (Some w) f =
     rw (passes_reached n w.at before)
     (elim (cases_Bool (reached w.at (reach_of n before))) [
-      | inl e ↦ rw (e, or_right (hidden_by w.hides (Leave n ∷ after)) true refl) refl
-      | inr e ↦ rw (e, since_more (Leave n) before w.at f.within, left_hidden n after w.hides) refl
-    ])
-
-left_at : (n : Option ℕ) (before after : List Mark) (s : Tracker) (o : Option Waiting) → Fits before s o → waiting_at before o (Leave n ∷ after) ≡ waiting_at (Leave n ∷ before) (newline_left o (reach_of n before)) after
-left_at n before after s None f = refl
-left_at n before after s (Some w) f =
-    rw (passes_reached n w.at before)
-    (elim (cases_Bool (reached w.at (reach_of n before))) [
-      | inl e ↦ rw (e, or_right (hidden_by w.hides (Leave n ∷ after)) true refl) refl
-      | inr e ↦ rw (e, since_more (Leave n) before w.at f.within, left_hidden n after w.hides) refl
+      | inl e ↦ rw (e, or_right (hidden_by w.hides (Leave n ∷ after)) true refl) (refl, refl)
+      | inr e ↦ rw (e, since_more (Leave n) before w.at f.within, left_hidden n after w.hides) (refl, refl)
     ])
 
 left_stays : (n : Option ℕ) (before after : List Mark) (s : Tracker) (o : Option First) → FitsFirst before s o → stays before o (Leave n ∷ after) ≡ stays (Leave n ∷ before) (blank_left o (reach_of n before)) after
@@ -324,7 +328,7 @@ left before n reach s settled e t =
       breaks = t.breaks;
       fits = left_fits (Leave n) before s r s.newline reach (λ ms. refl) refl refl (left_broken s.blank reach) t.fits;
       first = left_first (Leave n) before s r s.blank reach refl refl t.first;
-      newlines = λ after. t.newlines (Leave n ∷ after) ∙ ap (λ ks. ks ++ settled) (rw e (left_at n before after s s.newline t.fits));
-      ends = λ after. t.ends (Leave n ∷ after) ∙ rw e (left_waits n before after s s.newline t.fits);
+      newlines = λ after. t.newlines (Leave n ∷ after) ∙ ap (λ ks. ks ++ settled) (rw e (left_waiting n before after s s.newline t.fits).1);
+      ends = λ after. t.ends (Leave n ∷ after) ∙ rw e (left_waiting n before after s s.newline t.fits).0;
       some = λ after. t.some (Leave n ∷ after) ∙ ap (λ b. s.text || b) (rw e (left_stays n before after s s.blank t.first));
     }

@@ -1,5 +1,5 @@
 -- One more mark under the walk over marks.
-use Rattle.std.proofs.Common.{◌≡◌, ℕ, suc, ◌<◌, ◌≤◌, Bool, true, false, not, ◌||◌, ◌&&◌, cond, eqb, nat_lt, List, [], ◌∷◌, ◌++◌, length, Option, None, Some, refl, sym, ap, ◌∙◌, arith, inl, inr, string_bytes}
+use Rattle.std.proofs.Common.{◌≡◌, ℕ, suc, ◌<◌, ◌≤◌, Bool, true, false, not, ◌||◌, ◌&&◌, cond, eqb, nat_lt, List, [], ◌∷◌, ◌++◌, length, Option, None, Some, refl, sym, ap, ◌∙◌, subst, arith, inl, inr, string_bytes}
 use Rattle.std.proofs.lemmas.Bool.{cases_Bool, or_left, or_right, or_from, ne_eqb, eqb-true, eq-eqb, lt-ltb, le-ltb, leb-false, lt-leb}
 use Rattle.std.proofs.lemmas.List.{append-nil, append_assoc, append_cancel_right, nil_from_length}
 use Rattle.ink_model.specs.Shown.{glues, joins, covered, passes, newline_shown, newlines_before, is_among, text_before, written, broken}
@@ -242,9 +242,6 @@ quiet_pile before after o (p ∷ ps) q = rw (quiet_pile before after o ps q, qui
 
 -- ---- the walk
 
-walk_text_before : (out pile shown rest : List ℕ) → rest ≡ pile ++ shown → (out ++ pile) ++ shown ≡ out ++ rest
-walk_text_before out pile shown rest e = append_assoc out pile shown ∙ ap (λ cs. out ++ cs) (sym e)
-
 pub walk_plain : (m : Mark) (before : List Mark) (w : Walk) (next : Tracker) (enters : Enters) (glue : ℕ) → Smooth m before → ((after : List Mark) → newlines_before (m ∷ before) after ≡ newlines_before before (m ∷ after)) → ((after : List Mark) → text_before (m ∷ before) after ≡ text_before before (m ∷ after)) → (w.glue ≡ glue_at before → glue ≡ glue_at (m ∷ before)) → Knows enters (m ∷ before) → ((settled : List ℕ) → Tracks before w.tracker settled → Tracks (m ∷ before) next settled) → Walks before w → Walks (m ∷ before) record { tracker = next; enters = enters; glue = glue; held = w.held; text = w.text }
 walk_plain m before w next enters glue smooth over texts g knows tracks k =
     let t' = tracks k.settled k.tracks in
@@ -261,44 +258,39 @@ walk_plain m before w next enters glue smooth over texts g knows tracks k =
           (λ at l. ap (is_among at) (same_waiting m before after w.tracker next k.settled (over after) k.tracks t')) k.falls);
     }
 
+-- one more that waits
+walk_held : (m : Mark) (before : List Mark) (w : Walk) (next : Tracker) (p : Held) → held_at p ≡ length before → glue_at (m ∷ before) ≡ glue_at before → Knows w.enters (m ∷ before) → (settled : List ℕ) → Tracks (m ∷ before) next settled → ((after : List Mark) → text_before (m ∷ before) after ≡ text_before before (m ∷ after) ++ written before m after) → ((after : List Mark) → pile_text before w.tracker.newline w.held (m ∷ after) ++ written before m after ≡ pile_text (m ∷ before) next.newline (p ∷ w.held) after) → Walks before w → Walks (m ∷ before) record { tracker = next; enters = w.enters; glue = w.glue; held = p ∷ w.held; text = w.text }
+walk_held m before w next p at glued knows settled tracks shows piles k =
+    record {
+      settled = settled;
+      tracks = tracks;
+      knows = knows;
+      glue = k.glue ∙ sym glued;
+      falls = (omega arith, subst (λ n. Falls n w.held) (sym at) k.falls);
+      text = λ after.
+          shows after
+          ∙ ap (λ cs. cs ++ written before m after) (k.text (m ∷ after))
+          ∙ append_assoc (string_bytes w.text) (pile_text before w.tracker.newline w.held (m ∷ after)) (written before m after)
+          ∙ ap (λ cs. string_bytes w.text ++ cs) (piles after);
+    }
+
 pub walk_blank : (before : List Mark) (w : Walk) (next : Tracker) (at : ℕ) (text : Bor (List ℕ)) → at ≡ length before → ((settled : List ℕ) → Tracks before w.tracker settled → Tracks (kinds.Blank text.now ∷ before) next settled) → Walks before w → Walks (kinds.Blank text.now ∷ before) record { tracker = next; enters = w.enters; glue = w.glue; held = Blank at w.tracker.broken text ∷ w.held; text = w.text }
 walk_blank before w next at text here tracks k =
     let m = kinds.Blank text.now in
     let t' = tracks k.settled k.tracks in
-    rw here
-    record {
-      settled = k.settled;
-      tracks = t';
-      knows = record { at = k.knows.at };
-      glue = k.glue;
-      falls = (omega arith, k.falls);
-      text = λ after.
-          ap (λ cs. cs ++ written before m after) (k.text (m ∷ after))
-          ∙ walk_text_before (string_bytes w.text) (pile_text before w.tracker.newline w.held (m ∷ after)) (written before m after)
-          (pile_text (m ∷ before) next.newline (Blank (length before) w.tracker.broken text ∷ w.held) after)
-          (rw (
-            blank_here before after next.newline w.tracker.broken text k.tracks.breaks,
-            sym (pile_over m before after w.tracker.newline next.newline w.held (smooth_blank text.now before)
-                (λ at l. ap (is_among at) (same_waiting m before after w.tracker next k.settled refl k.tracks t')) k.falls),
-          ) refl);
-    }
+    let piles : (after : List Mark) → pile_text before w.tracker.newline w.held (m ∷ after) ++ written before m after ≡ pile_text (m ∷ before) next.newline (Blank (length before) w.tracker.broken text ∷ w.held) after =
+    λ after. rw (
+      blank_here before after next.newline w.tracker.broken text k.tracks.breaks,
+      sym (pile_over m before after w.tracker.newline next.newline w.held (smooth_blank text.now before)
+          (λ at l. ap (is_among at) (same_waiting m before after w.tracker next k.settled refl k.tracks t')) k.falls),
+    ) refl in
+    rw here (walk_held m before w next (Blank (length before) w.tracker.broken text) refl refl record { at = k.knows.at } k.settled t' (λ after. refl) piles k)
 
 pub walk_newline : (before : List Mark) (w : Walk) (next : Tracker) (at : ℕ) → at ≡ length before → ((settled : List ℕ) → Tracks before w.tracker settled → Tracks (kinds.Newline ∷ before) next settled) → Walks before w → Walks (kinds.Newline ∷ before) record { tracker = next; enters = w.enters; glue = w.glue; held = Newline at ∷ w.held; text = w.text }
 walk_newline before w next at here tracks k =
     let t' = tracks k.settled k.tracks in
-    rw here
-    record {
-      settled = k.settled;
-      tracks = t';
-      knows = record { at = k.knows.at };
-      glue = k.glue;
-      falls = (omega arith, k.falls);
-      text = λ after.
-          ap (λ cs. cs ++ written before kinds.Newline after) (k.text (kinds.Newline ∷ after))
-          ∙ walk_text_before (string_bytes w.text) (pile_text before w.tracker.newline w.held (kinds.Newline ∷ after)) (written before kinds.Newline after)
-          (pile_text (kinds.Newline ∷ before) next.newline (Newline (length before) ∷ w.held) after)
-          (sym (pile_newline before after w.tracker next k.settled w.held k.tracks t' k.falls));
-    }
+    rw here (walk_held kinds.Newline before w next (Newline (length before)) refl refl record { at = k.knows.at } k.settled t' (λ after. refl)
+    (λ after. pile_newline before after w.tracker next k.settled w.held k.tracks t' k.falls) k)
 
 pub walk_leave : (n : Option ℕ) (before : List Mark) (w : Walk) (next : Tracker) (reach : Option ℕ) → reach ≡ reach_of n before → ((settled : List ℕ) → Tracks before w.tracker settled → Tracks (kinds.Leave n ∷ before) next settled) → Walks before w → Walks (kinds.Leave n ∷ before) record { tracker = next; enters = w.enters; glue = w.glue; held = left_pile reach w.held; text = w.text }
 walk_leave n before w next reach e tracks k =

@@ -9,7 +9,15 @@ use Rattle.std.proofs.lemmas.Str.{IsCharBoundary-start, IsCharBoundary-end, IsCh
 use Rattle.std.proofs.Math.Numerals.{one-add, add-one}
 use Rattle.std.proofs.Math.Seq.{take-add}
 use Rattle.std.proofs.lemmas.List.Sorted.{list_any-IsPermutation, IsPermutation-reverse}
-use Rattle.ink_model.specs.Mark.{is_newline, is_blank, is_white, has_newline, leading, without, trailing, trimmed, piece}
+use Rattle.ink_model.specs.Mark.{piece}
+use Rattle.ink_model.specs.Bytes.{is_newline}
+use Rattle.ink_model.specs.Bytes.{is_blank}
+use Rattle.ink_model.specs.Bytes.{is_white}
+use Rattle.ink_model.specs.Bytes.{has_newline}
+use Rattle.ink_model.specs.Bytes.{leading}
+use Rattle.ink_model.specs.Bytes.{without}
+use Rattle.ink_model.specs.Bytes.{trailing}
+use Rattle.ink_model.specs.Bytes.{trimmed}
 use Rattle.ink_model.specs.declared.mark.Mark.TheVariants.{Text, Blank}
 
 -- ---- the ends as parts

@@ -88,6 +88,11 @@ abbrev pub settled_by : Option Waiting → List ℕ → List ℕ
 settled_by None settled = settled
 settled_by (Some w) settled = w.at ∷ settled
 
+-- the settled newlines after one more mark
+abbrev pub settled_after : Mark → Option Waiting → List ℕ → List ℕ
+settled_after (Text t) w settled = settled_by w settled
+settled_after m w settled = settled
+
 -- ---- how far a Leave reaches
 
 -- the index of the nearest Enter of a number

@@ -1,27 +1,21 @@
--- The text being written, as contracts see it, and how the calls that write answer.
-use Rattle.std.specs.Prelude.{◌≡◌, ◌⊎◌, ℕ, List, drop, reverse, Result, Ok, Err}
+-- The text being written, as contracts see it.
+use Rattle.std.specs.Prelude.{ℕ, List, [], Bool, true, false, drop, reverse, Result}
 use Rattle.ink_model.specs.Configuration.{Page, Section}
+use Rattle.ink_model.specs.Memory.{Leaves}
 use Rattle.ink_model.specs.Output.{writes_marks}
 use Rattle.ink_model.specs.declared.fault.Fault.{Fault}
-use Rattle.ink_model.specs.declared.fault.Fault.TheVariants.{OutOfMemory}
 use Rattle.ink_model.specs.declared.mark.Mark.{Mark}
+use Rattle.ink_model.specs.declared.value.Value.{Value}
+use Rattle.ink_model.specs.declared.value.Value.TheVariants.{Void, Text}
 
 pub record Writing : Type 0 where
   pub page : Page
 
--- The call leaves what the definition gives, or fails as it does and leaves all as it was; memory may be refused instead.
-abbrev pub Leaves : {A : Type 0} → Result Page Fault → Page → Page → Result A Fault → Type 0
-Leaves (Ok p) old new (Ok a) = new ≡ p
-Leaves (Err f) old new (Ok a) = ⊥
-Leaves (Ok p) old new (Err g) = (g ≡ OutOfMemory) × (new ≡ old)
-Leaves (Err f) old new (Err g) = ((g ≡ f) ⊎ (g ≡ OutOfMemory)) × (new ≡ old)
-
--- the same of a call that also hands something out
-abbrev pub Hands : {A : Type 0} → Result (A × Page) Fault → Page → Page → Result A Fault → Type 0
-Hands (Ok r) old new (Ok a) = (a ≡ r.0) × (new ≡ r.1)
-Hands (Err f) old new (Ok a) = ⊥
-Hands (Ok r) old new (Err g) = (g ≡ OutOfMemory) × (new ≡ old)
-Hands (Err f) old new (Err g) = ((g ≡ f) ⊎ (g ≡ OutOfMemory)) × (new ≡ old)
+-- a value that prints nothing: void, and a text without bytes
+abbrev pub prints_nothing : Value → Bool
+prints_nothing Void = true
+prints_nothing (Text []) = true
+prints_nothing v = false
 
 -- without the section that is open
 abbrev pub closed : Page → Page

@@ -2,7 +2,8 @@
 
 ghost use Rattle.std.specs.Prelude.{◌≡◌, [], ◌∷◌, ◌++◌, not, IfOk, OnOk, IfSome, is_some, slice_index};
 ghost use Rattle.std.specs.List.{list_any, prefix_len, suffix_len};
-ghost use Rattle.ink_model.specs.Mark.{cut, cut_end, has_newline, is_blank, is_newline, is_white, leading, piece, trailing, trimmed, without};
+ghost use Rattle.ink_model.specs.Mark.{cut, cut_end, piece};
+ghost use Rattle.ink_model.specs.Bytes.{has_newline, is_blank, is_newline, is_white, leading, trailing, trimmed, without};
 
 use ink_model::{Mark, Text};
 use std::alloc::{AllocError, Global};

@@ -2,6 +2,7 @@
 #![tactic(auto)]
 
 mod cleaning;
+mod copying;
 mod cutting;
 mod enters;
 mod opened;

@@ -1,19 +1,17 @@
 //! Strings and tags that are open on the line, and where a mark is written.
 
-ghost use Rattle.std.specs.Prelude.{◌≡◌, ◌≤◌, [], ◌∷◌, ◌++◌, ◌-◌, ◌<◌, length, take, IfOk, OnOk, OnErr};
+ghost use Rattle.std.specs.Prelude.{ℕ, IfErr, ◌≡◌, ◌≤◌, [], ◌∷◌, ◌++◌, ◌-◌, ◌<◌, length, take, IfOk, OnOk, OnErr};
 ghost use Rattle.ink_model.specs.Clean.{clean};
-ghost use Rattle.ink_model.specs.Output.{is_string, max_marks};
+ghost use Rattle.ink_model.specs.Output.{is_string, writes_marks};
+ghost use Rattle.ink_model.specs.declared.limits.TheConstants.{MAX_MARKS};
 ghost use Rattle.ink_model.specs.Shown.{shown_text};
 ghost use Rattle.ink_out.specs.Opened.{section_kind};
-ghost use Rattle.ink_out.specs.Writing.{Notes};
+ghost use Rattle.ink_out.specs.Writing.{Notes, page_of};
 
 use crate::section::Section;
-use ink_model::{Fault, Mark, Text};
+use ink_model::{Fault, MAX_MARKS, Mark, Text};
 use std::alloc::{AllocError, Global};
 use std::marker::Model;
-
-// As many marks as the line may have.
-const MAX_MARKS: usize = 100_000;
 
 #[derive(Clone, Copy)]
 pub(crate) enum Kind {
@@ -46,6 +44,17 @@ impl Opened {
             kind,
             marks: Section::new(alloc),
         }
+    }
+
+    /// A copy. The one error is a refused request for memory.
+    fn clone_in(&self, alloc: Global) -> Result<Opened, AllocError>
+        ensures { IfOk result (λ copy. copy ≡ self.now) }
+    {
+        let marks = self.marks.clone_in(alloc)?;
+        Ok(Opened {
+            kind: self.kind,
+            marks,
+        })
     }
 
     pub(crate) fn is_string(&self) -> bool
@@ -85,12 +94,26 @@ impl Opened {
     }
 }
 
+/// Copies of sections, in order. The one error is a refused request for memory.
+pub(crate) fn copied_sections(alloc: Global, sections: &[Opened]) -> Result<Vec<Opened>, AllocError>
+    ensures { IfOk result (λ copies. copies.items ≡ sections.now) }
+{
+    let mut copies = Vec::with_capacity(alloc, sections.len())?;
+    for section in sections {
+        let copy = section.clone_in(alloc)?;
+        copies.push(copy)?;
+    }
+    Ok(copies)
+}
+
 /// Adds a mark to the last of these sections, or to the line where there is none. `TooDeep` for more than 100,000 marks in
-/// the line, `OutOfMemory` for a refused request for memory; nothing has changed then.
+/// the line, which is found before memory is asked for, `OutOfMemory` for a refused request for memory; nothing has
+/// changed then.
 pub(crate) fn note(line: &mut Section, sections: &mut [Opened], mark: Mark) -> Result<(), Fault>
     ensures page { Notes (mark ∷ []) line.old sections.old line.new sections.new result }
+    ensures limit { (n : ℕ) → IfErr (writes_marks (mark ∷ []) (page_of line.old sections.old n)) (λ f. result ≡ Err f) }
     ensures err { OnErr result ((line.new ≡ line.old) × (sections.new ≡ sections.old)) }
-    ensures within { length line.old ≤ max_marks → length line.new ≤ max_marks }
+    ensures within { length line.old ≤ MAX_MARKS → length line.new ≤ MAX_MARKS }
 {
     match sections.len() {
         0 => {
@@ -114,7 +137,7 @@ pub(crate) fn note_all(
     marks: Vec<Mark>,
 ) -> Result<(), Fault>
     ensures page { Notes marks.items line.old sections.old line.new sections.new result }
-    ensures within { length line.old ≤ max_marks → length line.new ≤ max_marks }
+    ensures within { length line.old ≤ MAX_MARKS → length line.new ≤ MAX_MARKS }
 {
     match sections.len() {
         0 => {
@@ -140,7 +163,7 @@ pub(crate) fn note_below(
     requires { 0 < length sections.old }
     ensures page { Notes (mark ∷ []) line.old (take (length sections.old - 1) sections.old) line.new (take (length sections.old - 1) sections.new) result }
     ensures err { OnErr result ((line.new ≡ line.old) × (sections.new ≡ sections.old)) }
-    ensures within { length line.old ≤ max_marks → length line.new ≤ max_marks }
+    ensures within { length line.old ≤ MAX_MARKS → length line.new ≤ MAX_MARKS }
 {
     let below = sections.len() - 1;
     note(line, &mut sections[..below], mark)

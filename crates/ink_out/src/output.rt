@@ -1,29 +1,25 @@
 //! The text being written (docs/TEXT.md, "Sections").
 
-ghost use Rattle.std.specs.Prelude.{◌≡◌, ◌<◌, ◌≤◌, [], ◌∷◌, length, reverse, IfOk};
+ghost use Rattle.std.specs.Prelude.{◌≡◌, ◌<◌, ◌≤◌, [], ◌∷◌, length, reverse, IfErr, IfOk, IsOk, IsTrue};
 ghost use Rattle.std.specs.List.{list_any};
 ghost use Rattle.ink_model.specs.Clean.{clean};
 ghost use Rattle.ink_model.specs.Configuration.{string_section, tag_section};
 ghost use Rattle.ink_model.specs.Mark.{cut, tags};
-ghost use Rattle.ink_model.specs.Output.{writes_marks, writes_value, writes_text, writes_newline, writes_glue, begins_function, ends_function, opens, closes_string, closes_tag, prints_text, ends_line, empty_page, max_marks, is_string, is_text, kept_text, let_through};
+ghost use Rattle.ink_model.specs.Memory.{Hands, Leaves};
+ghost use Rattle.ink_model.specs.Output.{writes_marks, writes_value, writes_text, writes_newline, writes_glue, begins_function, ends_function, opens, closes_string, closes_tag, prints_text, ends_line, empty_page, is_string, is_text, kept_text, let_through};
+ghost use Rattle.ink_model.specs.declared.limits.TheConstants.{MAX_MARKS};
 ghost use Rattle.ink_model.specs.Shown.{shown_text, is_shown, open_newline, more_from};
 ghost use Rattle.ink_model.specs.Value.{printed};
 ghost use Rattle.ink_out.specs.Opened.{section_kind};
-ghost use Rattle.ink_out.specs.Writing.{Leaves, Hands, closed};
+ghost use Rattle.ink_out.specs.Writing.{closed, prints_nothing};
 
 use crate::cutting::cut_text;
-use crate::opened::{Kind, Opened, note, note_all, note_below};
+use crate::opened::{Kind, Opened, copied_sections, note, note_all, note_below};
 use crate::section::Section;
-use ink_model::{Fault, Mark, Seq, Text, Value};
+use ink_model::{Fault, MAX_SECTIONS, MAX_TEXT, Mark, Seq, Text, Value};
 use ink_value::printed;
 use std::alloc::{AllocError, Global};
 use std::marker::Model;
-
-// As many strings and tags as may be open.
-const MAX_SECTIONS: usize = 1_000;
-
-// As many bytes as a text may have.
-const MAX_TEXT: usize = 1_048_576;
 
 /// The text being written: the marks of the line, and the string and tag sections that are open on it. A contract sees the
 /// page.
@@ -37,14 +33,14 @@ pub struct Output {
 
 impl Model for Output {
     ghost use Rattle.std.specs.Prelude.{length, ◌≤◌};
-    ghost use Rattle.ink_model.specs.Output.{max_marks};
+    ghost use Rattle.ink_model.specs.declared.limits.TheConstants.{MAX_MARKS};
     ghost use Rattle.ink_out.specs.Writing.{Writing, page_of};
 
     ghost Value = { Writing };
 
     ghost view = { λ o. record { page = page_of o.line o.sections.items o.next_enter } };
 
-    ghost invariant = { λ o. length o.line ≤ max_marks };
+    ghost invariant = { λ o. length o.line ≤ MAX_MARKS };
 }
 
 impl Output {
@@ -60,38 +56,64 @@ impl Output {
         }
     }
 
+    /// A copy, to go on from what is written so far. The one error is a refused request for memory.
+    pub fn clone_in(&self, alloc: Global) -> Result<Output, AllocError>
+        ensures { IfOk result (λ copy. copy.page ≡ self.now.page) }
+    {
+        let line = self.line.clone_in(alloc)?;
+        let sections = copied_sections(alloc, &self.sections)?;
+        Ok(Output {
+            line,
+            sections,
+            next_enter: self.next_enter,
+            alloc,
+        })
+    }
+
     /// Writes the printed text of a value into the open section, cut into marks; `fresh` where the top frame is a function
     /// fresh in that section, which lets no newline through before a text. True where a text is among the marks.
     ///
     /// `BadOperands` for a value that does not print, `TooDeep` for more than 100,000 marks in the line, `OutOfMemory` for a
-    /// refused request for memory; nothing has changed then.
+    /// refused request for memory, which is never made for void and for a text without bytes; nothing has changed then.
     #[tactic(auto, unfolding(ink_model::specs::Value::printed))]
     pub fn write(&mut self, value: &Value, fresh: bool) -> Result<bool, Fault>
         ensures page { Leaves (writes_value fresh value.now self.old.page) self.old.page self.new.page result }
-        ensures told { IfOk result (λ has_text. has_text ≡ prints_text (printed value.now)) }
+        ensures text { IfOk result (λ has_text. has_text ≡ prints_text (printed value.now)) }
+        ensures nothing { IsTrue (prints_nothing value.now) → IsOk result }
     {
-        if let Value::Text(text) = value {
-            return self.write_text(text.as_str(), fresh);
+        match value {
+            Value::Text(text) => self.write_text(text.as_str(), fresh),
+            Value::Void => self.write_text("", fresh),
+            _ => {
+                let text = printed(self.alloc, value)?;
+                self.write_text(text.as_str(), fresh)
+            }
         }
-        let text = printed(self.alloc, value)?;
-        self.write_text(text.as_str(), fresh)
     }
 
     fn write_text(&mut self, text: &str, fresh: bool) -> Result<bool, Fault>
         ensures page { Leaves (writes_text fresh text.now self.old.page) self.old.page self.new.page result }
-        ensures told { IfOk result (λ has_text. has_text ≡ list_any is_text (cut text.now)) }
+        ensures text { IfOk result (λ has_text. has_text ≡ list_any is_text (cut text.now)) }
+        ensures nothing { text.now ≡ [] → IsOk result }
     {
+        let line = &mut self.line;
+        if text.is_empty() {
+            return Ok(false);
+        }
         let marks = cut_text(self.alloc, text)?;
         let has_text = has_text(&marks);
         let marks = let_through(self.alloc, marks, fresh)?;
-        note_all(&mut self.line, &mut self.sections, marks)?;
+        note_all(line, &mut self.sections, marks)?;
         Ok(has_text)
     }
 
     /// Writes a newline, unless the top frame is a function that is `fresh` in the open section. `TooDeep` for more than
-    /// 100,000 marks in the line, `OutOfMemory` for a refused request for memory; nothing has changed then.
+    /// 100,000 marks in the line, which is found before memory is asked for, `OutOfMemory` for a refused request for memory,
+    /// which is never made where the function is fresh; nothing has changed then.
     pub fn newline(&mut self, fresh: bool) -> Result<(), Fault>
-        ensures { Leaves (writes_newline fresh self.old.page) self.old.page self.new.page result }
+        ensures page { Leaves (writes_newline fresh self.old.page) self.old.page self.new.page result }
+        ensures limit { IfErr (writes_newline fresh self.old.page) (λ f. result ≡ Err f) }
+        ensures nothing { IsTrue fresh → IsOk result }
     {
         let line = &mut self.line;
         if fresh {
@@ -100,19 +122,22 @@ impl Output {
         note(line, &mut self.sections, Mark::Newline)
     }
 
-    /// Writes glue (docs/TEXT.md, "What is shown"). `TooDeep` for more than 100,000 marks in the line, `OutOfMemory` for a
-    /// refused request for memory; nothing has changed then.
+    /// Writes glue (docs/TEXT.md, "What is shown"). `TooDeep` for more than 100,000 marks in the line, which is found before
+    /// memory is asked for, `OutOfMemory` for a refused request for memory; nothing has changed then.
     pub fn glue(&mut self) -> Result<(), Fault>
-        ensures { Leaves (writes_glue self.old.page) self.old.page self.new.page result }
+        ensures page { Leaves (writes_glue self.old.page) self.old.page self.new.page result }
+        ensures limit { IfErr (writes_glue self.old.page) (λ f. result ≡ Err f) }
     {
         note(&mut self.line, &mut self.sections, Mark::Glue)
     }
 
     /// A function begins. Answers its number: Enters are numbered upwards. `TooDeep` for more than 100,000 marks in the line
-    /// and where no number is left, `OutOfMemory` for a refused request for memory; nothing has changed then.
+    /// and where no number is left, which is found before memory is asked for, `OutOfMemory` for a refused request for
+    /// memory; nothing has changed then.
     pub fn enter(&mut self) -> Result<u64, Fault>
         ensures page { Leaves (begins_function self.old.page) self.old.page self.new.page result }
         ensures number { IfOk result (λ n. n ≡ self.old.page.next_enter) }
+        ensures limit { IfErr (begins_function self.old.page) (λ f. result ≡ Err f) }
     {
         let number = self.next_enter;
         let next = number.checked_add(1).ok_or(Fault::TooDeep)?;
@@ -121,32 +146,36 @@ impl Output {
         Ok(number)
     }
 
-    /// A function ends; `None` where it began on an earlier line. `TooDeep` for more than 100,000 marks in the line,
-    /// `OutOfMemory` for a refused request for memory; nothing has changed then.
+    /// A function ends; `None` where it began on an earlier line. `TooDeep` for more than 100,000 marks in the line, which is
+    /// found before memory is asked for, `OutOfMemory` for a refused request for memory; nothing has changed then.
     pub fn leave(&mut self, number: Option<u64>) -> Result<(), Fault>
-        ensures { Leaves (ends_function number self.old.page) self.old.page self.new.page result }
+        ensures page { Leaves (ends_function number self.old.page) self.old.page self.new.page result }
+        ensures limit { IfErr (ends_function number self.old.page) (λ f. result ≡ Err f) }
     {
         note(&mut self.line, &mut self.sections, Mark::Leave(number))
     }
 
-    /// Opens a string. `TooDeep` where 1,000 strings and tags are open, `OutOfMemory` for a refused request for memory;
-    /// nothing has changed then.
+    /// Opens a string. `TooDeep` where 1,000 strings and tags are open, which is found before memory is asked for,
+    /// `OutOfMemory` for a refused request for memory; nothing has changed then.
     pub fn open_string(&mut self) -> Result<(), Fault>
-        ensures { Leaves (opens string_section self.old.page) self.old.page self.new.page result }
+        ensures page { Leaves (opens string_section self.old.page) self.old.page self.new.page result }
+        ensures limit { IfErr (opens string_section self.old.page) (λ f. result ≡ Err f) }
     {
         self.open(Kind::String)
     }
 
-    /// Opens a tag. An open tag is not closed by it. `TooDeep` where 1,000 strings and tags are open, `OutOfMemory` for a
-    /// refused request for memory; nothing has changed then.
+    /// Opens a tag. An open tag is not closed by it. `TooDeep` where 1,000 strings and tags are open, which is found before
+    /// memory is asked for, `OutOfMemory` for a refused request for memory; nothing has changed then.
     pub fn open_tag(&mut self) -> Result<(), Fault>
-        ensures { Leaves (opens tag_section self.old.page) self.old.page self.new.page result }
+        ensures page { Leaves (opens tag_section self.old.page) self.old.page self.new.page result }
+        ensures limit { IfErr (opens tag_section self.old.page) (λ f. result ≡ Err f) }
     {
         self.open(Kind::Tag)
     }
 
     fn open(&mut self, kind: Kind) -> Result<(), Fault>
-        ensures { Leaves (opens (section_kind kind) self.old.page) self.old.page self.new.page result }
+        ensures page { Leaves (opens (section_kind kind) self.old.page) self.old.page self.new.page result }
+        ensures limit { IfErr (opens (section_kind kind) self.old.page) (λ f. result ≡ Err f) }
     {
         if self.depth() >= MAX_SECTIONS {
             return Err(Fault::TooDeep);
@@ -217,7 +246,7 @@ impl Output {
     /// How many marks the line has.
     pub fn len(&self) -> usize
         ensures marks { result ≡ length self.now.page.line }
-        ensures within { result ≤ max_marks }
+        ensures within { result ≤ MAX_MARKS }
     {
         self.line.len()
     }
@@ -243,16 +272,19 @@ impl Output {
         self.line.more_from(index)
     }
 
-    /// The line's text, cleaned (docs/TEXT.md, "Cleaning"). The one error is a refused request for memory.
+    /// The line's text, cleaned (docs/TEXT.md, "Cleaning"). The one error is a refused request for memory, which is never
+    /// made where the line has no marks.
     pub fn text(&self) -> Result<Text, AllocError>
-        ensures { IfOk result (λ text. text ≡ clean (shown_text self.now.page.line)) }
+        ensures text { IfOk result (λ text. text ≡ clean (shown_text self.now.page.line)) }
+        ensures empty { self.now.page.line ≡ [] → IsOk result }
     {
         self.line.text(self.alloc)
     }
 
-    /// The line's tags, in order. The one error is a refused request for memory.
+    /// The line's tags, in order. The one error is a refused request for memory, which is never made where there are none.
     pub fn tags(&self) -> Result<Seq<Text>, AllocError>
-        ensures { IfOk result (λ texts. texts ≡ tags self.now.page.line) }
+        ensures tags { IfOk result (λ texts. texts ≡ tags self.now.page.line) }
+        ensures none { tags self.now.page.line ≡ [] → IsOk result }
     {
         self.line.tags(self.alloc)
     }

@@ -1,11 +1,13 @@
 //! A section of marks.
 
-ghost use Rattle.std.specs.Prelude.{◌≡◌, [], ◌∷◌, ◌++◌, length, take, option_to_list, IfNone, IfOk, OnOk, OnErr};
+ghost use Rattle.std.specs.Prelude.{◌≡◌, [], ◌∷◌, ◌++◌, length, take, option_to_list, IfNone, IfOk, IsOk, OnOk, OnErr};
 ghost use Rattle.ink_model.specs.Clean.{clean};
 ghost use Rattle.ink_model.specs.Mark.{tags};
 ghost use Rattle.ink_model.specs.Shown.{is_shown, more_from, open_newline, shown_text};
+ghost use Rattle.ink_out.specs.Stands.{is_past};
 
 use crate::cleaning::clean_text;
+use crate::copying::copied_marks;
 use crate::enters::Enters;
 use crate::state::{Past, State, is_settled};
 use crate::tags::tag_texts;
@@ -47,6 +49,16 @@ impl Section {
             state: State::new(),
             enters: Enters::new(alloc),
         }
+    }
+
+    /// A copy. The one error is a refused request for memory.
+    pub(crate) fn clone_in(&self, alloc: Global) -> Result<Section, AllocError>
+        ensures { IfOk result (λ copy. copy ≡ self.now) }
+    {
+        let marks = copied_marks(alloc, self.marks.as_slice())?;
+        let mut copy = Section::new(alloc);
+        copy.extend(marks)?;
+        Ok(copy)
     }
 
     /// Adds a mark. The one error is a refused request for memory, and leaves the section as it was.
@@ -138,16 +150,19 @@ impl Section {
     pub(crate) fn more_from(&self, index: usize) -> bool
         ensures { result ≡ more_from self.now index }
     {
-        match self.state.more {
-            Some(at) => index <= at,
-            None => false,
-        }
+        is_past(index, self.state.more)
     }
 
-    /// The shown text, cleaned (docs/TEXT.md). The one error is a refused request for memory.
+    /// The shown text, cleaned (docs/TEXT.md). The one error is a refused request for memory, which is never made where
+    /// there are no marks.
+    #[tactic(auto, unfolding(ink_model::specs::Clean::clean))]
     pub(crate) fn text(&self, alloc: Global) -> Result<Text, AllocError>
-        ensures { IfOk result (λ text. text ≡ clean (shown_text self.now)) }
+        ensures text { IfOk result (λ text. text ≡ clean (shown_text self.now)) }
+        ensures empty { self.now ≡ [] → IsOk result }
     {
+        if self.marks.is_empty() {
+            return Ok(Text::from_string(String::new(alloc)));
+        }
         let text = self.raw_text(alloc)?;
         clean_text(alloc, text.as_str())
     }
@@ -159,9 +174,10 @@ impl Section {
         shown_text(alloc, self.marks.as_slice())
     }
 
-    /// The tags, in order. The one error is a refused request for memory.
+    /// The tags, in order. The one error is a refused request for memory, which is never made where there are none.
     pub(crate) fn tags(&self, alloc: Global) -> Result<Seq<Text>, AllocError>
-        ensures { IfOk result (λ texts. texts ≡ tags self.now) }
+        ensures tags { IfOk result (λ texts. texts ≡ tags self.now) }
+        ensures none { tags self.now ≡ [] → IsOk result }
     {
         tag_texts(alloc, self.marks.as_slice())
     }
@@ -174,5 +190,15 @@ impl Section {
         self.past.clear();
         self.state = State::new();
         self.enters.clear();
+    }
+}
+
+// The index of the last text or tag, if there is one, is past an index or the same.
+fn is_past(index: usize, last: Option<usize>) -> bool
+    ensures { result ≡ is_past index last }
+{
+    match last {
+        Some(last) => index <= last,
+        None => false,
     }
 }

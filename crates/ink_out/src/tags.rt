@@ -1,14 +1,15 @@
 //! The tags among marks (docs/TEXT.md).
 
-ghost use Rattle.std.specs.Prelude.{◌≡◌, IfOk};
+ghost use Rattle.std.specs.Prelude.{◌≡◌, [], IfOk, IsOk};
 ghost use Rattle.ink_model.specs.Mark.{tags};
 
 use ink_model::{Mark, Seq, Text};
 use std::alloc::{AllocError, Global};
 
-/// The tags among marks, in order. The one error is a refused request for memory.
+/// The tags among marks, in order. The one error is a refused request for memory, which is never made where there are none.
 pub(crate) fn tag_texts(alloc: Global, marks: &[Mark]) -> Result<Seq<Text>, AllocError>
-    ensures { IfOk result (λ texts. texts ≡ tags marks.now) }
+    ensures tags { IfOk result (λ texts. texts ≡ tags marks.now) }
+    ensures none { tags marks.now ≡ [] → IsOk result }
 {
     let mut texts = Vec::new(alloc);
     for mark in marks {

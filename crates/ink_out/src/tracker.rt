@@ -4,7 +4,11 @@ ghost use Rattle.std.specs.Prelude.{◌≡◌, ℕ, List, [], ◌∷◌, Option,
 ghost use Rattle.ink_model.specs.declared.mark.Mark.{Mark};
 ghost use Rattle.ink_model.specs.declared.mark.Mark.TheVariants as mark;
 ghost use Rattle.ink_out.specs.Next.{blank_left, hides_next, newline_left};
-ghost use Rattle.ink_out.specs.Tracks.{Tracks, reach_of, reached, settled_by};
+ghost use Rattle.ink_out.specs.Stands.{Knows};
+ghost use Rattle.ink_out.specs.Tracks.{Tracks, reach_of, reached, settled_after, settled_by};
+
+use crate::enters::Enters;
+use ink_model::Mark;
 
 /// Which glue that follows hides a newline: one with no text or tag between, any with no text between, or none.
 #[derive(Clone, Copy)]
@@ -51,6 +55,21 @@ impl Tracker {
             broken: false,
             newline: None,
             blank: None,
+        }
+    }
+
+    /// After a mark at an index, where the starts of the numbers before it are known.
+    pub(crate) fn after(self, mark: &Mark, at: usize, enters: &Enters) -> Tracker
+        ensures { (before : List Mark) (settled : List ℕ) → at ≡ length before → Knows enters.now before → Tracks before self settled → Tracks (mark.now ∷ before) result (settled_after mark.now self.newline settled) }
+    {
+        match mark {
+            Mark::Text(_) => self.text(),
+            Mark::Blank(_) => self.blank(at),
+            Mark::Newline => self.newline(at),
+            Mark::Glue => self.glue(),
+            Mark::Tag(_) => self.tag(),
+            Mark::Enter(_) => self.enter(),
+            Mark::Leave(number) => self.leave(enters.reach(*number)),
         }
     }
 

@@ -6,7 +6,8 @@ use Rattle.serde_json.specs.View.{view}
 use Rattle.serde_json.specs.declared.value.Value.{Value}
 use Rattle.std.specs.declared.alloc.AllocError.{AllocError}
 use Rattle.serde_json.specs.Written.{compact_text, has_float, items_have_float}
-use Rattle.ink_model.specs.Answer.{Reply, Tells, Acts, Shows, Refuses, Breaks, reply_data, value_data, answer, items_of, texts_data, shown_data, passage_data, refusal_data}
+use Rattle.ink_model.specs.Answer.{Reply, Tells, Acts, Shows, Refuses, Breaks, reply_data, answer, items_of, texts_data, shown_data, passage_data, refusal_data}
+use Rattle.ink_model.specs.ValueJson.{value_data}
 use Rattle.ink_model.specs.declared.fault.Fault.{Fault}
 use Rattle.ink_model.specs.declared.fault.Refusal.{Refusal}
 use Rattle.ink_model.specs.declared.fault.Refusal.TheVariants as refusal

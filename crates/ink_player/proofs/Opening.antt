@@ -5,7 +5,8 @@ use Rattle.ink_model.specs.Place.{landed}
 use Rattle.ink_model.specs.Configuration.{Configuration, fresh_at, start, begun, with_globals}
 use Rattle.ink_model.specs.Step.{nothing_bound}
 use Rattle.ink_model.specs.Store.{Values}
-use Rattle.ink_model.specs.Run.{Moment, Stopped, moment, cut_off, max_steps}
+use Rattle.ink_model.specs.Run.{Moment, Stopped, moment, cut_off}
+use Rattle.ink_model.specs.declared.limits.TheConstants.{MAX_STEPS}
 use Rattle.ink_model.specs.Opening.{declarations, opening, opened_by, opened_from}
 use Rattle.ink_model.specs.declared.fault.Fault.{Fault}
 use Rattle.ink_model.specs.declared.fault.Fault.TheVariants.{OutOfMemory}
@@ -30,16 +31,16 @@ module _ (s : StoryTree) where
 
   -- the run of the declarations
   by_run : (q : List Part) (o : Option (List Part)) (begin : Configuration) (m : Moment) → Some q ≡ option_map (landed s) o → begin ≡ begun (fresh_at q)
-      → cut_off (moment s nothing_bound begin [] max_steps) ≡ m → opened_from s o ≡ opened_by s m
+      → cut_off (moment s nothing_bound begin [] MAX_STEPS) ≡ m → opened_from s o ≡ opened_by s m
   by_run q None begin m h e runs = absurd (cc)
   by_run q (Some p) begin m h e runs =
       let same : q ≡ landed s p = cc in
-      ap (λ x. opened_by s (cut_off (moment s nothing_bound (begun (fresh_at x)) [] max_steps))) (sym same)
-      ∙ ap (λ d. opened_by s (cut_off (moment s nothing_bound d [] max_steps))) (sym e) ∙ ap (opened_by s) runs
+      ap (λ x. opened_by s (cut_off (moment s nothing_bound (begun (fresh_at x)) [] MAX_STEPS))) (sym same)
+      ∙ ap (λ d. opened_by s (cut_off (moment s nothing_bound d [] MAX_STEPS))) (sym e) ∙ ap (opened_by s) runs
 
   module _ (found : Option (List Part)) (q : List Part) (begin : Configuration) (is : found ≡ option_map (landed s) (declarations s))
       (some : found ≡ Some q) (begins : begin ≡ begun (fresh_at q)) where
-    pub opens : (stop c : Configuration) → moment s nothing_bound begin [] max_steps ≡ Stopped stop [] [] → c ≡ start s stop.shared.globals → opening s ≡ Ok c
+    pub opens : (stop c : Configuration) → moment s nothing_bound begin [] MAX_STEPS ≡ Stopped stop [] [] → c ≡ start s stop.shared.globals → opening s ≡ Ok c
     unfolding opening
     opens stop c stops starts = by_run q (declarations s) begin _ (sym some ∙ is) begins (ap cut_off stops) ∙ ap Ok (sym starts)
 

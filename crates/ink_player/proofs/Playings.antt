@@ -2,14 +2,14 @@
 use Rattle.std.proofs.Common.{◌≡◌, ℕ, ◌+◌, ◌-◌, ◌<◌, ◌≤◌, List, [], ◌∷◌, ◌++◌, length, false, Option, Result, Ok, Err, ap, ◌∙◌, sym, refl, subst, inl, inr, arith, append_assoc, append-nil, length-append}
 use Rattle.std.specs.Io.KnownBytes.{IsAtEnd}
 use Rattle.std.proofs.KnownBytes.{Appends-nil, Consumes-trans}
-use Rattle.ink_model.specs.Limits.{max_story}
+use Rattle.ink_model.specs.declared.limits.TheConstants.{MAX_STORY, MAX_INPUT}
 use Rattle.ink_model.specs.Opening.{opened}
 use Rattle.ink_model.specs.State.{State}
 use Rattle.ink_player.specs.Buffered.{Buffered}
 use Rattle.ink_player.specs.Input.{Takes}
 use Rattle.ink_player.specs.Lines.{has_newline, TakesLine, GivesLine}
 use Rattle.ink_player.specs.Playing.{IsStoryLine, PlaysOn, EndsEarly, PlayFails, PlayEnds, Plays, play_fault, OpenFails, Opens}
-use Rattle.ink_player.specs.Serving.{RunEnds, Runs, max_input}
+use Rattle.ink_player.specs.Serving.{RunEnds, Runs}
 use Rattle.ink_player.specs.Words.{state_of, story_of}
 use Rattle.ink_player.specs.declared.desk.Desk.{Desk}
 use Rattle.ink_player.specs.declared.end.PlayEnd.{PlayEnd}
@@ -20,16 +20,16 @@ use Rattle.ink_player.specs.declared.end.RunFault.TheVariants as fault
 use Rattle.ink_player.specs.declared.player.Player.{Player}
 
 abbrev fresh : Buffered
-fresh = record { unread = []; spare = max_input }
+fresh = record { unread = []; spare = MAX_INPUT }
 
 got_is : (a b : Option (List ℕ)) (o n : Buffered) (taken : List ℕ) → o ≡ fresh → (t : Takes a b o n taken) → t.got ≡ taken ++ n.unread
 got_is a b o n taken e t = sym (ap (λ z. z.unread ++ t.got) e) ∙ t.bytes
 
-count_is : (a b : Option (List ℕ)) (o n : Buffered) (taken : List ℕ) → o ≡ fresh → Takes a b o n taken → n.spare + length taken ≡ max_input
+count_is : (a b : Option (List ℕ)) (o n : Buffered) (taken : List ℕ) → o ≡ fresh → Takes a b o n taken → n.spare + length taken ≡ MAX_INPUT
 count_is a b o n taken e t = t.count ∙ ap (λ z. z.spare) e
 
 -- no more was read than tells that the story is over its limit
-story_bound : (a b : Option (List ℕ)) (o n : Buffered) (taken line : List ℕ) → o ≡ fresh → TakesLine a b o n max_story taken line → length (taken ++ n.unread) ≤ max_story + 1
+story_bound : (a b : Option (List ℕ)) (o n : Buffered) (taken line : List ℕ) → o ≡ fresh → TakesLine a b o n MAX_STORY taken line → length (taken ++ n.unread) ≤ MAX_STORY + 1
 story_bound a b o n taken line e t = omega (arith, t.room, ap (λ z. length z.unread) e, length-append taken n.unread)
 
 none_left : (l : List ℕ) → length l ≡ 0 → l ≡ []
@@ -38,7 +38,7 @@ none_left (x ∷ xs) e = let no : ⊥ = omega (arith, e) in absurd no
 
 -- ---- ends before a session
 
-plays_early : (a b h : Option (List ℕ)) (o n : Buffered) (taken : List ℕ) (r : Result Desk PlayEnd) → o ≡ fresh → Takes a b o n taken → length (taken ++ n.unread) ≤ max_story + 1
+plays_early : (a b h : Option (List ℕ)) (o n : Buffered) (taken : List ℕ) (r : Result Desk PlayEnd) → o ≡ fresh → Takes a b o n taken → length (taken ++ n.unread) ≤ MAX_STORY + 1
     → PlayEnds b (taken ++ n.unread) [] r → Plays a b h h r
 plays_early a b h o n taken r e t bound p = record {
   bytes = t.got;
@@ -49,10 +49,10 @@ plays_early a b h o n taken r e t bound p = record {
   ends = subst (λ l. PlayEnds b l [] r) (sym (got_is a b o n taken e t)) p;
 }
 
-early : (bytes : List ℕ) → length bytes ≤ max_story + 1 → EndsEarly bytes []
+early : (bytes : List ℕ) → length bytes ≤ MAX_STORY + 1 → EndsEarly bytes []
 early bytes bound = record { nothing = refl; bound = bound }
 
-no_story_for : (a b h : Option (List ℕ)) (o n : Buffered) (f : RunFault) (d : Desk) → o ≡ fresh → GivesLine a b o n max_story (Err f)
+no_story_for : (a b h : Option (List ℕ)) (o n : Buffered) (f : RunFault) (d : Desk) → o ≡ fresh → GivesLine a b o n MAX_STORY (Err f)
     → Plays a b h h (Err (record { fault = play_fault f; desk = d }))
 no_story_for a b h o n fault.Read d e g =
     let t = g.0.takes in
@@ -63,7 +63,7 @@ no_story_for a b h o n fault.Write d e g = absurd g
 no_story_for a b h o n fault.TooLong d e g =
     let t = g.0.takes in
     let bound = story_bound a b o n g.0.part g.0.part e t in
-    let long = elim g.1 as (λ _. (has_newline (g.0.part ++ n.unread) ≡ false) × (max_story < length (g.0.part ++ n.unread))) [
+    let long = elim g.1 as (λ _. (has_newline (g.0.part ++ n.unread) ≡ false) × (MAX_STORY < length (g.0.part ++ n.unread))) [
       | inl more ↦
           let all : n.unread ≡ [] = none_left n.unread (omega (arith, more, bound, length-append g.0.part n.unread)) in
           (ap (λ l. has_newline (g.0.part ++ l)) all ∙ ap has_newline (append-nil g.0.part) ∙ t.plain, omega (arith, more, length-append g.0.part n.unread))
@@ -76,12 +76,12 @@ no_story_for a b h o n fault.OutOfMemory d e g =
     let bound = story_bound a b o n g.part g.part e t in
     plays_early a b h o n g.part _ e t.takes bound (early _ bound, inr (inl refl))
 
-pub no_story : (a b h : Option (List ℕ)) (o n : Buffered) (f : RunFault) (pf : PlayFault) (d : Desk) → o ≡ fresh → GivesLine a b o n max_story (Err f) → pf ≡ play_fault f
+pub no_story : (a b h : Option (List ℕ)) (o n : Buffered) (f : RunFault) (pf : PlayFault) (d : Desk) → o ≡ fresh → GivesLine a b o n MAX_STORY (Err f) → pf ≡ play_fault f
     → Plays a b h h (Err (record { fault = pf; desk = d }))
 no_story a b h o n f pf d e g k =
     subst (λ x. Plays a b h h (Err (record { fault = x; desk = d }))) (sym k) (no_story_for a b h o n f d e g)
 
-fails_early : (left : Option (List ℕ)) (bytes line input : List ℕ) (f : PlayFault) → IsStoryLine left bytes line input → length bytes ≤ max_story + 1 → OpenFails line f → PlayFails left bytes [] f
+fails_early : (left : Option (List ℕ)) (bytes line input : List ℕ) (f : PlayFault) → IsStoryLine left bytes line input → length bytes ≤ MAX_STORY + 1 → OpenFails line f → PlayFails left bytes [] f
 fails_early left bytes line input (play.Story r) l bound p = (early bytes bound, inl (line, input, l, p))
 fails_early left bytes line input (play.Start f) l bound p =
     (early bytes bound, record { line = line; input = input; story_line = l; tree = p.0; reads = p.1; why = p.2 })
@@ -89,10 +89,10 @@ fails_early left bytes line input (play.Run f) l bound p = absurd p
 
 -- a story that ended at its newline, or at the reader's end
 abbrev pub TakesStory : Option (List ℕ) → Option (List ℕ) → Buffered → Buffered → List ℕ → Type 0
-TakesStory a b o n line = TakesLine a b o n max_story (line ++ 10 ∷ []) line × (length line ≤ max_story)
+TakesStory a b o n line = TakesLine a b o n MAX_STORY (line ++ 10 ∷ []) line × (length line ≤ MAX_STORY)
 
 abbrev pub TakesAll : Option (List ℕ) → Option (List ℕ) → Buffered → Buffered → List ℕ → Type 0
-TakesAll a b o n line = TakesLine a b o n max_story line line × (length line ≤ max_story) × (n.unread ≡ []) × IsAtEnd b
+TakesAll a b o n line = TakesLine a b o n MAX_STORY line line × (length line ≤ MAX_STORY) × (n.unread ≡ []) × IsAtEnd b
 
 pub unopened : (a b h : Option (List ℕ)) (o n : Buffered) (line : List ℕ) (x : PlayEnd) → o ≡ fresh → TakesStory a b o n line → Opens line (Err x) → Plays a b h h (Err x)
 unopened a b h o n line x e t p =
@@ -136,8 +136,8 @@ plays_from a b c h j o n line p new r x e t opens q into =
     let got = t.0.takes.got in
     let bytes : got ++ q.bytes ≡ line ++ 10 ∷ (n.unread ++ q.bytes) =
     ap (λ l. l ++ q.bytes) (got_is a b o n (line ++ 10 ∷ []) e t.0.takes) ∙ append_assoc (line ++ 10 ∷ []) n.unread q.bytes ∙ append_assoc line (10 ∷ []) (n.unread ++ q.bytes) in
-    let count : n.spare + (length line + 1) ≡ max_input = omega (arith, count_is a b o n (line ++ 10 ∷ []) e t.0.takes, length-append line (10 ∷ [])) in
-    let most : n.spare ≡ max_input - (length line + 1) = omega (arith, count) in
+    let count : n.spare + (length line + 1) ≡ MAX_INPUT = omega (arith, count_is a b o n (line ++ 10 ∷ []) e t.0.takes, length-append line (10 ∷ [])) in
+    let most : n.spare ≡ MAX_INPUT - (length line + 1) = omega (arith, count) in
     record {
       bytes = got ++ q.bytes;
       consumed = Consumes-trans a b c got q.bytes t.0.takes.consumed q.consumed;

@@ -3,7 +3,8 @@ use Rattle.std.proofs.Common.{◌≡◌, ◌∙◌, ◌⊎◌, ℕ, zero, suc, �
 use Rattle.ink_model.specs.Tree.{StoryTree}
 use Rattle.ink_model.specs.Configuration.{Configuration}
 use Rattle.ink_model.specs.Step.{Outcome, Next, Stop, Wants, Faults, step, nothing_bound}
-use Rattle.ink_model.specs.Run.{Moment, At, Stopped, Faulted, came, next, run, moment, cut_off, max_steps}
+use Rattle.ink_model.specs.Run.{Moment, At, Stopped, Faulted, came, next, run, moment, cut_off}
+use Rattle.ink_model.specs.declared.limits.TheConstants.{MAX_STEPS}
 use Rattle.ink_model.specs.declared.fault.Fault.{Fault}
 use Rattle.ink_model.specs.declared.fault.Fault.TheVariants.{OutOfMemory, OutOfSteps}
 use Rattle.ink_player.specs.Steps.{Ends, RunFalls}
@@ -68,7 +69,7 @@ module _ (s : StoryTree) (start : Configuration) where
   run_stopped n k old new below h e =
       stays_to (n + 1) k (Stopped new [] []) refl (omega arith) (step_on n _ h ∙ stopped s old new (step s nothing_bound old) e)
 
-  pub run_faulted : (n : ℕ) (old new : Configuration) (f : Fault) → n < max_steps → moment s nothing_bound start [] n ≡ At old [] []
+  pub run_faulted : (n : ℕ) (old new : Configuration) (f : Fault) → n < MAX_STEPS → moment s nothing_bound start [] n ≡ At old [] []
       → Ends (step s nothing_bound old) old.shared.globals new (ends.Fault f) → RunFalls s start new.shared.globals f
   run_faulted n old new f below h e =
       let ended = faulted s old new f (step s nothing_bound old) e in
@@ -77,12 +78,12 @@ module _ (s : StoryTree) (start : Configuration) where
         kept = ended.1;
         why = elim ended.0 [
           | inl came_so ↦
-              inl (ap cut_off (stays_to (n + 1) max_steps (Faulted f old [] []) refl (omega arith) (step_on n _ h ∙ came_so)))
+              inl (ap cut_off (stays_to (n + 1) MAX_STEPS (Faulted f old [] []) refl (omega arith) (step_on n _ h ∙ came_so)))
           | inr short ↦ inr (short, record { steps = n; within = omega arith; got_there = h })
         ];
       }
 
   -- the run needs one more step than it may take
-  pub run_out : (n : ℕ) (now : Configuration) → max_steps ≡ n → moment s nothing_bound start [] n ≡ At now [] []
+  pub run_out : (n : ℕ) (now : Configuration) → MAX_STEPS ≡ n → moment s nothing_bound start [] n ≡ At now [] []
       → RunFalls s start now.shared.globals OutOfSteps
   run_out n now e h = record { before = now; kept = refl; why = inl (ap (λ k. cut_off (moment s nothing_bound start [] k)) e ∙ ap cut_off h) }

@@ -4,7 +4,7 @@ use Rattle.std.specs.List.{AllByRecursion}
 use Rattle.std.specs.Io.KnownBytes.{Appends, IsAtEnd}
 use Rattle.std.proofs.KnownBytes.{Appends-nil, Appends-trans, Consumes-trans}
 use Rattle.ink_model.specs.Answer.{Reply, Refuses, answer}
-use Rattle.ink_model.specs.Clean.{onto}
+use Rattle.ink_model.specs.Bytes.{onto}
 use Rattle.ink_model.specs.Command.{command_of, lines_of}
 use Rattle.ink_model.specs.Session.{Does, Serves, Session}
 use Rattle.ink_model.specs.State.{State}
@@ -18,7 +18,8 @@ use Rattle.ink_player.specs.Commands.{NeedsMemory}
 use Rattle.ink_player.specs.Ends.{Falls}
 use Rattle.ink_player.specs.Input.{Takes}
 use Rattle.ink_player.specs.Lines.{has_newline, TakesLine, GivesLine}
-use Rattle.ink_player.specs.Serving.{max_line, IsLine, spelled, Splits, IsFirst, IsLongInput, RunEnds, Runs, Answered, Answers, ServesLine}
+use Rattle.ink_player.specs.Serving.{IsLine, spelled, Splits, IsFirst, IsLongInput, RunEnds, Runs, Answered, Answers, ServesLine}
+use Rattle.ink_model.specs.declared.limits.TheConstants.{MAX_LINE}
 use Rattle.ink_player.specs.declared.end.RunFault.{RunFault}
 use Rattle.ink_player.specs.declared.end.RunFault.TheVariants as fault
 use Rattle.ink_player.proofs.Reading.{neither}
@@ -139,7 +140,7 @@ none_served input = record { whole = refl; each = tt }
 
 -- there is no line
 pub no_line : (s : StoryTree) (a b h : Option (List ℕ)) (o n : Buffered) (old : State) (f : RunFault)
-    → GivesLine a b o n max_line (Err f) → length n.unread ≤ n.spare + 1 → Runs s o.spare o.unread a b h h old old (Err f)
+    → GivesLine a b o n MAX_LINE (Err f) → length n.unread ≤ n.spare + 1 → Runs s o.spare o.unread a b h h old old (Err f)
 no_line s a b h o n old fault.Read g bound =
     let t = g.0.takes in
     runs_of s a b h h o n g.0.part [] old old (Err fault.Read) t.takes bound (Appends-nil h) (record {
@@ -204,17 +205,17 @@ unserved s a b h i o n taken line old new fault.OutOfMemory t bound l first p =
     })
 
 pub whole_unserved : (s : StoryTree) (a b h i : Option (List ℕ)) (o n : Buffered) (line : List ℕ) (old new : State) (f : RunFault)
-    → TakesLine a b o n max_line (line ++ 10 ∷ []) line × length line ≤ max_line → length n.unread ≤ n.spare + 1 → Answers s line h i old new (Err f) → Runs s o.spare o.unread a b h i old new (Err f)
+    → TakesLine a b o n MAX_LINE (line ++ 10 ∷ []) line × length line ≤ MAX_LINE → length n.unread ≤ n.spare + 1 → Answers s line h i old new (Err f) → Runs s o.spare o.unread a b h i old new (Err f)
 whole_unserved s a b h i o n line old new f t bound p =
     unserved s a b h i o n (line ++ 10 ∷ []) line old new f t.0.takes bound (record { plain = t.0.plain; within = t.1 }) (inl (n.unread, append_assoc line (10 ∷ []) n.unread)) p
 
 pub whole_served : (s : StoryTree) (a b h i : Option (List ℕ)) (o n : Buffered) (line : List ℕ) (old new : State)
-    → TakesLine a b o n max_line (line ++ 10 ∷ []) line × length line ≤ max_line → Answered s line h i old new → ServesLine s a b h i o n old new
+    → TakesLine a b o n MAX_LINE (line ++ 10 ∷ []) line × length line ≤ MAX_LINE → Answered s line h i old new → ServesLine s a b h i o n old new
 whole_served s a b h i o n line old new t p = record { line = line; is_line = record { plain = t.0.plain; within = t.1 }; takes = t.0.takes; answered = p }
 
 -- the last line, which ends at the reader's end
 abbrev pub TakesLast : Option (List ℕ) → Option (List ℕ) → Buffered → Buffered → List ℕ → Type 0
-TakesLast a b o n line = TakesLine a b o n max_line line line × (length line ≤ max_line) × (n.unread ≡ []) × IsAtEnd b
+TakesLast a b o n line = TakesLine a b o n MAX_LINE line line × (length line ≤ MAX_LINE) × (n.unread ≡ []) × IsAtEnd b
 
 all_taken : (line unread : List ℕ) → unread ≡ [] → line ++ unread ≡ line
 all_taken line unread e = ap (λ l. line ++ l) e ∙ append-nil line

@@ -3,8 +3,8 @@ use Rattle.std.proofs.Common.{◌≡◌, ◌≢◌, ◌⊎◌, ◌+◌, ◌≤�
 use Rattle.std.proofs.lemmas.Bool.Decides.{nat_tests}
 use Rattle.ink_model.specs.Tree.{StoryTree, at}
 use Rattle.ink_model.specs.Place.{entered, next_place}
-use Rattle.ink_model.specs.Configuration.{Configuration, place_of, moved, with_stack, with_globals}
-use Rattle.ink_model.specs.Step.{Outcome, Next, Stop, Wants, Faults, goes, go_on, pushes, operates, performs, step, step_at, nothing_bound}
+use Rattle.ink_model.specs.Configuration.{Configuration, current_place, moved, with_stack, with_globals}
+use Rattle.ink_model.specs.Step.{Outcome, Next, Stop, Wants, Faults, move_to, go_on, push, operate, perform, step, step_at, nothing_bound}
 use Rattle.ink_model.specs.Output.{is_line}
 use Rattle.ink_model.specs.Store.{Values}
 use Rattle.ink_model.specs.declared.fault.Fault.{Fault}
@@ -25,9 +25,9 @@ ends_short (Faults f) globals d h = (inr refl, h)
 
 -- flow went on after a place
 pub ends_on : (s : StoryTree) (p : List Part) (next : Option (List Part)) (old new : Configuration) (globals : Values) (e : StepEnd)
-    → next ≡ next_place s p → Ends (goes p next old) globals new e → Ends (go_on s p old) globals new e
+    → next ≡ next_place s p → Ends (move_to p next old) globals new e → Ends (go_on s p old) globals new e
 unfolding go_on
-ends_on s p next old new globals e is h = subst (λ n. Ends (goes p n old) globals new e) is h
+ends_on s p next old new globals e is h = subst (λ n. Ends (move_to p n old) globals new e) is h
 
 -- where flow goes on the globals stay
 pub globals_kept : (s : StoryTree) (p : List Part) (old new : Configuration) (e : StepEnd) → Ends (go_on s p old) old.shared.globals new e → new.shared.globals ≡ old.shared.globals
@@ -42,7 +42,7 @@ globals_kept s p old new e h = kept (next_place s p) e h
     halted false ends.Stopped h = absurd h
     halted false (ends.Fault f) h = h.1
 
-    kept : (next : Option (List Part)) (e : StepEnd) → Ends (goes p next old) old.shared.globals new e → new.shared.globals ≡ old.shared.globals
+    kept : (next : Option (List Part)) (e : StepEnd) → Ends (move_to p next old) old.shared.globals new e → new.shared.globals ≡ old.shared.globals
     kept None e h = halted (is_line old.page.sections) e h
     kept (Some q) ends.Went h = ap (λ c. c.shared.globals) h
     kept (Some q) ends.Stopped h = absurd h
@@ -50,8 +50,8 @@ globals_kept s p old new e h = kept (next_place s p) e h
 
 -- flow goes on with other globals as it does with these
 module _ (p : List Part) (vs : Values) (old new : Configuration) where
-  later : (next : Option (List Part)) (e : StepEnd) → ((f : Fault) → e ≢ ends.Fault f) → Ends (goes p next old) old.shared.globals new e
-      → Ends (goes p next (with_globals vs old)) old.shared.globals (with_globals vs new) e
+  later : (next : Option (List Part)) (e : StepEnd) → ((f : Fault) → e ≢ ends.Fault f) → Ends (move_to p next old) old.shared.globals new e
+      → Ends (move_to p next (with_globals vs old)) old.shared.globals (with_globals vs new) e
   later None e sound h = later_at (is_line old.page.sections) e sound h
     where
       later_at : (b : Bool) (e : StepEnd) → ((f : Fault) → e ≢ ends.Fault f) → Ends (if b then Stop (moved p None old) else Faults StopInString) old.shared.globals new e
@@ -65,8 +65,8 @@ module _ (p : List Part) (vs : Values) (old new : Configuration) where
   later (Some q) ends.Stopped sound h = absurd h
   later (Some q) (ends.Fault f) sound h = absurd (sound f refl)
 
-  fails : (next : Option (List Part)) (f : Fault) → Ends (goes p next old) old.shared.globals new (ends.Fault f)
-      → Ends (goes p next (with_globals vs old)) old.shared.globals new (ends.Fault f)
+  fails : (next : Option (List Part)) (f : Fault) → Ends (move_to p next old) old.shared.globals new (ends.Fault f)
+      → Ends (move_to p next (with_globals vs old)) old.shared.globals new (ends.Fault f)
   fails None f h = fails_at (is_line old.page.sections) h
     where
       fails_at : (b : Bool) → Ends (if b then Stop (moved p None old) else Faults StopInString) old.shared.globals new (ends.Fault f)
@@ -79,19 +79,19 @@ module _ (p : List Part) (vs : Values) (old new : Configuration) where
     pub ends_stored : (globals : Values) → ((f : Fault) → e ≢ ends.Fault f) → globals ≡ vs → Ends (go_on s p (with_globals vs old)) old.shared.globals (with_globals globals new) e
     unfolding go_on
     ends_stored globals sound is =
-        subst (λ g. Ends (goes p (next_place s p) (with_globals vs old)) old.shared.globals (with_globals g new) e) (sym is) (later (next_place s p) e sound h)
+        subst (λ g. Ends (move_to p (next_place s p) (with_globals vs old)) old.shared.globals (with_globals g new) e) (sym is) (later (next_place s p) e sound h)
 
     pub ends_unstored : (f : Fault) → e ≡ ends.Fault f → Ends (go_on s p (with_globals vs old)) old.shared.globals new e
     unfolding go_on
     ends_unstored f is =
-        subst (λ x. Ends (goes p (next_place s p) (with_globals vs old)) old.shared.globals new x) (sym is)
-        (fails (next_place s p) f (subst (λ x. Ends (goes p (next_place s p) old) old.shared.globals new x) is h))
+        subst (λ x. Ends (move_to p (next_place s p) (with_globals vs old)) old.shared.globals new x) (sym is)
+        (fails (next_place s p) f (subst (λ x. Ends (move_to p (next_place s p) old) old.shared.globals new x) is h))
 
 module _ (s : StoryTree) (p : List Part) (v : Value) (old : Configuration) (globals : Values) where
   -- a value was pushed, and then flow went on
   pub ends_pushed : (vs : List Value) (new : Configuration) (e : StepEnd) → vs ≡ old.flow.stack ++ v ∷ [] → length vs ≤ 10000
-      → Ends (go_on s p (with_stack vs old)) globals new e → Ends (pushes s p v old) globals new e
-  unfolding pushes
+      → Ends (go_on s p (with_stack vs old)) globals new e → Ends (push s p v old) globals new e
+  unfolding push
   ends_pushed vs new e is within h =
       let more : length vs ≡ length old.flow.stack + 1 = grind (arith, length-append) in
       let room : nat_lt (length old.flow.stack) 10000 ≡ true = grind (arith, nat_tests) in
@@ -99,40 +99,40 @@ module _ (s : StoryTree) (p : List Part) (v : Value) (old : Configuration) (glob
 
   -- a value was not pushed
   pub ends_unpushed : (new : Configuration) (f : Fault) → (f ≡ TooDeep → length old.flow.stack ≡ 10000) → (f ≡ TooDeep) ⊎ (f ≡ OutOfMemory)
-      → new.shared.globals ≡ globals → Ends (pushes s p v old) globals new (ends.Fault f)
-  unfolding pushes
+      → new.shared.globals ≡ globals → Ends (push s p v old) globals new (ends.Fault f)
+  unfolding push
   ends_unpushed new f full why same = elim why [
     | inl deep ↦ too_deep deep (full deep)
-    | inr short ↦ subst (λ g. Ends (pushes s p v old) globals new (ends.Fault g)) (sym short) (ends_short (pushes s p v old) globals new same)
+    | inr short ↦ subst (λ g. Ends (push s p v old) globals new (ends.Fault g)) (sym short) (ends_short (push s p v old) globals new same)
   ]
     where
-      too_deep : f ≡ TooDeep → length old.flow.stack ≡ 10000 → Ends (pushes s p v old) globals new (ends.Fault f)
+      too_deep : f ≡ TooDeep → length old.flow.stack ≡ 10000 → Ends (push s p v old) globals new (ends.Fault f)
       too_deep deep most =
           let no_room : nat_lt (length old.flow.stack) 10000 ≡ false = grind (arith, nat_tests) in rw no_room (inl deep, same)
 
 -- an operator has no result
 pub ends_misapplied : (s : StoryTree) (p : List Part) (o : Op) (operands : Option (List Value × List Value)) (old new : Configuration) (globals : Values) (left : List Value) (f : Fault)
-    → Applies o operands left (Err f) → new.shared.globals ≡ globals → Ends (operates s p o operands old) globals new (ends.Fault f)
+    → Applies o operands left (Err f) → new.shared.globals ≡ globals → Ends (operate s p o operands old) globals new (ends.Fault f)
 ends_misapplied s p o None old new globals left f h same = let empty : f ≡ StackEmpty = cc in (inl empty, same)
 ends_misapplied s p o (Some r) old new globals left f h same = elim h.0 [
   | inl short ↦
-      subst (λ g. Ends (operates s p o (Some r) old) globals new (ends.Fault g)) (sym short) (ends_short (operates s p o (Some r) old) globals new same)
+      subst (λ g. Ends (operate s p o (Some r) old) globals new (ends.Fault g)) (sym short) (ends_short (operate s p o (Some r) old) globals new same)
   | inr rule ↦ rw rule (inl refl, same)
 ]
 
 -- a step goes down to the first content and performs what stands there
 pub ends_performed : (s : StoryTree) (p here : List Part) (found : Option StoryTree) (old new : Configuration) (globals : Values) (e : StepEnd)
-    → place_of old ≡ Some p → here ≡ entered s p → found ≡ at s here
-    → Ends (performs s nothing_bound here found old) globals new e → Ends (step s nothing_bound old) globals new e
+    → current_place old ≡ Some p → here ≡ entered s p → found ≡ at s here
+    → Ends (perform s nothing_bound here found old) globals new e → Ends (step s nothing_bound old) globals new e
 unfolding step
 ends_performed s p here found old new globals e at_p is stands h =
-    let there : Ends (performs s nothing_bound here (at s here) old) globals new e =
-    subst (λ f. Ends (performs s nothing_bound here f old) globals new e) stands h in
-    let entering : Ends (performs s nothing_bound (entered s p) (at s (entered s p)) old) globals new e =
-    subst (λ q. Ends (performs s nothing_bound q (at s q) old) globals new e) is there in
+    let there : Ends (perform s nothing_bound here (at s here) old) globals new e =
+    subst (λ f. Ends (perform s nothing_bound here f old) globals new e) stands h in
+    let entering : Ends (perform s nothing_bound (entered s p) (at s (entered s p)) old) globals new e =
+    subst (λ q. Ends (perform s nothing_bound q (at s q) old) globals new e) is there in
     subst (λ o. Ends (step_at s nothing_bound o old) globals new e) (sym at_p) entering
 
 -- where flow has stopped it stays stopped
-pub ends_still : (s : StoryTree) (c : Configuration) (globals : Values) → place_of c ≡ None → Ends (step s nothing_bound c) globals c ends.Stopped
+pub ends_still : (s : StoryTree) (c : Configuration) (globals : Values) → current_place c ≡ None → Ends (step s nothing_bound c) globals c ends.Stopped
 unfolding step
 ends_still s c globals no_place = subst (λ o. Ends (step_at s nothing_bound o c) globals c ends.Stopped) (sym no_place) refl

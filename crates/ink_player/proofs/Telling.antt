@@ -6,7 +6,8 @@ use Rattle.ink_model.specs.Clean.{clean}
 use Rattle.ink_model.specs.Shown.{shown_text}
 use Rattle.ink_model.specs.Configuration.{Configuration, can_go_on, begun, settled}
 use Rattle.ink_model.specs.Step.{nothing_bound}
-use Rattle.ink_model.specs.Run.{Moment, At, Stopped, moment, cut_off, max_steps, through}
+use Rattle.ink_model.specs.Run.{Moment, At, Stopped, moment, cut_off, through}
+use Rattle.ink_model.specs.declared.limits.TheConstants.{MAX_STEPS}
 use Rattle.ink_model.specs.Answer.{Tells, Breaks}
 use Rattle.ink_model.specs.State.{Ready, Broken}
 use Rattle.ink_model.specs.Session.{passage, is_loose, EndsAs, RunsThrough}
@@ -16,7 +17,7 @@ use Rattle.ink_model.specs.declared.host.Event.{Event}
 use Rattle.ink_model.specs.declared.passage.Passage.{Passage}
 use Rattle.ink_model.specs.declared.passage.Shown.{Shown}
 use Rattle.ink_player.specs.Words.{config_of}
-use Rattle.ink_player.specs.Steps.{Runs}
+use Rattle.ink_player.specs.Steps.{RunsToStop}
 use Rattle.ink_player.specs.declared.machine.Machine.{Machine}
 
 abbrev pub made : List ℕ → List (List ℕ) → List Shown → List Event → Bool → Bool → Passage
@@ -40,16 +41,16 @@ passage_is s m text told choices events more loose e f g h i j =
 -- ---- a running command, from the run that it makes
 
 module _ (s : StoryTree) (c begin : Configuration) (begins : begin ≡ begun c) where
-  ended : (m : Moment) → cut_off (moment s nothing_bound begin [] max_steps) ≡ m → through s nothing_bound c [] ≡ m
-  ended m h = ap (λ d. cut_off (moment s nothing_bound d [] max_steps)) (sym begins) ∙ h
+  ended : (m : Moment) → cut_off (moment s nothing_bound begin [] MAX_STEPS) ≡ m → through s nothing_bound c [] ≡ m
+  ended m h = ap (λ d. cut_off (moment s nothing_bound d [] MAX_STEPS)) (sym begins) ∙ h
 
-  pub tells : (stop new : Configuration) (p : Passage) → moment s nothing_bound begin [] max_steps ≡ Stopped stop [] []
+  pub tells : (stop new : Configuration) (p : Passage) → moment s nothing_bound begin [] MAX_STEPS ≡ Stopped stop [] []
       → p ≡ passage stop → new ≡ settled stop → RunsThrough s nothing_bound c (Tells p) (Ready new)
   tells stop new p h told settles =
       inl ([], subst (λ m. EndsAs m (Tells p) (Ready new)) (sym (ended _ (ap cut_off h))) (ap Tells told, ap Ready settles))
 
   -- memory was refused at a moment of the run
-  fell : (new : Configuration) (steps : ℕ) → steps ≤ max_steps
+  fell : (new : Configuration) (steps : ℕ) → steps ≤ MAX_STEPS
       → (moment s nothing_bound begin [] steps ≡ At new [] []) ⊎ (moment s nothing_bound begin [] steps ≡ Stopped new [] [])
       → RunsThrough s nothing_bound c (Breaks OutOfMemory []) (Broken OutOfMemory new.shared.globals)
   fell new steps within there = inr (record {
@@ -64,7 +65,7 @@ module _ (s : StoryTree) (c begin : Configuration) (begins : begin ≡ begun c) 
     breaks = refl;
   })
 
-  pub breaks : (new : Configuration) (f : Fault) → Runs s begin new (Err f)
+  pub breaks : (new : Configuration) (f : Fault) → RunsToStop s begin new (Err f)
       → RunsThrough s nothing_bound c (Breaks f []) (Broken f new.shared.globals)
   breaks new f h =
       subst (λ vs. RunsThrough s nothing_bound c (Breaks f []) (Broken f vs)) (sym h.kept) (elim h.why [
@@ -74,6 +75,6 @@ module _ (s : StoryTree) (c begin : Configuration) (begins : begin ≡ begun c) 
             (fell h.before short.1.steps short.1.within (inl short.1.got_there))
       ])
 
-  pub breaks_after : (stop : Configuration) → moment s nothing_bound begin [] max_steps ≡ Stopped stop [] []
+  pub breaks_after : (stop : Configuration) → moment s nothing_bound begin [] MAX_STEPS ≡ Stopped stop [] []
       → RunsThrough s nothing_bound c (Breaks OutOfMemory []) (Broken OutOfMemory stop.shared.globals)
-  breaks_after stop h = fell stop max_steps (omega arith) (inr h)
+  breaks_after stop h = fell stop MAX_STEPS (omega arith) (inr h)

@@ -2,10 +2,10 @@
 use Rattle.std.specs.Prelude.{◌≡◌, ◌<◌, ◌≤◌, ◌+◌, ◌-◌, ℕ, List, [], ◌∷◌, ◌++◌, length, Bool, true, false, ◌⊎◌, Option, Result, Ok, Err}
 use Rattle.std.specs.Io.KnownBytes.{Appends, Consumes, IsAtEnd}
 use Rattle.ink_model.specs.Grammar.{here}
-use Rattle.ink_model.specs.Limits.{max_story}
+use Rattle.ink_model.specs.declared.limits.TheConstants.{MAX_STORY, MAX_INPUT}
 use Rattle.ink_model.specs.Configuration.{Configuration}
 use Rattle.ink_model.specs.Opening.{opening, opened}
-use Rattle.ink_model.specs.Played.{played_story}
+use Rattle.ink_model.specs.Supported.{supported_story}
 use Rattle.ink_model.specs.State.{State}
 use Rattle.ink_model.specs.Tree.{StoryTree}
 use Rattle.ink_model.specs.declared.fault.Cause.TheVariants as cause
@@ -13,7 +13,7 @@ use Rattle.ink_model.specs.declared.fault.Fault.{Fault}
 use Rattle.ink_model.specs.declared.fault.Fault.TheVariants.{OutOfMemory}
 use Rattle.ink_model.specs.declared.fault.ReadRefusal.{ReadRefusal}
 use Rattle.ink_player.specs.Lines.{has_newline}
-use Rattle.ink_player.specs.Serving.{RunEnds, max_input}
+use Rattle.ink_player.specs.Serving.{RunEnds}
 use Rattle.ink_player.specs.Words.{state_of, story_of}
 use Rattle.ink_player.specs.declared.desk.Desk.{Desk}
 use Rattle.ink_player.specs.declared.end.PlayEnd.{PlayEnd}
@@ -27,7 +27,7 @@ use Rattle.ink_player.specs.declared.player.Player.{Player}
 -- reader's end.
 pub record IsStoryLine (left : Option (List ℕ)) (bytes line input : List ℕ) : Type 0 where
   pub plain : has_newline line ≡ false
-  pub within : length line ≤ max_story
+  pub within : length line ≤ MAX_STORY
   pub whole : (bytes ≡ line ++ 10 ∷ input) ⊎ ((bytes ≡ line) × (input ≡ []) × IsAtEnd left)
 
 -- The story was opened, and the lines behind it were served to the reader's end or to what ended the session. The input's
@@ -37,26 +37,26 @@ pub record PlaysOn (left : Option (List ℕ)) (bytes written : List ℕ) (result
   pub input : List ℕ
   pub story_line : IsStoryLine left bytes line input
   pub tree : StoryTree
-  pub reads : played_story line ≡ Ok tree
+  pub reads : supported_story line ≡ Ok tree
   pub first : Configuration
   pub opens : opening tree ≡ Ok first
   pub new : State
-  pub ends : RunEnds tree (max_input - (length line + 1)) left input (opened first) written new result
+  pub ends : RunEnds tree (MAX_INPUT - (length line + 1)) left input (opened first) written new result
 
 -- the story ended what came: nothing was written, and no more was read than tells that a story is over its limit
 pub record EndsEarly (bytes written : List ℕ) : Type 0 where
   pub nothing : written ≡ []
-  pub bound : length bytes ≤ max_story + 1
+  pub bound : length bytes ≤ MAX_STORY + 1
 
 -- the story is not one that is played, or memory was refused
 abbrev pub IsRefused : List ℕ → ReadRefusal → Type 0
-IsRefused line r = (r ≡ here cause.OutOfMemory) ⊎ (played_story line ≡ Err r)
+IsRefused line r = (r ≡ here cause.OutOfMemory) ⊎ (supported_story line ≡ Err r)
 
 -- the story was refused; where it is over its limit, it is refused for that, and where memory was refused for its line, too
 abbrev pub IsStoryRefused : Option (List ℕ) → List ℕ → ReadRefusal → Type 0
 IsStoryRefused left bytes r =
     ((line : List ℕ) × (input : List ℕ) × IsStoryLine left bytes line input × IsRefused line r)
-    ⊎ ((r ≡ here cause.OutOfMemory) ⊎ ((r ≡ here cause.Limit) × (has_newline bytes ≡ false) × (max_story < length bytes)))
+    ⊎ ((r ≡ here cause.OutOfMemory) ⊎ ((r ≡ here cause.Limit) × (has_newline bytes ≡ false) × (MAX_STORY < length bytes)))
 
 -- the story's declarations fault, or memory was refused for opening it
 abbrev pub CannotOpen : StoryTree → Fault → Type 0
@@ -67,7 +67,7 @@ pub record IsUnopened (left : Option (List ℕ)) (bytes : List ℕ) (f : Fault) 
   pub input : List ℕ
   pub story_line : IsStoryLine left bytes line input
   pub tree : StoryTree
-  pub reads : played_story line ≡ Ok tree
+  pub reads : supported_story line ≡ Ok tree
   pub why : CannotOpen tree f
 
 abbrev pub PlayFails : Option (List ℕ) → List ℕ → List ℕ → PlayFault → Type 0
@@ -83,7 +83,7 @@ PlayEnds left bytes written (Err e) = PlayFails left bytes written e.fault
 pub record Plays (left left' held held' : Option (List ℕ)) (result : Result Desk PlayEnd) : Type 0 where
   pub bytes : List ℕ
   pub consumed : Consumes left left' bytes
-  pub bound : length bytes ≤ max_input + 1
+  pub bound : length bytes ≤ MAX_INPUT + 1
   pub written : List ℕ
   pub appended : Appends held held' written
   pub ends : PlayEnds left' bytes written result
@@ -125,9 +125,9 @@ play_fault fault.OutOfMemory = play.Story (here cause.OutOfMemory)
 
 abbrev pub OpenFails : List ℕ → PlayFault → Type 0
 OpenFails line (play.Story r) = IsRefused line r
-OpenFails line (play.Start f) = (tree : StoryTree) × (played_story line ≡ Ok tree) × CannotOpen tree f
+OpenFails line (play.Start f) = (tree : StoryTree) × (supported_story line ≡ Ok tree) × CannotOpen tree f
 OpenFails line (play.Run f) = ⊥
 
 abbrev pub Opens : List ℕ → Result Player PlayEnd → Type 0
-Opens line (Ok p) = (played_story line ≡ Ok (story_of p)) × ((c : Configuration) × (opening (story_of p) ≡ Ok c) × (state_of p ≡ opened c))
+Opens line (Ok p) = (supported_story line ≡ Ok (story_of p)) × ((c : Configuration) × (opening (story_of p) ≡ Ok c) × (state_of p ≡ opened c))
 Opens line (Err e) = OpenFails line e.fault

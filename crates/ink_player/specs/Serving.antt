@@ -18,17 +18,17 @@ use Rattle.ink_player.specs.declared.session.Turn.{Turn}
 use Rattle.ink_player.specs.declared.session.Turn.TheVariants as turn
 
 -- limits: bytes of a command line without its newline, and of an input with its newlines
-abbrev pub max_line : ℕ
-max_line = 1048576
+abbrev pub MAX_LINE : ℕ
+MAX_LINE = 1048576
 
-abbrev pub max_input : ℕ
-max_input = 67108864
+abbrev pub MAX_INPUT : ℕ
+MAX_INPUT = 67108864
 
 -- ---- lines
 
 pub record IsLine (line : List ℕ) : Type 0 where
   pub plain : has_newline line ≡ false
-  pub within : length line ≤ max_line
+  pub within : length line ≤ MAX_LINE
 
 -- lines as they stand in an input, each with its newline
 abbrev pub spelled : List (List ℕ) → List ℕ
@@ -67,7 +67,7 @@ pub record IsLongLine (rest : List ℕ) : Type 0 where
   pub more : List ℕ
   pub whole : rest ≡ front ++ more
   pub plain : has_newline front ≡ false
-  pub long : max_line < length front
+  pub long : MAX_LINE < length front
 
 -- more bytes stand there than an input may have, and no further newline among as many as it may have
 pub record IsLongInput (most : ℕ) (served : List (List ℕ)) (rest : List ℕ) : Type 0 where
@@ -95,7 +95,7 @@ pub record ServesFirst (s : StoryTree) (left : Option (List ℕ)) (rest : List �
 
 -- Memory was refused: for a line, and the lines before it were served; or for an answer's text, and its command has taken
 -- effect too.
-pub record LacksMemory (s : StoryTree) (left : Option (List ℕ)) (input : List ℕ) (old : State) (written : List ℕ) (new : State) : Type 0 where
+pub record RunsOutOfMemory (s : StoryTree) (left : Option (List ℕ)) (input : List ℕ) (old : State) (written : List ℕ) (new : State) : Type 0 where
   pub served : List (List ℕ)
   pub rest : List ℕ
   pub splits : Splits input served rest
@@ -125,7 +125,7 @@ RunEnds s most left input old written new (Ok x) = ServesAll s most left input o
 RunEnds s most left input old written new (Err fault.Read) = LosesReader s input old written new
 RunEnds s most left input old written new (Err fault.Write) = LosesWriter s left input old written new
 RunEnds s most left input old written new (Err fault.TooLong) = GoesOver s most input old written new
-RunEnds s most left input old written new (Err fault.OutOfMemory) = LacksMemory s left input old written new
+RunEnds s most left input old written new (Err fault.OutOfMemory) = RunsOutOfMemory s left input old written new
 
 -- A session of at most so many bytes, where `unread` stands before what the reader gives: which bytes were read, not more
 -- than one beyond those, what was written, and how it ended.
@@ -177,7 +177,7 @@ pub record ServesLine (s : StoryTree) (left left' held held' : Option (List ℕ)
   pub answered : Answered s line held held' old new
 
 -- one line, or the end of the session
-abbrev pub Turns : StoryTree → Option (List ℕ) → Option (List ℕ) → Option (List ℕ) → Option (List ℕ) → Buffered → Buffered → State → State → Result Turn RunFault → Type 0
-Turns s left left' held held' o n old new (Ok turn.More) = ServesLine s left left' held held' o n old new
-Turns s left left' held held' o n old new (Ok turn.Done) = Runs s o.spare o.unread left left' held held' old new (Ok tt)
-Turns s left left' held held' o n old new (Err f) = Runs s o.spare o.unread left left' held held' old new (Err f)
+abbrev pub ServesNext : StoryTree → Option (List ℕ) → Option (List ℕ) → Option (List ℕ) → Option (List ℕ) → Buffered → Buffered → State → State → Result Turn RunFault → Type 0
+ServesNext s left left' held held' o n old new (Ok turn.More) = ServesLine s left left' held held' o n old new
+ServesNext s left left' held held' o n old new (Ok turn.Done) = Runs s o.spare o.unread left left' held held' old new (Ok tt)
+ServesNext s left left' held held' o n old new (Err f) = Runs s o.spare o.unread left left' held held' old new (Err f)

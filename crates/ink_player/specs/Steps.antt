@@ -6,7 +6,8 @@ use Rattle.ink_model.specs.Stack.{popped}
 use Rattle.ink_model.specs.Store.{Values}
 use Rattle.ink_model.specs.Configuration.{Configuration}
 use Rattle.ink_model.specs.Step.{Outcome, Next, Stop, Faults, nothing_bound}
-use Rattle.ink_model.specs.Run.{At, Stopped, Faulted, moment, cut_off, max_steps}
+use Rattle.ink_model.specs.Run.{At, Stopped, Faulted, moment, cut_off}
+use Rattle.ink_model.specs.declared.limits.TheConstants.{MAX_STEPS}
 use Rattle.ink_model.specs.Answer.{Reply, Tells, Breaks}
 use Rattle.ink_model.specs.State.{Condition, Ready, Broken}
 use Rattle.ink_model.specs.declared.fault.Fault.{Fault}
@@ -37,19 +38,19 @@ Changes (Err f) new (Err g) = (g ≡ f) ⊎ (g ≡ OutOfMemory)
 -- a run got to a configuration and had not ended
 pub record GotTo (s : StoryTree) (start : Configuration) (now : Configuration) : Type 0 where
   pub steps : ℕ
-  pub within : steps ≤ max_steps
+  pub within : steps ≤ MAX_STEPS
   pub got_there : moment s nothing_bound start [] steps ≡ At now [] []
 
 -- a run ended with a fault, or lacked memory, at a configuration with these globals
 pub record RunFalls (s : StoryTree) (start : Configuration) (globals : Values) (f : Fault) : Type 0 where
   pub before : Configuration
   pub kept : globals ≡ before.shared.globals
-  pub why : (cut_off (moment s nothing_bound start [] max_steps) ≡ Faulted f before [] []) ⊎ ((f ≡ OutOfMemory) × GotTo s start before)
+  pub why : (cut_off (moment s nothing_bound start [] MAX_STEPS) ≡ Faulted f before [] []) ⊎ ((f ≡ OutOfMemory) × GotTo s start before)
 
 -- A run to its stop, with what it leaves, or to a fault, with the globals that it leaves.
-abbrev pub Runs : StoryTree → Configuration → Configuration → Result (Unit {0}) Fault → Type 0
-Runs s old new (Ok u) = moment s nothing_bound old [] max_steps ≡ Stopped new [] []
-Runs s old new (Err f) = RunFalls s old new.shared.globals f
+abbrev pub RunsToStop : StoryTree → Configuration → Configuration → Result (Unit {0}) Fault → Type 0
+RunsToStop s old new (Ok u) = moment s nothing_bound old [] MAX_STEPS ≡ Stopped new [] []
+RunsToStop s old new (Err f) = RunFalls s old new.shared.globals f
 
 -- what is taken off a stack
 abbrev pub Pops : List Value → List Value → Option Value → Type 0
@@ -67,9 +68,9 @@ Applies operator None new result = result ≡ Err StackEmpty
 Applies operator (Some r) new result = Gives result (apply operator r.0) × (new ≡ r.1)
 
 -- what a running command returned, as a reply, and the condition that it leaves
-abbrev pub told : Result Passage Fault → Reply
-told (Ok passage) = Tells passage
-told (Err f) = Breaks f []
+abbrev pub reply_of_run : Result Passage Fault → Reply
+reply_of_run (Ok passage) = Tells passage
+reply_of_run (Err f) = Breaks f []
 
 abbrev pub left_by : Result Passage Fault → Configuration → Condition
 left_by (Ok passage) c = Ready c

@@ -3,7 +3,8 @@
 ghost use Rattle.std.specs.Prelude.{◌≡◌, [], IfOk, string_bytes};
 ghost use Rattle.serde_json.specs.View.{view};
 ghost use Rattle.serde_json.specs.Written.{compact_text, has_float};
-ghost use Rattle.ink_model.specs.Answer.{answer, fault_name as name_of_fault, refusal_name as name_of_refusal, refusal_data, reply_data, reply_of_halt, value_data, Acts, Shows, texts_data, shown_data, passage_data, events_data, items_of, Breaks};
+ghost use Rattle.ink_model.specs.Answer.{answer, fault_name as name_of_fault, refusal_name as name_of_refusal, refusal_data, reply_data, reply_of_halt, Acts, Shows, texts_data, shown_data, passage_data, events_data, items_of, Breaks};
+ghost use Rattle.ink_model.specs.ValueJson.{value_data};
 ghost use Rattle.serde_json.specs.Data.{string};
 ghost use Rattle.ink_player.specs.Answers.{shown_list, passage_with};
 ghost use Rattle.ink_player.specs.Replies.{reply_by};

@@ -3,7 +3,13 @@
 ghost use Rattle.std.specs.Prelude.{◌≡◌, IfOk, OnErr, option_map, option_and_then, string_bytes};
 ghost use Rattle.serde_json.specs.Find.{as_integer};
 ghost use Rattle.serde_json.specs.View.{view, number_view};
-ghost use Rattle.ink_model.specs.Command.{command_of, command_word, after as after_word, at_space as parts_at_space, get_command as get_of, set_command as set_of, given_of as given_in, given_by as given_from, given_integer, given_text};
+ghost use Rattle.ink_model.specs.Command.{command_of, command_word, get_command as get_of, set_command as set_of};
+ghost use Rattle.ink_model.specs.Bytes.{after as after_word};
+ghost use Rattle.ink_model.specs.Bytes.{at_space as parts_at_space};
+ghost use Rattle.ink_model.specs.ValueJson.{given_of as given_in};
+ghost use Rattle.ink_model.specs.ValueJson.{given_by as given_from};
+ghost use Rattle.ink_model.specs.ValueJson.{given_integer};
+ghost use Rattle.ink_model.specs.ValueJson.{given_text};
 ghost use Rattle.ink_player.specs.Commands.{NeedsMemory};
 
 use ink_model::{Command, Given, Text};

@@ -7,7 +7,7 @@ ghost use Rattle.ink_model.specs.Step.{nothing_bound};
 ghost use Rattle.ink_model.specs.Tree.{StoryTree};
 ghost use Rattle.ink_check.specs.Words.{story_tree};
 ghost use Rattle.ink_player.specs.Words.{config_of};
-ghost use Rattle.ink_player.specs.Steps.{Runs, told, left_by};
+ghost use Rattle.ink_player.specs.Steps.{RunsToStop, reply_of_run, left_by};
 
 mod diverting;
 mod evaluating;
@@ -68,7 +68,7 @@ impl Machine {
 
     /// Runs to the stop and tells the passage. After a fault the machine is of no more use, but for its globals.
     pub(crate) fn through(&mut self, story: &Story) -> Result<Passage, Fault>
-        ensures { let s = story_tree story.now in RunsThrough s nothing_bound (config_of s self.old) (told result) (left_by result (config_of s self.new)) }
+        ensures { let s = story_tree story.now in RunsThrough s nothing_bound (config_of s self.old) (reply_of_run result) (left_by result (config_of s self.new)) }
     {
         self.begin();
         if let Err(fault) = self.run(story) {
@@ -90,7 +90,7 @@ impl Machine {
 
     /// Steps to the stop.
     fn run(&mut self, story: &Story) -> Result<(), Fault>
-        ensures { let s = story_tree story.now in Runs s (config_of s self.old) (config_of s self.new) result }
+        ensures { let s = story_tree story.now in RunsToStop s (config_of s self.old) (config_of s self.new) result }
     {
         for _step in 0..MAX_STEPS {
             match self.step(story) {

@@ -4,7 +4,7 @@ ghost use Rattle.std.specs.Prelude.{◌≡◌, ◌⊎◌, [], Some, IfOk, IfErr,
 ghost use Rattle.ink_model.specs.Answer.{reply_of, reply_of_events, reply_of_value};
 ghost use Rattle.ink_model.specs.Configuration.{Configuration};
 ghost use Rattle.ink_model.specs.Opening.{opening, opened};
-ghost use Rattle.ink_model.specs.Played.{unplayed};
+ghost use Rattle.ink_model.specs.Supported.{unsupported};
 ghost use Rattle.ink_model.specs.Session.{Through, Set, Get, Restart, settable};
 ghost use Rattle.ink_model.specs.Run as rules;
 ghost use Rattle.ink_model.specs.State.{is_running, fault_in};
@@ -44,7 +44,7 @@ impl Player {
     /// Opens a story at its start, with the globals that it declares (docs/RUNNING.md, "Opening"). All of its content is
     /// played, as `runnable` finds out. The fault is that of the declarations, or `OutOfMemory`.
     pub fn open(alloc: Global, story: Story, desk: Desk) -> Result<Player, OpenFault>
-        requires played { unplayed (story_tree story) ≡ [] }
+        requires played { unsupported (story_tree story) ≡ [] }
         ensures story { IfOk result (λ p. story_of p ≡ story_tree story) }
         ensures state { IfOk result (λ p. (c : Configuration) × (opening (story_tree story) ≡ Ok c) × (state_of p ≡ opened c)) }
         ensures fault { IfErr result (λ e. (e.fault ≡ OutOfMemory) ⊎ (opening (story_tree story) ≡ Err e.fault)) }

@@ -3,8 +3,8 @@
 ghost use Rattle.std.specs.Prelude.{◌≡◌, ◌||◌, [], Ok, IfOk, IfErr};
 ghost use Rattle.ink_check.specs.Words.{story_tree};
 ghost use Rattle.ink_model.specs.Grammar.{here};
-ghost use Rattle.ink_model.specs.Played as rules;
-ghost use Rattle.ink_model.specs.Played.{unplayed};
+ghost use Rattle.ink_model.specs.Supported as rules;
+ghost use Rattle.ink_model.specs.Supported.{unsupported};
 ghost use Rattle.ink_player.specs.Playing.{IsRefused, Opens, Plays, play_fault, play_reads_fail, play_writes_fail};
 
 use crate::desk::Desk;
@@ -12,7 +12,7 @@ use crate::end::{PlayEnd, PlayFault, RunFault};
 use crate::input::{Ahead, Reader, Source};
 use crate::lines::{Line, next_line};
 use crate::output::{Sink, Writer};
-use crate::played::runnable;
+use crate::supported::runnable;
 use crate::player::{OpenFault, Player};
 use crate::session::{MAX_INPUT, serve_lines};
 use ink_check::{Story, check};
@@ -130,8 +130,8 @@ pub fn open_story(alloc: Global, line: &[u8], desk: Desk) -> Result<Player, Play
 
 // Reads a story and accepts it, where all of it is played.
 fn played_story(alloc: Global, line: &[u8]) -> Result<Story, ReadRefusal>
-    ensures ok { IfOk result (λ s. rules.played_story line.now ≡ Ok (story_tree s)) }
-    ensures played { IfOk result (λ s. unplayed (story_tree s) ≡ []) }
+    ensures ok { IfOk result (λ s. rules.supported_story line.now ≡ Ok (story_tree s)) }
+    ensures played { IfOk result (λ s. unsupported (story_tree s) ≡ []) }
     ensures err { IfErr result (IsRefused line.now) }
 {
     let raw = match read_story(alloc, line) {

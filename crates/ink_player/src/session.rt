@@ -7,7 +7,8 @@ ghost use Rattle.ink_model.specs.Step.{nothing_bound};
 ghost use Rattle.ink_player.specs.Replies.{reply_by};
 ghost use Rattle.ink_player.specs.Words.{state_of, story_of};
 ghost use Rattle.ink_player.specs.Lines.{reads_fail};
-ghost use Rattle.ink_player.specs.Serving.{Answers, Turns, Runs, max_input, writes_fail};
+ghost use Rattle.ink_player.specs.Serving.{Answers, ServesNext, Runs, writes_fail};
+ghost use Rattle.ink_model.specs.declared.limits.TheConstants.{MAX_INPUT};
 
 use crate::answer::{Outcome, answer_text};
 use crate::command::read_command;
@@ -45,7 +46,7 @@ pub fn run<R: Read, W: Write>(
     writer: &mut W,
     player: &mut Player,
 ) -> Result<(), RunFault>
-    ensures runs { Runs (story_of player.old) max_input [] (R.remaining reader.old) (R.remaining reader.new)
+    ensures runs { Runs (story_of player.old) MAX_INPUT [] (R.remaining reader.old) (R.remaining reader.new)
         (W.contents writer.old) (W.contents writer.new) (state_of player.old) (state_of player.new) result }
     ensures story { story_of player.new ≡ story_of player.old }
 {
@@ -72,7 +73,7 @@ pub fn serve<S: Source, T: Sink>(
     sink: &mut T,
     player: &mut Player,
 ) -> Result<(), RunFault>
-    ensures runs { Runs (story_of player.old) max_input [] (S.remaining source.old) (S.remaining source.new)
+    ensures runs { Runs (story_of player.old) MAX_INPUT [] (S.remaining source.old) (S.remaining source.new)
         (T.contents sink.old) (T.contents sink.new) (state_of player.old) (state_of player.new) result }
     ensures story { story_of player.new ≡ story_of player.old }
     ensures read_cause { S.has_failed source.new ≡ (reads_fail result || S.has_failed source.old) }
@@ -117,7 +118,7 @@ fn serve_line<S: Source, T: Sink>(
     sink: &mut T,
     player: &mut Player,
 ) -> Result<Turn, RunFault>
-    ensures turns { Turns (story_of player.old) (S.remaining source.old) (S.remaining source.new) (T.contents sink.old) (T.contents sink.new)
+    ensures turns { ServesNext (story_of player.old) (S.remaining source.old) (S.remaining source.new) (T.contents sink.old) (T.contents sink.new)
         ahead.old ahead.new (state_of player.old) (state_of player.new) result }
     ensures story { story_of player.new ≡ story_of player.old }
     ensures read_cause { S.has_failed source.new ≡ (reads_fail result || S.has_failed source.old) }

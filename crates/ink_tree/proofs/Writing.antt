@@ -2,8 +2,8 @@
 use Rattle.std.proofs.Common.{◌≡◌, ℕ, zero, suc, ◌+◌, ◌<◌, ◌≤◌, List, [], ◌∷◌, ◌++◌, length, map, take, get_or, cond, ap, ◌∙◌, sym, refl, arith, append_assoc, append-nil}
 use Rattle.std.proofs.lemmas.List.{take_more, map-append, length-take-le}
 use Rattle.std.proofs.lemmas.Bool.{lt-ltb}
-use Rattle.ink_model.specs.Answer.{part_text}
-use Rattle.ink_model.specs.Clean.{joined}
+use Rattle.ink_model.specs.Path.{part_text}
+use Rattle.ink_model.specs.Bytes.{joined}
 use Rattle.ink_model.specs.declared.place.Part.{Part}
 use Rattle.ink_tree.specs.Laws.{dot_before}
 

@@ -1,18 +1,16 @@
 -- What reading and writing a path keep, beside the definitions.
 use Rattle.std.specs.Prelude.{◌≡◌, ℕ, ◌^◌, List, [], ◌∷◌, Option, Some, None, if◌then◌else◌, nat_lt}
-use Rattle.ink_model.specs.Answer.{path_text}
-use Rattle.ink_model.specs.Path.{number_from, read_path}
-use Rattle.ink_model.specs.declared.place.Part.{Part}
-use Rattle.ink_model.specs.declared.place.Part.TheVariants.{Index}
+use Rattle.ink_model.specs.Path.{read_path, path_text}
+use Rattle.ink_model.specs.Bytes.{number_from}
 use Rattle.ink_model.specs.declared.place.Path.{Path}
 
 -- a path that was read reads the same from its written form
 abbrev pub ReadsBack : Path → Type 0
 ReadsBack path = (text : List ℕ) → read_path text ≡ Some path → read_path (path_text path) ≡ Some path
 
--- the component that digits are
-abbrev pub index_component : List ℕ → Option Part
-index_component cs = if nat_lt (number_from 0 cs) (2 ^ 31) then Some (Index (number_from 0 cs)) else None
+-- the index that digits are
+abbrev pub index_of : List ℕ → Option ℕ
+index_of cs = if nat_lt (number_from 0 cs) (2 ^ 31) then Some (number_from 0 cs) else None
 
 -- what stands in front of the component at an index
 abbrev pub dot_before : ℕ → List ℕ

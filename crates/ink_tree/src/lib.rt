@@ -2,6 +2,7 @@
 #![tactic(auto)]
 
 mod around;
+mod entry;
 mod inside;
 mod listing;
 mod moving;

@@ -2,6 +2,7 @@
 
 ghost use Rattle.std.specs.Prelude.{◌≡◌, ◌<◌, ◌^◌, List, [], ◌∷◌, ◌++◌, OnOk, IfOk, true};
 ghost use Rattle.ink_json.specs.Story.{tree};
+ghost use Rattle.ink_model.specs.Grammar.{IsSpelled};
 ghost use Rattle.ink_model.specs.Narrow.{is_narrow, are_narrow, are_keyed_narrow};
 ghost use Rattle.ink_model.specs.Places.{places, places_from, places_by_key};
 ghost use Rattle.ink_model.specs.Tree.{count};
@@ -19,6 +20,7 @@ use std::collections::BTreeMap;
 pub(crate) fn list_story(alloc: Global, raw: &RawStory) -> Result<Vec<Place>, AllocError>
     ensures complete { IfOk result (λ listed. listed.items ≡ places (tree raw.now)) }
     ensures rising { IfOk result (λ _. keys_rise (tree raw.now) ≡ true) }
+    ensures spelled { IfOk result (λ _. IsSpelled (tree raw.now)) }
 {
     let mut listed = Vec::new(alloc);
     let Some(root) = raw.at(&[]) else {

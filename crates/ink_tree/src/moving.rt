@@ -1,6 +1,6 @@
 //! Where flow starts, lands, goes on, and what it enters (docs/RUNNING.md, "Places" and "Visits").
 
-ghost use Rattle.std.specs.Prelude.{◌≡◌, IfOk, map, option_map};
+ghost use Rattle.std.specs.Prelude.{◌≡◌, ◌≤◌, IfOk, IsOk, length, map, option_map};
 ghost use Rattle.ink_model.specs.Entered.{entered_places, is_first, starts_only};
 ghost use Rattle.ink_model.specs.Place.{landed, next_place, start_place};
 
@@ -8,8 +8,9 @@ use crate::inside::width_of;
 use crate::spot::{NodeId, Spot};
 use crate::tree::Tree;
 use ink_model::Part;
+use ink_model::flags::counts_at_start;
 use smallvec::SmallVec;
-use std::alloc::{AllocError, Global};
+use std::alloc::AllocError;
 
 impl Tree {
     ghost use Rattle.ink_tree.specs.Nodes.{story_tree, node_place, place_of, AreNodes};
@@ -60,18 +61,18 @@ impl Tree {
     }
 
     /// The containers around a landing place that a landing there enters, the nearest first; `previous` is the place from
-    /// which flow comes. The one error is a refused request for memory.
+    /// which flow comes. The one error is a refused request for memory, which is not made for up to eight containers.
     pub fn entered(
         &self,
-        alloc: Global,
         previous: Option<Spot>,
         at: Spot,
     ) -> Result<SmallVec<NodeId, 8>, AllocError>
         ensures places { IfOk result (λ nodes. map (node_place (story_tree self.now)) nodes.items
             ≡ entered_places (story_tree self.now) (option_map (place_of (story_tree self.now)) previous) (place_of (story_tree self.now) at)) }
         ensures inside { IfOk result (λ nodes. AreNodes (story_tree self.now) nodes.items) }
+        ensures inline { length (entered_places (story_tree self.now) (option_map (place_of (story_tree self.now)) previous) (place_of (story_tree self.now) at)) ≤ 8 → IsOk result }
     {
-        let mut entered = SmallVec::new(alloc);
+        let mut entered = SmallVec::new(self.alloc);
         let Some(node) = self.node(at) else {
             return Ok(entered);
         };
@@ -120,7 +121,7 @@ impl Tree {
     fn starts_only(&self, container: NodeId) -> bool
         ensures { result ≡ starts_only (story_tree self.now) (node_place (story_tree self.now) container) }
     {
-        (self.flags(container) / 4) % 2 == 1
+        counts_at_start(self.flags(container))
     }
 }
 

@@ -1,9 +1,9 @@
 //! A story's content by number.
 
-ghost use Rattle.std.specs.Prelude.{◌≡◌, length, Some, None, IfOk, IfErr, IsSome, true, is_some, if◌then◌else◌, option_map, [], ◌∷◌, ◌++◌, ◌<◌, ◌^◌};
+ghost use Rattle.std.specs.Prelude.{◌≡◌, length, Some, None, IfOk, IfErr, IsOk, IsSome, true, is_some, if◌then◌else◌, option_map, [], ◌∷◌, ◌++◌, ◌<◌, ◌^◌};
 ghost use Rattle.ink_json.specs.Story.{tree};
 ghost use Rattle.ink_model.specs.Entered.{flags_at};
-ghost use Rattle.ink_model.specs.Grammar.{here};
+ghost use Rattle.ink_model.specs.Grammar.{here, IsSpelled};
 ghost use Rattle.ink_model.specs.Path.{is_place, listed_index};
 ghost use Rattle.ink_model.specs.Place as rules;
 ghost use Rattle.ink_model.specs.Place.{named_index};
@@ -26,26 +26,26 @@ use std::alloc::{AllocError, Global};
 /// A story's content, with the places of all content in reading order. It never changes.
 #[derive(Drop)]
 pub struct Tree {
+    pub(crate) alloc: Global,
     pub(crate) raw: RawStory,
     listed: Vec<Place>,
     ghost complete: { listed.items ≡ places (tree raw) },
     ghost rising: { keys_rise (tree raw) ≡ true },
+    ghost spelled: { IsSpelled (tree raw) },
 }
 
 impl Tree {
     ghost use Rattle.ink_tree.specs.Nodes.{story_tree, node_place, place_of, last_part, MayBeNode, Finds};
 
-    /// The tree of a story that was read. `OutOfMemory` is the one refusal, at the root.
+    /// The tree of a story that was read, which some bytes spell. `OutOfMemory` is the one refusal, at the root.
     pub fn build(alloc: Global, raw: RawStory) -> Result<Tree, ReadRefusal>
         ensures ok { IfOk result (λ t. story_tree t ≡ tree raw) }
+        ensures spelled { IfOk result (λ t. IsSpelled (story_tree t)) }
         ensures err { IfErr result (λ r. r ≡ here OutOfMemory) }
     {
         match list_story(alloc, &raw) {
-            Ok(listed) => Ok(Tree { raw, listed }),
-            Err(_) => Err(ReadRefusal {
-                cause: Cause::OutOfMemory,
-                place: Place::root(alloc),
-            }),
+            Ok(listed) => Ok(Tree { alloc, raw, listed }),
+            Err(_) => Err(ReadRefusal::at_root(alloc, Cause::OutOfMemory)),
         }
     }
 
@@ -75,11 +75,16 @@ impl Tree {
         }
     }
 
-    /// The place of a spot. The one error is a refused request for memory.
-    pub fn place(&self, alloc: Global, spot: Spot) -> Result<Place, AllocError>
-        ensures { IfOk result (λ place. place ≡ place_of (story_tree self.now) spot) }
+    /// The place of a spot. The one error is a refused request for memory, which is never made for the root.
+    pub fn place(&self, spot: Spot) -> Result<Place, AllocError>
+        ensures place { IfOk result (λ place. place ≡ place_of (story_tree self.now) spot) }
+        ensures root { place_of (story_tree self.now) spot ≡ [] → IsOk result }
     {
-        let mut place = Place::from_parts(alloc, self.parts(spot.holder))?;
+        let parts = self.parts(spot.holder);
+        if parts.is_empty() && spot.index.is_none() {
+            return Ok(Place::root(self.alloc));
+        }
+        let mut place = Place::from_parts(self.alloc, parts)?;
         if let Some(index) = spot.index {
             place.push(Part::Index(index))?;
         }
@@ -192,7 +197,7 @@ impl Tree {
 }
 
 /// What stands at an index in content.
-fn by_index(content: &Content, index: u32) -> Option<&Content>
+pub(crate) fn by_index(content: &Content, index: u32) -> Option<&Content>
     ensures { option_map (λ c. view c.now) result ≡ down (Index index) (view content.now) }
 {
     match content {

@@ -6,26 +6,24 @@ use Rattle.ink_model.specs.declared.fault.Fault.{Fault}
 use Rattle.ink_model.specs.declared.operator.Op.{Op}
 use Rattle.ink_model.specs.declared.value.Value.{Value}
 use Rattle.ink_model.specs.declared.value.Value.TheVariants.{Int, Bool as Truth, Text, Target, Pointer, Void, Tag}
-use Rattle.ink_value.specs.Words.{Gives, number_of, number_text}
+use Rattle.ink_model.specs.Memory.{Gives}
+use Rattle.ink_value.specs.Words.{number_of, number_text}
+
+pub as_number : (v : Value) (z : ℤ) → number_of v ≡ Some z → (operand v ≡ number z (number_text v)) × (printed v ≡ Ok (number_text v))
+unfolding printed
+as_number (Int x) z h = (cc, refl)
+as_number (Truth b) z h = (cc, refl)
+as_number (Text t) z h = absurd cc
+as_number (Target p) z h = absurd cc
+as_number (Pointer n i) z h = absurd cc
+as_number Void z h = absurd cc
+as_number (Tag t) z h = absurd cc
 
 pub operand_number : (v : Value) (z : ℤ) → number_of v ≡ Some z → operand v ≡ number z (number_text v)
-operand_number (Int x) z h = cc
-operand_number (Truth b) z h = cc
-operand_number (Text t) z h = cc
-operand_number (Target p) z h = cc
-operand_number (Pointer n i) z h = cc
-operand_number Void z h = cc
-operand_number (Tag t) z h = cc
+operand_number v z h = (as_number v z h).0
 
 pub printed_number : (v : Value) (z : ℤ) → number_of v ≡ Some z → printed v ≡ Ok (number_text v)
-unfolding printed
-printed_number (Int x) z h = refl
-printed_number (Truth b) z h = refl
-printed_number (Text t) z h = cc
-printed_number (Target p) z h = cc
-printed_number (Pointer n i) z h = cc
-printed_number Void z h = cc
-printed_number (Tag t) z h = cc
+printed_number v z h = (as_number v z h).1
 
 -- a number before a text is printed
 pub text_before : (operator : Op) (v w : Value) (z : ℤ) (s t : List ℕ) (r : Result Value Fault) → number_of v ≡ Some z → printed v ≡ Ok s → w ≡ Text t

@@ -1,11 +1,7 @@
 -- The evaluation stack, as contracts see it.
-use Rattle.std.specs.Prelude.{ℕ, List}
+use Rattle.std.specs.Prelude.{List}
 use Rattle.ink_model.specs.declared.value.Value.{Value}
 
 -- its values, the bottom first
 pub record Stack : Type 0 where
   pub items : List Value
-
--- as many values as it can hold
-abbrev pub max_stack : ℕ
-max_stack = 10000

@@ -1,15 +1,16 @@
 //! Operators on values.
 
-ghost use Rattle.std.specs.Prelude.{◌≡◌, ◌≢◌, false, [], ◌∷◌, List, ℕ};
+ghost use Rattle.std.specs.Prelude.{◌≡◌, ◌≢◌, ◌||◌, false, [], ◌∷◌, List, ℕ};
+ghost use Rattle.ink_model.specs.Memory.{Gives};
 ghost use Rattle.ink_model.specs.Operator as rules;
 ghost use Rattle.ink_model.specs.Operator.{operand, both};
 ghost use Rattle.ink_value.specs.Words as words;
-ghost use Rattle.ink_value.specs.Words.{Gives, is_text, has_text};
+ghost use Rattle.ink_value.specs.Words.{is_number, is_text, makes_text};
 
 use crate::numbers::of_numbers;
 use crate::printing::printed;
 use crate::targets::of_targets;
-use crate::texts::of_texts;
+use crate::texts::{is_for_texts, of_texts};
 use ink_model::{Fault, Op, Path, Value};
 use std::alloc::Global;
 
@@ -17,11 +18,13 @@ use std::alloc::Global;
 ///
 /// `BadOperands` where the operator has no result for values of these kinds, or for as many; `Divide` for a divisor that is 0,
 /// and for the least integer by -1; `TooDeep` for a text that would be longer than a text may be; `OutOfMemory` for a
-/// refused request for memory, which only texts make.
+/// refused request for memory. Memory is asked for only where two texts are joined to one within its limit, and for the text of
+/// a number beside a text: never for values without a text, for comparisons of two texts, and where the answer is
+/// `BadOperands` or `Divide`.
 #[tactic(auto, unfolding(ink_model::specs::Operator::apply))]
 pub fn apply(alloc: Global, operator: Op, values: &[Value]) -> Result<Value, Fault>
     ensures result { Gives result (rules.apply operator values.now) }
-    ensures memory { has_text values.now ≡ false → result ≢ Err Fault.OutOfMemory }
+    ensures memory { makes_text operator values.now ≡ false → result ≢ Err Fault.OutOfMemory }
 {
     match values {
         [value] => of_one(operator, value),
@@ -53,7 +56,7 @@ fn of_number(operator: Op, x: i32) -> Result<Value, Fault>
 
 fn of_two(alloc: Global, operator: Op, left: &Value, right: &Value) -> Result<Value, Fault>
     ensures result { Gives result (rules.of_two operator (both (operand left.now) (operand right.now))) }
-    ensures memory { has_text (left.now ∷ right.now ∷ []) ≡ false → result ≢ Err Fault.OutOfMemory }
+    ensures memory { makes_text operator (left.now ∷ right.now ∷ []) ≡ false → result ≢ Err Fault.OutOfMemory }
 {
     if let Some(number) = number_of(left) {
         return after_number(alloc, operator, left, number, right);
@@ -91,21 +94,24 @@ fn after_number(
     if let Some(other) = number_of(right) {
         return of_numbers(operator, number, other);
     }
-    if let Value::Text(text) = right {
-        let left = printed(alloc, left)?;
-        return of_texts(alloc, operator, left.as_str(), text.as_str());
+    match right {
+        Value::Text(text) if is_for_texts(operator) => {
+            let left = printed(alloc, left)?;
+            of_texts(alloc, operator, left.as_str(), text.as_str())
+        }
+        _ => Err(Fault::BadOperands),
     }
-    Err(Fault::BadOperands)
 }
 
 // A text and any value.
 #[tactic(auto, unfolding(ink_model::specs::Value::printed))]
 fn after_text(alloc: Global, operator: Op, left: &str, right: &Value) -> Result<Value, Fault>
-    ensures { Gives result (rules.of_two operator (both (rules.words left.now) (operand right.now))) }
+    ensures result { Gives result (rules.of_two operator (both (rules.words left.now) (operand right.now))) }
+    ensures memory { words.joins operator (Value.Text left.now ∷ right.now ∷ []) || is_number right.now ≡ false → result ≢ Err Fault.OutOfMemory }
 {
     match right {
         Value::Text(text) => of_texts(alloc, operator, left, text.as_str()),
-        Value::Int(_) | Value::Bool(_) => {
+        Value::Int(_) | Value::Bool(_) if is_for_texts(operator) => {
             let text = printed(alloc, right)?;
             of_texts(alloc, operator, left, text.as_str())
         }

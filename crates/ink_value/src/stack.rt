@@ -1,14 +1,10 @@
 //! The evaluation stack.
 
 ghost use Rattle.std.specs.Prelude.{◌≡◌, ◌≢◌, ◌≤◌, ◌↔◌, ◌⊎◌, [], ◌∷◌, ◌++◌, length, reverse, slice_get, OnOk, OnErr, IfOk, IfErr, MatchResult};
-ghost use Rattle.ink_value.specs.Stack.{max_stack};
 
-use ink_model::{Fault, Value};
-use std::alloc::Global;
+use ink_model::{Fault, MAX_STACK, Value};
+use std::alloc::{AllocError, Global};
 use std::marker::Model;
-
-// As many values as it can hold.
-const MAX_STACK: usize = 10_000;
 
 /// The values that are being evaluated. A contract sees them from the bottom up.
 #[derive(Drop)]
@@ -18,13 +14,14 @@ pub struct EvalStack {
 
 impl Model for EvalStack {
     ghost use Rattle.std.specs.Prelude.{◌≤◌, vec_len};
-    ghost use Rattle.ink_value.specs.Stack.{Stack, max_stack};
+    ghost use Rattle.ink_value.specs.Stack.{Stack};
+    ghost use Rattle.ink_model.specs.declared.limits.TheConstants.{MAX_STACK};
 
     ghost Value = { Stack };
 
     ghost view = { λ s. record { items = s.items.items } };
 
-    ghost invariant = { λ s. vec_len s.items ≤ max_stack };
+    ghost invariant = { λ s. vec_len s.items ≤ MAX_STACK };
 }
 
 impl EvalStack {
@@ -37,14 +34,27 @@ impl EvalStack {
         }
     }
 
+    /// A copy with the same values. The one error is a refused request for memory, which an empty stack never makes.
+    pub fn clone_in(&self, alloc: Global) -> Result<EvalStack, AllocError>
+        ensures copy { IfOk result (λ copy. copy.items ≡ self.now.items) }
+        ensures memory { OnErr result (self.now.items ≢ []) }
+    {
+        let mut items = Vec::new(alloc);
+        for value in &self.items {
+            let copy = value.clone_in(alloc)?;
+            items.push(copy)?;
+        }
+        Ok(EvalStack { items })
+    }
+
     /// Puts a value on top. `TooDeep` where 10,000 values are there; `OutOfMemory` for a refused request for memory. On an
     /// error nothing has changed.
     pub fn push(&mut self, value: Value) -> Result<(), Fault>
         ensures ok { OnOk result (self.new.items ≡ self.old.items ++ value ∷ []) }
         ensures err { OnErr result (self.new.items ≡ self.old.items) }
-        ensures too_deep { (result ≡ Err Fault.TooDeep) ↔ (length self.old.items ≡ max_stack) }
+        ensures too_deep { (result ≡ Err Fault.TooDeep) ↔ (length self.old.items ≡ MAX_STACK) }
         ensures faults { IfErr result (λ f. (f ≡ Fault.TooDeep) ⊎ (f ≡ Fault.OutOfMemory)) }
-        ensures within { length self.new.items ≤ max_stack }
+        ensures within { length self.new.items ≤ MAX_STACK }
     {
         if self.items.len() >= MAX_STACK {
             return Err(Fault::TooDeep);

@@ -1,17 +1,27 @@
 //! Operators on two texts.
 
-ghost use Rattle.std.specs.Prelude.{◌≡◌, ◌++◌};
+ghost use Rattle.std.specs.Prelude.{◌≡◌, ◌≢◌, [], ◌∷◌, ◌++◌, false};
+ghost use Rattle.ink_model.specs.Bytes as bytes;
+ghost use Rattle.ink_model.specs.Memory.{Gives};
 ghost use Rattle.ink_model.specs.Operator as rules;
-ghost use Rattle.ink_value.specs.Words.{Gives};
+ghost use Rattle.ink_value.specs.Words as words;
 
-use ink_model::{Fault, Op, Text, Value};
+use ink_model::{Fault, MAX_TEXT, Op, Text, Value};
 use std::alloc::Global;
 
-// How many bytes a text has at the most.
-const MAX_TEXT: usize = 1_048_576;
+// Does the operator have a result for two texts?
+pub(crate) fn is_for_texts(operator: Op) -> bool
+    ensures { result ≡ words.is_for_texts operator }
+{
+    matches!(
+        operator,
+        Op::Add | Op::Equal | Op::NotEqual | Op::Has | Op::HasNot
+    )
+}
 
 pub(crate) fn of_texts(alloc: Global, operator: Op, left: &str, right: &str) -> Result<Value, Fault>
-    ensures { Gives result (rules.of_texts operator left.now right.now) }
+    ensures result { Gives result (rules.of_texts operator left.now right.now) }
+    ensures memory { words.joins operator (Value.Text left.now ∷ Value.Text right.now ∷ []) ≡ false → result ≢ Err Fault.OutOfMemory }
 {
     match operator {
         Op::Add => joined(alloc, left, right),
@@ -24,7 +34,8 @@ pub(crate) fn of_texts(alloc: Global, operator: Op, left: &str, right: &str) -> 
 }
 
 fn joined(alloc: Global, left: &str, right: &str) -> Result<Value, Fault>
-    ensures { Gives result (rules.joined_text (left.now ++ right.now)) }
+    ensures result { Gives result (rules.joined_text (left.now ++ right.now)) }
+    ensures memory { bytes.fits_text (left.now ++ right.now) ≡ false → result ≢ Err Fault.OutOfMemory }
 {
     if left.len() + right.len() > MAX_TEXT {
         return Err(Fault::TooDeep);
@@ -38,7 +49,7 @@ fn joined(alloc: Global, left: &str, right: &str) -> Result<Value, Fault>
 // Does a text stand in another?
 #[tactic(auto, using(crate::proofs::Standing::has_from_contains))]
 fn has(text: &str, part: &str) -> bool
-    ensures { result ≡ rules.has text.now part.now }
+    ensures { result ≡ bytes.has text.now part.now }
 {
     text.contains(part)
 }

@@ -85,7 +85,7 @@ fn answer(
     call: &str,
 ) -> Result<String, AllocError> {
     match (call, player) {
-        ("runnable", _) => unplayed(alloc, story),
+        ("runnable", _) => unsupported(alloc, story),
         ("open", _) => opened(alloc, story),
         (_, Some(player)) => player_answer(alloc, player, call),
         (_, None) => String::from_str(alloc, "no player"),
@@ -214,7 +214,7 @@ fn accepted(alloc: Global, bytes: &[u8]) -> Result<Story, ReadRefusal> {
 }
 
 /// The place of the first content that is not played.
-fn unplayed(alloc: Global, story: &[u8]) -> Result<String, AllocError> {
+fn unsupported(alloc: Global, story: &[u8]) -> Result<String, AllocError> {
     let story = match accepted(alloc, story) {
         Ok(story) => story,
         Err(refusal) => return format!(in alloc; "refused {}", refusal.cause),

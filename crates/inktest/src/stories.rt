@@ -102,7 +102,7 @@ fn shown_spot(alloc: Global, spot: Option<Spot>) -> Answer {
 }
 
 fn shown_place(alloc: Global, tree: &Tree, spot: Spot) -> Answer {
-    let place = tree.place(alloc, spot)?;
+    let place = tree.place(spot)?;
     Ok(shown_parts(alloc, place.parts())?)
 }
 
@@ -126,7 +126,7 @@ fn entered(alloc: Global, tree: &Tree, rest: &str) -> Answer {
     let previous = spot_at(alloc, tree, previous)?;
     let at = place_at(alloc, tree, at)?;
     let mut places = String::new(alloc);
-    for holder in tree.entered(alloc, previous, at)?.as_slice() {
+    for holder in tree.entered(previous, at)?.as_slice() {
         let container = Spot {
             holder: *holder,
             index: None,

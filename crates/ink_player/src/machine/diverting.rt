@@ -5,7 +5,7 @@ ghost use Rattle.ink_check.specs.Words.{story_tree};
 ghost use Rattle.ink_model.specs.Acceptance.{written_target};
 ghost use Rattle.ink_model.specs.Configuration.{Configuration};
 ghost use Rattle.ink_model.specs.Step as rules;
-ghost use Rattle.ink_model.specs.Step.{values, diverts, leaps, lands_at, lands_by, read_global};
+ghost use Rattle.ink_model.specs.Step.{push_value, divert, divert_to, land_at, land_by, read_global};
 ghost use Rattle.ink_model.specs.Tree.{StoryTree, at, leaf};
 ghost use Rattle.ink_model.specs.declared.content.Leaf.TheVariants as leaves;
 ghost use Rattle.ink_model.specs.declared.place.Part.{Part};
@@ -27,7 +27,7 @@ const ROOT: NodeId = NodeId { number: 0 };
 impl Machine {
     /// The path that a text spells is pushed in evaluation mode. Outside it nothing is done.
     pub(super) fn put_target(&mut self, story: &Story, here: Spot, text: &Text) -> StepEnd
-        ensures { let s = story_tree story.now in Ends (values s (place_of s here) (value.Target (rules.path_of text.now)) (config_of s self.old)) self.old.globals (config_of s self.new) result }
+        ensures { let s = story_tree story.now in Ends (push_value s (place_of s here) (value.Target (rules.path_of text.now)) (config_of s self.old)) self.old.globals (config_of s self.new) result }
     {
         if !self.evaluating {
             return self.go_on(story, here);
@@ -47,7 +47,7 @@ impl Machine {
         conditional: bool,
     ) -> StepEnd
         requires { let s = story_tree story.now in at s (place_of s here) ≡ Some (leaf (leaves.Divert to.now conditional)) }
-        ensures { let s = story_tree story.now in Ends (diverts s (place_of s here) to.now conditional (config_of s self.old)) self.old.globals (config_of s self.new) result }
+        ensures { let s = story_tree story.now in Ends (divert s (place_of s here) to.now conditional (config_of s self.old)) self.old.globals (config_of s self.new) result }
     {
         if !conditional {
             return self.leap(story, here, to, conditional);
@@ -65,7 +65,7 @@ impl Machine {
     /// By a written path, or by what a variable holds.
     fn leap(&mut self, story: &Story, here: Spot, to: &Destination, conditional: bool) -> StepEnd
         requires { let s = story_tree story.now in at s (place_of s here) ≡ Some (leaf (leaves.Divert to.now conditional)) }
-        ensures { let s = story_tree story.now in Ends (leaps s (place_of s here) to.now (config_of s self.old)) self.old.globals (config_of s self.new) result }
+        ensures { let s = story_tree story.now in Ends (divert_to s (place_of s here) to.now (config_of s self.old)) self.old.globals (config_of s self.new) result }
     {
         match to {
             Destination::Path(_) => self.land(here, written_landing(story, here)),
@@ -79,7 +79,7 @@ impl Machine {
     /// Where the target that a global holds leads, none where it holds no target or the target leads nowhere.
     fn target_in(&self, story: &Story, name: &Text) -> Option<Spot>
         ensures { let s = story_tree story.now in (p : List Part) (c : Configuration)
-            → lands_by s p (read_global name.now (config_of s self.now)) c ≡ lands_at p (option_map (place_of s) result) c }
+            → land_by s p (read_global name.now (config_of s self.now)) c ≡ land_at p (option_map (place_of s) result) c }
     {
         match self.globals.get(name.as_str()) {
             Some(Value::Target(path)) => story.tree().resolve(ROOT, path),
@@ -89,7 +89,7 @@ impl Machine {
 
     /// Flow goes to a place, if there is one.
     fn land(&mut self, here: Spot, target: Option<Spot>) -> StepEnd
-        ensures { (s : StoryTree) → Ends (lands_at (place_of s here) (option_map (place_of s) target) (config_of s self.old)) self.old.globals (config_of s self.new) result }
+        ensures { (s : StoryTree) → Ends (land_at (place_of s here) (option_map (place_of s) target) (config_of s self.old)) self.old.globals (config_of s self.new) result }
     {
         if target.is_none() {
             return StepEnd::Fault(Fault::BadTarget);

@@ -3,7 +3,7 @@
 ghost use Rattle.std.specs.Prelude.{◌≡◌, [], ◌∷◌};
 ghost use Rattle.ink_model.specs.Operator.{takes};
 ghost use Rattle.ink_model.specs.Stack.{popped, taken};
-ghost use Rattle.ink_model.specs.Step.{pushes, values, begins, leaves_off, outs, pops, doubles, operates};
+ghost use Rattle.ink_model.specs.Step.{push, push_value, begin_eval, end_eval, output_value, pop, duplicate, operate};
 ghost use Rattle.ink_model.specs.declared.value.Value.TheVariants as value;
 ghost use Rattle.ink_check.specs.Words.{story_tree};
 ghost use Rattle.ink_tree.specs.Nodes.{place_of};
@@ -19,7 +19,7 @@ use ink_tree::Spot;
 impl Machine {
     /// A value is pushed in evaluation mode, and does nothing outside it.
     pub(super) fn put_value(&mut self, story: &Story, here: Spot, value: Value) -> StepEnd
-        ensures { let s = story_tree story.now in Ends (values s (place_of s here) value (config_of s self.old)) self.old.globals (config_of s self.new) result }
+        ensures { let s = story_tree story.now in Ends (push_value s (place_of s here) value (config_of s self.old)) self.old.globals (config_of s self.new) result }
     {
         if self.evaluating {
             self.push(story, here, value)
@@ -29,7 +29,7 @@ impl Machine {
     }
 
     pub(super) fn push_text(&mut self, story: &Story, here: Spot, text: &str) -> StepEnd
-        ensures { let s = story_tree story.now in Ends (pushes s (place_of s here) (value.Text text.now) (config_of s self.old)) self.old.globals (config_of s self.new) result }
+        ensures { let s = story_tree story.now in Ends (push s (place_of s here) (value.Text text.now) (config_of s self.old)) self.old.globals (config_of s self.new) result }
     {
         let Ok(copy) = Text::from_str(self.alloc, text) else {
             return StepEnd::Fault(Fault::OutOfMemory);
@@ -38,7 +38,7 @@ impl Machine {
     }
 
     pub(super) fn push(&mut self, story: &Story, here: Spot, value: Value) -> StepEnd
-        ensures { let s = story_tree story.now in Ends (pushes s (place_of s here) value (config_of s self.old)) self.old.globals (config_of s self.new) result }
+        ensures { let s = story_tree story.now in Ends (push s (place_of s here) value (config_of s self.old)) self.old.globals (config_of s self.new) result }
     {
         if let Err(fault) = self.stack.push(value) {
             return StepEnd::Fault(fault);
@@ -47,7 +47,7 @@ impl Machine {
     }
 
     pub(super) fn begin_evaluation(&mut self, story: &Story, here: Spot) -> StepEnd
-        ensures { let s = story_tree story.now in Ends (begins s (place_of s here) (config_of s self.old)) self.old.globals (config_of s self.new) result }
+        ensures { let s = story_tree story.now in Ends (begin_eval s (place_of s here) (config_of s self.old)) self.old.globals (config_of s self.new) result }
     {
         if self.evaluating {
             return StepEnd::Fault(Fault::BadMode);
@@ -57,7 +57,7 @@ impl Machine {
     }
 
     pub(super) fn end_evaluation(&mut self, story: &Story, here: Spot) -> StepEnd
-        ensures { let s = story_tree story.now in Ends (leaves_off s (place_of s here) (config_of s self.old)) self.old.globals (config_of s self.new) result }
+        ensures { let s = story_tree story.now in Ends (end_eval s (place_of s here) (config_of s self.old)) self.old.globals (config_of s self.new) result }
     {
         if !self.evaluating {
             return StepEnd::Fault(Fault::BadMode);
@@ -68,7 +68,7 @@ impl Machine {
 
     /// Writes what is popped; on an empty stack it does nothing.
     pub(super) fn out(&mut self, story: &Story, here: Spot) -> StepEnd
-        ensures { let s = story_tree story.now in Ends (outs s (place_of s here) (popped self.old.stack.items) (config_of s self.old)) self.old.globals (config_of s self.new) result }
+        ensures { let s = story_tree story.now in Ends (output_value s (place_of s here) (popped self.old.stack.items) (config_of s self.old)) self.old.globals (config_of s self.new) result }
     {
         match top(&mut self.stack) {
             Some(value) => self.write(story, here, &value),
@@ -77,7 +77,7 @@ impl Machine {
     }
 
     pub(super) fn pop(&mut self, story: &Story, here: Spot) -> StepEnd
-        ensures { let s = story_tree story.now in Ends (pops s (place_of s here) (popped self.old.stack.items) (config_of s self.old)) self.old.globals (config_of s self.new) result }
+        ensures { let s = story_tree story.now in Ends (pop s (place_of s here) (popped self.old.stack.items) (config_of s self.old)) self.old.globals (config_of s self.new) result }
     {
         match top(&mut self.stack) {
             Some(_) => self.go_on(story, here),
@@ -86,7 +86,7 @@ impl Machine {
     }
 
     pub(super) fn duplicate(&mut self, story: &Story, here: Spot) -> StepEnd
-        ensures { let s = story_tree story.now in Ends (doubles s (place_of s here) (popped self.old.stack.items) (config_of s self.old)) self.old.globals (config_of s self.new) result }
+        ensures { let s = story_tree story.now in Ends (duplicate s (place_of s here) (popped self.old.stack.items) (config_of s self.old)) self.old.globals (config_of s self.new) result }
     {
         match top_copy(self.alloc, &self.stack) {
             Ok(value) => self.push(story, here, value),
@@ -95,7 +95,7 @@ impl Machine {
     }
 
     pub(super) fn operate(&mut self, story: &Story, here: Spot, operator: Op) -> StepEnd
-        ensures { let s = story_tree story.now in Ends (operates s (place_of s here) operator (taken (takes operator) self.old.stack.items []) (config_of s self.old)) self.old.globals (config_of s self.new) result }
+        ensures { let s = story_tree story.now in Ends (operate s (place_of s here) operator (taken (takes operator) self.old.stack.items []) (config_of s self.old)) self.old.globals (config_of s self.new) result }
     {
         match applied(self.alloc, &mut self.stack, operator) {
             Ok(value) => self.push(story, here, value),

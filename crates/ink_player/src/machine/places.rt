@@ -3,7 +3,7 @@
 ghost use Rattle.std.specs.Prelude.{◌≡◌, ◌++◌, Some, option_map};
 ghost use Rattle.ink_check.specs.Words.{story_tree};
 ghost use Rattle.ink_model.specs.Opening.{declarations};
-ghost use Rattle.ink_model.specs.Place.{start_place, landed, way_in, entered, next_place};
+ghost use Rattle.ink_model.specs.Place.{start_place, landed, first_content, entered, next_place};
 ghost use Rattle.ink_model.specs.Tree.{at, down, nth};
 ghost use Rattle.ink_model.specs.View.{view, trees_view};
 ghost use Rattle.ink_model.specs.declared.place.Part.TheVariants.{Index};
@@ -45,7 +45,7 @@ pub(super) fn enter(story: &Story, place: Spot) -> (Spot, Option<&Content>)
 /// Goes from content down to its first content that holds no other by index.
 fn go_in<'c>(tree: &Tree, place: Spot, from: &'c Content) -> (Spot, &'c Content)
     requires { let s = nodes.story_tree tree.now in at s (place_of s place) ≡ Some (view from.now) }
-    ensures here { let s = nodes.story_tree tree.now in place_of s result.0 ≡ place_of s place ++ way_in (view from.now) }
+    ensures here { let s = nodes.story_tree tree.now in place_of s result.0 ≡ place_of s place ++ first_content (view from.now) }
     ensures found { let s = nodes.story_tree tree.now in at s (place_of s result.0) ≡ Some (view result.1.now) }
 {
     let mut here = place;

@@ -1,7 +1,7 @@
 //! Steps that begin and end strings and tags.
 
 ghost use Rattle.std.specs.Prelude.{◌≡◌, Ok, IfErr, if◌then◌else◌};
-ghost use Rattle.ink_model.specs.Step.{begins_string, ends_string, begins_tag, tag_closed, goes_with, in_tag};
+ghost use Rattle.ink_model.specs.Step.{begin_string, end_string, begin_tag, tag_closed, go_on_with, in_tag};
 ghost use Rattle.ink_model.specs.Tree.{StoryTree};
 ghost use Rattle.ink_check.specs.Words.{story_tree};
 ghost use Rattle.ink_tree.specs.Nodes.{place_of};
@@ -16,7 +16,7 @@ use ink_tree::Spot;
 impl Machine {
     /// A string begins in evaluation mode, and its content is written as text.
     pub(super) fn begin_string(&mut self, story: &Story, here: Spot) -> StepEnd
-        ensures { let s = story_tree story.now in Ends (begins_string s (place_of s here) (config_of s self.old)) self.old.globals (config_of s self.new) result }
+        ensures { let s = story_tree story.now in Ends (begin_string s (place_of s here) (config_of s self.old)) self.old.globals (config_of s self.new) result }
     {
         if !self.evaluating {
             return StepEnd::Fault(Fault::BadMode);
@@ -30,7 +30,7 @@ impl Machine {
 
     /// The text of a string that ends is pushed, and evaluation goes on.
     pub(super) fn end_string(&mut self, story: &Story, here: Spot) -> StepEnd
-        ensures { let s = story_tree story.now in Ends (ends_string s (place_of s here) (config_of s self.old)) self.old.globals (config_of s self.new) result }
+        ensures { let s = story_tree story.now in Ends (end_string s (place_of s here) (config_of s self.old)) self.old.globals (config_of s self.new) result }
     {
         match self.output.close_string() {
             Ok(text) => {
@@ -43,7 +43,7 @@ impl Machine {
 
     /// A tag begins; one that is on top is closed first.
     pub(super) fn begin_tag(&mut self, story: &Story, here: Spot) -> StepEnd
-        ensures { let s = story_tree story.now in Ends (begins_tag s (place_of s here) (config_of s self.old)) self.old.globals (config_of s self.new) result }
+        ensures { let s = story_tree story.now in Ends (begin_tag s (place_of s here) (config_of s self.old)) self.old.globals (config_of s self.new) result }
     {
         if let Err(fault) = self.close_tag_on_top() {
             return StepEnd::Fault(fault);
@@ -55,7 +55,7 @@ impl Machine {
     }
 
     pub(super) fn end_tag(&mut self, story: &Story, here: Spot) -> StepEnd
-        ensures { let s = story_tree story.now in Ends (goes_with s (place_of s here) (tag_closed (config_of s self.old))) self.old.globals (config_of s self.new) result }
+        ensures { let s = story_tree story.now in Ends (go_on_with s (place_of s here) (tag_closed (config_of s self.old))) self.old.globals (config_of s self.new) result }
     {
         if let Err(fault) = self.close_tag() {
             return StepEnd::Fault(fault);

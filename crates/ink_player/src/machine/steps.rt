@@ -2,7 +2,7 @@
 
 ghost use Rattle.std.specs.Prelude.{◌≡◌, Some, option_map};
 ghost use Rattle.ink_model.specs.Configuration.{ended};
-ghost use Rattle.ink_model.specs.Step.{step, performs, controls, goes, go_on, halts, done, nothing_bound};
+ghost use Rattle.ink_model.specs.Step.{step, perform, perform_control, move_to, go_on, stop, done, nothing_bound};
 ghost use Rattle.ink_model.specs.Tree.{StoryTree, at, leaf};
 ghost use Rattle.ink_model.specs.View.{view};
 ghost use Rattle.ink_check.specs.Words.{story_tree};
@@ -32,7 +32,7 @@ impl Machine {
     /// Performs what was found at a place: an empty container, or nothing, is passed over.
     fn perform(&mut self, story: &Story, here: Spot, found: Option<&Content>) -> StepEnd
         requires { let s = story_tree story.now in option_map (λ c. view c.now) found ≡ at s (place_of s here) }
-        ensures { let s = story_tree story.now in Ends (performs s nothing_bound (place_of s here) (option_map (λ c. view c.now) found.entry) (config_of s self.old)) self.old.globals (config_of s self.new) result }
+        ensures { let s = story_tree story.now in Ends (perform s nothing_bound (place_of s here) (option_map (λ c. view c.now) found.entry) (config_of s self.old)) self.old.globals (config_of s self.new) result }
     {
         match found {
             None => self.go_on(story, here),
@@ -44,7 +44,7 @@ impl Machine {
     // Content that is not played yet is passed over.
     fn perform_leaf(&mut self, story: &Story, here: Spot, content: &Leaf) -> StepEnd
         requires { let s = story_tree story.now in at s (place_of s here) ≡ Some (leaf content.now) }
-        ensures { let s = story_tree story.now in Ends (performs s nothing_bound (place_of s here) (Some (leaf content.now)) (config_of s self.old)) self.old.globals (config_of s self.new) result }
+        ensures { let s = story_tree story.now in Ends (perform s nothing_bound (place_of s here) (Some (leaf content.now)) (config_of s self.old)) self.old.globals (config_of s self.new) result }
     {
         match content {
             Leaf::Text(text) => self.say(story, here, text),
@@ -72,7 +72,7 @@ impl Machine {
     }
 
     fn obey(&mut self, story: &Story, here: Spot, control: Control) -> StepEnd
-        ensures { let s = story_tree story.now in Ends (controls s (place_of s here) control (config_of s self.old)) self.old.globals (config_of s self.new) result }
+        ensures { let s = story_tree story.now in Ends (perform_control s (place_of s here) control (config_of s self.old)) self.old.globals (config_of s self.new) result }
     {
         match control {
             Control::BeginEval => self.begin_evaluation(story, here),
@@ -109,7 +109,7 @@ impl Machine {
 
     /// Flow stops safely, and nothing is left of where it was.
     fn end(&mut self) -> StepEnd
-        ensures { (s : StoryTree) → Ends (halts (ended (config_of s self.old))) self.old.globals (config_of s self.new) result }
+        ensures { (s : StoryTree) → Ends (stop (ended (config_of s self.old))) self.old.globals (config_of s self.new) result }
     {
         self.previous = None;
         self.evaluating = false;
@@ -125,7 +125,7 @@ impl Machine {
 
     /// Flow goes from a place to the next, or stops where there is none.
     pub(super) fn go(&mut self, here: Spot, next: Option<Spot>) -> StepEnd
-        ensures { (s : StoryTree) → Ends (goes (place_of s here) (option_map (place_of s) next) (config_of s self.old)) self.old.globals (config_of s self.new) result }
+        ensures { (s : StoryTree) → Ends (move_to (place_of s here) (option_map (place_of s) next) (config_of s self.old)) self.old.globals (config_of s self.new) result }
     {
         self.previous = Some(here);
         self.place = next;
@@ -137,7 +137,7 @@ impl Machine {
 
     /// Flow has stopped, which it may not do while a string or a tag is open.
     fn halt(&self) -> StepEnd
-        ensures { (s : StoryTree) → Ends (halts (config_of s self.now)) self.now.globals (config_of s self.now) result }
+        ensures { (s : StoryTree) → Ends (stop (config_of s self.now)) self.now.globals (config_of s self.now) result }
     {
         if self.output.depth() == 0 {
             StepEnd::Stopped

@@ -3,7 +3,7 @@
 ghost use Rattle.std.specs.Prelude.{◌≡◌, is_some, IfOk, OnOk, OnErr};
 ghost use Rattle.ink_model.specs.Configuration.{with_globals};
 ghost use Rattle.ink_model.specs.Stack.{popped};
-ghost use Rattle.ink_model.specs.Step.{go_on, pushes, declares, assigns, read_global};
+ghost use Rattle.ink_model.specs.Step.{go_on, push, declare, assign, read_global};
 ghost use Rattle.ink_model.specs.Store.{stored, store};
 ghost use Rattle.ink_model.specs.Tree.{StoryTree};
 ghost use Rattle.ink_check.specs.Words.{story_tree};
@@ -21,7 +21,7 @@ use std::alloc::AllocError;
 impl Machine {
     /// What is popped becomes the value of a global, which need not be there.
     pub(super) fn declare(&mut self, story: &Story, here: Spot, name: &Text) -> StepEnd
-        ensures { let s = story_tree story.now in Ends (declares s (place_of s here) name.now (popped self.old.stack.items) (config_of s self.old)) self.old.globals (config_of s self.new) result }
+        ensures { let s = story_tree story.now in Ends (declare s (place_of s here) name.now (popped self.old.stack.items) (config_of s self.old)) self.old.globals (config_of s self.new) result }
     {
         let Some(value) = top(&mut self.stack) else {
             return StepEnd::Fault(Fault::StackEmpty);
@@ -31,7 +31,7 @@ impl Machine {
 
     /// What is popped becomes the value of a global that has to be there.
     pub(super) fn assign(&mut self, story: &Story, here: Spot, name: &Text) -> StepEnd
-        ensures { let s = story_tree story.now in Ends (assigns s (place_of s here) name.now (popped self.old.stack.items) (config_of s self.old)) self.old.globals (config_of s self.new) result }
+        ensures { let s = story_tree story.now in Ends (assign s (place_of s here) name.now (popped self.old.stack.items) (config_of s self.old)) self.old.globals (config_of s self.new) result }
     {
         let Some(value) = top(&mut self.stack) else {
             return StepEnd::Fault(Fault::StackEmpty);
@@ -57,7 +57,7 @@ impl Machine {
     }
 
     pub(super) fn read(&mut self, story: &Story, here: Spot, name: &Text) -> StepEnd
-        ensures { let s = story_tree story.now in Ends (pushes s (place_of s here) (read_global name.now (config_of s self.old)) (config_of s self.old)) self.old.globals (config_of s self.new) result }
+        ensures { let s = story_tree story.now in Ends (push s (place_of s here) (read_global name.now (config_of s self.old)) (config_of s self.old)) self.old.globals (config_of s self.new) result }
     {
         let Ok(value) = self.value_of(name.as_str()) else {
             return StepEnd::Fault(Fault::OutOfMemory);

@@ -2,7 +2,7 @@
 
 ghost use Rattle.std.specs.Prelude.{◌≡◌, false};
 ghost use Rattle.ink_model.specs.Output.{writes_value};
-ghost use Rattle.ink_model.specs.Step.{says, says_newline, glues, outputs};
+ghost use Rattle.ink_model.specs.Step.{write_text, write_newline, write_glue, write_page};
 ghost use Rattle.ink_check.specs.Words.{story_tree};
 ghost use Rattle.ink_tree.specs.Nodes.{place_of};
 ghost use Rattle.ink_player.specs.Words.{config_of};
@@ -20,7 +20,7 @@ impl Machine {
     /// A text is pushed in evaluation mode, and written outside it.
     #[tactic(auto, unfolding(ink_model::specs::Value::printed))]
     pub(super) fn say(&mut self, story: &Story, here: Spot, text: &Text) -> StepEnd
-        ensures { let s = story_tree story.now in Ends (says s (place_of s here) text.now (config_of s self.old)) self.old.globals (config_of s self.new) result }
+        ensures { let s = story_tree story.now in Ends (write_text s (place_of s here) text.now (config_of s self.old)) self.old.globals (config_of s self.new) result }
     {
         let Ok(copy) = text.clone_in(self.alloc) else {
             return StepEnd::Fault(Fault::OutOfMemory);
@@ -35,7 +35,7 @@ impl Machine {
 
     /// Writes the printed text of a value.
     pub(super) fn write(&mut self, story: &Story, here: Spot, value: &Value) -> StepEnd
-        ensures { let s = story_tree story.now in Ends (outputs s (place_of s here) (writes_value false value.now self.old.output.page) (config_of s self.old)) self.old.globals (config_of s self.new) result }
+        ensures { let s = story_tree story.now in Ends (write_page s (place_of s here) (writes_value false value.now self.old.output.page) (config_of s self.old)) self.old.globals (config_of s self.new) result }
     {
         if let Err(fault) = self.output.write(value, FRESH) {
             return StepEnd::Fault(fault);
@@ -44,7 +44,7 @@ impl Machine {
     }
 
     pub(super) fn say_newline(&mut self, story: &Story, here: Spot) -> StepEnd
-        ensures { let s = story_tree story.now in Ends (says_newline s (place_of s here) (config_of s self.old)) self.old.globals (config_of s self.new) result }
+        ensures { let s = story_tree story.now in Ends (write_newline s (place_of s here) (config_of s self.old)) self.old.globals (config_of s self.new) result }
     {
         if self.evaluating {
             return self.push_text(story, here, "\n");
@@ -57,7 +57,7 @@ impl Machine {
 
     /// Glue is no value.
     pub(super) fn glue(&mut self, story: &Story, here: Spot) -> StepEnd
-        ensures { let s = story_tree story.now in Ends (glues s (place_of s here) (config_of s self.old)) self.old.globals (config_of s self.new) result }
+        ensures { let s = story_tree story.now in Ends (write_glue s (place_of s here) (config_of s self.old)) self.old.globals (config_of s self.new) result }
     {
         if self.evaluating {
             return StepEnd::Fault(Fault::BadMode);

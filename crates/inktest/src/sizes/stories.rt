@@ -5,7 +5,7 @@ use crate::answer::NoAnswer;
 use crate::words::shown_parts;
 use ink_check::{Story, check};
 use ink_json::read_story;
-use ink_model::{Place, ReadRefusal};
+use ink_model::ReadRefusal;
 use ink_player::runnable;
 use ink_tree::{NodeId, Spot, Tree, read_path};
 use std::alloc::{AllocError, Global};
@@ -25,7 +25,7 @@ pub(super) fn of_story(
         "keys" => keyed(alloc, number)?,
         "diverts" => diverts(alloc, number)?,
         "bad_path" => bad_path(alloc, number)?,
-        "unplayed" => unplayed(alloc, number)?,
+        "unsupported" => unsupported(alloc, number)?,
         _ => return Ok(None),
     }))
 }
@@ -44,13 +44,9 @@ fn checked(alloc: Global, story: &str) -> Result<Story, ReadRefusal> {
     }
 }
 
-fn place(alloc: Global, tree: &Tree, spot: Spot) -> Result<Place, AllocError> {
-    tree.place(alloc, spot)
-}
-
 fn shown_place(alloc: Global, tree: &Tree, spot: Option<Spot>) -> Result<String, AllocError> {
     match spot {
-        Some(spot) => shown_parts(alloc, place(alloc, tree, spot)?.parts()),
+        Some(spot) => shown_parts(alloc, tree.place(spot)?.parts()),
         None => String::from_str(alloc, "nowhere"),
     }
 }
@@ -68,7 +64,7 @@ fn contents(alloc: Global, story: &str) -> Result<String, NoAnswer> {
     let last = NodeId {
         number: tree.len().saturating_sub(1),
     };
-    let place = place(alloc, &tree, on(last))?;
+    let place = tree.place(on(last))?;
     let parts = place.parts();
     let end = match parts.split_last() {
         Some((part, _)) => shown_parts(alloc, &[part.clone_in(alloc)?])?,
@@ -87,16 +83,16 @@ fn entered(alloc: Global, number: usize) -> Result<String, NoAnswer> {
     let last = NodeId {
         number: tree.len().saturating_sub(1),
     };
-    let place = place(alloc, &tree, on(last))?;
+    let place = tree.place(on(last))?;
     let Some(spot) = tree.spot(place.parts()) else {
         return Ok(String::from_str(alloc, "no spot")?);
     };
-    let count = entered_count(alloc, &tree, spot)?;
+    let count = entered_count(&tree, spot)?;
     Ok(format!(in alloc; "{count} containers")?)
 }
 
-fn entered_count(alloc: Global, tree: &Tree, spot: Spot) -> Result<usize, AllocError> {
-    Ok(tree.entered(alloc, None, spot)?.as_slice().len())
+fn entered_count(tree: &Tree, spot: Spot) -> Result<usize, AllocError> {
+    Ok(tree.entered(None, spot)?.as_slice().len())
 }
 
 /// Where the last name of a list leads.
@@ -143,7 +139,7 @@ fn bad_path(alloc: Global, number: usize) -> Result<String, NoAnswer> {
 }
 
 /// The place of what is not played behind so much content.
-fn unplayed(alloc: Global, number: usize) -> Result<String, NoAnswer> {
+fn unsupported(alloc: Global, number: usize) -> Result<String, NoAnswer> {
     let text = story_of(alloc, number, r#""\n","#, r#""thread",null"#)?;
     let story = checked(alloc, text.as_str())?;
     match runnable(alloc, &story)? {

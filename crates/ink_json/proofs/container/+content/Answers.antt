@@ -3,7 +3,7 @@ use Rattle.std.proofs.lemmas.Result.{err_from_is_err_and}
 use Rattle.serde_json.specs.View.{view as json_view, items_view, members_view}
 use Rattle.ink_model.specs.Grammar.{with_name, name_of, faults_by, keyed_by}
 use Rattle.ink_model.specs.View.{view, trees_view, keyed_view}
-use Rattle.ink_json.proofs.Containers.{container_stops, container_stops_late, container_read, own_is, keyed_is, whole_has, length_size, item_within, entry_within, element_goes, element_stops, elements_end, trees_front, pushed_front, view-Container, Entry, next_key, after_key, own_key, own_key_faults, key_stops, key_goes, key_put}
+use Rattle.ink_json.proofs.Containers.{by_takes, container_takes, container_stops, container_stops_late, container_read, own_is, keyed_is, whole_has, length_size, item_within, entry_within, element_goes, element_stops, elements_end, trees_front, pushed_front, view-Container, Entry, next_key, after_key, own_key, own_key_faults, key_stops, key_goes, key_put}
 use Rattle.ink_json.proofs.container.+content.Goals as goal
 
 pub read_container-returns-in_err-content : goal.read_container-returns-in_err-content
@@ -27,6 +27,11 @@ read_container-returns-in_err-named t c =
     let p = err_from_is_err_and c.from_residual-in_err-named.result c.from_residual-in_err-named.ensures.1 in
     rw (p.1, p.2) (container_stops_late 21 c.args.nesting c.args.misnamed c.args.listed (items_view items) (json_view c.index.result.now) names.0 c.in_err-named.field-0.0
     c.if-nesting-gt-MAX_NESTING.false c.in-Some.ensures.0 c.if-misnamed.false (own_is items (c.len.result - 1) c.index.result.now c.index.ensures some (omega arith)) names.2 (c.in_err-named.ensures names.0 names.1))
+
+pub read_container-returns-in_err-copy_name : goal.read_container-returns-in_err-copy_name
+read_container-returns-in_err-copy_name t c =
+    let p = err_from_is_err_and c.from_residual-in_err-copy_name.result c.from_residual-in_err-copy_name.ensures.1 in
+    rw (p.1, p.2) (container_takes 21 c.args.nesting c.args.misnamed c.args.listed (items_view c.args.items.now.items) c.if-nesting-gt-MAX_NESTING.false c.in-Some.ensures.0 c.if-misnamed.false)
 
 pub read_container-returns : goal.read_container-returns
 read_container-returns t c =
@@ -89,6 +94,12 @@ read_keyed-returns-in_err-container t c = λ taken held.
     let p = err_from_is_err_and c.from_residual.result c.from_residual.ensures.1 in
     rw (p.1, p.2) (key_stops 21 c.args.nesting (c.in-Some.key.now, c.in-Some.value.now) c.next.new.self c.as_str-name.result.now c.contains-misnamed.result c.as_str-name.ensures.value (sym c.if-not-is_own.ensures)
     c.in_err-container.field-0.0 (keyed_by 21 (members_view c.args.keys.now.entries)) taken _ (c.contains-misnamed.ensures ∙ held c.as_str-name.result.now) all c.in_err-container.ensures)
+
+pub read_keyed-returns-in_err-put : goal.read_keyed-returns-in_err-put
+read_keyed-returns-in_err-put t c = λ taken held.
+    let ms = members_view c.args.keys.now.entries in
+    let p = err_from_is_err_and c.from_residual-in_err-put.result c.from_residual-in_err-put.ensures.1 in
+    rw (p.1, p.2) (by_takes 21 c.args.nesting taken ms (keyed_by 21 ms))
 
 pub read_keyed-loop-key-preserved : goal.read_keyed-loop-key-preserved
 read_keyed-loop-key-preserved t c =

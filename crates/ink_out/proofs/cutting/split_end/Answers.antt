@@ -2,7 +2,7 @@ use Rattle.std.proofs.Common.{sym, ◌<◌, ◌-◌, ◌+◌, length, arith, rul
 use Rattle.std.specs.List.{suffix_len}
 use Rattle.std.proofs.Math.Nat.{sub-zero}
 use Rattle.std.proofs.lemmas.List.Sums.{prefix_len-le-length, suffix_len-le-length}
-use Rattle.ink_model.specs.Mark.{is_blank, is_white}
+use Rattle.ink_model.specs.Bytes.{is_blank, is_white}
 use Rattle.ink_out.proofs.WhiteEnds.{end_found, end_none, cut_at_end, blanks_le_white, trailing_is, end_before}
 use Rattle.ink_out.proofs.cutting.split_end.Goals as goal
 use Rattle.ink_out.proofs.cutting.split_end.Goals.{then-after-eq0-via-then-after-eq0, then-after-eq0-via-else-after-eq0+then-not-is_newline_at}

@@ -5,4 +5,4 @@ use Rattle.ink_out.proofs.opened.note.Goals as goal
 pub returns-in_ok-add-in_default-clause-page : goal.returns-in_ok-add-in_default-clause-page
 returns-in_ok-add-in_default-clause-page c =
     let some : 0 < length c.args.sections.now = grind arith in
-    λ n. rw (noted_last (c.args.mark ∷ []) c.args.line.now c.args.sections.now n c.index-sections-open.result c.add-in_default.new.self some c.in_ok-add-in_default.ensures.ok) refl
+    λ n. rw (noted_last (c.args.mark ∷ []) c.args.line.now c.args.sections.now n c.index-sections-open.result c.add-in_default.new.self some c.in_ok-add-in_default.ensures.ok) (refl, tt)

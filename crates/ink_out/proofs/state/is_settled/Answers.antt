@@ -16,7 +16,7 @@ pub returns-in_default-get : goal.returns-in_default-get
 returns-in_default-get c ks h =
     let (rest, chain, same) = c.loop-link.invariant ks h in
     let past : length c.loop-link.rest.now ≤ c.in-Some.settled.by = grind arith in
-    chain_within c.loop-link.rest.now c.loop-link.link c.in-Some.settled rest c.args.index c.in-Some.is past c.if-settled-index.false chain ∙ sym same
+    chain_within c.loop-link.rest.now c.loop-link.link c.in-Some.settled rest c.args.index c.in-Some.is past chain ∙ sym same
 
 pub loop-link-preserved : goal.loop-link-preserved
 loop-link-preserved c ks h =

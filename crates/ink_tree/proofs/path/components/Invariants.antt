@@ -1,9 +1,8 @@
 use Rattle.std.proofs.Common.{◌≡◌, length}
 use denote.Text.{Utf8}
 use denote.Shadow.{shadow}
-use Rattle.ink_model.specs.Clean.{pieces}
+use Rattle.ink_model.specs.Bytes.{pieces, is_dot}
 use Rattle.ink_model.specs.Path as rules
-use Rattle.ink_model.specs.Path.{is_dot}
 use Rattle.ink_tree.proofs.Reading.{behind}
 use Rattle.ink_tree.proofs.path.components.Given as goal
 

@@ -1,6 +1,6 @@
 use Rattle.std.proofs.Common.{◌≡◌, ◌++◌, map, take, string_bytes}
-use Rattle.ink_model.specs.Answer.{part_text}
-use Rattle.ink_model.specs.Clean.{joined}
+use Rattle.ink_model.specs.Path.{part_text}
+use Rattle.ink_model.specs.Bytes.{joined}
 use Rattle.ink_tree.proofs.path.push_parts.Given as goal
 
 abbrev pub invariant-loop-index : goal.invariant-loop-index

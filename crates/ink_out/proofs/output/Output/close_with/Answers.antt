@@ -21,4 +21,4 @@ pub returns : goal.returns
 returns c =
     let some : 0 < length c.self.inside.sections.items = some_open c.self.inside c.args.self.now c.self.view_is c.requires in
     let written = closed_ok (c.args.mark ∷ []) c.self.inside.line c.note_below.new.line c.self.inside.sections.items c.deref_mut.result.now c.note_below.new.sections c.pop.new.self.items c.self.inside.sections.len c.self.inside.next_enter c.deref_mut.ensures.value c.self.inside.sections.ok.0 some c.note_below.auto.sections c.pop.ensures.rest (c.in_ok-note_below.ensures.page c.self.inside.next_enter) in
-    rw (← c.self.view_is, written) refl
+    rw (← c.self.view_is, written) (refl, tt)

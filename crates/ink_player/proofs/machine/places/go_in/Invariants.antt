@@ -1,5 +1,5 @@
 use Rattle.std.proofs.Common.{◌≡◌, ◌++◌, Some, length}
-use Rattle.ink_model.specs.Place.{way_in}
+use Rattle.ink_model.specs.Place.{first_content}
 use Rattle.ink_model.specs.Tree.{at}
 use Rattle.ink_model.specs.View.{view}
 use Rattle.ink_player.proofs.machine.places.go_in.Given as goal
@@ -9,7 +9,7 @@ use Rattle.ink_tree.specs.Nodes.{story_tree, place_of}
 abbrev pub invariant-loop-first : goal.invariant-loop-first
 invariant-loop-first l =
     let s = story_tree l.tree in
-    (place_of s l.here ++ way_in (view l.content) ≡ place_of s l.initial.here ++ way_in (view l.from)) × (at s (place_of s l.here) ≡ Some (view l.content))
+    (place_of s l.here ++ first_content (view l.content) ≡ place_of s l.initial.here ++ first_content (view l.from)) × (at s (place_of s l.here) ≡ Some (view l.content))
 
 abbrev pub decreases-loop-first : goal.decreases-loop-first
-decreases-loop-first l = length (way_in (view l.content))
+decreases-loop-first l = length (first_content (view l.content))

@@ -1,0 +1,82 @@
+-- What a written path is for, and what it comes to.
+use Rattle.std.specs.Prelude.{◌≡◌, ℕ, List, Bool, true, false, not, if◌then◌else◌, Option, Some, None, is_some}
+use Rattle.std.specs.Option.{option_map}
+use Rattle.ink_model.specs.Acceptance.{is_counted}
+use Rattle.ink_model.specs.Flags.{is_once_only}
+use Rattle.ink_model.specs.Path.{landing, read_path}
+use Rattle.ink_model.specs.Tree.{StoryTree, leaf, container}
+use Rattle.ink_model.specs.declared.content.Destination.{Destination}
+use Rattle.ink_model.specs.declared.content.Destination.TheVariants as destinations
+use Rattle.ink_model.specs.declared.content.Leaf.{Leaf}
+use Rattle.ink_model.specs.declared.content.Leaf.TheVariants as leaves
+use Rattle.ink_model.specs.declared.place.Part.{Part}
+use Rattle.ink_model.specs.declared.place.Path.{Path}
+use Rattle.ink_tree.specs.Nodes.{node_place, place_of}
+use Rattle.ink_check.specs.declared.link.Link.{Link}
+use Rattle.ink_check.specs.declared.link.Purpose.{Purpose}
+use Rattle.ink_check.specs.declared.link.Purpose.TheVariants.{Value, Count, Flow, OnceOnly}
+
+-- ---- the path that a leaf has, and what it is for
+
+abbrev pub destination : Destination → Option (List ℕ × Purpose)
+destination (destinations.Path text) = Some (text, Flow)
+destination (destinations.Variable name) = None
+
+abbrev pub choice_purpose : ℕ → Purpose
+choice_purpose flags = if is_once_only flags then OnceOnly else Flow
+
+abbrev pub written : Leaf → Option (List ℕ × Purpose)
+written (leaves.Target text) = Some (text, Value)
+written (leaves.Count text) = Some (text, Count)
+written (leaves.Divert to conditional) = destination to
+written (leaves.Call to conditional) = destination to
+written (leaves.Tunnel to conditional) = destination to
+written (leaves.Choice text flags) = Some (text, choice_purpose flags)
+written l = None
+
+-- a text that is a path
+abbrev pub is_path : Option (List ℕ × Purpose) → Bool
+is_path None = false
+is_path (Some w) = is_some (read_path w.0)
+
+-- content with a text that is a path
+abbrev pub has_path : Option StoryTree → Bool
+has_path None = false
+has_path (Some (container name flags content named)) = false
+has_path (Some (leaf l)) = is_path (written l)
+
+-- ---- a path that leads to a place
+
+-- it is good for its purpose
+abbrev pub is_good_for : StoryTree → Purpose → Path → List Part → Bool
+is_good_for s Value path p = not path.relative
+is_good_for s Count path p = is_counted s (Some p)
+is_good_for s Flow path p = true
+is_good_for s OnceOnly path p = is_counted s (Some p)
+
+-- the landing, where flow goes there
+abbrev pub target_for : StoryTree → Purpose → Path → List Part → List Part
+target_for s Value path p = p
+target_for s Count path p = p
+target_for s Flow path p = landing s path p
+target_for s OnceOnly path p = landing s path p
+
+-- the container that is counted
+abbrev pub counted_for : Purpose → List Part → Option (List Part)
+counted_for Value p = None
+counted_for Count p = Some p
+counted_for Flow p = None
+counted_for OnceOnly p = Some p
+
+-- ---- links
+
+abbrev pub target_place : StoryTree → Link → Option (List Part)
+target_place s l = option_map (place_of s) l.target
+
+abbrev pub counted_place : StoryTree → Link → Option (List Part)
+counted_place s l = option_map (node_place s) l.counted
+
+-- what a path comes to for its purpose; nothing where it is bad for it
+abbrev pub IsLinkFor : StoryTree → Purpose → Path → List Part → Option Link → Type 0
+IsLinkFor s u path p None = is_good_for s u path p ≡ false
+IsLinkFor s u path p (Some l) = (is_good_for s u path p ≡ true) × (target_place s l ≡ Some (target_for s u path p)) × (counted_place s l ≡ counted_for u p)

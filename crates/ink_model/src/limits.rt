@@ -1,0 +1,28 @@
+//! The limits of stories, runs and inputs (docs/STORY_FORMAT.md, docs/RUNNING.md, docs/PROTOCOL.md).
+
+/// Bytes of a story.
+pub const MAX_STORY: usize = 16_777_216;
+
+/// Containers around one another, the root among them.
+pub const MAX_NESTING: usize = 120;
+
+/// Bytes of a text: of a value, a tag, or a name's value that a host gives.
+pub const MAX_TEXT: usize = 1_048_576;
+
+/// Values on the evaluation stack.
+pub const MAX_STACK: usize = 10_000;
+
+/// Marks of a line.
+pub const MAX_MARKS: usize = 100_000;
+
+/// Strings and tags that are open on a line.
+pub const MAX_SECTIONS: usize = 1_000;
+
+/// Steps of a command.
+pub const MAX_STEPS: u32 = 1_000_000;
+
+/// Bytes of a command line, without its newline.
+pub const MAX_LINE: usize = 1_048_576;
+
+/// Bytes of an input, its newlines and the story counted.
+pub const MAX_INPUT: usize = 67_108_864;

@@ -1,0 +1,7 @@
+use Rattle.ink_player.proofs.Playable.{FirstFrom}
+use Rattle.ink_player.proofs.supported.unplayed_spot.Given as goal
+use Rattle.ink_tree.specs.Nodes.{story_tree}
+
+-- no content before this one is unplayed
+abbrev pub invariant-loop-number : goal.invariant-loop-number
+invariant-loop-number l = FirstFrom (story_tree l.tree) l.number
