@@ -1,3 +1,4 @@
+pub mod Cutting
 pub mod Cleaning
 pub mod Tracks
 pub mod Next

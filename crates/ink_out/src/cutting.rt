@@ -4,9 +4,28 @@ ghost use Rattle.std.specs.Prelude.{◌≡◌, [], ◌∷◌, ◌++◌, not, IfO
 ghost use Rattle.std.specs.List.{list_any, prefix_len, suffix_len};
 ghost use Rattle.ink_model.specs.Mark.{cut, cut_end, piece};
 ghost use Rattle.ink_model.specs.Bytes.{has_newline, is_blank, is_newline, is_white, leading, trailing, trimmed, without};
+ghost use Rattle.ink_out.specs.Cutting.{is_space};
 
 use ink_model::{Mark, Text};
 use std::alloc::{AllocError, Global};
+
+/// Spaces and tabs, or these and newlines.
+#[derive(Clone, Copy)]
+enum Space {
+    Blank,
+    White,
+}
+
+impl Space {
+    fn has(self, byte: u8) -> bool
+        ensures { result ≡ is_space self byte }
+    {
+        match self {
+            Space::Blank => is_blank(byte),
+            Space::White => is_blank(byte) || byte == b'\n',
+        }
+    }
+}
 
 /// The marks of a written text (docs/TEXT.md, "Cutting"). The one error is a refused request for memory.
 #[tactic(auto, unfolding(ink_model::specs::Mark::cut))]
@@ -73,12 +92,12 @@ fn split_start(text: &str) -> Option<(&str, &str)>
     ensures before { IfSome result (λ parts. parts.0.now ≡ leading is_blank text.now) }
     ensures after { IfSome result (λ parts. parts.1.now ≡ trailing is_blank (leading is_white text.now) ++ without is_white text.now) }
 {
-    let first = leading_blanks(text);
+    let first = leading(text, Space::Blank);
     if !is_newline_at(text, first) {
         return None;
     }
-    let white = leading_white(text);
-    let after = white - trailing_blanks(&text[..white]);
+    let white = leading(text, Space::White);
+    let after = white - trailing(&text[..white], Space::Blank);
     Some((&text[..first], &text[after..]))
 }
 
@@ -88,54 +107,33 @@ fn split_end(text: &str) -> Option<(&str, &str)>
     ensures before { IfSome result (λ parts. parts.0.now ≡ trimmed is_white text.now ++ leading is_blank (trailing is_white text.now)) }
     ensures after { IfSome result (λ parts. parts.1.now ≡ trailing is_blank text.now) }
 {
-    let after = text.len() - trailing_blanks(text);
+    let after = text.len() - trailing(text, Space::Blank);
     if after == 0 || !is_newline_at(text, after - 1) {
         return None;
     }
-    let white = text.len() - trailing_white(text);
-    let first = white + leading_blanks(&text[white..]);
+    let white = text.len() - trailing(text, Space::White);
+    let first = white + leading(&text[white..], Space::Blank);
     Some((&text[..first], &text[after..]))
 }
 
-/// How many blanks a text begins with.
-fn leading_blanks(text: &str) -> usize
-    ensures { result ≡ prefix_len is_blank text.now }
+/// How many bytes of a kind a text begins with.
+fn leading(text: &str, space: Space) -> usize
+    ensures { result ≡ prefix_len (is_space space) text.now }
 {
     text.as_bytes()
         .iter()
-        .take_while(|byte| is_blank(**byte))
+        .take_while(|byte| space.has(**byte))
         .count()
 }
 
-/// How many white bytes a text begins with.
-fn leading_white(text: &str) -> usize
-    ensures { result ≡ prefix_len is_white text.now }
-{
-    text.as_bytes()
-        .iter()
-        .take_while(|byte| is_white(**byte))
-        .count()
-}
-
-/// How many blanks a text ends with.
-fn trailing_blanks(text: &str) -> usize
-    ensures { result ≡ suffix_len is_blank text.now }
+/// How many bytes of a kind a text ends with.
+fn trailing(text: &str, space: Space) -> usize
+    ensures { result ≡ suffix_len (is_space space) text.now }
 {
     text.as_bytes()
         .iter()
         .rev()
-        .take_while(|byte| is_blank(**byte))
-        .count()
-}
-
-/// How many white bytes a text ends with.
-fn trailing_white(text: &str) -> usize
-    ensures { result ≡ suffix_len is_white text.now }
-{
-    text.as_bytes()
-        .iter()
-        .rev()
-        .take_while(|byte| is_white(**byte))
+        .take_while(|byte| space.has(**byte))
         .count()
 }
 
@@ -158,11 +156,4 @@ fn is_blank(byte: u8) -> bool
     ensures { result ≡ is_blank byte }
 {
     byte == b' ' || byte == b'\t'
-}
-
-/// A space, a tab or a newline.
-fn is_white(byte: u8) -> bool
-    ensures { result ≡ is_white byte }
-{
-    is_blank(byte) || byte == b'\n'
 }

@@ -1,5 +1,5 @@
 -- Where diverts land.
-use Rattle.std.proofs.Common.{◌≡◌, ◌∙◌, ap, sym, refl, subst, ℕ, pos, List, [], Option, Some, None, unwrap_or}
+use Rattle.std.proofs.Common.{◌≡◌, ◌∙◌, ap, sym, refl, subst, ℕ, pos, List, [], false, Option, Some, None, unwrap_or}
 use Rattle.ink_model.specs.Acceptance.{content_target, lands, written_target}
 use Rattle.ink_model.specs.Configuration.{Configuration}
 use Rattle.ink_model.specs.Path.{target}
@@ -35,14 +35,14 @@ held s name globals path found holds leads p c =
 
 module _ (s : StoryTree) (p : List Part) (to : Destination) (found : Option (List Part)) (old new : Configuration) (globals : Values) (e : StepEnd) where
   pub ends_by_path : (text : List ℕ) (conditional : _) → to ≡ destination.Path text → at s p ≡ Some (leaf (leaves.Divert to conditional))
-      → found ≡ written_target s p → Ends (land_at p found old) globals new e → Ends (divert_to s p to old) globals new e
+      → found ≡ written_target s p → Ends false (land_at p found old) globals new e → Ends false (divert_to s p to old) globals new e
   unfolding written_target
   ends_by_path text conditional by stands is h =
       let lands_there : found ≡ lands s p text = is ∙ ap (content_target s p) (stands ∙ ap (λ d. Some (leaf (leaves.Divert d conditional))) by) in
-      subst (λ d. Ends (divert_to s p d old) globals new e) (sym by) (subst (λ q. Ends (land_at p q old) globals new e) lands_there h)
+      subst (λ d. Ends false (divert_to s p d old) globals new e) (sym by) (subst (λ q. Ends false (land_at p q old) globals new e) lands_there h)
 
   pub ends_by_variable : (name : List ℕ) → to ≡ destination.Variable name
       → ((q : List Part) (c : Configuration) → land_by s q (read_global name old) c ≡ land_at q found c)
-      → Ends (land_at p found old) globals new e → Ends (divert_to s p to old) globals new e
+      → Ends false (land_at p found old) globals new e → Ends false (divert_to s p to old) globals new e
   ends_by_variable name by holds h =
-      subst (λ d. Ends (divert_to s p d old) globals new e) (sym by) (subst (λ o. Ends o globals new e) (sym (holds p old)) h)
+      subst (λ d. Ends false (divert_to s p d old) globals new e) (sym by) (subst (λ o. Ends false o globals new e) (sym (holds p old)) h)

@@ -8,8 +8,10 @@ pub mod Answering
 pub mod Writing
 pub mod Reading
 pub mod Sessions
+pub mod Refusing
 pub mod Playings
 pub mod Playable
 pub mod Stacks
 pub mod Storing
 pub mod Opening
+pub mod Faults

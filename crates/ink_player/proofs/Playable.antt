@@ -57,34 +57,3 @@ none_unplayed s h = none_in (unsupported s) h
     none_in : (ps : List (List Part)) → None ≡ slice_get ps 0 → ps ≡ []
     none_in [] e = refl
     none_in (p ∷ ps) e = absurd (cc)
-
--- ---- what a story is refused for
-
-module _ (line : List ℕ) where
-  pub unread : (r : ReadRefusal) → (r ≡ here OutOfMemory) ⊎ (story line ≡ Err r) → IsRefused line r
-  unfolding supported_story
-  unread r (inl short) = inl short
-  unread r (inr h) = inr (ap (λ o. and_then supported (and_then accepted o)) h)
-
-  module _ (t : StoryTree) (reads : story line ≡ Ok t) where
-    pub unaccepted : (r : ReadRefusal) → (r ≡ here OutOfMemory) ⊎ (accepted t ≡ Err r) → IsRefused line r
-    unfolding supported_story
-    unaccepted r (inl short) = inl short
-    unaccepted r (inr h) = inr (ap (λ o. and_then supported (and_then accepted o)) reads ∙ ap (and_then supported) h)
-
-    module _ (s : StoryTree) (accepts : accepted t ≡ Ok s) where
-      asked : supported_story line ≡ supported s
-      unfolding supported_story
-      asked = ap (λ o. and_then supported (and_then accepted o)) reads ∙ ap (and_then supported) accepts
-
-      pub plays_all : None ≡ first_unsupported s → supported_story line ≡ Ok s
-      unfolding supported
-      plays_all h = asked ∙ ap (λ ps. first (map not_supported ps) s) (none_unplayed s h)
-
-      pub not_all : (p : List Part) → Some p ≡ first_unsupported s → IsRefused line (not_supported p)
-      unfolding supported
-      not_all p h = inr (asked ∙ first_is (unsupported s) h)
-        where
-          first_is : (ps : List (List Part)) → Some p ≡ slice_get ps 0 → first (map not_supported ps) s ≡ Err (not_supported p)
-          first_is [] e = absurd (cc)
-          first_is (q ∷ qs) e = let same : p ≡ q = cc in ap (λ x. Err (not_supported x)) (sym same)

@@ -2,14 +2,16 @@
 use Rattle.std.proofs.Common.{◌≡◌, ℕ, ◌+◌, ◌-◌, ◌<◌, ◌≤◌, List, [], ◌∷◌, ◌++◌, length, false, Option, Result, Ok, Err, ap, ◌∙◌, sym, refl, subst, inl, inr, arith, append_assoc, append-nil, length-append}
 use Rattle.std.specs.Io.KnownBytes.{IsAtEnd}
 use Rattle.std.proofs.KnownBytes.{Appends-nil, Consumes-trans}
+use Rattle.ink_model.specs.Bytes.{has_newline}
 use Rattle.ink_model.specs.declared.limits.TheConstants.{MAX_STORY, MAX_INPUT}
 use Rattle.ink_model.specs.Opening.{opened}
 use Rattle.ink_model.specs.State.{State}
+use Rattle.ink_model.specs.Step.{nothing_bound}
 use Rattle.ink_player.specs.Buffered.{Buffered}
 use Rattle.ink_player.specs.Input.{Takes}
-use Rattle.ink_player.specs.Lines.{has_newline, TakesLine, GivesLine}
+use Rattle.ink_player.specs.Lines.{TakesLine, GivesLine}
 use Rattle.ink_player.specs.Playing.{IsStoryLine, PlaysOn, EndsEarly, PlayFails, PlayEnds, Plays, play_fault, OpenFails, Opens}
-use Rattle.ink_player.specs.Serving.{RunEnds, Runs}
+use Rattle.ink_player.specs.Serving.{HasRoom, RunEnds, Runs}
 use Rattle.ink_player.specs.Words.{state_of, story_of}
 use Rattle.ink_player.specs.declared.desk.Desk.{Desk}
 use Rattle.ink_player.specs.declared.end.PlayEnd.{PlayEnd}
@@ -18,6 +20,7 @@ use Rattle.ink_player.specs.declared.end.PlayFault.TheVariants as play
 use Rattle.ink_player.specs.declared.end.RunFault.{RunFault}
 use Rattle.ink_player.specs.declared.end.RunFault.TheVariants as fault
 use Rattle.ink_player.specs.declared.player.Player.{Player}
+use Rattle.ink_player.proofs.Reading.{has_room}
 
 abbrev fresh : Buffered
 fresh = record { unread = []; spare = MAX_INPUT }
@@ -29,7 +32,7 @@ count_is : (a b : Option (List ℕ)) (o n : Buffered) (taken : List ℕ) → o �
 count_is a b o n taken e t = t.count ∙ ap (λ z. z.spare) e
 
 -- no more was read than tells that the story is over its limit
-story_bound : (a b : Option (List ℕ)) (o n : Buffered) (taken line : List ℕ) → o ≡ fresh → TakesLine a b o n MAX_STORY taken line → length (taken ++ n.unread) ≤ MAX_STORY + 1
+story_bound : (a b : Option (List ℕ)) (o n : Buffered) (taken line : List ℕ) → o ≡ fresh → TakesLine a b o n (MAX_STORY + 1) taken line → length (taken ++ n.unread) ≤ MAX_STORY + 1
 story_bound a b o n taken line e t = omega (arith, t.room, ap (λ z. length z.unread) e, length-append taken n.unread)
 
 none_left : (l : List ℕ) → length l ≡ 0 → l ≡ []
@@ -72,9 +75,10 @@ no_story_for a b h o n fault.TooLong d e g =
     ] in
     plays_early a b h o n g.0.part _ e t.takes bound (early _ bound, inr (inr (refl, long.0, long.1)))
 no_story_for a b h o n fault.OutOfMemory d e g =
-    let t = g.takes in
-    let bound = story_bound a b o n g.part g.part e t in
-    plays_early a b h o n g.part _ e t.takes bound (early _ bound, inr (inl refl))
+    let none : length o.unread ≡ 0 = ap (λ z. length z.unread) e in
+    let bound : length (g.part ++ n.unread) ≤ MAX_STORY + 1 = omega (arith, g.takes.room, none, length-append g.part n.unread) in
+    let w = subst (λ m. HasRoom MAX_STORY m (g.part ++ n.unread) (g.part ++ n.unread)) (ap (λ z. z.spare) e) (has_room a b o n MAX_STORY (omega (arith, none)) g) in
+    plays_early a b h o n g.part _ e g.takes.takes bound (early _ bound, inr (inl (refl, w)))
 
 pub no_story : (a b h : Option (List ℕ)) (o n : Buffered) (f : RunFault) (pf : PlayFault) (d : Desk) → o ≡ fresh → GivesLine a b o n MAX_STORY (Err f) → pf ≡ play_fault f
     → Plays a b h h (Err (record { fault = pf; desk = d }))
@@ -84,15 +88,15 @@ no_story a b h o n f pf d e g k =
 fails_early : (left : Option (List ℕ)) (bytes line input : List ℕ) (f : PlayFault) → IsStoryLine left bytes line input → length bytes ≤ MAX_STORY + 1 → OpenFails line f → PlayFails left bytes [] f
 fails_early left bytes line input (play.Story r) l bound p = (early bytes bound, inl (line, input, l, p))
 fails_early left bytes line input (play.Start f) l bound p =
-    (early bytes bound, record { line = line; input = input; story_line = l; tree = p.0; reads = p.1; why = p.2 })
+    (early bytes bound, record { tree = p.0; story = record { line = line; input = input; story_line = l; reads = p.1 }; globals = p.2.0; why = p.2.1 })
 fails_early left bytes line input (play.Run f) l bound p = absurd p
 
 -- a story that ended at its newline, or at the reader's end
 abbrev pub TakesStory : Option (List ℕ) → Option (List ℕ) → Buffered → Buffered → List ℕ → Type 0
-TakesStory a b o n line = TakesLine a b o n MAX_STORY (line ++ 10 ∷ []) line × (length line ≤ MAX_STORY)
+TakesStory a b o n line = TakesLine a b o n (MAX_STORY + 1) (line ++ 10 ∷ []) line × (length line ≤ MAX_STORY)
 
 abbrev pub TakesAll : Option (List ℕ) → Option (List ℕ) → Buffered → Buffered → List ℕ → Type 0
-TakesAll a b o n line = TakesLine a b o n MAX_STORY line line × (length line ≤ MAX_STORY) × (n.unread ≡ []) × IsAtEnd b
+TakesAll a b o n line = TakesLine a b o n (MAX_STORY + 1) line line × (length line ≤ MAX_STORY) × (n.unread ≡ []) × IsAtEnd b
 
 pub unopened : (a b h : Option (List ℕ)) (o n : Buffered) (line : List ℕ) (x : PlayEnd) → o ≡ fresh → TakesStory a b o n line → Opens line (Err x) → Plays a b h h (Err x)
 unopened a b h o n line x e t p =
@@ -118,19 +122,16 @@ unopened_last a b h o n line x e t p =
 pub plays_last : (a b h : Option (List ℕ)) (o n : Buffered) (line : List ℕ) (p : Player) (d : Desk) → o ≡ fresh → TakesAll a b o n line → Opens line (Ok p) → Plays a b h h (Ok d)
 plays_last a b h o n line p d e t opens =
     plays_early a b h o n line (Ok d) e t.0.takes (story_bound a b o n line line e t.0) (record {
-      line = line;
-      input = [];
-      story_line = all_is a b o n line t;
       tree = story_of p;
-      reads = opens.0;
+      story = record { line = line; input = []; story_line = all_is a b o n line t; reads = opens.0 };
       first = opens.1.0;
       opens = opens.1.1;
       new = opened opens.1.0;
-      ends = record { at_end = t.3; within = omega arith; each = tt; session = (refl, refl) };
+      ends = record { at_end = t.3; within = omega arith; each = tt; session = (refl, refl, refl) };
     })
 
 plays_from : (a b c h j : Option (List ℕ)) (o n : Buffered) (line : List ℕ) (p : Player) (new : State) (r : Result (Unit {0}) RunFault) (x : Result Desk PlayEnd)
-    → o ≡ fresh → TakesStory a b o n line → Opens line (Ok p) → Runs (story_of p) n.spare n.unread b c h j (state_of p) new r
+    → o ≡ fresh → TakesStory a b o n line → Opens line (Ok p) → Runs (story_of p) nothing_bound [] n.spare n.unread b c h j (state_of p) new r
     → ((bytes written : List ℕ) → PlaysOn c bytes written r → PlayEnds c bytes written x) → Plays a c h j x
 plays_from a b c h j o n line p new r x e t opens q into =
     let got = t.0.takes.got in
@@ -145,25 +146,27 @@ plays_from a b c h j o n line p new r x e t opens q into =
       written = q.written;
       appended = q.appended;
       ends = into (got ++ q.bytes) q.written (record {
-        line = line;
-        input = n.unread ++ q.bytes;
-        story_line = record { plain = t.0.plain; within = t.1; whole = inl bytes };
         tree = story_of p;
-        reads = opens.0;
+        story = record {
+          line = line;
+          input = n.unread ++ q.bytes;
+          story_line = record { plain = t.0.plain; within = t.1; whole = inl bytes };
+          reads = opens.0;
+        };
         first = opens.1.0;
         opens = opens.1.1;
         new = new;
-        ends = subst (λ m. RunEnds (story_of p) m c (n.unread ++ q.bytes) (opened opens.1.0) q.written new r) most
-            (subst (λ s. RunEnds (story_of p) n.spare c (n.unread ++ q.bytes) s q.written new r) opens.1.2 q.ends);
+        ends = subst (λ m. RunEnds (story_of p) nothing_bound [] m c (n.unread ++ q.bytes) (opened opens.1.0) q.written new r) most
+            (subst (λ s. RunEnds (story_of p) nothing_bound [] n.spare c (n.unread ++ q.bytes) s q.written new r) opens.1.2 q.ends);
       });
     }
 
 pub plays_on : (a b c h j : Option (List ℕ)) (o n : Buffered) (line : List ℕ) (p : Player) (new : State) (d : Desk)
-    → o ≡ fresh → TakesStory a b o n line → Opens line (Ok p) → Runs (story_of p) n.spare n.unread b c h j (state_of p) new (Ok tt) → Plays a c h j (Ok d)
+    → o ≡ fresh → TakesStory a b o n line → Opens line (Ok p) → Runs (story_of p) nothing_bound [] n.spare n.unread b c h j (state_of p) new (Ok tt) → Plays a c h j (Ok d)
 plays_on a b c h j o n line p new d e t opens q = plays_from a b c h j o n line p new (Ok tt) (Ok d) e t opens q (λ bytes written y. y)
 
 pub plays_short : (a b c h j : Option (List ℕ)) (o n : Buffered) (line : List ℕ) (p : Player) (new : State) (f : RunFault) (d : Desk)
-    → o ≡ fresh → TakesStory a b o n line → Opens line (Ok p) → Runs (story_of p) n.spare n.unread b c h j (state_of p) new (Err f) → Plays a c h j (Err (record { fault = play.Run f; desk = d }))
+    → o ≡ fresh → TakesStory a b o n line → Opens line (Ok p) → Runs (story_of p) nothing_bound [] n.spare n.unread b c h j (state_of p) new (Err f) → Plays a c h j (Err (record { fault = play.Run f; desk = d }))
 plays_short a b c h j o n line p new f d e t opens q =
     plays_from a b c h j o n line p new (Err f) (Err (record { fault = play.Run f; desk = d })) e t opens q (λ bytes written y. inr y)
 

@@ -1,5 +1,5 @@
 -- Runs, moment by moment.
-use Rattle.std.proofs.Common.{◌≡◌, ◌∙◌, ◌⊎◌, ℕ, zero, suc, ◌+◌, ◌-◌, ◌≤◌, ◌<◌, ap, sym, refl, inl, inr, [], arith}
+use Rattle.std.proofs.Common.{◌≡◌, ◌∙◌, ◌⊎◌, ℕ, zero, suc, Bool, true, ◌+◌, ◌-◌, ◌≤◌, ◌<◌, ap, sym, refl, inl, inr, [], arith}
 use Rattle.ink_model.specs.Tree.{StoryTree}
 use Rattle.ink_model.specs.Configuration.{Configuration}
 use Rattle.ink_model.specs.Step.{Outcome, Next, Stop, Wants, Faults, step, nothing_bound}
@@ -7,30 +7,31 @@ use Rattle.ink_model.specs.Run.{Moment, At, Stopped, Faulted, came, next, run, m
 use Rattle.ink_model.specs.declared.limits.TheConstants.{MAX_STEPS}
 use Rattle.ink_model.specs.declared.fault.Fault.{Fault}
 use Rattle.ink_model.specs.declared.fault.Fault.TheVariants.{OutOfMemory, OutOfSteps}
+use Rattle.ink_model.specs.Memory.{asks}
 use Rattle.ink_player.specs.Steps.{Ends, RunFalls}
 use Rattle.ink_player.specs.declared.machine.StepEnd.TheVariants as ends
 
 -- ---- the moment after an outcome
 
-went : (s : StoryTree) (old new : Configuration) (o : Outcome) → Ends o old.shared.globals new ends.Went → came s old o [] [] ≡ At new [] []
-went s old new (Next c) h = ap (λ d. At d [] []) (sym h)
-went s old new (Stop c) h = absurd h
-went s old new (Wants name arguments c) h = absurd h
-went s old new (Faults f) h = absurd h
+went : (s : StoryTree) (asking : Bool) (old new : Configuration) (o : Outcome) → Ends asking o old.shared.globals new ends.Went → came s old o [] [] ≡ At new [] []
+went s asking old new (Next c) h = ap (λ d. At d [] []) (sym h)
+went s asking old new (Stop c) h = absurd h
+went s asking old new (Wants name arguments c) h = absurd h
+went s asking old new (Faults f) h = absurd h
 
-stopped : (s : StoryTree) (old new : Configuration) (o : Outcome) → Ends o old.shared.globals new ends.Stopped → came s old o [] [] ≡ Stopped new [] []
-stopped s old new (Next c) h = absurd h
-stopped s old new (Stop c) h = ap (λ d. Stopped d [] []) (sym h)
-stopped s old new (Wants name arguments c) h = absurd h
-stopped s old new (Faults f) h = absurd h
+stopped : (s : StoryTree) (asking : Bool) (old new : Configuration) (o : Outcome) → Ends asking o old.shared.globals new ends.Stopped → came s old o [] [] ≡ Stopped new [] []
+stopped s asking old new (Next c) h = absurd h
+stopped s asking old new (Stop c) h = ap (λ d. Stopped d [] []) (sym h)
+stopped s asking old new (Wants name arguments c) h = absurd h
+stopped s asking old new (Faults f) h = absurd h
 
--- a fault of the story, or want of memory; the globals stay
-faulted : (s : StoryTree) (old new : Configuration) (f : Fault) (o : Outcome) → Ends o old.shared.globals new (ends.Fault f)
-    → ((came s old o [] [] ≡ Faulted f old [] []) ⊎ (f ≡ OutOfMemory)) × (new.shared.globals ≡ old.shared.globals)
-faulted s old new f (Next c) h = (inr h.0, h.1)
-faulted s old new f (Stop c) h = (inr h.0, h.1)
-faulted s old new f (Wants name arguments c) h = (inr h.0, h.1)
-faulted s old new f (Faults g) h = elim h.0 [
+-- a fault of the story, or a step that asks for memory and got none; the globals stay
+faulted : (s : StoryTree) (asking : Bool) (old new : Configuration) (f : Fault) (o : Outcome) → Ends asking o old.shared.globals new (ends.Fault f)
+    → ((came s old o [] [] ≡ Faulted f old [] []) ⊎ ((f ≡ OutOfMemory) × (asking ≡ true))) × (new.shared.globals ≡ old.shared.globals)
+faulted s asking old new f (Next c) h = (inr h.0, h.1)
+faulted s asking old new f (Stop c) h = (inr h.0, h.1)
+faulted s asking old new f (Wants name arguments c) h = (inr h.0, h.1)
+faulted s asking old new f (Faults g) h = elim h.0 [
   | inl same ↦ (inl (ap (λ x. Faulted x old [] []) (sym same)), h.1)
   | inr short ↦ (inr short, h.1)
 ]
@@ -61,25 +62,25 @@ module _ (s : StoryTree) (start : Configuration) where
   stays_to n k m ended le h = let e : k ≡ n + (k - n) = omega arith in stays (k - n) n k m ended e h
 
   pub run_went : (n : ℕ) (old new : Configuration) → moment s nothing_bound start [] n ≡ At old [] []
-      → Ends (step s nothing_bound old) old.shared.globals new ends.Went → moment s nothing_bound start [] (n + 1) ≡ At new [] []
-  run_went n old new h e = step_on n _ h ∙ went s old new (step s nothing_bound old) e
+      → Ends (asks s old) (step s nothing_bound old) old.shared.globals new ends.Went → moment s nothing_bound start [] (n + 1) ≡ At new [] []
+  run_went n old new h e = step_on n _ h ∙ went s (asks s old) old new (step s nothing_bound old) e
 
   pub run_stopped : (n k : ℕ) (old new : Configuration) → n < k → moment s nothing_bound start [] n ≡ At old [] []
-      → Ends (step s nothing_bound old) old.shared.globals new ends.Stopped → moment s nothing_bound start [] k ≡ Stopped new [] []
+      → Ends (asks s old) (step s nothing_bound old) old.shared.globals new ends.Stopped → moment s nothing_bound start [] k ≡ Stopped new [] []
   run_stopped n k old new below h e =
-      stays_to (n + 1) k (Stopped new [] []) refl (omega arith) (step_on n _ h ∙ stopped s old new (step s nothing_bound old) e)
+      stays_to (n + 1) k (Stopped new [] []) refl (omega arith) (step_on n _ h ∙ stopped s (asks s old) old new (step s nothing_bound old) e)
 
   pub run_faulted : (n : ℕ) (old new : Configuration) (f : Fault) → n < MAX_STEPS → moment s nothing_bound start [] n ≡ At old [] []
-      → Ends (step s nothing_bound old) old.shared.globals new (ends.Fault f) → RunFalls s start new.shared.globals f
+      → Ends (asks s old) (step s nothing_bound old) old.shared.globals new (ends.Fault f) → RunFalls s start new.shared.globals f
   run_faulted n old new f below h e =
-      let ended = faulted s old new f (step s nothing_bound old) e in
+      let ended = faulted s (asks s old) old new f (step s nothing_bound old) e in
       record {
         before = old;
         kept = ended.1;
         why = elim ended.0 [
           | inl came_so ↦
               inl (ap cut_off (stays_to (n + 1) MAX_STEPS (Faulted f old [] []) refl (omega arith) (step_on n _ h ∙ came_so)))
-          | inr short ↦ inr (short, record { steps = n; within = omega arith; got_there = h })
+          | inr short ↦ inr (short.0, record { steps = n; within = below; got_there = h; asking = short.1 })
         ];
       }
 

@@ -36,4 +36,4 @@ module _ (vs : List Value) (v : Value) (seen : slice_get (reverse vs) 0 ≡ Some
   copied copy same = subst (λ o. CopiesTop o (Ok copy)) (sym (top_seen vs v seen).1) (ap Ok (sym same))
 
   pub not_copied : CopiesTop (popped vs) (Err OutOfMemory)
-  not_copied = subst (λ o. CopiesTop o (Err OutOfMemory)) (sym (top_seen vs v seen).1) (inl refl)
+  not_copied = subst (λ o. CopiesTop o (Err OutOfMemory)) (sym (top_seen vs v seen).1) (inl (refl, refl))

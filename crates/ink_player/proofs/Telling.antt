@@ -1,12 +1,13 @@
 -- The passage of a machine, and what a running command tells.
-use Rattle.std.proofs.Common.{◌≡◌, ◌∙◌, ◌⊎◌, ◌≤◌, ap, sym, refl, subst, inl, inr, ℕ, List, [], Bool, true, false, Err, if◌then◌else◌, arith}
+use Rattle.std.proofs.Common.{◌≡◌, ◌∙◌, ◌⊎◌, ap, sym, refl, subst, inl, inr, ℕ, List, [], Bool, true, false, Err, if◌then◌else◌, arith}
 use Rattle.ink_model.specs.Tree.{StoryTree}
 use Rattle.ink_model.specs.Mark.{tags}
 use Rattle.ink_model.specs.Clean.{clean}
 use Rattle.ink_model.specs.Shown.{shown_text}
 use Rattle.ink_model.specs.Configuration.{Configuration, can_go_on, begun, settled}
 use Rattle.ink_model.specs.Step.{nothing_bound}
-use Rattle.ink_model.specs.Run.{Moment, At, Stopped, moment, cut_off, through}
+use Rattle.ink_model.specs.Memory.{GetsTo, StopsAt}
+use Rattle.ink_model.specs.Run.{Moment, Stopped, moment, cut_off, through}
 use Rattle.ink_model.specs.declared.limits.TheConstants.{MAX_STEPS}
 use Rattle.ink_model.specs.Answer.{Tells, Breaks}
 use Rattle.ink_model.specs.State.{Ready, Broken}
@@ -45,36 +46,30 @@ module _ (s : StoryTree) (c begin : Configuration) (begins : begin ≡ begun c) 
   ended m h = ap (λ d. cut_off (moment s nothing_bound d [] MAX_STEPS)) (sym begins) ∙ h
 
   pub tells : (stop new : Configuration) (p : Passage) → moment s nothing_bound begin [] MAX_STEPS ≡ Stopped stop [] []
-      → p ≡ passage stop → new ≡ settled stop → RunsThrough s nothing_bound c (Tells p) (Ready new)
+      → p ≡ passage stop → new ≡ settled stop → RunsThrough s nothing_bound c [] (Tells p) (Ready new)
   tells stop new p h told settles =
-      inl ([], subst (λ m. EndsAs m (Tells p) (Ready new)) (sym (ended _ (ap cut_off h))) (ap Tells told, ap Ready settles))
+      inl (subst (λ m. EndsAs m [] (Tells p) (Ready new)) (sym (ended _ (ap cut_off h))) (refl, ap Tells told, ap Ready settles))
 
   -- memory was refused at a moment of the run
-  fell : (new : Configuration) (steps : ℕ) → steps ≤ MAX_STEPS
-      → (moment s nothing_bound begin [] steps ≡ At new [] []) ⊎ (moment s nothing_bound begin [] steps ≡ Stopped new [] [])
-      → RunsThrough s nothing_bound c (Breaks OutOfMemory []) (Broken OutOfMemory new.shared.globals)
-  fell new steps within there = inr (record {
-    given = [];
-    steps = steps;
+  fell : (new : Configuration) → GetsTo s nothing_bound begin [] new ⊎ StopsAt s nothing_bound begin [] new
+      → RunsThrough s nothing_bound c [] (Breaks OutOfMemory []) (Broken OutOfMemory new.shared.globals)
+  fell new there = inr (record {
     reached = new;
-    within = within;
-    left = [];
-    made = [];
-    got_there = subst (λ d. (moment s nothing_bound d [] steps ≡ At new [] []) ⊎ (moment s nothing_bound d [] steps ≡ Stopped new [] [])) begins there;
-    says = refl;
+    got_there = subst (λ d. GetsTo s nothing_bound d [] new ⊎ StopsAt s nothing_bound d [] new) begins there;
+    replies = refl;
     breaks = refl;
   })
 
   pub breaks : (new : Configuration) (f : Fault) → RunsToStop s begin new (Err f)
-      → RunsThrough s nothing_bound c (Breaks f []) (Broken f new.shared.globals)
+      → RunsThrough s nothing_bound c [] (Breaks f []) (Broken f new.shared.globals)
   breaks new f h =
-      subst (λ vs. RunsThrough s nothing_bound c (Breaks f []) (Broken f vs)) (sym h.kept) (elim h.why [
-        | inl faults ↦ inl ([], subst (λ m. EndsAs m (Breaks f []) (Broken f h.before.shared.globals)) (sym (ended _ faults)) (refl, refl))
+      subst (λ vs. RunsThrough s nothing_bound c [] (Breaks f []) (Broken f vs)) (sym h.kept) (elim h.why [
+        | inl faults ↦ inl (subst (λ m. EndsAs m [] (Breaks f []) (Broken f h.before.shared.globals)) (sym (ended _ faults)) (refl, refl, refl))
         | inr short ↦
-            subst (λ g. RunsThrough s nothing_bound c (Breaks g []) (Broken g h.before.shared.globals)) (sym short.0)
-            (fell h.before short.1.steps short.1.within (inl short.1.got_there))
+            subst (λ g. RunsThrough s nothing_bound c [] (Breaks g []) (Broken g h.before.shared.globals)) (sym short.0)
+            (fell h.before (inl short.1))
       ])
 
   pub breaks_after : (stop : Configuration) → moment s nothing_bound begin [] MAX_STEPS ≡ Stopped stop [] []
-      → RunsThrough s nothing_bound c (Breaks OutOfMemory []) (Broken OutOfMemory stop.shared.globals)
-  breaks_after stop h = fell stop MAX_STEPS (omega arith) (inr h)
+      → RunsThrough s nothing_bound c [] (Breaks OutOfMemory []) (Broken OutOfMemory stop.shared.globals)
+  breaks_after stop h = fell stop (inr (record { steps = MAX_STEPS; within = omega arith; got_there = h }))

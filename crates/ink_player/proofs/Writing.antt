@@ -1,7 +1,8 @@
 -- How far a sink has come with bytes.
 use Rattle.std.proofs.Common.{◌≡◌, ◌≢◌, ℕ, List, ◌++◌, Bool, false, ◌||◌, ◌&&◌, ◌∙◌, ap, sym, append_assoc, take, drop, take-append-drop, Option, Ok}
 use Rattle.std.proofs.lemmas.Bool.{ne_eqb}
-use Rattle.ink_player.specs.Ends.{takes_nothing, is_some_byte}
+use Rattle.ink_model.specs.Bytes.{is_filled}
+use Rattle.ink_player.specs.Ends.{takes_nothing}
 use Rattle.std.specs.Io.KnownBytes.{Appends}
 use Rattle.std.proofs.KnownBytes.{Appends-trans}
 
@@ -20,7 +21,7 @@ wrote_more old mid new bytes rest after n w a e = record {
 }
 
 takes_some : (n : ℕ) (bytes : List ℕ) → n ≢ 0 → takes_nothing {E = Unit {0}} (Ok n) bytes ≡ false
-takes_some n bytes h = ap (λ b. b && is_some_byte bytes) (ne_eqb n 0 h)
+takes_some n bytes h = ap (λ b. b && is_filled bytes) (ne_eqb n 0 h)
 
 -- a write that took some byte leaves the sink as sound as it was
 pub still_sound : (n : ℕ) (bytes : List ℕ) (first old new : Bool) → n ≢ 0 → new ≡ (takes_nothing {E = Unit {0}} (Ok n) bytes || old) → old ≡ first → new ≡ first

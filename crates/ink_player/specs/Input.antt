@@ -14,11 +14,11 @@ pub record Takes (left left' : Option (List ℕ)) (old new : Buffered) (taken : 
   pub count : new.spare + length taken ≡ old.spare
 
 -- One byte, the end, or a byte that is one too many.
-abbrev pub Gives : Option (List ℕ) → Option (List ℕ) → Buffered → Buffered → Result Next ReadFailed → Type 0
-Gives left left' old new (Ok (next.Byte b)) = Takes left left' old new (b ∷ [])
-Gives left left' old new (Ok next.End) = Takes left left' old new [] × (new.unread ≡ []) × IsAtEnd left'
-Gives left left' old new (Ok next.TooMany) = Takes left left' old new [] × (new.spare ≡ 0) × (0 < length new.unread)
-Gives left left' old new (Err e) = Takes left left' old new [] × (new.unread ≡ [])
+abbrev pub GivesByte : Option (List ℕ) → Option (List ℕ) → Buffered → Buffered → Result Next ReadFailed → Type 0
+GivesByte left left' old new (Ok (next.Byte b)) = Takes left left' old new (b ∷ [])
+GivesByte left left' old new (Ok next.End) = Takes left left' old new [] × (new.unread ≡ []) × IsAtEnd left'
+GivesByte left left' old new (Ok next.TooMany) = Takes left left' old new [] × (new.spare ≡ 0) × (0 < length new.unread)
+GivesByte left left' old new (Err e) = Takes left left' old new [] × (new.unread ≡ [])
 
 -- how many bytes were taken
 abbrev pub count_taken : Next → ℕ

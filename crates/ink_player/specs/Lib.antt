@@ -1,6 +1,5 @@
 pub mod Words
 pub mod Steps
-pub mod Commands
 pub mod Answers
 pub mod Replies
 pub mod Ends

@@ -1,20 +1,23 @@
 -- What playing a story over bytes does, and how it may end (docs/PROTOCOL.md, "Playing").
 use Rattle.std.specs.Prelude.{◌≡◌, ◌<◌, ◌≤◌, ◌+◌, ◌-◌, ℕ, List, [], ◌∷◌, ◌++◌, length, Bool, true, false, ◌⊎◌, Option, Result, Ok, Err}
 use Rattle.std.specs.Io.KnownBytes.{Appends, Consumes, IsAtEnd}
+use Rattle.ink_json.specs.Reading.{is_parsed}
+use Rattle.ink_model.specs.Bytes.{has_newline}
 use Rattle.ink_model.specs.Grammar.{here}
 use Rattle.ink_model.specs.declared.limits.TheConstants.{MAX_STORY, MAX_INPUT}
 use Rattle.ink_model.specs.Configuration.{Configuration}
 use Rattle.ink_model.specs.Opening.{opening, opened}
 use Rattle.ink_model.specs.Supported.{supported_story}
 use Rattle.ink_model.specs.State.{State}
+use Rattle.ink_model.specs.Step.{nothing_bound}
+use Rattle.ink_model.specs.Store.{Values}
 use Rattle.ink_model.specs.Tree.{StoryTree}
 use Rattle.ink_model.specs.declared.fault.Cause.TheVariants as cause
 use Rattle.ink_model.specs.declared.fault.Fault.{Fault}
-use Rattle.ink_model.specs.declared.fault.Fault.TheVariants.{OutOfMemory}
 use Rattle.ink_model.specs.declared.fault.ReadRefusal.{ReadRefusal}
-use Rattle.ink_player.specs.Lines.{has_newline}
-use Rattle.ink_player.specs.Serving.{RunEnds}
-use Rattle.ink_player.specs.Words.{state_of, story_of}
+use Rattle.ink_player.specs.Serving.{HasRoom, RunEnds}
+use Rattle.ink_player.specs.Steps.{FailsToOpen}
+use Rattle.ink_player.specs.Words.{desk_of, state_of, story_of}
 use Rattle.ink_player.specs.declared.desk.Desk.{Desk}
 use Rattle.ink_player.specs.declared.end.PlayEnd.{PlayEnd}
 use Rattle.ink_player.specs.declared.end.PlayFault.{PlayFault}
@@ -30,45 +33,45 @@ pub record IsStoryLine (left : Option (List ℕ)) (bytes line input : List ℕ) 
   pub within : length line ≤ MAX_STORY
   pub whole : (bytes ≡ line ++ 10 ∷ input) ⊎ ((bytes ≡ line) × (input ≡ []) × IsAtEnd left)
 
--- The story was opened, and the lines behind it were served to the reader's end or to what ended the session. The input's
--- limit counts the story and its newline.
-pub record PlaysOn (left : Option (List ℕ)) (bytes written : List ℕ) (result : Result (Unit {0}) RunFault) : Type 0 where
+-- the story line spells this story, which is supported
+pub record BringsStory (left : Option (List ℕ)) (bytes : List ℕ) (tree : StoryTree) : Type 0 where
   pub line : List ℕ
   pub input : List ℕ
   pub story_line : IsStoryLine left bytes line input
-  pub tree : StoryTree
   pub reads : supported_story line ≡ Ok tree
+
+-- The story was opened, and the lines behind it were served to the reader's end or to what ended the session. The input's
+-- limit counts the story and its newline.
+pub record PlaysOn (left : Option (List ℕ)) (bytes written : List ℕ) (result : Result (Unit {0}) RunFault) : Type 0 where
+  pub tree : StoryTree
+  pub story : BringsStory left bytes tree
   pub first : Configuration
   pub opens : opening tree ≡ Ok first
   pub new : State
-  pub ends : RunEnds tree (MAX_INPUT - (length line + 1)) left input (opened first) written new result
+  pub ends : RunEnds tree nothing_bound [] (MAX_INPUT - (length story.line + 1)) left story.input (opened first) written new result
 
 -- the story ended what came: nothing was written, and no more was read than tells that a story is over its limit
 pub record EndsEarly (bytes written : List ℕ) : Type 0 where
   pub nothing : written ≡ []
   pub bound : length bytes ≤ MAX_STORY + 1
 
--- the story is not one that is played, or memory was refused
+-- the story is not one that is supported; or memory was refused, where it is parsed
 abbrev pub IsRefused : List ℕ → ReadRefusal → Type 0
-IsRefused line r = (r ≡ here cause.OutOfMemory) ⊎ (supported_story line ≡ Err r)
+IsRefused line r = ((r ≡ here cause.OutOfMemory) × (is_parsed line ≡ true)) ⊎ (supported_story line ≡ Err r)
 
--- the story was refused; where it is over its limit, it is refused for that, and where memory was refused for its line, too
+-- The story was refused. Where it is over its limit, it is refused for that; and where memory was refused for a byte of it, for
+-- that.
 abbrev pub IsStoryRefused : Option (List ℕ) → List ℕ → ReadRefusal → Type 0
 IsStoryRefused left bytes r =
     ((line : List ℕ) × (input : List ℕ) × IsStoryLine left bytes line input × IsRefused line r)
-    ⊎ ((r ≡ here cause.OutOfMemory) ⊎ ((r ≡ here cause.Limit) × (has_newline bytes ≡ false) × (MAX_STORY < length bytes)))
-
--- the story's declarations fault, or memory was refused for opening it
-abbrev pub CannotOpen : StoryTree → Fault → Type 0
-CannotOpen s f = (f ≡ OutOfMemory) ⊎ (opening s ≡ Err f)
+    ⊎ (((r ≡ here cause.OutOfMemory) × HasRoom MAX_STORY MAX_INPUT bytes bytes)
+    ⊎ ((r ≡ here cause.Limit) × (has_newline bytes ≡ false) × (MAX_STORY < length bytes)))
 
 pub record IsUnopened (left : Option (List ℕ)) (bytes : List ℕ) (f : Fault) : Type 0 where
-  pub line : List ℕ
-  pub input : List ℕ
-  pub story_line : IsStoryLine left bytes line input
   pub tree : StoryTree
-  pub reads : supported_story line ≡ Ok tree
-  pub why : CannotOpen tree f
+  pub story : BringsStory left bytes tree
+  pub globals : Values
+  pub why : FailsToOpen tree f globals
 
 abbrev pub PlayFails : Option (List ℕ) → List ℕ → List ℕ → PlayFault → Type 0
 PlayFails left bytes written (play.Story r) = EndsEarly bytes written × IsStoryRefused left bytes r
@@ -88,32 +91,6 @@ pub record Plays (left left' held held' : Option (List ℕ)) (result : Result De
   pub appended : Appends held held' written
   pub ends : PlayEnds left' bytes written result
 
--- ---- whether it was the reader's or the writer's fault
-
-abbrev pub is_reading : PlayFault → Bool
-is_reading (play.Story r) = false
-is_reading (play.Start f) = false
-is_reading (play.Run fault.Read) = true
-is_reading (play.Run fault.Write) = false
-is_reading (play.Run fault.TooLong) = false
-is_reading (play.Run fault.OutOfMemory) = false
-
-abbrev pub is_writing : PlayFault → Bool
-is_writing (play.Story r) = false
-is_writing (play.Start f) = false
-is_writing (play.Run fault.Read) = false
-is_writing (play.Run fault.Write) = true
-is_writing (play.Run fault.TooLong) = false
-is_writing (play.Run fault.OutOfMemory) = false
-
-abbrev pub play_reads_fail : Result Desk PlayEnd → Bool
-play_reads_fail (Ok desk) = false
-play_reads_fail (Err e) = is_reading e.fault
-
-abbrev pub play_writes_fail : Result Desk PlayEnd → Bool
-play_writes_fail (Ok desk) = false
-play_writes_fail (Err e) = is_writing e.fault
-
 -- ---- parts of it
 
 -- why there is no story line, as the fault of a play
@@ -125,9 +102,20 @@ play_fault fault.OutOfMemory = play.Story (here cause.OutOfMemory)
 
 abbrev pub OpenFails : List ℕ → PlayFault → Type 0
 OpenFails line (play.Story r) = IsRefused line r
-OpenFails line (play.Start f) = (tree : StoryTree) × (supported_story line ≡ Ok tree) × CannotOpen tree f
+OpenFails line (play.Start f) = (tree : StoryTree) × (supported_story line ≡ Ok tree) × ((globals : Values) × FailsToOpen tree f globals)
 OpenFails line (play.Run f) = ⊥
 
 abbrev pub Opens : List ℕ → Result Player PlayEnd → Type 0
 Opens line (Ok p) = (supported_story line ≡ Ok (story_of p)) × ((c : Configuration) × (opening (story_of p) ≡ Ok c) × (state_of p ≡ opened c))
 Opens line (Err e) = OpenFails line e.fault
+
+-- ---- the desk that is handed back
+
+abbrev pub desk_left : Result Desk PlayEnd → Desk
+desk_left (Ok desk) = desk
+desk_left (Err e) = e.desk
+
+-- the player has it, or it is handed back
+abbrev pub opened_desk : Result Player PlayEnd → Desk
+opened_desk (Ok p) = desk_of p
+opened_desk (Err e) = e.desk

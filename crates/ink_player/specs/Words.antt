@@ -6,6 +6,7 @@ use Rattle.ink_model.specs.Tree.{StoryTree}
 use Rattle.ink_model.specs.Configuration.{Configuration, base_frame}
 use Rattle.ink_model.specs.State.{State, Condition, Ready, Broken}
 use Rattle.ink_model.specs.declared.fault.Fault.{Fault}
+use Rattle.ink_player.specs.declared.desk.Desk.{Desk}
 use Rattle.ink_player.specs.declared.machine.Machine.{Machine}
 use Rattle.ink_player.specs.declared.player.Player.{Player}
 use Rattle.ink_tree.specs.Nodes.{place_of}
@@ -32,6 +33,9 @@ config_of s m = record {
 
 abbrev pub story_of : Player → StoryTree
 story_of p = story_tree p.story
+
+abbrev pub desk_of : Player → Desk
+desk_of p = p.desk
 
 abbrev pub condition_by : Option Fault → Configuration → Condition
 condition_by None c = Ready c

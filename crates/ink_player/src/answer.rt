@@ -1,12 +1,11 @@
 //! Answers as they are written (docs/PROTOCOL.md, "Answers").
 
-ghost use Rattle.std.specs.Prelude.{◌≡◌, [], IfOk, string_bytes};
+ghost use Rattle.std.specs.Prelude.{◌≡◌, [], IfOk, map, string_bytes};
 ghost use Rattle.serde_json.specs.View.{view};
-ghost use Rattle.serde_json.specs.Written.{compact_text, has_float};
-ghost use Rattle.ink_model.specs.Answer.{answer, fault_name as name_of_fault, refusal_name as name_of_refusal, refusal_data, reply_data, reply_of_halt, Acts, Shows, texts_data, shown_data, passage_data, events_data, items_of, Breaks};
+ghost use Rattle.ink_model.specs.Answer.{answer, refusal_data, reply_data, reply_of_halt, Acts, Breaks, Shows, items_of, passage_data, shown_data};
 ghost use Rattle.ink_model.specs.ValueJson.{value_data};
-ghost use Rattle.serde_json.specs.Data.{string};
-ghost use Rattle.ink_player.specs.Answers.{shown_list, passage_with};
+ghost use Rattle.serde_json.specs.Data.{Data, array, string};
+ghost use Rattle.ink_player.specs.Answers.{passage_with};
 ghost use Rattle.ink_player.specs.Replies.{reply_by};
 
 use ink_model::{Event, Fault, Halt, Passage, Path, Refusal, Seq, Shown, Text, Value};
@@ -66,19 +65,12 @@ fn value_json(alloc: Global, value: &Value) -> Result<Json, AllocError>
     match value {
         Value::Int(number) => Ok(Json::Number(Number::from(*number))),
         Value::Bool(truth) => Ok(Json::Bool(*truth)),
-        Value::Text(text) => string_json(alloc, text),
+        Value::Text(text) => text.to_json(alloc),
         Value::Target(path) => target_json(alloc, path),
         Value::Pointer(name, frame) => pointer_json(alloc, name, *frame),
         Value::Void => Ok(Json::Null),
         Value::Tag(text) => tag_json(alloc, text),
     }
-}
-
-fn string_json(alloc: Global, text: &Text) -> Result<Json, AllocError>
-    ensures { IfOk result (λ v. view v ≡ string text.now) }
-{
-    let text = String::from_str(alloc, text.as_str())?;
-    Ok(Json::String(text))
 }
 
 fn target_json(alloc: Global, path: &Path) -> Result<Json, AllocError>
@@ -112,8 +104,8 @@ fn halt_json(alloc: Global, halt: Halt) -> Result<Json, AllocError>
 fn passage_json(alloc: Global, passage: &Passage) -> Result<Json, AllocError>
     ensures { IfOk result (λ v. view v ≡ passage_data passage.now) }
 {
-    let choices = choices_json(alloc, passage.choices.as_slice())?;
-    let tags = texts_json(alloc, passage.tags.as_slice())?;
+    let choices = list_json(alloc, passage.choices.as_slice())?;
+    let tags = list_json(alloc, passage.tags.as_slice())?;
     passage_object(alloc, passage, choices, tags)
 }
 
@@ -135,29 +127,38 @@ fn passage_object(
     })
 }
 
-fn choices_json(alloc: Global, choices: &[Shown]) -> Result<Json, AllocError>
-    ensures { IfOk result (λ v. view v ≡ shown_list choices.now) }
-{
-    let mut values = Vec::new(alloc);
-    for choice in choices {
-        values.push(shown_json(alloc, choice)?)?;
+// What stands in lists of answers.
+trait Listed {
+    ghost json: { Self → Data };
+
+    fn to_json(&self, alloc: Global) -> Result<Json, AllocError>
+        ensures { IfOk result (λ v. view v ≡ json self.now) };
+}
+
+impl Listed for Text {
+    ghost json = { λ t. string t };
+
+    fn to_json(&self, alloc: Global) -> Result<Json, AllocError> {
+        let text = String::from_str(alloc, self.as_str())?;
+        Ok(Json::String(text))
     }
-    Ok(Json::Array(values))
 }
 
-fn shown_json(alloc: Global, choice: &Shown) -> Result<Json, AllocError>
-    ensures { IfOk result (λ v. view v ≡ shown_data choice.now) }
-{
-    let tags = texts_json(alloc, choice.tags.as_slice())?;
-    json!(in alloc; { "tags": tags, "text": choice.text.as_str() })
+impl Listed for Shown {
+    ghost json = { λ s. shown_data s };
+
+    fn to_json(&self, alloc: Global) -> Result<Json, AllocError> {
+        let tags = list_json(alloc, self.tags.as_slice())?;
+        json!(in alloc; { "tags": tags, "text": self.text.as_str() })
+    }
 }
 
-fn texts_json(alloc: Global, texts: &[Text]) -> Result<Json, AllocError>
-    ensures { IfOk result (λ v. view v ≡ texts_data texts.now) }
+fn list_json<T: Listed>(alloc: Global, items: &[T]) -> Result<Json, AllocError>
+    ensures { IfOk result (λ v. view v ≡ array (items_of (map T.json items.now))) }
 {
     let mut values = Vec::new(alloc);
-    for text in texts {
-        values.push(string_json(alloc, text)?)?;
+    for item in items {
+        values.push(item.to_json(alloc)?)?;
     }
     Ok(Json::Array(values))
 }
@@ -165,9 +166,9 @@ fn texts_json(alloc: Global, texts: &[Text]) -> Result<Json, AllocError>
 fn refusal_json(alloc: Global, refusal: Refusal) -> Result<Json, AllocError>
     ensures { IfOk result (λ v. view v ≡ refusal_data refusal) }
 {
-    let name = refusal_name(refusal);
+    let name = refusal.name();
     match refusal {
-        Refusal::Broken(fault) => json!(in alloc; { "fault": fault_name(fault), "refused": name }),
+        Refusal::Broken(fault) => json!(in alloc; { "fault": fault.name(), "refused": name }),
         Refusal::CannotContinue
         | Refusal::NoSuchVariable
         | Refusal::BadValue
@@ -179,36 +180,5 @@ fn refusal_json(alloc: Global, refusal: Refusal) -> Result<Json, AllocError>
 fn fault_json(alloc: Global, fault: Fault) -> Result<Json, AllocError>
     ensures { IfOk result (λ v. view v ≡ reply_data (Breaks fault [])) }
 {
-    json!(in alloc; { "events": [], "fault": fault_name(fault) })
-}
-
-fn fault_name(fault: Fault) -> &'static str
-    ensures { result.now ≡ name_of_fault fault }
-{
-    match fault {
-        Fault::StackEmpty => "StackEmpty",
-        Fault::BadOperands => "BadOperands",
-        Fault::Divide => "Divide",
-        Fault::BadMode => "BadMode",
-        Fault::BadTarget => "BadTarget",
-        Fault::NoTemp => "NoTemp",
-        Fault::HostRefused => "HostRefused",
-        Fault::StopInString => "StopInString",
-        Fault::TooDeep => "TooDeep",
-        Fault::OutOfSteps => "OutOfSteps",
-        Fault::OutOfMemory => "OutOfMemory",
-    }
-}
-
-fn refusal_name(refusal: Refusal) -> &'static str
-    ensures { result.now ≡ name_of_refusal refusal }
-{
-    match refusal {
-        Refusal::CannotContinue => "CannotContinue",
-        Refusal::NoSuchVariable => "NoSuchVariable",
-        Refusal::BadValue => "BadValue",
-        Refusal::BadCommand => "BadCommand",
-        Refusal::Broken(_) => "Broken",
-        Refusal::OutOfMemory => "OutOfMemory",
-    }
+    json!(in alloc; { "events": [], "fault": fault.name() })
 }

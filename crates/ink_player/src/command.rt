@@ -1,23 +1,15 @@
-//! The commands that lines spell.
+//! The commands that lines spell (docs/PROTOCOL.md, "Command lines").
 
 ghost use Rattle.std.specs.Prelude.{◌≡◌, IfOk, OnErr, option_map, option_and_then, string_bytes};
 ghost use Rattle.serde_json.specs.Find.{as_integer};
 ghost use Rattle.serde_json.specs.View.{view, number_view};
-ghost use Rattle.ink_model.specs.Command.{command_of, command_word, get_command as get_of, set_command as set_of};
-ghost use Rattle.ink_model.specs.Bytes.{after as after_word};
-ghost use Rattle.ink_model.specs.Bytes.{at_space as parts_at_space};
-ghost use Rattle.ink_model.specs.ValueJson.{given_of as given_in};
-ghost use Rattle.ink_model.specs.ValueJson.{given_by as given_from};
-ghost use Rattle.ink_model.specs.ValueJson.{given_integer};
-ghost use Rattle.ink_model.specs.ValueJson.{given_text};
-ghost use Rattle.ink_player.specs.Commands.{NeedsMemory};
+ghost use Rattle.ink_model.specs.Command.{NeedsMemory, command_of, command_word, get_command as get_of, set_command as set_of};
+ghost use Rattle.ink_model.specs.Bytes.{after as after_word, at_space as parts_at_space};
+ghost use Rattle.ink_model.specs.ValueJson.{given_by as given_from, given_integer, given_of as given_in, given_text};
 
-use ink_model::{Command, Given, Text};
+use ink_model::{Command, Given, MAX_TEXT, Text};
 use serde_json::{Number, Value};
 use std::alloc::{AllocError, Global};
-
-/// The most bytes of a text that is set.
-const MAX_TEXT: usize = 1_048_576;
 
 /// The command of a line, without its newline (docs/PROTOCOL.md, "Command lines"). A line that is no text, or no
 /// command, has none. The one error is a refused request for memory, and only a line with a name makes one.

@@ -4,6 +4,7 @@ ghost use Rattle.std.specs.Prelude.{◌≡◌, ◌<◌, ◌≤◌, ◌+◌, ◌-
 ghost use Rattle.std.specs.Io.{ReadsAtMost};
 ghost use Rattle.std.specs.Io.KnownBytes.{Consumes, Keeps, IsAtEnd, ReadConsumes};
 
+use crate::watched::Watched;
 use std::io::Read;
 use std::marker::Model;
 
@@ -32,14 +33,7 @@ pub trait Source {
         ensures name { name self.new ≡ name self.old };
 }
 
-/// Any reader as a source.
-#[derive(Drop)]
-pub(crate) struct Reader<'a, R> {
-    pub(crate) inner: &'a mut R,
-    pub(crate) has_failed: bool,
-}
-
-impl<R: Read> Source for Reader<'_, R> {
+impl<R: Read> Source for Watched<'_, R> {
     ghost remaining = { λ s. R.remaining s.inner.now };
 
     ghost has_failed = { λ s. s.has_failed };
@@ -77,20 +71,20 @@ pub(crate) struct Ahead {
 }
 
 impl Model for Ahead {
-    ghost use Rattle.std.specs.Prelude.{◌≤◌, ◌+◌, take, drop};
+    ghost use Rattle.std.specs.Prelude.{◌≤◌, ◌+◌, max, take, drop};
     ghost use Rattle.ink_player.specs.Buffered.{Buffered};
 
     ghost Value = { Buffered };
 
     ghost view = { λ a. record { unread = drop a.at (take a.end a.chunk); spare = a.spare } };
 
-    ghost invariant = { λ a. (a.at ≤ a.end) × (a.end ≤ 4096) × (a.end ≤ a.at + a.spare + 1) };
+    ghost invariant = { λ a. (a.at ≤ a.end) × (a.end ≤ 4096) × (a.end ≤ a.at + max a.spare 1) };
 }
 
 impl Ahead {
     ghost use Rattle.std.specs.Prelude.{◌≡◌, ◌<◌, ◌≤◌, ◌+◌, max, [], ◌∷◌, ◌||◌, length, is_err, IfOk, OnOk, OnErr};
     ghost use Rattle.std.specs.Io.KnownBytes.{IsAtEnd};
-    ghost use Rattle.ink_player.specs.Input.{Gives, Takes, count_taken};
+    ghost use Rattle.ink_player.specs.Input.{GivesByte, Takes, count_taken};
 
     /// Nothing was read, and this many bytes may be taken.
     pub(crate) fn new(most: usize) -> Ahead
@@ -104,18 +98,26 @@ impl Ahead {
         }
     }
 
-    /// The next byte. Where none is left of what was read, reads at most `room` bytes and one, and never more than one
-    /// past those that may be taken.
+    /// No effect at run time. A proof reads from it that no more than a chunk was read ahead.
+    pub(crate) fn bounds(&self)
+        ensures { length self.now.unread ≤ 4096 }
+    {
+        let _ = &self.chunk;
+    }
+
+    /// The next byte. Where none is left of what was read, reads no more than `room` bytes and than may be taken, but one in
+    /// any case, which tells whether there is any.
     pub(crate) fn next<S: Source>(
         &mut self,
         source: &mut S,
         room: usize,
     ) -> Result<Next, ReadFailed>
-        ensures gives { Gives (S.remaining source.old) (S.remaining source.new) self.old self.new result }
+        ensures gives { GivesByte (S.remaining source.old) (S.remaining source.new) self.old self.new result }
         ensures cause { S.has_failed source.new ≡ (is_err result || S.has_failed source.old) }
         ensures name { S.name source.new ≡ S.name source.old }
         ensures bound { length self.new.unread ≤ self.new.spare + 1 }
-        ensures room { IfOk result (λ n. count_taken n + length self.new.unread ≤ max (length self.old.unread) (room + 1)) }
+        ensures within { IfOk result (λ n. count_taken n + length self.new.unread ≤ max (count_taken n + self.new.spare) 1) }
+        ensures room { IfOk result (λ n. count_taken n + length self.new.unread ≤ max (length self.old.unread) (max room 1)) }
     {
         self.fill(source, room)?;
         if self.at == self.end {
@@ -134,13 +136,13 @@ impl Ahead {
         ensures err { OnErr result (self.new.unread ≡ []) }
         ensures cause { S.has_failed source.new ≡ (is_err result || S.has_failed source.old) }
         ensures name { S.name source.new ≡ S.name source.old }
-        ensures bound { length self.new.unread ≤ self.new.spare + 1 }
-        ensures room { length self.new.unread ≤ max (length self.old.unread) (room + 1) }
+        ensures bound { length self.new.unread ≤ max self.new.spare 1 }
+        ensures room { length self.new.unread ≤ max (length self.old.unread) (max room 1) }
     {
         if self.at < self.end {
             return Ok(());
         }
-        let room = room.min(self.spare).min(CHUNK - 1) + 1;
+        let room = room.min(self.spare).min(CHUNK).max(1);
         self.at = 0;
         self.end = 0;
         self.end = read_some(source, &mut self.chunk, room)?;

@@ -14,6 +14,7 @@ mod supported;
 mod player;
 mod playing;
 mod session;
+mod watched;
 
 pub use desk::Desk;
 pub use end::{PlayEnd, PlayFault, RunFault};

@@ -1,7 +1,8 @@
 //! Taking lines from a source.
 
 ghost use Rattle.std.specs.Prelude.{◌≡◌, ◌≤◌, ◌+◌, ◌||◌, length};
-ghost use Rattle.ink_player.specs.Lines.{GivesLine, Pushes, reads_fail};
+ghost use Rattle.ink_player.specs.Ends.{reads_fail};
+ghost use Rattle.ink_player.specs.Lines.{GivesLine, Pushes};
 
 use crate::end::RunFault;
 use crate::input::{Ahead, Next, Source};
@@ -15,8 +16,8 @@ pub(crate) enum Line {
 }
 
 /// The next line, of at most so many bytes. No more is read than tells that it is longer. Errors: `Read`, where the
-/// source failed; `TooLong`, where the line is longer, or all bytes were taken that may be and more are there;
-/// `OutOfMemory`.
+/// source failed; `TooLong`, where the line is longer, or all bytes were taken that may be and more are there, whatever
+/// memory there is; `OutOfMemory`, where memory was refused for a byte that the line may have.
 pub(crate) fn next_line<S: Source>(
     alloc: Global,
     ahead: &mut Ahead,

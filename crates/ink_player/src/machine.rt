@@ -1,6 +1,6 @@
 //! The machine that runs a story forward.
 
-ghost use Rattle.std.specs.Prelude.{◌≡◌, IfOk};
+ghost use Rattle.std.specs.Prelude.{◌≡◌, [], IfOk};
 ghost use Rattle.ink_model.specs.Configuration.{begun, settled, can_go_on};
 ghost use Rattle.ink_model.specs.Session.{passage, is_loose, RunsThrough};
 ghost use Rattle.ink_model.specs.Step.{nothing_bound};
@@ -19,16 +19,15 @@ mod steps;
 mod storing;
 mod writing;
 
+pub(crate) use opening::Unopened;
+
 use crate::globals::Globals;
 use ink_check::Story;
-use ink_model::{Fault, Passage, Seq};
+use ink_model::{Fault, MAX_STEPS, Passage, Seq};
 use ink_out::Output;
 use ink_tree::Spot;
 use ink_value::EvalStack;
 use std::alloc::{AllocError, Global};
-
-/// Steps that a command may take.
-const MAX_STEPS: u32 = 1_000_000;
 
 /// What changes while a story runs. Of a configuration's fields those that no content writes yet are not kept.
 #[derive(Drop)]
@@ -66,9 +65,9 @@ impl Machine {
         !self.can_go_on() && !self.safe
     }
 
-    /// Runs to the stop and tells the passage. After a fault the machine is of no more use, but for its globals.
+    /// Runs to the stop and answers the passage. After a fault the machine is of no more use, but for its globals.
     pub(crate) fn through(&mut self, story: &Story) -> Result<Passage, Fault>
-        ensures { let s = story_tree story.now in RunsThrough s nothing_bound (config_of s self.old) (reply_of_run result) (left_by result (config_of s self.new)) }
+        ensures { let s = story_tree story.now in RunsThrough s nothing_bound (config_of s self.old) [] (reply_of_run result) (left_by result (config_of s self.new)) }
     {
         self.begin();
         if let Err(fault) = self.run(story) {
@@ -102,7 +101,7 @@ impl Machine {
         Err(Fault::OutOfSteps)
     }
 
-    /// What is told of the machine as a running command ends. The one error is a refused request for memory.
+    /// The passage of the machine as a running command ends. The one error is a refused request for memory.
     fn passage(&self) -> Result<Passage, AllocError>
         ensures { (s : StoryTree) → IfOk result (λ p. p ≡ passage (config_of s self.now)) }
     {

@@ -5,6 +5,7 @@ ghost use Rattle.std.specs.Io.{WritesAtMost};
 ghost use Rattle.std.specs.Io.KnownBytes.{Appends, WriteAppends};
 ghost use Rattle.ink_player.specs.Ends.{takes_nothing, Writes};
 
+use crate::watched::Watched;
 use std::io::Write;
 
 /// A sink failed, or took no byte though there was one.
@@ -31,14 +32,7 @@ pub trait Sink {
         ensures name { name self.new ≡ name self.old };
 }
 
-/// Any writer as a sink.
-#[derive(Drop)]
-pub(crate) struct Writer<'a, W> {
-    pub(crate) inner: &'a mut W,
-    pub(crate) has_failed: bool,
-}
-
-impl<W: Write> Sink for Writer<'_, W> {
+impl<W: Write> Sink for Watched<'_, W> {
     ghost contents = { λ s. W.contents s.inner.now };
 
     ghost has_failed = { λ s. s.has_failed };

@@ -1,7 +1,7 @@
 //! The player.
 
-ghost use Rattle.std.specs.Prelude.{◌≡◌, ◌⊎◌, [], Some, IfOk, IfErr, Ok, Err};
-ghost use Rattle.ink_model.specs.Answer.{reply_of, reply_of_events, reply_of_value};
+ghost use Rattle.std.specs.Prelude.{◌≡◌, [], Some, IfOk, IfErr, Ok};
+ghost use Rattle.ink_model.specs.Answer.{Breaks, reply_of, reply_of_events, reply_of_halt, reply_of_value};
 ghost use Rattle.ink_model.specs.Configuration.{Configuration};
 ghost use Rattle.ink_model.specs.Opening.{opening, opened};
 ghost use Rattle.ink_model.specs.Supported.{unsupported};
@@ -9,18 +9,14 @@ ghost use Rattle.ink_model.specs.Session.{Through, Set, Get, Restart, settable};
 ghost use Rattle.ink_model.specs.Run as rules;
 ghost use Rattle.ink_model.specs.State.{is_running, fault_in};
 ghost use Rattle.ink_model.specs.Step.{nothing_bound};
-ghost use Rattle.ink_model.specs.declared.fault.Fault.TheVariants.{OutOfMemory};
 
 use crate::desk::Desk;
-use crate::machine::Machine;
+use crate::machine::{Machine, Unopened};
 use ink_check::Story;
-use ink_model::{Event, Fault, Given, Halt, Passage, Refusal, Seq, Value};
+use ink_model::{Event, Fault, Given, Halt, MAX_TEXT, Passage, Refusal, Seq, Value};
 use std::alloc::Global;
 
-/// Bytes that a text may have.
-const MAX_TEXT: usize = 1_048_576;
-
-/// A story that is played: where it stands, and the desk of the host's objects.
+/// A story that runs: where it stands, and the desk of the host's objects.
 pub struct Player {
     pub(crate) story: Story,
     pub(crate) desk: Desk,
@@ -39,16 +35,21 @@ pub struct OpenFault {
 
 impl Player {
     ghost use Rattle.ink_check.specs.Words.{story_tree};
-    ghost use Rattle.ink_player.specs.Words.{state_of, story_of};
+    ghost use Rattle.ink_model.specs.Store.{Values};
+    ghost use Rattle.ink_player.specs.Steps.{FailsToOpen};
+    ghost use Rattle.ink_player.specs.Words.{desk_of, state_of, story_of};
 
     /// Opens a story at its start, with the globals that it declares (docs/RUNNING.md, "Opening"). All of its content is
-    /// played, as `runnable` finds out. The fault is that of the declarations, or `OutOfMemory`.
+    /// supported, as `runnable` finds out. The fault is that of the declarations, or `OutOfMemory` where they run to a step that
+    /// asks for memory; story and desk are handed back with it.
     pub fn open(alloc: Global, story: Story, desk: Desk) -> Result<Player, OpenFault>
-        requires played { unsupported (story_tree story) ≡ [] }
+        requires supported { unsupported (story_tree story) ≡ [] }
         ensures story { IfOk result (λ p. story_of p ≡ story_tree story) }
         ensures state { IfOk result (λ p. (c : Configuration) × (opening (story_tree story) ≡ Ok c) × (state_of p ≡ opened c)) }
-        ensures fault { IfErr result (λ e. (e.fault ≡ OutOfMemory) ⊎ (opening (story_tree story) ≡ Err e.fault)) }
-        ensures kept { IfErr result (λ e. e.story ≡ story) }
+        ensures desk { IfOk result (λ p. desk_of p ≡ desk) }
+        ensures fault { IfErr result (λ e. (globals : Values) × FailsToOpen (story_tree story) e.fault globals) }
+        ensures kept_story { IfErr result (λ e. e.story ≡ story) }
+        ensures kept_desk { IfErr result (λ e. e.desk ≡ desk) }
     {
         match Machine::open(alloc, &story) {
             Ok(machine) => Ok(Player {
@@ -59,7 +60,7 @@ impl Player {
                 stamp: 0,
                 alloc,
             }),
-            Err(fault) => Err(OpenFault { fault, story, desk }),
+            Err(Unopened { fault, globals: _ }) => Err(OpenFault { fault, story, desk }),
         }
     }
 
@@ -70,10 +71,13 @@ impl Player {
         self.broken.is_none() && self.machine.can_go_on()
     }
 
-    /// Runs to the stop, and tells the passage.
+    /// Runs to the stop, and answers the passage. Refused with `Broken` after a fault, and with `CannotContinue` where flow has
+    /// stopped; nothing has changed then. A fault breaks the player: that of the step that faulted, `OutOfSteps` after 1,000,000
+    /// steps, and `OutOfMemory` where memory was refused to a step or to the passage.
     pub fn through(&mut self) -> Result<Passage, Halt>
-        ensures does { Through (story_of self.old) nothing_bound (state_of self.old) (reply_of result) (state_of self.new) }
+        ensures does { Through (story_of self.old) nothing_bound [] (state_of self.old) (reply_of result) (state_of self.new) }
         ensures story { story_of self.new ≡ story_of self.old }
+        ensures desk { desk_of self.new ≡ desk_of self.old }
     {
         if let Some(fault) = self.broken {
             return Err(Halt::Refused(Refusal::Broken(fault)));
@@ -83,21 +87,29 @@ impl Player {
         }
         match self.machine.through(&self.story) {
             Ok(passage) => Ok(passage),
-            Err(fault) => {
-                self.broken = Some(fault);
-                Err(Halt::Fault {
-                    fault,
-                    events: Seq::new(self.alloc),
-                })
-            }
+            Err(fault) => Err(self.break_by(fault)),
+        }
+    }
+
+    /// A fault breaks the player.
+    fn break_by(&mut self, fault: Fault) -> Halt
+        ensures reply { reply_of_halt result ≡ Breaks fault [] }
+        ensures player { self.new ≡ record self.old { broken = Some fault } }
+    {
+        self.broken = Some(fault);
+        Halt::Fault {
+            fault,
+            events: Seq::new(self.alloc),
         }
     }
 
     /// Gives a global a value. Refused with `Broken` after a fault, with `BadValue` for void and for a text over its limit,
-    /// with `NoSuchVariable` where there is no such global, and with `OutOfMemory`; nothing has changed then.
+    /// with `NoSuchVariable` where there is no such global, and else with `OutOfMemory` where memory was refused for storing it;
+    /// nothing has changed then.
     pub fn set(&mut self, name: &str, value: Given) -> Result<Seq<Event>, Halt>
         ensures does { Set name.now (Some value) (state_of self.old) (reply_of_events result) (state_of self.new) }
         ensures story { story_of self.new ≡ story_of self.old }
+        ensures desk { desk_of self.new ≡ desk_of self.old }
     {
         if let Some(cause) = self.broken {
             return Err(Halt::Refused(Refusal::Broken(cause)));
@@ -115,7 +127,7 @@ impl Player {
     }
 
     /// A global's value; of a broken player as it stood before the step that faulted. Refused with `NoSuchVariable` where
-    /// there is no such global, and with `OutOfMemory`.
+    /// there is no such global, and with `OutOfMemory`, but for a number, a truth value and void, which are copied without memory.
     pub fn get(&self, name: &str) -> Result<Value, Refusal>
         ensures { Get name.now (state_of self.now) (reply_of_value result) (state_of self.now) }
     {
@@ -128,10 +140,13 @@ impl Player {
         }
     }
 
-    /// Begins anew, as the story was opened; a broken player too. Refused with `OutOfMemory` alone; nothing has changed then.
+    /// Begins anew, as the story was opened; a broken player too. Refused with `OutOfMemory` alone, where the declarations run to a
+    /// step that asks for memory; nothing has changed then. A fault of the declarations breaks the player, which keeps the globals
+    /// as they stood before the step that faulted.
     pub fn restart(&mut self) -> Result<Seq<Event>, Halt>
         ensures does { Restart (story_of self.old) (state_of self.old) (reply_of_events result) (state_of self.new) }
         ensures story { story_of self.new ≡ story_of self.old }
+        ensures desk { desk_of self.new ≡ desk_of self.old }
     {
         match Machine::open(self.alloc, &self.story) {
             Ok(machine) => {
@@ -139,13 +154,15 @@ impl Player {
                 self.broken = None;
                 Ok(Seq::new(self.alloc))
             }
-            Err(Fault::OutOfMemory) => Err(Halt::Refused(Refusal::OutOfMemory)),
-            Err(cause) => {
-                self.broken = Some(cause);
-                Err(Halt::Fault {
-                    fault: cause,
-                    events: Seq::new(self.alloc),
-                })
+            Err(
+                Unopened {
+                    fault: Fault::OutOfMemory,
+                    globals: _,
+                },
+            ) => Err(Halt::Refused(Refusal::OutOfMemory)),
+            Err(Unopened { fault, globals }) => {
+                self.machine = Machine::at_start(self.alloc, &self.story, globals);
+                Err(self.break_by(fault))
             }
         }
     }
@@ -157,8 +174,10 @@ impl Player {
         self.broken
     }
 
-    /// Ends the player and hands the desk back. Takes no memory.
-    pub fn close(self) -> Desk {
+    /// Ends the player and hands its desk back. Takes no memory.
+    pub fn close(self) -> Desk
+        ensures { result ≡ desk_of self }
+    {
         let Player {
             story: _,
             desk,

@@ -2,35 +2,33 @@
 
 ghost use Rattle.std.specs.Prelude.{◌≡◌, ◌||◌, [], Ok, IfOk, IfErr};
 ghost use Rattle.ink_check.specs.Words.{story_tree};
-ghost use Rattle.ink_model.specs.Grammar.{here};
 ghost use Rattle.ink_model.specs.Supported as rules;
 ghost use Rattle.ink_model.specs.Supported.{unsupported};
-ghost use Rattle.ink_player.specs.Playing.{IsRefused, Opens, Plays, play_fault, play_reads_fail, play_writes_fail};
+ghost use Rattle.ink_player.specs.Ends.{Reports, play_reads_fail, play_writes_fail};
+ghost use Rattle.ink_player.specs.Playing.{IsRefused, Opens, Plays, desk_left, opened_desk, play_fault};
 
 use crate::desk::Desk;
 use crate::end::{PlayEnd, PlayFault, RunFault};
-use crate::input::{Ahead, Reader, Source};
+use crate::input::{Ahead, Source};
 use crate::lines::{Line, next_line};
-use crate::output::{Sink, Writer};
+use crate::output::Sink;
 use crate::supported::runnable;
 use crate::player::{OpenFault, Player};
-use crate::session::{MAX_INPUT, serve_lines};
+use crate::session::serve_lines;
+use crate::watched::Watched;
 use ink_check::{Story, check};
 use ink_json::read_story;
-use ink_model::{Cause, Place, ReadRefusal};
+use ink_model::{Cause, MAX_INPUT, MAX_STORY, ReadRefusal};
 use std::alloc::Global;
 use std::io::{Read, Write};
-
-/// The most bytes of a story.
-const MAX_STORY: usize = 16_777_216;
 
 /// Plays a story: the first line is the story, and the lines after it are served as `run` does until the reader's end. The
 /// limit of the input, 64 MiB, counts the story. The desk is handed back, at an error too.
 ///
 /// Errors: `Story`, where the story is refused, with nothing written; a story line over 16 MiB is refused with `Limit` at
-/// the root, and a story that can be read and accepted, but is not all played yet, with `Unsupported` at the first content
-/// that is not. `Start`, where its declarations fault or memory was refused for opening it. `Run`, as of `run`; the reader may also
-/// fail within the story.
+/// the root, whatever memory there is, and a story that can be read and accepted, but is not all supported yet, with
+/// `Unsupported` at the first content that is not. `Start`, where its declarations fault, or where they run to a step that asks
+/// for memory and gets none. `Run`, as of `run`; the reader may also fail within the story.
 pub fn play<R: Read, W: Write>(
     alloc: Global,
     reader: &mut R,
@@ -38,20 +36,11 @@ pub fn play<R: Read, W: Write>(
     desk: Desk,
 ) -> Result<Desk, PlayEnd>
     ensures plays { Plays (R.remaining reader.old) (R.remaining reader.new) (W.contents writer.old) (W.contents writer.new) result }
+    ensures desk { desk_left result ≡ desk }
 {
-    let mut source = Reader {
-        inner: reader,
-        has_failed: false,
-    };
-    let mut sink = Writer {
-        inner: writer,
-        has_failed: false,
-    };
-    let outcome = serve_story(alloc, &mut source, &mut sink, desk);
-    // No effect at run time. The proof reads what the reader and the writer came to from these.
-    let _ = &*source.inner;
-    let _ = &*sink.inner;
-    outcome
+    let mut source = Watched::over(reader);
+    let mut sink = Watched::over(writer);
+    serve_story(alloc, &mut source, &mut sink, desk)
 }
 
 /// Plays a story as `play` does, over a source and a sink, which say whether they have failed: the source has failed in this
@@ -63,10 +52,9 @@ pub fn serve_story<S: Source, T: Sink>(
     desk: Desk,
 ) -> Result<Desk, PlayEnd>
     ensures plays { Plays (S.remaining source.old) (S.remaining source.new) (T.contents sink.old) (T.contents sink.new) result }
-    ensures read_cause { S.has_failed source.new ≡ (play_reads_fail result || S.has_failed source.old) }
-    ensures write_cause { T.has_failed sink.new ≡ (play_writes_fail result || T.has_failed sink.old) }
-    ensures source_name { S.name source.new ≡ S.name source.old }
-    ensures sink_name { T.name sink.new ≡ T.name sink.old }
+    ensures desk { desk_left result ≡ desk }
+    ensures source { Reports (play_reads_fail result) (S.has_failed source.old) (S.has_failed source.new) (S.name source.old) (S.name source.new) }
+    ensures sink { Reports (play_writes_fail result) (T.has_failed sink.old) (T.has_failed sink.new) (T.name sink.old) (T.name sink.new) }
 {
     let mut ahead = Ahead::new(MAX_INPUT);
     let line = match next_line(alloc, &mut ahead, source, MAX_STORY) {
@@ -102,11 +90,13 @@ pub fn serve_story<S: Source, T: Sink>(
 /// Reads a story, checks its paths, and opens it (docs/PROTOCOL.md, "Playing").
 ///
 /// Errors: `Story`, where the story is refused as by `read_story` and `check`, or with `Unsupported` at the first content that
-/// is not played yet. `Start`, where its declarations fault or memory was refused for opening it. The desk is handed back.
+/// is not supported yet. `Start`, where its declarations fault, or where they run to a step that asks for memory and gets none.
+/// The desk is handed back.
 pub fn open_story(alloc: Global, line: &[u8], desk: Desk) -> Result<Player, PlayEnd>
-    ensures { Opens line.now result }
+    ensures opens { Opens line.now result }
+    ensures desk { opened_desk result ≡ desk }
 {
-    let story = match played_story(alloc, line) {
+    let story = match supported_story(alloc, line) {
         Ok(story) => story,
         Err(refusal) => {
             let fault = PlayFault::Story(refusal);
@@ -128,10 +118,10 @@ pub fn open_story(alloc: Global, line: &[u8], desk: Desk) -> Result<Player, Play
     }
 }
 
-// Reads a story and accepts it, where all of it is played.
-fn played_story(alloc: Global, line: &[u8]) -> Result<Story, ReadRefusal>
+// Reads a story and accepts it, where all of it is supported.
+fn supported_story(alloc: Global, line: &[u8]) -> Result<Story, ReadRefusal>
     ensures ok { IfOk result (λ s. rules.supported_story line.now ≡ Ok (story_tree s)) }
-    ensures played { IfOk result (λ s. unsupported (story_tree s) ≡ []) }
+    ensures supported { IfOk result (λ s. unsupported (story_tree s) ≡ []) }
     ensures err { IfErr result (IsRefused line.now) }
 {
     let raw = match read_story(alloc, line) {
@@ -142,10 +132,10 @@ fn played_story(alloc: Global, line: &[u8]) -> Result<Story, ReadRefusal>
         Ok(story) => story,
         Err(refusal) => return Err(refusal),
     };
-    let Ok(unplayed) = runnable(alloc, &story) else {
-        return Err(at_root(alloc, Cause::OutOfMemory));
+    let Ok(unsupported) = runnable(alloc, &story) else {
+        return Err(ReadRefusal::at_root(alloc, Cause::OutOfMemory));
     };
-    match unplayed {
+    match unsupported {
         None => Ok(story),
         Some(place) => Err(ReadRefusal {
             cause: Cause::Unsupported,
@@ -160,16 +150,7 @@ fn fault_of(alloc: Global, fault: RunFault) -> PlayFault
 {
     match fault {
         RunFault::Read | RunFault::Write => PlayFault::Run(fault),
-        RunFault::TooLong => PlayFault::Story(at_root(alloc, Cause::Limit)),
-        RunFault::OutOfMemory => PlayFault::Story(at_root(alloc, Cause::OutOfMemory)),
-    }
-}
-
-fn at_root(alloc: Global, cause: Cause) -> ReadRefusal
-    ensures { result ≡ here cause }
-{
-    ReadRefusal {
-        cause,
-        place: Place::root(alloc),
+        RunFault::TooLong => PlayFault::Story(ReadRefusal::at_root(alloc, Cause::Limit)),
+        RunFault::OutOfMemory => PlayFault::Story(ReadRefusal::at_root(alloc, Cause::OutOfMemory)),
     }
 }

@@ -6,29 +6,24 @@ ghost use Rattle.ink_model.specs.Session.{Does, Serves, Set};
 ghost use Rattle.ink_model.specs.Step.{nothing_bound};
 ghost use Rattle.ink_player.specs.Replies.{reply_by};
 ghost use Rattle.ink_player.specs.Words.{state_of, story_of};
-ghost use Rattle.ink_player.specs.Lines.{reads_fail};
-ghost use Rattle.ink_player.specs.Serving.{Answers, ServesNext, Runs, writes_fail};
+ghost use Rattle.ink_player.specs.Ends.{Reports, reads_fail, writes_fail};
+ghost use Rattle.ink_player.specs.Serving.{Answers, Runs, SamePlay, ServesNext};
 ghost use Rattle.ink_model.specs.declared.limits.TheConstants.{MAX_INPUT};
 
 use crate::answer::{Outcome, answer_text};
 use crate::command::read_command;
 use crate::end::RunFault;
-use crate::input::{Ahead, Reader, Source};
+use crate::input::{Ahead, Source};
 use crate::lines::{Line, next_line};
-use crate::output::{Sink, WriteFailed, Writer, write_whole};
+use crate::output::{Sink, WriteFailed, write_whole};
 use crate::player::Player;
-use ink_model::{Command, Given, Refusal};
+use crate::watched::Watched;
+use ink_model::{Command, Given, MAX_INPUT, MAX_LINE, Refusal};
 use std::alloc::{AllocError, Global};
 use std::io::{Read, Write};
 
-/// The most bytes of a command line, without its newline.
-const MAX_LINE: usize = 1_048_576;
-
-/// The most bytes of an input, its newlines counted.
-pub(crate) const MAX_INPUT: usize = 67_108_864;
-
 /// Whether a session goes on after a line.
-pub(crate) enum Turn {
+pub(crate) enum Served {
     More,
     Done,
 }
@@ -46,23 +41,13 @@ pub fn run<R: Read, W: Write>(
     writer: &mut W,
     player: &mut Player,
 ) -> Result<(), RunFault>
-    ensures runs { Runs (story_of player.old) MAX_INPUT [] (R.remaining reader.old) (R.remaining reader.new)
+    ensures runs { Runs (story_of player.old) nothing_bound [] MAX_INPUT [] (R.remaining reader.old) (R.remaining reader.new)
         (W.contents writer.old) (W.contents writer.new) (state_of player.old) (state_of player.new) result }
-    ensures story { story_of player.new ≡ story_of player.old }
+    ensures same { SamePlay player.old player.new }
 {
-    let mut source = Reader {
-        inner: reader,
-        has_failed: false,
-    };
-    let mut sink = Writer {
-        inner: writer,
-        has_failed: false,
-    };
-    let outcome = serve(alloc, &mut source, &mut sink, player);
-    // No effect at run time. The proof reads what the reader and the writer came to from these.
-    let _ = &*source.inner;
-    let _ = &*sink.inner;
-    outcome
+    let mut source = Watched::over(reader);
+    let mut sink = Watched::over(writer);
+    serve(alloc, &mut source, &mut sink, player)
 }
 
 /// Serves command lines as `run` does, over a source and a sink, which say whether they have failed: the source has failed
@@ -73,13 +58,11 @@ pub fn serve<S: Source, T: Sink>(
     sink: &mut T,
     player: &mut Player,
 ) -> Result<(), RunFault>
-    ensures runs { Runs (story_of player.old) MAX_INPUT [] (S.remaining source.old) (S.remaining source.new)
+    ensures runs { Runs (story_of player.old) nothing_bound [] MAX_INPUT [] (S.remaining source.old) (S.remaining source.new)
         (T.contents sink.old) (T.contents sink.new) (state_of player.old) (state_of player.new) result }
-    ensures story { story_of player.new ≡ story_of player.old }
-    ensures read_cause { S.has_failed source.new ≡ (reads_fail result || S.has_failed source.old) }
-    ensures write_cause { T.has_failed sink.new ≡ (writes_fail result || T.has_failed sink.old) }
-    ensures source_name { S.name source.new ≡ S.name source.old }
-    ensures sink_name { T.name sink.new ≡ T.name sink.old }
+    ensures same { SamePlay player.old player.new }
+    ensures source { Reports (reads_fail result) (S.has_failed source.old) (S.has_failed source.new) (S.name source.old) (S.name source.new) }
+    ensures sink { Reports (writes_fail result) (T.has_failed sink.old) (T.has_failed sink.new) (T.name sink.old) (T.name sink.new) }
 {
     let mut ahead = Ahead::new(MAX_INPUT);
     serve_lines(alloc, &mut ahead, source, sink, player)
@@ -93,18 +76,16 @@ pub(crate) fn serve_lines<S: Source, T: Sink>(
     sink: &mut T,
     player: &mut Player,
 ) -> Result<(), RunFault>
-    ensures runs { Runs (story_of player.old) ahead.old.spare ahead.old.unread (S.remaining source.old) (S.remaining source.new)
+    ensures runs { Runs (story_of player.old) nothing_bound [] ahead.old.spare ahead.old.unread (S.remaining source.old) (S.remaining source.new)
         (T.contents sink.old) (T.contents sink.new) (state_of player.old) (state_of player.new) result }
-    ensures story { story_of player.new ≡ story_of player.old }
-    ensures read_cause { S.has_failed source.new ≡ (reads_fail result || S.has_failed source.old) }
-    ensures write_cause { T.has_failed sink.new ≡ (writes_fail result || T.has_failed sink.old) }
-    ensures source_name { S.name source.new ≡ S.name source.old }
-    ensures sink_name { T.name sink.new ≡ T.name sink.old }
+    ensures same { SamePlay player.old player.new }
+    ensures source { Reports (reads_fail result) (S.has_failed source.old) (S.has_failed source.new) (S.name source.old) (S.name source.new) }
+    ensures sink { Reports (writes_fail result) (T.has_failed sink.old) (T.has_failed sink.new) (T.name sink.old) (T.name sink.new) }
 {
     'lines: loop {
         match serve_line(alloc, ahead, source, sink, player) {
-            Ok(Turn::More) => {}
-            Ok(Turn::Done) => return Ok(()),
+            Ok(Served::More) => {}
+            Ok(Served::Done) => return Ok(()),
             Err(fault) => return Err(fault),
         }
     }
@@ -117,15 +98,14 @@ fn serve_line<S: Source, T: Sink>(
     source: &mut S,
     sink: &mut T,
     player: &mut Player,
-) -> Result<Turn, RunFault>
-    ensures turns { ServesNext (story_of player.old) (S.remaining source.old) (S.remaining source.new) (T.contents sink.old) (T.contents sink.new)
+) -> Result<Served, RunFault>
+    ensures next { ServesNext (story_of player.old) nothing_bound [] (S.remaining source.old) (S.remaining source.new) (T.contents sink.old) (T.contents sink.new)
         ahead.old ahead.new (state_of player.old) (state_of player.new) result }
-    ensures story { story_of player.new ≡ story_of player.old }
-    ensures read_cause { S.has_failed source.new ≡ (reads_fail result || S.has_failed source.old) }
-    ensures write_cause { T.has_failed sink.new ≡ (writes_fail result || T.has_failed sink.old) }
-    ensures source_name { S.name source.new ≡ S.name source.old }
-    ensures sink_name { T.name sink.new ≡ T.name sink.old }
+    ensures same { SamePlay player.old player.new }
+    ensures source { Reports (reads_fail result) (S.has_failed source.old) (S.has_failed source.new) (S.name source.old) (S.name source.new) }
+    ensures sink { Reports (writes_fail result) (T.has_failed sink.old) (T.has_failed sink.new) (T.name sink.old) (T.name sink.new) }
 {
+    ahead.bounds();
     let line = match next_line(alloc, ahead, source, MAX_LINE) {
         Ok(line) => line,
         Err(fault) => return Err(fault),
@@ -135,16 +115,16 @@ fn serve_line<S: Source, T: Sink>(
             if let Err(fault) = answer_line(alloc, sink, player, &line) {
                 return Err(fault);
             }
-            Ok(Turn::More)
+            Ok(Served::More)
         }
         Line::Last(line) => {
             if line.is_empty() {
-                return Ok(Turn::Done);
+                return Ok(Served::Done);
             }
             if let Err(fault) = answer_line(alloc, sink, player, &line) {
                 return Err(fault);
             }
-            Ok(Turn::Done)
+            Ok(Served::Done)
         }
     }
 }
@@ -156,10 +136,9 @@ fn answer_line<T: Sink>(
     player: &mut Player,
     line: &[u8],
 ) -> Result<(), RunFault>
-    ensures answers { Answers (story_of player.old) line.now (T.contents sink.old) (T.contents sink.new) (state_of player.old) (state_of player.new) result }
-    ensures story { story_of player.new ≡ story_of player.old }
-    ensures write_cause { T.has_failed sink.new ≡ (writes_fail result || T.has_failed sink.old) }
-    ensures sink_name { T.name sink.new ≡ T.name sink.old }
+    ensures answers { Answers (story_of player.old) nothing_bound [] line.now (T.contents sink.old) (T.contents sink.new) (state_of player.old) (state_of player.new) result }
+    ensures same { SamePlay player.old player.new }
+    ensures sink { Reports (writes_fail result) (T.has_failed sink.old) (T.has_failed sink.new) (T.name sink.old) (T.name sink.new) }
 {
     let outcome = outcome_of(alloc, player, line);
     let Ok(text) = answer_text(alloc, outcome) else {
@@ -173,8 +152,8 @@ fn answer_line<T: Sink>(
 
 // Performs the command of a line, unless memory is refused for reading it.
 fn outcome_of(alloc: Global, player: &mut Player, line: &[u8]) -> Outcome
-    ensures serves { Serves (story_of player.old) nothing_bound line.now (state_of player.old) (reply_by result) (state_of player.new) }
-    ensures story { story_of player.new ≡ story_of player.old }
+    ensures serves { Serves (story_of player.old) nothing_bound [] line.now (state_of player.old) (reply_by result) (state_of player.new) }
+    ensures same { SamePlay player.old player.new }
 {
     match read_command(alloc, line) {
         Ok(command) => perform(player, command),
@@ -183,8 +162,8 @@ fn outcome_of(alloc: Global, player: &mut Player, line: &[u8]) -> Outcome
 }
 
 fn perform(player: &mut Player, command: Option<Command>) -> Outcome
-    ensures does { Does (story_of player.old) nothing_bound command (state_of player.old) (reply_by result) (state_of player.new) }
-    ensures story { story_of player.new ≡ story_of player.old }
+    ensures does { Does (story_of player.old) nothing_bound [] command (state_of player.old) (reply_by result) (state_of player.new) }
+    ensures same { SamePlay player.old player.new }
 {
     match command {
         Some(Command::Through) => Outcome::Passage(player.through()),
@@ -198,7 +177,7 @@ fn perform(player: &mut Player, command: Option<Command>) -> Outcome
 // Sets a global, or refuses where the line has no value.
 fn set(player: &mut Player, name: &str, value: Option<Given>) -> Outcome
     ensures does { Set name.now value (state_of player.old) (reply_by result) (state_of player.new) }
-    ensures story { story_of player.new ≡ story_of player.old }
+    ensures same { SamePlay player.old player.new }
 {
     let Some(value) = value else {
         return Outcome::Refused(no_value(player));
@@ -206,7 +185,7 @@ fn set(player: &mut Player, name: &str, value: Option<Given>) -> Outcome
     Outcome::Events(player.set(name, value))
 }
 
-// Why a line without a value is refused: a fault that broke the player is told first.
+// Why a line without a value is refused: a fault that broke the player comes first.
 fn no_value(player: &Player) -> Refusal
     ensures { (name : List ℕ) → Set name None (state_of player.now) (Refuses result) (state_of player.now) }
 {

@@ -1,6 +1,6 @@
-//! What of a story is played so far (docs/STORY_FORMAT.md, "What is played").
+//! What of a story is supported so far (docs/STORY_FORMAT.md, "What is supported").
 
-ghost use Rattle.std.specs.Prelude.{◌≡◌, [], None, IfOk, option_map};
+ghost use Rattle.std.specs.Prelude.{◌≡◌, ◌≢◌, [], None, IfOk, OnErr, option_map};
 ghost use Rattle.ink_check.specs.Words.{story_tree};
 ghost use Rattle.ink_model.specs.Supported as rules;
 ghost use Rattle.ink_model.specs.Supported.{unsupported, first_unsupported};
@@ -13,21 +13,22 @@ use ink_model::{Content, Control, Leaf, Place};
 use ink_tree::{NodeId, Spot, Tree};
 use std::alloc::{AllocError, Global};
 
-/// The first place of a story, in reading order, whose content is not played yet; none where all of it is played
-/// (docs/STORY_FORMAT.md, "What is played"). The one error is a refused request for memory.
+/// The first place of a story, in reading order, whose content is not supported yet; none where all of it is supported
+/// (docs/STORY_FORMAT.md, "What is supported"). The one error is a refused request for memory, which only a place needs.
 pub fn runnable(alloc: Global, story: &Story) -> Result<Option<Place>, AllocError>
     ensures first { IfOk result (λ p. p ≡ first_unsupported (story_tree story.now)) }
     ensures all { IfOk result (λ p. p ≡ None → unsupported (story_tree story.now) ≡ []) }
+    ensures memory { OnErr result (first_unsupported (story_tree story.now) ≢ None) }
 {
     let tree = story.tree();
-    let Some(spot) = unplayed_spot(tree) else {
+    let Some(spot) = unsupported_spot(tree) else {
         return Ok(None);
     };
     let place = tree.place(alloc, spot)?;
     Ok(Some(place))
 }
 
-fn unplayed_spot(tree: &Tree) -> Option<Spot>
+fn unsupported_spot(tree: &Tree) -> Option<Spot>
     ensures { let s = nodes.story_tree tree.now in option_map (place_of s) result ≡ first_unsupported s }
 {
     for number in 0..tree.len() {
@@ -35,24 +36,24 @@ fn unplayed_spot(tree: &Tree) -> Option<Spot>
             holder: NodeId { number },
             index: None,
         };
-        if !is_played(tree.content(spot)) {
+        if !is_supported(tree.content(spot)) {
             return Some(spot);
         }
     }
     None
 }
 
-fn is_played(found: Option<&Content>) -> bool
+fn is_supported(found: Option<&Content>) -> bool
     ensures { result ≡ rules.is_supported (option_map (λ c. view c.now) found.entry) }
 {
     match found {
         None => true,
         Some(Content::Container { .. }) => true,
-        Some(Content::Leaf(leaf)) => plays(leaf),
+        Some(Content::Leaf(leaf)) => supports(leaf),
     }
 }
 
-fn plays(leaf: &Leaf) -> bool
+fn supports(leaf: &Leaf) -> bool
     ensures { result ≡ rules.supports leaf.now }
 {
     match leaf {
@@ -68,19 +69,12 @@ fn plays(leaf: &Leaf) -> bool
         | Leaf::Declare(_)
         | Leaf::Assign(_)
         | Leaf::Variable(_) => true,
-        Leaf::Control(control) => plays_control(*control),
-        Leaf::Pointer(..)
-        | Leaf::Call { .. }
-        | Leaf::Tunnel { .. }
-        | Leaf::External { .. }
-        | Leaf::DeclareTemp(_)
-        | Leaf::AssignTemp(_)
-        | Leaf::Count(_)
-        | Leaf::Choice { .. } => false,
+        Leaf::Control(control) => supports_control(*control),
+        _ => false,
     }
 }
 
-fn plays_control(control: Control) -> bool
+fn supports_control(control: Control) -> bool
     ensures { result ≡ rules.supports_control control }
 {
     match control {
@@ -96,13 +90,6 @@ fn plays_control(control: Control) -> bool
         | Control::EndTag
         | Control::Done
         | Control::End => true,
-        Control::Return
-        | Control::ReturnTunnel
-        | Control::Thread
-        | Control::ChoiceCount
-        | Control::Turn
-        | Control::Turns
-        | Control::ReadCount
-        | Control::Visit => false,
+        _ => false,
     }
 }

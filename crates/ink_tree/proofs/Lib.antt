@@ -1,7 +1,6 @@
 pub mod Reading
 pub mod Writing
 pub mod Back
-pub mod Contents
 pub mod Nodes
 pub mod Standing
 pub mod Stepping

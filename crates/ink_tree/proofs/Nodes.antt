@@ -12,7 +12,8 @@ use Rattle.ink_tree.specs.Nodes.{node_place}
 use Rattle.ink_tree.specs.Order.{keys_rise, keys_rise_in, keys_rise_by_key, is_below}
 use Rattle.ink_tree.specs.declared.spot.NodeId.{NodeId}
 
-both : (a b : Bool) → (a && b) ≡ true → (a ≡ true) × (b ≡ true)
+-- both of two tests
+pub both : (a b : Bool) → (a && b) ≡ true → (a ≡ true) × (b ≡ true)
 both true b h = (refl, h)
 both false b h = absurd cc
 

@@ -14,13 +14,10 @@ use Rattle.ink_model.specs.declared.place.Part.{Part}
 use Rattle.ink_model.specs.declared.place.Part.TheVariants.{Index, Name}
 use Rattle.ink_tree.specs.Listing.{below, Lists}
 use Rattle.ink_tree.specs.Order.{keys_rise, keys_rise_in, keys_rise_by_key, is_below}
+use Rattle.ink_tree.proofs.Nodes.{both}
 
 abbrev pub Entry : Type 0
 Entry = String Global × Content
-
-both : (a b : Bool) → (a && b) ≡ true → (a ≡ true) × (b ≡ true)
-both true b h = (refl, h)
-both false b h = absurd cc
 
 -- ---- ways
 
@@ -73,15 +70,34 @@ module _ (s : StoryTree) (name : Option (List ℕ)) (flags : ℕ) (elements : Tr
   pub places_are : places s ≡ [] ∷ (places_from 0 elements ++ places_by_key named)
   places_are = ap places is
 
-  pub places_count : length (places s) ≡ suc (length (places_from 0 elements) + length (places_by_key named))
+  places_count : length (places s) ≡ suc (length (places_from 0 elements) + length (places_by_key named))
   places_count = ap length places_are ∙ ap suc (length-append (places_from 0 elements) (places_by_key named))
 
-  pub narrow_inside : is_narrow s ≡ true → (count elements < 2 ^ 32) × (are_narrow elements ≡ true) × (are_keyed_narrow named ≡ true)
+  narrow_inside : is_narrow s ≡ true → (count elements < 2 ^ 32) × (are_narrow elements ≡ true) × (are_keyed_narrow named ≡ true)
   narrow_inside h =
       let whole = both (nat_lt (count elements) (2 ^ 32)) (are_narrow elements && are_keyed_narrow named) (sym (ap is_narrow is) ∙ h) in
       let inside = both (are_narrow elements) (are_keyed_narrow named) whole.1 in
       let width : count elements < 2 ^ 32 = grind (arith, nat_tests, whole.0) in
       (width, inside.0, inside.1)
+
+-- what a container that is not too wide holds: fewer places than it has itself, and contents that are not too wide
+pub record Inside (c : Content) (inside : Vec Content Global) (keyed : BTreeMap (String Global) Content) : Type 0 where
+  pub fewer : length (places (view c)) ≡ suc (length (places_from 0 (trees_view inside.items)) + length (places_by_key (keyed_view keyed.entries)))
+  pub width : count (trees_view inside.items) < 2 ^ 32
+  pub elements : are_narrow (trees_view inside.items) ≡ true
+  pub named : are_keyed_narrow (keyed_view keyed.entries) ≡ true
+
+pub inside_narrow : (c : Content) (name : Option (List ℕ)) (flags : ℕ) (inside : Vec Content Global) (keyed : BTreeMap (String Global) Content) → c ≡ Container name flags inside keyed
+    → is_narrow (view c) ≡ true → Inside c inside keyed
+inside_narrow c name flags inside keyed is h =
+    let s = seen c name flags inside keyed is in
+    let narrow = narrow_inside (view c) name flags (trees_view inside.items) (keyed_view keyed.entries) s h in
+    record {
+      fewer = places_count (view c) name flags (trees_view inside.items) (keyed_view keyed.entries) s;
+      width = narrow.0;
+      elements = narrow.1;
+      named = narrow.2;
+    }
 
 -- ---- elements
 

@@ -1,9 +1,9 @@
 //! Steps that divert: flow lands where a written path leads, or where a variable's target does.
 
-ghost use Rattle.std.specs.Prelude.{◌≡◌, Some, List, IfOk, option_map};
+ghost use Rattle.std.specs.Prelude.{◌≡◌, false, Some, List, IfOk, option_map};
 ghost use Rattle.ink_check.specs.Words.{story_tree};
 ghost use Rattle.ink_model.specs.Acceptance.{written_target};
-ghost use Rattle.ink_model.specs.Configuration.{Configuration};
+ghost use Rattle.ink_model.specs.Configuration.{Configuration, is_evaluating};
 ghost use Rattle.ink_model.specs.Step as rules;
 ghost use Rattle.ink_model.specs.Step.{push_value, divert, divert_to, land_at, land_by, read_global};
 ghost use Rattle.ink_model.specs.Tree.{StoryTree, at, leaf};
@@ -26,8 +26,8 @@ const ROOT: NodeId = NodeId { number: 0 };
 
 impl Machine {
     /// The path that a text spells is pushed in evaluation mode. Outside it nothing is done.
-    pub(super) fn put_target(&mut self, story: &Story, here: Spot, text: &Text) -> StepEnd
-        ensures { let s = story_tree story.now in Ends (push_value s (place_of s here) (value.Target (rules.path_of text.now)) (config_of s self.old)) self.old.globals (config_of s self.new) result }
+    pub(super) fn push_target(&mut self, story: &Story, here: Spot, text: &Text) -> StepEnd
+        ensures { let s = story_tree story.now in Ends (is_evaluating (config_of s self.old)) (push_value s (place_of s here) (value.Target (rules.path_of text.now)) (config_of s self.old)) self.old.globals (config_of s self.new) result }
     {
         if !self.evaluating {
             return self.go_on(story, here);
@@ -47,25 +47,25 @@ impl Machine {
         conditional: bool,
     ) -> StepEnd
         requires { let s = story_tree story.now in at s (place_of s here) ≡ Some (leaf (leaves.Divert to.now conditional)) }
-        ensures { let s = story_tree story.now in Ends (divert s (place_of s here) to.now conditional (config_of s self.old)) self.old.globals (config_of s self.new) result }
+        ensures { let s = story_tree story.now in Ends false (divert s (place_of s here) to.now conditional (config_of s self.old)) self.old.globals (config_of s self.new) result }
     {
         if !conditional {
-            return self.leap(story, here, to, conditional);
+            return self.divert_to(story, here, to, conditional);
         }
         let Some(condition) = top(&mut self.stack) else {
             return StepEnd::Fault(Fault::StackEmpty);
         };
         match is_true(&condition) {
-            Ok(true) => self.leap(story, here, to, conditional),
+            Ok(true) => self.divert_to(story, here, to, conditional),
             Ok(false) => self.go_on(story, here),
             Err(fault) => StepEnd::Fault(fault),
         }
     }
 
     /// By a written path, or by what a variable holds.
-    fn leap(&mut self, story: &Story, here: Spot, to: &Destination, conditional: bool) -> StepEnd
+    fn divert_to(&mut self, story: &Story, here: Spot, to: &Destination, conditional: bool) -> StepEnd
         requires { let s = story_tree story.now in at s (place_of s here) ≡ Some (leaf (leaves.Divert to.now conditional)) }
-        ensures { let s = story_tree story.now in Ends (divert_to s (place_of s here) to.now (config_of s self.old)) self.old.globals (config_of s self.new) result }
+        ensures { let s = story_tree story.now in Ends false (divert_to s (place_of s here) to.now (config_of s self.old)) self.old.globals (config_of s self.new) result }
     {
         match to {
             Destination::Path(_) => self.land(here, written_landing(story, here)),
@@ -89,12 +89,12 @@ impl Machine {
 
     /// Flow goes to a place, if there is one.
     fn land(&mut self, here: Spot, target: Option<Spot>) -> StepEnd
-        ensures { (s : StoryTree) → Ends (land_at (place_of s here) (option_map (place_of s) target) (config_of s self.old)) self.old.globals (config_of s self.new) result }
+        ensures { (s : StoryTree) → Ends false (land_at (place_of s here) (option_map (place_of s) target) (config_of s self.old)) self.old.globals (config_of s self.new) result }
     {
         if target.is_none() {
             return StepEnd::Fault(Fault::BadTarget);
         }
-        self.go(here, target)
+        self.move_to(here, target)
     }
 }
 

@@ -1,11 +1,11 @@
 //! Opening a story: running its declarations, and keeping the globals.
 
-ghost use Rattle.std.specs.Prelude.{◌≡◌, ◌⊎◌, Ok, Err, IfOk, IfErr};
+ghost use Rattle.std.specs.Prelude.{◌≡◌, Ok, IfOk, IfErr};
 ghost use Rattle.ink_model.specs.Configuration.{fresh_at, start, with_globals};
 ghost use Rattle.ink_model.specs.Opening.{opening};
 ghost use Rattle.ink_model.specs.Tree.{StoryTree};
-ghost use Rattle.ink_model.specs.declared.fault.Fault.TheVariants.{OutOfMemory};
 ghost use Rattle.ink_check.specs.Words.{story_tree};
+ghost use Rattle.ink_player.specs.Steps.{FailsToOpen};
 ghost use Rattle.ink_player.specs.Words.{config_of};
 ghost use Rattle.ink_tree.specs.Nodes.{place_of};
 
@@ -19,28 +19,37 @@ use ink_tree::Spot;
 use ink_value::EvalStack;
 use std::alloc::Global;
 
+/// Declarations that could not be run: why, and the globals as they stood before the step that faulted.
+#[derive(Drop)]
+pub struct Unopened {
+    pub(crate) fault: Fault,
+    pub(crate) globals: Globals,
+}
+
 impl Machine {
     /// A machine at the story's start, with the globals that the story declares (docs/RUNNING.md, "Opening"). The fault is
-    /// that of the declarations, or `OutOfMemory`.
-    pub(crate) fn open(alloc: Global, story: &Story) -> Result<Machine, Fault>
+    /// that of the declarations, or `OutOfMemory`. A story without declarations needs no memory.
+    pub(crate) fn open(alloc: Global, story: &Story) -> Result<Machine, Unopened>
         ensures ok { let s = story_tree story.now in IfOk result (λ m. opening s ≡ Ok (config_of s m)) }
-        ensures err { IfErr result (λ f. (f ≡ OutOfMemory) ⊎ (opening (story_tree story.now) ≡ Err f)) }
+        ensures err { IfErr result (λ e. FailsToOpen (story_tree story.now) e.fault e.globals) }
     {
         let Some(place) = first_declaration(story) else {
             return Ok(Machine::at_start(alloc, story, Globals::new(alloc)));
         };
         let mut machine = Machine::fresh(alloc, place, Globals::new(alloc));
-        if let Err(fault) = machine.run(story) {
-            return Err(fault);
-        }
+        let outcome = machine.run(story);
         let Machine { globals, .. } = machine;
-        Ok(Machine::at_start(alloc, story, globals))
+        match outcome {
+            Ok(()) => Ok(Machine::at_start(alloc, story, globals)),
+            Err(fault) => Err(Unopened { fault, globals }),
+        }
     }
 
     /// A machine at the story's start with these globals. Takes no memory.
     #[tactic(auto, unfolding(ink_model::specs::Configuration::start, ink_model::specs::Configuration::fresh_at))]
-    fn at_start(alloc: Global, story: &Story, globals: Globals) -> Machine
-        ensures { let s = story_tree story.now in config_of s result ≡ start s globals }
+    pub(crate) fn at_start(alloc: Global, story: &Story, globals: Globals) -> Machine
+        ensures at_start { let s = story_tree story.now in config_of s result ≡ start s globals }
+        ensures globals { result.globals ≡ globals }
     {
         Machine::fresh(alloc, story.tree().start(), globals)
     }
@@ -48,7 +57,8 @@ impl Machine {
     /// A machine at a place with these globals, where nothing has happened yet. Takes no memory.
     #[tactic(auto, unfolding(ink_model::specs::Configuration::fresh_at))]
     fn fresh(alloc: Global, place: Spot, globals: Globals) -> Machine
-        ensures { (s : StoryTree) → config_of s result ≡ with_globals globals (fresh_at (place_of s place)) }
+        ensures fresh { (s : StoryTree) → config_of s result ≡ with_globals globals (fresh_at (place_of s place)) }
+        ensures globals { result.globals ≡ globals }
     {
         Machine {
             place: Some(place),

@@ -1,7 +1,8 @@
 //! One step of the machine.
 
-ghost use Rattle.std.specs.Prelude.{◌≡◌, Some, option_map};
+ghost use Rattle.std.specs.Prelude.{◌≡◌, false, Some, option_map};
 ghost use Rattle.ink_model.specs.Configuration.{ended};
+ghost use Rattle.ink_model.specs.Memory.{asks, content_asks, control_asks, leaf_asks};
 ghost use Rattle.ink_model.specs.Step.{step, perform, perform_control, move_to, go_on, stop, done, nothing_bound};
 ghost use Rattle.ink_model.specs.Tree.{StoryTree, at, leaf};
 ghost use Rattle.ink_model.specs.View.{view};
@@ -20,7 +21,7 @@ impl Machine {
     /// One step: goes down to the first content, performs it and moves (docs/RUNNING.md, "Steps"). Where flow has stopped
     /// it stays stopped.
     pub(super) fn step(&mut self, story: &Story) -> StepEnd
-        ensures { let s = story_tree story.now in Ends (step s nothing_bound (config_of s self.old)) self.old.globals (config_of s self.new) result }
+        ensures { let s = story_tree story.now in Ends (asks s (config_of s self.old)) (step s nothing_bound (config_of s self.old)) self.old.globals (config_of s self.new) result }
     {
         let Some(place) = self.place else {
             return StepEnd::Stopped;
@@ -32,7 +33,7 @@ impl Machine {
     /// Performs what was found at a place: an empty container, or nothing, is passed over.
     fn perform(&mut self, story: &Story, here: Spot, found: Option<&Content>) -> StepEnd
         requires { let s = story_tree story.now in option_map (λ c. view c.now) found ≡ at s (place_of s here) }
-        ensures { let s = story_tree story.now in Ends (perform s nothing_bound (place_of s here) (option_map (λ c. view c.now) found.entry) (config_of s self.old)) self.old.globals (config_of s self.new) result }
+        ensures { let s = story_tree story.now in Ends (content_asks (option_map (λ c. view c.now) found.entry) (config_of s self.old)) (perform s nothing_bound (place_of s here) (option_map (λ c. view c.now) found.entry) (config_of s self.old)) self.old.globals (config_of s self.new) result }
     {
         match found {
             None => self.go_on(story, here),
@@ -41,20 +42,20 @@ impl Machine {
         }
     }
 
-    // Content that is not played yet is passed over.
+    // Content that is not supported yet is passed over.
     fn perform_leaf(&mut self, story: &Story, here: Spot, content: &Leaf) -> StepEnd
         requires { let s = story_tree story.now in at s (place_of s here) ≡ Some (leaf content.now) }
-        ensures { let s = story_tree story.now in Ends (perform s nothing_bound (place_of s here) (Some (leaf content.now)) (config_of s self.old)) self.old.globals (config_of s self.new) result }
+        ensures { let s = story_tree story.now in Ends (leaf_asks content.now (config_of s self.old)) (perform s nothing_bound (place_of s here) (Some (leaf content.now)) (config_of s self.old)) self.old.globals (config_of s self.new) result }
     {
         match content {
-            Leaf::Text(text) => self.say(story, here, text),
-            Leaf::Newline => self.say_newline(story, here),
-            Leaf::Glue => self.glue(story, here),
-            Leaf::Int(number) => self.put_value(story, here, Value::Int(*number)),
-            Leaf::Bool(truth) => self.put_value(story, here, Value::Bool(*truth)),
-            Leaf::Void => self.put_value(story, here, Value::Void),
-            Leaf::Target(text) => self.put_target(story, here, text),
-            Leaf::Control(control) => self.obey(story, here, *control),
+            Leaf::Text(text) => self.write_text(story, here, text),
+            Leaf::Newline => self.write_newline(story, here),
+            Leaf::Glue => self.write_glue(story, here),
+            Leaf::Int(number) => self.push_value(story, here, Value::Int(*number)),
+            Leaf::Bool(truth) => self.push_value(story, here, Value::Bool(*truth)),
+            Leaf::Void => self.push_value(story, here, Value::Void),
+            Leaf::Target(text) => self.push_target(story, here, text),
+            Leaf::Control(control) => self.perform_control(story, here, *control),
             Leaf::Op(operator) => self.operate(story, here, *operator),
             Leaf::Declare(name) => self.declare(story, here, name),
             Leaf::Assign(name) => self.assign(story, here, name),
@@ -71,13 +72,13 @@ impl Machine {
         }
     }
 
-    fn obey(&mut self, story: &Story, here: Spot, control: Control) -> StepEnd
-        ensures { let s = story_tree story.now in Ends (perform_control s (place_of s here) control (config_of s self.old)) self.old.globals (config_of s self.new) result }
+    fn perform_control(&mut self, story: &Story, here: Spot, control: Control) -> StepEnd
+        ensures { let s = story_tree story.now in Ends (control_asks control (config_of s self.old)) (perform_control s (place_of s here) control (config_of s self.old)) self.old.globals (config_of s self.new) result }
     {
         match control {
-            Control::BeginEval => self.begin_evaluation(story, here),
-            Control::EndEval => self.end_evaluation(story, here),
-            Control::Out => self.out(story, here),
+            Control::BeginEval => self.begin_eval(story, here),
+            Control::EndEval => self.end_eval(story, here),
+            Control::Out => self.output_top(story, here),
             Control::Pop => self.pop(story, here),
             Control::Duplicate => self.duplicate(story, here),
             Control::Nop => self.go_on(story, here),
@@ -100,16 +101,16 @@ impl Machine {
 
     /// Flow stops safely where it is.
     fn done(&mut self) -> StepEnd
-        ensures { (s : StoryTree) → Ends (done (config_of s self.old)) self.old.globals (config_of s self.new) result }
+        ensures { (s : StoryTree) → Ends false (done (config_of s self.old)) self.old.globals (config_of s self.new) result }
     {
         self.place = None;
         self.safe = true;
-        self.halt()
+        self.stop()
     }
 
     /// Flow stops safely, and nothing is left of where it was.
     fn end(&mut self) -> StepEnd
-        ensures { (s : StoryTree) → Ends (stop (ended (config_of s self.old))) self.old.globals (config_of s self.new) result }
+        ensures { (s : StoryTree) → Ends false (stop (ended (config_of s self.old))) self.old.globals (config_of s self.new) result }
     {
         self.previous = None;
         self.evaluating = false;
@@ -117,27 +118,27 @@ impl Machine {
     }
 
     pub(super) fn go_on(&mut self, story: &Story, here: Spot) -> StepEnd
-        ensures { let s = story_tree story.now in Ends (go_on s (place_of s here) (config_of s self.old)) self.old.globals (config_of s self.new) result }
+        ensures { let s = story_tree story.now in Ends false (go_on s (place_of s here) (config_of s self.old)) self.old.globals (config_of s self.new) result }
     {
         let next = place_after(story, here);
-        self.go(here, next)
+        self.move_to(here, next)
     }
 
     /// Flow goes from a place to the next, or stops where there is none.
-    pub(super) fn go(&mut self, here: Spot, next: Option<Spot>) -> StepEnd
-        ensures { (s : StoryTree) → Ends (move_to (place_of s here) (option_map (place_of s) next) (config_of s self.old)) self.old.globals (config_of s self.new) result }
+    pub(super) fn move_to(&mut self, here: Spot, next: Option<Spot>) -> StepEnd
+        ensures { (s : StoryTree) → Ends false (move_to (place_of s here) (option_map (place_of s) next) (config_of s self.old)) self.old.globals (config_of s self.new) result }
     {
         self.previous = Some(here);
         self.place = next;
         match next {
             Some(_) => StepEnd::Went,
-            None => self.halt(),
+            None => self.stop(),
         }
     }
 
     /// Flow has stopped, which it may not do while a string or a tag is open.
-    fn halt(&self) -> StepEnd
-        ensures { (s : StoryTree) → Ends (stop (config_of s self.now)) self.now.globals (config_of s self.now) result }
+    fn stop(&self) -> StepEnd
+        ensures { (s : StoryTree) → Ends false (stop (config_of s self.now)) self.now.globals (config_of s self.now) result }
     {
         if self.output.depth() == 0 {
             StepEnd::Stopped

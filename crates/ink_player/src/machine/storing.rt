@@ -1,7 +1,8 @@
 //! Steps that read and change globals.
 
-ghost use Rattle.std.specs.Prelude.{◌≡◌, is_some, IfOk, OnOk, OnErr};
+ghost use Rattle.std.specs.Prelude.{◌≡◌, true, IfOk, OnOk, OnErr};
 ghost use Rattle.ink_model.specs.Configuration.{with_globals};
+ghost use Rattle.ink_model.specs.Memory.{has_top, stores_value};
 ghost use Rattle.ink_model.specs.Stack.{popped};
 ghost use Rattle.ink_model.specs.Step.{go_on, push, declare, assign, read_global};
 ghost use Rattle.ink_model.specs.Store.{stored, store};
@@ -21,7 +22,7 @@ use std::alloc::AllocError;
 impl Machine {
     /// What is popped becomes the value of a global, which need not be there.
     pub(super) fn declare(&mut self, story: &Story, here: Spot, name: &Text) -> StepEnd
-        ensures { let s = story_tree story.now in Ends (declare s (place_of s here) name.now (popped self.old.stack.items) (config_of s self.old)) self.old.globals (config_of s self.new) result }
+        ensures { let s = story_tree story.now in Ends (has_top (popped self.old.stack.items)) (declare s (place_of s here) name.now (popped self.old.stack.items) (config_of s self.old)) self.old.globals (config_of s self.new) result }
     {
         let Some(value) = top(&mut self.stack) else {
             return StepEnd::Fault(Fault::StackEmpty);
@@ -31,7 +32,7 @@ impl Machine {
 
     /// What is popped becomes the value of a global that has to be there.
     pub(super) fn assign(&mut self, story: &Story, here: Spot, name: &Text) -> StepEnd
-        ensures { let s = story_tree story.now in Ends (assign s (place_of s here) name.now (popped self.old.stack.items) (config_of s self.old)) self.old.globals (config_of s self.new) result }
+        ensures { let s = story_tree story.now in Ends (stores_value (stored name.now self.old.globals) (popped self.old.stack.items)) (assign s (place_of s here) name.now (popped self.old.stack.items) (config_of s self.old)) self.old.globals (config_of s self.new) result }
     {
         let Some(value) = top(&mut self.stack) else {
             return StepEnd::Fault(Fault::StackEmpty);
@@ -44,7 +45,7 @@ impl Machine {
 
     /// Gives a global a value and goes on. A global changes last: what can fail comes before.
     fn put(&mut self, story: &Story, here: Spot, name: &str, value: Value) -> StepEnd
-        ensures { let s = story_tree story.now in Ends (go_on s (place_of s here) (with_globals (store name.now value self.old.globals) (config_of s self.old))) self.old.globals (config_of s self.new) result }
+        ensures { let s = story_tree story.now in Ends true (go_on s (place_of s here) (with_globals (store name.now value self.old.globals) (config_of s self.old))) self.old.globals (config_of s self.new) result }
     {
         let end = self.go_on(story, here);
         if let StepEnd::Fault(_) = &end {
@@ -57,7 +58,7 @@ impl Machine {
     }
 
     pub(super) fn read(&mut self, story: &Story, here: Spot, name: &Text) -> StepEnd
-        ensures { let s = story_tree story.now in Ends (push s (place_of s here) (read_global name.now (config_of s self.old)) (config_of s self.old)) self.old.globals (config_of s self.new) result }
+        ensures { let s = story_tree story.now in Ends true (push s (place_of s here) (read_global name.now (config_of s self.old)) (config_of s self.old)) self.old.globals (config_of s self.new) result }
     {
         let Ok(value) = self.value_of(name.as_str()) else {
             return StepEnd::Fault(Fault::OutOfMemory);

@@ -1,8 +1,12 @@
 //! Steps that write text, or push it in evaluation mode.
 
-ghost use Rattle.std.specs.Prelude.{◌≡◌, false};
+ghost use Rattle.std.specs.Prelude.{◌≡◌, true, false, not};
+ghost use Rattle.ink_model.specs.Configuration.{is_evaluating};
+ghost use Rattle.ink_model.specs.Memory.{asks_for, leaf_asks};
 ghost use Rattle.ink_model.specs.Output.{writes_value};
 ghost use Rattle.ink_model.specs.Step.{write_text, write_newline, write_glue, write_page};
+ghost use Rattle.ink_model.specs.Value.{printed};
+ghost use Rattle.ink_model.specs.declared.content.Leaf.TheVariants as leaves;
 ghost use Rattle.ink_check.specs.Words.{story_tree};
 ghost use Rattle.ink_tree.specs.Nodes.{place_of};
 ghost use Rattle.ink_player.specs.Words.{config_of};
@@ -19,8 +23,8 @@ const FRESH: bool = false;
 impl Machine {
     /// A text is pushed in evaluation mode, and written outside it.
     #[tactic(auto, unfolding(ink_model::specs::Value::printed))]
-    pub(super) fn say(&mut self, story: &Story, here: Spot, text: &Text) -> StepEnd
-        ensures { let s = story_tree story.now in Ends (write_text s (place_of s here) text.now (config_of s self.old)) self.old.globals (config_of s self.new) result }
+    pub(super) fn write_text(&mut self, story: &Story, here: Spot, text: &Text) -> StepEnd
+        ensures { let s = story_tree story.now in Ends true (write_text s (place_of s here) text.now (config_of s self.old)) self.old.globals (config_of s self.new) result }
     {
         let Ok(copy) = text.clone_in(self.alloc) else {
             return StepEnd::Fault(Fault::OutOfMemory);
@@ -29,13 +33,13 @@ impl Machine {
         if self.evaluating {
             self.push(story, here, value)
         } else {
-            self.write(story, here, &value)
+            self.write_value(story, here, &value)
         }
     }
 
     /// Writes the printed text of a value.
-    pub(super) fn write(&mut self, story: &Story, here: Spot, value: &Value) -> StepEnd
-        ensures { let s = story_tree story.now in Ends (write_page s (place_of s here) (writes_value false value.now self.old.output.page) (config_of s self.old)) self.old.globals (config_of s self.new) result }
+    pub(super) fn write_value(&mut self, story: &Story, here: Spot, value: &Value) -> StepEnd
+        ensures { let s = story_tree story.now in Ends (asks_for (printed value.now)) (write_page s (place_of s here) (writes_value false value.now self.old.output.page) (config_of s self.old)) self.old.globals (config_of s self.new) result }
     {
         if let Err(fault) = self.output.write(value, FRESH) {
             return StepEnd::Fault(fault);
@@ -43,8 +47,8 @@ impl Machine {
         self.go_on(story, here)
     }
 
-    pub(super) fn say_newline(&mut self, story: &Story, here: Spot) -> StepEnd
-        ensures { let s = story_tree story.now in Ends (write_newline s (place_of s here) (config_of s self.old)) self.old.globals (config_of s self.new) result }
+    pub(super) fn write_newline(&mut self, story: &Story, here: Spot) -> StepEnd
+        ensures { let s = story_tree story.now in Ends (leaf_asks leaves.Newline (config_of s self.old)) (write_newline s (place_of s here) (config_of s self.old)) self.old.globals (config_of s self.new) result }
     {
         if self.evaluating {
             return self.push_text(story, here, "\n");
@@ -56,8 +60,8 @@ impl Machine {
     }
 
     /// Glue is no value.
-    pub(super) fn glue(&mut self, story: &Story, here: Spot) -> StepEnd
-        ensures { let s = story_tree story.now in Ends (write_glue s (place_of s here) (config_of s self.old)) self.old.globals (config_of s self.new) result }
+    pub(super) fn write_glue(&mut self, story: &Story, here: Spot) -> StepEnd
+        ensures { let s = story_tree story.now in Ends (not (is_evaluating (config_of s self.old))) (write_glue s (place_of s here) (config_of s self.old)) self.old.globals (config_of s self.new) result }
     {
         if self.evaluating {
             return StepEnd::Fault(Fault::BadMode);

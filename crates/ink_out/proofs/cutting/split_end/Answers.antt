@@ -16,35 +16,35 @@ returns-then-after-eq0-clause-found c =
       | then-after-eq0-via-then-after-eq0 w ↦ sym (end_none c.args.text.now (omega arith))
       | then-after-eq0-via-else-after-eq0+then-not-is_newline_at w ↦
           let some : suffix_len is_blank c.args.text.now < length c.args.text.now = omega arith in
-          rw (end_found c.args.text.now some, sym c.trailing_blanks.ensures) (search rules)
+          rw (end_found c.args.text.now some, sym c.trailing.ensures) (search rules)
     ]
 
 pub overflow_sub-white : goal.overflow_sub-white
 overflow_sub-white c = omega (arith, suffix_len-le-length is_white c.args.text.now)
 
 pub range_from-requires : goal.range_from-requires
-range_from-requires c = λ _. cut_at_end c.args.text.now (length c.args.text.now - c.trailing_white.result) (omega arith) (omega arith)
+range_from-requires c = λ _. cut_at_end c.args.text.now (length c.args.text.now - c.trailing-2.result) (omega arith) (omega arith)
 
 pub overflow_add-first : goal.overflow_add-first
 overflow_add-first c = omega (arith, prefix_len-le-length is_blank c.range_from.result.now)
 
 pub range-requires-clause-end_boundary : goal.range-requires-clause-end_boundary
 range-requires-clause-end_boundary c =
-    cut_at_end c.args.text.now (length c.args.text.now - c.trailing_white.result + c.leading_blanks.result) (omega arith)
+    cut_at_end c.args.text.now (length c.args.text.now - c.trailing-2.result + c.leading.result) (omega arith)
     (omega (arith, prefix_len-le-length is_blank c.range_from.result.now))
 
 pub range_from-requires-2 : goal.range_from-requires-2
-range_from-requires-2 c = λ _. cut_at_end c.args.text.now (length c.args.text.now - c.trailing_blanks.result) (omega (arith, blanks_le_white)) (omega arith)
+range_from-requires-2 c = λ _. cut_at_end c.args.text.now (length c.args.text.now - c.trailing.result) (omega (arith, blanks_le_white)) (omega arith)
 
 pub returns-clause-found : goal.returns-clause-found
 returns-clause-found c =
     let some : suffix_len is_blank c.args.text.now < length c.args.text.now = omega arith in
-    rw (end_found c.args.text.now some, sym c.trailing_blanks.ensures) (search rules)
+    rw (end_found c.args.text.now some, sym c.trailing.ensures) (search rules)
 
 pub returns-clause-before : goal.returns-clause-before
 returns-clause-before c =
-    rw (sym (end_before c.args.text.now), sym c.trailing_white.ensures, sym c.range_from.ensures.value, sym c.leading_blanks.ensures)
+    rw (sym (end_before c.args.text.now), sym c.trailing-2.ensures, sym c.range_from.ensures.value, sym c.leading.ensures)
     (rw sub-zero at c.range.ensures.value)
 
 pub returns-clause-after : goal.returns-clause-after
-returns-clause-after c = rw (trailing_is is_blank c.args.text.now, sym c.trailing_blanks.ensures) c.range_from-2.ensures.value
+returns-clause-after c = rw (trailing_is is_blank c.args.text.now, sym c.trailing.ensures) c.range_from-2.ensures.value

@@ -6,27 +6,27 @@ use Rattle.ink_out.proofs.WhiteEnds.{start_has, cut_at_start, leading_is, start_
 use Rattle.ink_out.proofs.cutting.split_start.Goals as goal
 
 pub returns-then-not-is_newline_at-clause-found : goal.returns-then-not-is_newline_at-clause-found
-returns-then-not-is_newline_at-clause-found c = rw (start_has c.args.text.now, sym c.leading_blanks-first.ensures) (search rules)
+returns-then-not-is_newline_at-clause-found c = rw (start_has c.args.text.now, sym c.leading-first.ensures) (search rules)
 
 pub range-requires-clause-end_boundary : goal.range-requires-clause-end_boundary
-range-requires-clause-end_boundary c = cut_at_start c.args.text.now c.leading_white-white.result c.utf8.text (omega arith)
+range-requires-clause-end_boundary c = cut_at_start c.args.text.now c.leading-white.result c.utf8.text (omega arith)
 
 pub overflow_sub-after : goal.overflow_sub-after
 overflow_sub-after c =
-    let white = c.leading_white-white.result in
+    let white = c.leading-white.result in
     let text = c.args.text.now in
     omega (arith, suffix_len-le-length is_blank c.range.result.now, prefix_len-le-length is_white text)
 
 pub range_from-requires : goal.range_from-requires
-range_from-requires c = λ _. cut_at_start c.args.text.now (c.leading_white-white.result - c.trailing_blanks.result) c.utf8.text (omega arith)
+range_from-requires c = λ _. cut_at_start c.args.text.now (c.leading-white.result - c.trailing.result) c.utf8.text (omega arith)
 
 pub returns-clause-found : goal.returns-clause-found
-returns-clause-found c = rw (start_has c.args.text.now, sym c.leading_blanks-first.ensures) (search rules)
+returns-clause-found c = rw (start_has c.args.text.now, sym c.leading-first.ensures) (search rules)
 
 pub returns-clause-before : goal.returns-clause-before
-returns-clause-before c = rw (leading_is is_blank c.args.text.now, sym c.leading_blanks-first.ensures) (rw sub-zero at c.range-2.ensures.value)
+returns-clause-before c = rw (leading_is is_blank c.args.text.now, sym c.leading-first.ensures) (rw sub-zero at c.range-2.ensures.value)
 
 pub returns-clause-after : goal.returns-clause-after
 returns-clause-after c =
     let white = rw sub-zero at c.range.ensures.value in
-    rw (sym (start_after c.args.text.now), sym c.leading_white-white.ensures, sym white, sym c.trailing_blanks.ensures) c.range_from.ensures.value
+    rw (sym (start_after c.args.text.now), sym c.leading-white.ensures, sym white, sym c.trailing.ensures) c.range_from.ensures.value

@@ -1,9 +1,9 @@
 use Rattle.std.proofs.Common.{sym, ◌∙◌}
-use Rattle.ink_player.proofs.Commands.{given_read, given_unread, told_no}
+use Rattle.ink_player.proofs.Commands.{given_read, given_unread, fails_test}
 use Rattle.ink_player.proofs.command.given_of.Goals as goal
 
 pub returns-in-Ok : goal.returns-in-Ok
 returns-in-Ok c = c.given_by.ensures ∙ sym (given_read _ _ c.in-Ok.ensures.ok)
 
 pub returns-else-is_memory : goal.returns-else-is_memory
-returns-else-is_memory c = sym (given_unread _ (c.in-Err.ensures.err (told_no _ _ c.is_memory.ensures c.if-is_memory.false)))
+returns-else-is_memory c = sym (given_unread _ (c.in-Err.ensures.err (fails_test _ _ c.is_memory.ensures c.if-is_memory.false)))

@@ -1,6 +1,5 @@
 use Rattle.std.proofs.Common.{◌≡◌, IfOk, OnErr, subst, sym, ap, ◌∙◌}
-use Rattle.ink_model.specs.Command.{command_word}
-use Rattle.ink_player.specs.Commands.{NeedsMemory}
+use Rattle.ink_model.specs.Command.{NeedsMemory, command_word}
 use Rattle.ink_player.proofs.Commands.{command_of_text, command_of_no_text}
 use Rattle.ink_player.proofs.command.read_command.Goals as goal
 

@@ -8,24 +8,24 @@ returns-in-Err-clause-plays g c = no_story _ _ _ _ _ c.in-Err.fault c.fault_of-f
 pub returns-in-Err-open_story-clause-plays : goal.returns-in-Err-open_story-clause-plays
 returns-in-Err-open_story-clause-plays g c =
     unopened _ _ _ _ _ c.in-Whole.line.items c.in-Err-open_story.end c.new-ahead.ensures (rw c.in-Whole.is at c.in-Ok.ensures.gives)
-    (opens_as _ _ (Err c.in-Err-open_story.end) c.deref.ensures.value c.in-Err-open_story.ensures)
+    (opens_as _ _ (Err c.in-Err-open_story.end) c.deref.ensures.value c.in-Err-open_story.ensures.opens)
 
 pub returns-in-Ok-outcome-clause-plays : goal.returns-in-Ok-outcome-clause-plays
 returns-in-Ok-outcome-clause-plays g c =
     plays_on _ _ _ _ _ _ _ c.in-Whole.line.items c.in-Ok-open_story.player _ _ c.new-ahead.ensures (rw c.in-Whole.is at c.in-Ok.ensures.gives)
-    (opens_as _ _ (Ok c.in-Ok-open_story.player) c.deref.ensures.value c.in-Ok-open_story.ensures) c.in-Ok-outcome.ensures.runs
+    (opens_as _ _ (Ok c.in-Ok-open_story.player) c.deref.ensures.value c.in-Ok-open_story.ensures.opens) c.in-Ok-outcome.ensures.runs
 
 pub returns-in-Whole-clause-plays : goal.returns-in-Whole-clause-plays
 returns-in-Whole-clause-plays g c =
     plays_short _ _ _ _ _ _ _ c.in-Whole.line.items c.in-Ok-open_story.player _ c.in-Err-outcome.fault _ c.new-ahead.ensures (rw c.in-Whole.is at c.in-Ok.ensures.gives)
-    (opens_as _ _ (Ok c.in-Ok-open_story.player) c.deref.ensures.value c.in-Ok-open_story.ensures) c.in-Err-outcome.ensures.runs
+    (opens_as _ _ (Ok c.in-Ok-open_story.player) c.deref.ensures.value c.in-Ok-open_story.ensures.opens) c.in-Err-outcome.ensures.runs
 
 pub returns-in-Ok-open_story-2-clause-plays : goal.returns-in-Ok-open_story-2-clause-plays
 returns-in-Ok-open_story-2-clause-plays g c =
     plays_last _ _ _ _ _ c.in-Last.line.items c.in-Ok-open_story-2.player _ c.new-ahead.ensures (rw c.in-Last.is at c.in-Ok.ensures.gives)
-    (opens_as _ _ (Ok c.in-Ok-open_story-2.player) c.deref-in-Last.ensures.value c.in-Ok-open_story-2.ensures)
+    (opens_as _ _ (Ok c.in-Ok-open_story-2.player) c.deref-in-Last.ensures.value c.in-Ok-open_story-2.ensures.opens)
 
 pub returns-clause-plays : goal.returns-clause-plays
 returns-clause-plays g c =
     unopened_last _ _ _ _ _ c.in-Last.line.items c.in-Err-open_story-2.end c.new-ahead.ensures (rw c.in-Last.is at c.in-Ok.ensures.gives)
-    (opens_as _ _ (Err c.in-Err-open_story-2.end) c.deref-in-Last.ensures.value c.in-Err-open_story-2.ensures)
+    (opens_as _ _ (Err c.in-Err-open_story-2.end) c.deref-in-Last.ensures.value c.in-Err-open_story-2.ensures.opens)

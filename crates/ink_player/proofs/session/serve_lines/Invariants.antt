@@ -1,7 +1,8 @@
-use Rattle.std.proofs.Common.{◌≡◌, ℕ, List, Option, Result}
+use Rattle.std.proofs.Common.{◌≡◌, ℕ, List, [], Option, Result}
 use Rattle.ink_model.specs.State.{State}
+use Rattle.ink_model.specs.Step.{nothing_bound}
 use Rattle.ink_player.specs.Words.{state_of, story_of}
-use Rattle.ink_player.specs.Serving.{Runs}
+use Rattle.ink_player.specs.Serving.{Runs, SamePlay}
 use Rattle.ink_player.specs.declared.end.RunFault.{RunFault}
 use Rattle.ink_player.proofs.session.serve_lines.Given as goal
 
@@ -12,9 +13,9 @@ invariant-lines g l =
     let held = g.T.Sink.contents in
     record {
       ends : (left' held' : Option (List ℕ)) (new : State) (r : Result (Unit {0}) RunFault)
-          → Runs (story_of l.player) l.ahead.spare l.ahead.unread (left l.source) left' (held l.sink) held' (state_of l.player) new r
-          → Runs (story_of l.fn.player) l.fn.ahead.spare l.fn.ahead.unread (left l.fn.source) left' (held l.fn.sink) held' (state_of l.fn.player) new r;
-      story : story_of l.player ≡ story_of l.fn.player;
+          → Runs (story_of l.player) nothing_bound [] l.ahead.spare l.ahead.unread (left l.source) left' (held l.sink) held' (state_of l.player) new r
+          → Runs (story_of l.fn.player) nothing_bound [] l.fn.ahead.spare l.fn.ahead.unread (left l.fn.source) left' (held l.fn.sink) held' (state_of l.fn.player) new r;
+      same : SamePlay l.fn.player l.player;
       read_cause : g.S.Source.has_failed l.source ≡ g.S.Source.has_failed l.fn.source;
       write_cause : g.T.Sink.has_failed l.sink ≡ g.T.Sink.has_failed l.fn.sink;
       source_name : g.S.Source.name l.source ≡ g.S.Source.name l.fn.source;

@@ -8,7 +8,7 @@ use Rattle.ink_model.specs.View.{view, trees_view, keyed_view}
 use Rattle.ink_model.specs.declared.place.Part.TheVariants.{Index, Name}
 use Rattle.ink_tree.specs.Listing.{below, Lists}
 use Rattle.ink_tree.specs.Order.{keys_rise_by_key}
-use Rattle.ink_tree.proofs.Places.{Entry, index_small, seen, places_are, places_count, narrow_inside, element_narrow, element_count, key_count, element_listed, element_rises, container_listed, key_listed, key_rises, keys_after, key_narrow, after_key}
+use Rattle.ink_tree.proofs.Places.{Entry, index_small, seen, places_are, inside_narrow, element_narrow, element_count, key_count, element_listed, element_rises, container_listed, key_listed, key_rises, keys_after, key_narrow, after_key}
 use Rattle.ink_tree.proofs.listing.+listing.Goals as goal
 
 pub list_content-returns-in_ok-list_elements-in-Container-clause-lists :
@@ -29,19 +29,11 @@ list_content-returns-in_ok-list_elements-in-Container-clause-lists t c =
 
 pub list_content-list_elements-requires : goal.list_content-list_elements-requires
 list_content-list_elements-requires t c =
-    let k = c.in-Container in
-    let s = seen c.args.content.now k.name k.flags k.content k.named k.is in
-    let few = places_count (view c.args.content.now) k.name k.flags (trees_view k.content.items) (keyed_view k.named.entries) s in
-    let narrow = narrow_inside (view c.args.content.now) k.name k.flags (trees_view k.content.items) (keyed_view k.named.entries) s c.requires.narrow in
-    (omega arith, (narrow.0, narrow.1))
+    let held = inside_narrow c.args.content.now _ _ _ _ c.in-Container.is c.requires.narrow in (omega arith, (held.width, held.elements))
 
 pub list_content-list_named-requires : goal.list_content-list_named-requires
 list_content-list_named-requires t c =
-    let k = c.in-Container in
-    let s = seen c.args.content.now k.name k.flags k.content k.named k.is in
-    let few = places_count (view c.args.content.now) k.name k.flags (trees_view k.content.items) (keyed_view k.named.entries) s in
-    let narrow = narrow_inside (view c.args.content.now) k.name k.flags (trees_view k.content.items) (keyed_view k.named.entries) s c.requires.narrow in
-    (omega arith, narrow.2)
+    let held = inside_narrow c.args.content.now _ _ _ _ c.in-Container.is c.requires.narrow in (omega arith, held.named)
 
 pub list_elements-list_content-requires : goal.list_elements-list_content-requires
 list_elements-list_content-requires t c =

@@ -7,15 +7,15 @@ use Rattle.ink_tree.specs.Nodes.{place_of}
 pub returns-in_default-clause-ok : goal.returns-in_default-clause-ok
 returns-in_default-clause-ok c =
     let s = story_tree c.args.story.now in
-    opens_plainly _ _ _ _ c.first_declaration.ensures (ap (option_map (place_of s)) c.in_default.is) c.at_start.ensures c.new.ensures
+    opens_plainly _ _ c.first_declaration.ensures _ _ (ap (option_map (place_of s)) c.in_default.is) c.at_start.ensures.at_start c.new.ensures
 
 pub returns-in-Err-clause-err : goal.returns-in-Err-clause-err
 returns-in-Err-clause-err c =
     let s = story_tree c.args.story.now in
-    fails _ _ _ _ c.first_declaration.ensures (ap (option_map (place_of s)) c.in-Some.is) (first_of _ _ _ (c.fresh-machine.ensures s) c.new-2.ensures) _ _ c.in-Err.ensures
+    fails _ _ c.first_declaration.ensures _ _ (ap (option_map (place_of s)) c.in-Some.is) (first_of _ _ _ (c.fresh-machine.ensures.fresh s) c.new-2.ensures) _ _ c.in-Err.ensures
 
-pub returns-clause-ok : goal.returns-clause-ok
-returns-clause-ok c =
+pub returns-in-Ok-clause-ok : goal.returns-in-Ok-clause-ok
+returns-in-Ok-clause-ok c =
     let s = story_tree c.args.story.now in
-    opens _ _ _ _ c.first_declaration.ensures (ap (option_map (place_of s)) c.in-Some.is) (first_of _ _ _ (c.fresh-machine.ensures s) c.new-2.ensures) _ _ c.in_default-run.ensures
-    c.at_start-2.ensures
+    opens _ _ c.first_declaration.ensures _ _ (ap (option_map (place_of s)) c.in-Some.is) (first_of _ _ _ (c.fresh-machine.ensures.fresh s) c.new-2.ensures) _ _ c.in-Ok.ensures
+    c.at_start-2.ensures.at_start

@@ -1,6 +1,6 @@
 use Rattle.ink_check.specs.Words.{story_tree}
 use Rattle.ink_player.proofs.Diverting.{ends_by_path}
-use Rattle.ink_player.proofs.machine.Machine.leap.Goals as goal
+use Rattle.ink_player.proofs.machine.Machine.divert_to.Goals as goal
 
 pub returns-in-Path : goal.returns-in-Path
 returns-in-Path c =

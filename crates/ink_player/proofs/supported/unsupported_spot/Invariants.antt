@@ -1,5 +1,5 @@
 use Rattle.ink_player.proofs.Playable.{FirstFrom}
-use Rattle.ink_player.proofs.supported.unplayed_spot.Given as goal
+use Rattle.ink_player.proofs.supported.unsupported_spot.Given as goal
 use Rattle.ink_tree.specs.Nodes.{story_tree}
 
 -- no content before this one is unplayed
