@@ -20,7 +20,7 @@ use Rattle.ink_model.specs.declared.fault.ReadRefusal.{ReadRefusal}
 use Rattle.ink_json.specs.Reading.{is_parsable, is_parsed, FailsOr, Reads, ReadsOr}
 use Rattle.ink_json.specs.Size.{size, members_size}
 use Rattle.ink_json.proofs.Size.{read_size}
-use Rattle.ink_json.proofs.Tests.{not_above}
+use Rattle.ink_json.proofs.Conditions.{not_above}
 
 -- ---- text and JSON
 

@@ -23,7 +23,7 @@ use Rattle.ink_model.specs.declared.place.Part.{Part}
 use Rattle.ink_model.specs.declared.place.Part.TheVariants.{Index, Name}
 use Rattle.ink_json.specs.Reading.{takes_memory, Fails, IsFirst, is_whole, faults_last, faults_named, put_key}
 use Rattle.ink_json.specs.Size.{size, items_size, members_size}
-use Rattle.ink_json.proofs.Tests.{both, not_above}
+use Rattle.ink_json.proofs.Conditions.{both, not_above}
 
 abbrev pub Entry : Type 0
 Entry = String Global × Value

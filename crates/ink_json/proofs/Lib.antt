@@ -7,4 +7,4 @@ pub mod Lasts
 pub mod Containers
 pub mod Bytes
 pub mod Width
-pub mod Tests
+pub mod Conditions

@@ -7,7 +7,7 @@ use Rattle.ink_model.specs.Tree.{StoryTree, leaf, container, Trees, no_trees, tr
 use Rattle.ink_model.specs.Narrow.{is_narrow, are_narrow, are_keyed_narrow}
 use Rattle.ink_model.specs.declared.place.Part.{Part}
 use Rattle.ink_model.specs.declared.place.Part.TheVariants.{Index, Name}
-use Rattle.ink_json.proofs.Tests.{both}
+use Rattle.ink_json.proofs.Conditions.{both}
 
 abbrev IsNarrow : Option StoryTree → Type 0
 IsNarrow None = Unit {0}

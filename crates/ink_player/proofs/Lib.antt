@@ -1,4 +1,3 @@
-pub mod Moving
 pub mod Stepping
 pub mod Diverting
 pub mod Telling
@@ -10,7 +9,7 @@ pub mod Reading
 pub mod Sessions
 pub mod Refusing
 pub mod Playings
-pub mod Playable
+pub mod Supporting
 pub mod Stacks
 pub mod Storing
 pub mod Opening

@@ -1,13 +1,13 @@
 -- How a step ends, from how its parts end.
-use Rattle.std.proofs.Common.{◌≡◌, ◌≢◌, ◌⊎◌, ◌+◌, ◌≤◌, ap, sym, refl, subst, inl, inr, List, [], ◌∷◌, ◌++◌, length, Option, Some, None, Result, Ok, Err, Bool, true, false, if◌then◌else◌, nat_lt, length-append, arith}
+use Rattle.std.proofs.Common.{◌≡◌, ◌≢◌, ◌⊎◌, ℕ, ◌+◌, ◌≤◌, ap, sym, refl, subst, inl, inr, List, [], ◌∷◌, ◌++◌, length, Option, Some, None, Result, Ok, Err, Bool, true, false, if◌then◌else◌, nat_lt, length-append, arith}
 use Rattle.std.proofs.lemmas.Bool.Decides.{nat_tests}
 use Rattle.ink_model.specs.Tree.{StoryTree, at}
 use Rattle.ink_model.specs.Place.{entered, next_place}
-use Rattle.ink_model.specs.Configuration.{Configuration, Page, current_place, moved, with_stack, with_globals}
+use Rattle.ink_model.specs.Configuration.{Configuration, Page, current_place, moved, with_mode, with_stack, with_globals}
 use Rattle.ink_model.specs.Memory.{Gives, asks, asks_at, asks_for, content_asks, operator_asks}
 use Rattle.ink_model.specs.Operator.{apply}
-use Rattle.ink_model.specs.Step.{Outcome, Next, Stop, Wants, Faults, move_to, go_on, push, push_result, operate, perform, step, step_at, with_page, write_page, nothing_bound}
-use Rattle.ink_model.specs.Output.{is_line}
+use Rattle.ink_model.specs.Step.{Outcome, Next, Stop, Wants, Faults, move_to, go_on, push, push_result, operate, perform, step, step_at, push_string, with_page, write_page, nothing_bound}
+use Rattle.ink_model.specs.Output.{is_line, writes_printed}
 use Rattle.ink_model.specs.Store.{Values}
 use Rattle.ink_model.specs.declared.fault.Fault.{Fault}
 use Rattle.ink_model.specs.declared.fault.Fault.TheVariants.{OutOfMemory, StackEmpty, StopInString, TooDeep}
@@ -15,6 +15,7 @@ use Rattle.ink_model.specs.declared.limits.TheConstants.{MAX_STACK}
 use Rattle.ink_model.specs.declared.operator.Op.{Op}
 use Rattle.ink_model.specs.declared.place.Part.{Part}
 use Rattle.ink_model.specs.declared.value.Value.{Value}
+use Rattle.ink_model.specs.declared.value.Value.TheVariants as value
 use Rattle.ink_player.specs.Steps.{Ends, Applies}
 use Rattle.ink_player.specs.declared.machine.StepEnd.{StepEnd}
 use Rattle.ink_player.specs.declared.machine.StepEnd.TheVariants as ends
@@ -151,6 +152,17 @@ module _ (s : StoryTree) (p : List Part) (asks : Bool) (rule : Result Page Fault
   pub ends_unwritten : (f : Fault) → (asks_for rule ≡ true → asks ≡ true) → Gives (Err f) rule → new.shared.globals ≡ globals
       → Ends asks (write_page s p rule old) globals new (ends.Fault f)
   ends_unwritten f allows h same = ends_refused asks (λ r. write_page s p r old) rule new globals f (λ g. refl) allows h same
+
+-- what a value's text asks for, writing the value does
+pub printing_asks : (fresh : Bool) (r : Result (List ℕ) Fault) (page : Page) → asks_for (writes_printed fresh r page) ≡ true → asks_for r ≡ true
+printing_asks fresh (Ok t) page h = refl
+printing_asks fresh (Err f) page h = h
+
+-- the text of a string was pushed
+pub ends_strung : (s : StoryTree) (p : List Part) (rule : Result (List ℕ × Page) Fault) (text : List ℕ) (page : Page) (old new : Configuration) (globals : Values) (e : StepEnd)
+    → rule ≡ Ok (text, page) → Ends true (push s p (value.Text text) (with_mode true (with_page page old))) globals new e
+    → Ends (asks_for rule) (push_string s p rule old) globals new e
+ends_strung s p rule text page old new globals e is h = subst (λ r. Ends (asks_for r) (push_string s p r old) globals new e) (sym is) h
 
 -- an operator has no result
 pub ends_misapplied : (s : StoryTree) (p : List Part) (o : Op) (operands : Option (List Value × List Value)) (old new : Configuration) (globals : Values) (left : List Value) (f : Fault)

@@ -13,7 +13,6 @@ mod diverting;
 mod evaluating;
 mod opening;
 mod operands;
-mod places;
 mod sections;
 mod steps;
 mod storing;

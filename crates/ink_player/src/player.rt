@@ -154,16 +154,13 @@ impl Player {
                 self.broken = None;
                 Ok(Seq::new(self.alloc))
             }
-            Err(
-                Unopened {
-                    fault: Fault::OutOfMemory,
-                    globals: _,
-                },
-            ) => Err(Halt::Refused(Refusal::OutOfMemory)),
-            Err(Unopened { fault, globals }) => {
-                self.machine = Machine::at_start(self.alloc, &self.story, globals);
-                Err(self.break_by(fault))
-            }
+            Err(Unopened { fault, globals }) => match fault {
+                Fault::OutOfMemory => Err(Halt::Refused(Refusal::OutOfMemory)),
+                _ => {
+                    self.machine = Machine::at_start(self.alloc, &self.story, globals);
+                    Err(self.break_by(fault))
+                }
+            },
         }
     }
 

@@ -132,7 +132,7 @@ fn supported_story(alloc: Global, line: &[u8]) -> Result<Story, ReadRefusal>
         Ok(story) => story,
         Err(refusal) => return Err(refusal),
     };
-    let Ok(unsupported) = runnable(alloc, &story) else {
+    let Ok(unsupported) = runnable(&story) else {
         return Err(ReadRefusal::at_root(alloc, Cause::OutOfMemory));
     };
     match unsupported {

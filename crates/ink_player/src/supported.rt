@@ -11,11 +11,11 @@ ghost use Rattle.ink_tree.specs.Nodes.{place_of};
 use ink_check::Story;
 use ink_model::{Content, Control, Leaf, Place};
 use ink_tree::{NodeId, Spot, Tree};
-use std::alloc::{AllocError, Global};
+use std::alloc::AllocError;
 
 /// The first place of a story, in reading order, whose content is not supported yet; none where all of it is supported
 /// (docs/STORY_FORMAT.md, "What is supported"). The one error is a refused request for memory, which only a place needs.
-pub fn runnable(alloc: Global, story: &Story) -> Result<Option<Place>, AllocError>
+pub fn runnable(story: &Story) -> Result<Option<Place>, AllocError>
     ensures first { IfOk result (λ p. p ≡ first_unsupported (story_tree story.now)) }
     ensures all { IfOk result (λ p. p ≡ None → unsupported (story_tree story.now) ≡ []) }
     ensures memory { OnErr result (first_unsupported (story_tree story.now) ≢ None) }
@@ -24,7 +24,7 @@ pub fn runnable(alloc: Global, story: &Story) -> Result<Option<Place>, AllocErro
     let Some(spot) = unsupported_spot(tree) else {
         return Ok(None);
     };
-    let place = tree.place(alloc, spot)?;
+    let place = tree.place(spot)?;
     Ok(Some(place))
 }
 

@@ -1,8 +1,9 @@
 //! Opening a story: running its declarations, and keeping the globals.
 
-ghost use Rattle.std.specs.Prelude.{◌≡◌, Ok, IfOk, IfErr};
+ghost use Rattle.std.specs.Prelude.{◌≡◌, Ok, IfOk, IfErr, option_map};
 ghost use Rattle.ink_model.specs.Configuration.{fresh_at, start, with_globals};
-ghost use Rattle.ink_model.specs.Opening.{opening};
+ghost use Rattle.ink_model.specs.Opening.{declarations, opening};
+ghost use Rattle.ink_model.specs.Place.{landed};
 ghost use Rattle.ink_model.specs.Tree.{StoryTree};
 ghost use Rattle.ink_check.specs.Words.{story_tree};
 ghost use Rattle.ink_player.specs.Steps.{FailsToOpen};
@@ -11,7 +12,6 @@ ghost use Rattle.ink_tree.specs.Nodes.{place_of};
 
 use crate::globals::Globals;
 use crate::machine::Machine;
-use crate::machine::places::first_declaration;
 use ink_check::Story;
 use ink_model::Fault;
 use ink_out::Output;
@@ -71,4 +71,16 @@ impl Machine {
             alloc,
         }
     }
+}
+
+/// Where flow lands to declare the globals, none where the story declares none.
+fn first_declaration(story: &Story) -> Option<Spot>
+    ensures { let s = story_tree story.now in option_map (place_of s) result ≡ option_map (landed s) (declarations s) }
+{
+    let tree = story.tree();
+    let holder = tree.knot("global decl")?;
+    Some(tree.land(Spot {
+        holder,
+        index: None,
+    }))
 }

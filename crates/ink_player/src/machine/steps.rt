@@ -11,7 +11,6 @@ ghost use Rattle.ink_tree.specs.Nodes.{place_of};
 ghost use Rattle.ink_player.specs.Words.{config_of};
 ghost use Rattle.ink_player.specs.Steps.{Ends};
 
-use crate::machine::places::{enter, place_after};
 use crate::machine::{Machine, StepEnd};
 use ink_check::Story;
 use ink_model::{Content, Control, Fault, Leaf, Value};
@@ -26,7 +25,7 @@ impl Machine {
         let Some(place) = self.place else {
             return StepEnd::Stopped;
         };
-        let (here, found) = enter(story, place);
+        let (here, found) = story.tree().first_content(place);
         self.perform(story, here, found)
     }
 
@@ -120,7 +119,7 @@ impl Machine {
     pub(super) fn go_on(&mut self, story: &Story, here: Spot) -> StepEnd
         ensures { let s = story_tree story.now in Ends false (go_on s (place_of s here) (config_of s self.old)) self.old.globals (config_of s self.new) result }
     {
-        let next = place_after(story, here);
+        let next = story.tree().next(here);
         self.move_to(here, next)
     }
 

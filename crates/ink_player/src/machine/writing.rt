@@ -2,11 +2,10 @@
 
 ghost use Rattle.std.specs.Prelude.{◌≡◌, true, false, not};
 ghost use Rattle.ink_model.specs.Configuration.{is_evaluating};
-ghost use Rattle.ink_model.specs.Memory.{asks_for, leaf_asks};
+ghost use Rattle.ink_model.specs.Memory.{asks_for};
 ghost use Rattle.ink_model.specs.Output.{writes_value};
 ghost use Rattle.ink_model.specs.Step.{write_text, write_newline, write_glue, write_page};
 ghost use Rattle.ink_model.specs.Value.{printed};
-ghost use Rattle.ink_model.specs.declared.content.Leaf.TheVariants as leaves;
 ghost use Rattle.ink_check.specs.Words.{story_tree};
 ghost use Rattle.ink_tree.specs.Nodes.{place_of};
 ghost use Rattle.ink_player.specs.Words.{config_of};
@@ -48,7 +47,7 @@ impl Machine {
     }
 
     pub(super) fn write_newline(&mut self, story: &Story, here: Spot) -> StepEnd
-        ensures { let s = story_tree story.now in Ends (leaf_asks leaves.Newline (config_of s self.old)) (write_newline s (place_of s here) (config_of s self.old)) self.old.globals (config_of s self.new) result }
+        ensures { let s = story_tree story.now in Ends true (write_newline s (place_of s here) (config_of s self.old)) self.old.globals (config_of s self.new) result }
     {
         if self.evaluating {
             return self.push_text(story, here, "\n");

@@ -1,6 +1,6 @@
 use Rattle.std.proofs.Common.{◌∙◌, ap, arith}
 use Rattle.ink_model.specs.Supported.{is_supported}
-use Rattle.ink_player.proofs.Playable.{from_start, passed, named, none_left}
+use Rattle.ink_player.proofs.Supporting.{from_start, passed, named, none_left}
 use Rattle.ink_player.proofs.supported.unsupported_spot.Goals as goal
 use Rattle.ink_tree.specs.Nodes as nodes
 

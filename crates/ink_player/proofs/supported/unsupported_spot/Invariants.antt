@@ -1,4 +1,4 @@
-use Rattle.ink_player.proofs.Playable.{FirstFrom}
+use Rattle.ink_player.proofs.Supporting.{FirstFrom}
 use Rattle.ink_player.proofs.supported.unsupported_spot.Given as goal
 use Rattle.ink_tree.specs.Nodes.{story_tree}
 

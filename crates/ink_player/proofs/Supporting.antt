@@ -1,22 +1,17 @@
--- The first content that is not played, and what a story is refused for.
-use Rattle.std.proofs.Common.{◌≡◌, ◌∙◌, ◌⊎◌, ap, sym, refl, subst, inl, inr, ℕ, ◌+◌, ◌<◌, ◌≤◌, List, [], ◌∷◌, length, drop, get_or, map, filter, slice_get, Bool, true, false, not, cond, Some, None, unwrap_or, Ok, Err, append-nil}
+-- The first content that is not supported.
+use Rattle.std.proofs.Common.{◌≡◌, ◌∙◌, ap, sym, refl, subst, ℕ, ◌+◌, ◌<◌, ◌≤◌, List, [], ◌∷◌, length, drop, get_or, filter, slice_get, Bool, true, false, not, cond, Some, None, unwrap_or, append-nil}
 use Rattle.std.proofs.Math.ListN.{drop_of_length-le}
 use Rattle.std.proofs.lemmas.List.{drop_more}
 use Rattle.std.proofs.lemmas.Option.{slice_get-get_or}
-use Rattle.ink_model.specs.Acceptance.{accepted}
-use Rattle.ink_model.specs.Grammar.{first, here, story}
 use Rattle.ink_model.specs.Places.{places}
-use Rattle.ink_model.specs.Supported.{is_supported, is_unsupported, unsupported, first_unsupported, not_supported, supported, and_then, supported_story}
+use Rattle.ink_model.specs.Supported.{is_supported, is_unsupported, unsupported, first_unsupported}
 use Rattle.ink_model.specs.Tree.{StoryTree, at}
-use Rattle.ink_model.specs.declared.fault.Cause.TheVariants.{OutOfMemory}
-use Rattle.ink_model.specs.declared.fault.ReadRefusal.{ReadRefusal}
 use Rattle.ink_model.specs.declared.place.Part.{Part}
-use Rattle.ink_player.specs.Playing.{IsRefused}
 use Rattle.ink_tree.specs.Nodes.{place_of}
 
 -- ---- the walk over the nodes
 
--- of what is left from a node on the first that is not played is the first of all
+-- of what is left from a node on the first that is not supported is the first of all
 abbrev pub FirstFrom : StoryTree → ℕ → Type 0
 FirstFrom s n = slice_get (filter (is_unsupported s) (drop n (places s))) 0 ≡ first_unsupported s
 
@@ -51,8 +46,8 @@ pub none_left : (s : StoryTree) (n : ℕ) → length (places s) ≤ n → FirstF
 none_left s n past h = ap (λ ps. slice_get (filter (is_unsupported s) ps) 0) (sym (drop_of_length-le (places s) past)) ∙ h
 
 -- where no content is the first, there is none
-pub none_unplayed : (s : StoryTree) → None ≡ first_unsupported s → unsupported s ≡ []
-none_unplayed s h = none_in (unsupported s) h
+pub none_unsupported : (s : StoryTree) → None ≡ first_unsupported s → unsupported s ≡ []
+none_unsupported s h = none_in (unsupported s) h
   where
     none_in : (ps : List (List Part)) → None ≡ slice_get ps 0 → ps ≡ []
     none_in [] e = refl
