@@ -133,7 +133,7 @@ tagged_sound t page = by (list_any is_string page.sections) refl (is_crowded (ma
 
 tag_sound_at : (page : Page) (kind : SectionKind) (ms : List Mark) (rest : List Section) → Sound (closes_tag_of page (record { kind = kind; marks = ms } ∷ rest))
 tag_sound_at page string_section ms rest = λ h. absurd (cc)
-tag_sound_at page tag_section ms rest = 
+tag_sound_at page tag_section ms rest =
     let text = clean (shown_text ms) in result_if (fits_text text) _ (Err TooDeep) (tagged_sound text (record page { sections = rest })) (λ h. absurd (cc))
 
 tag_sound : (page : Page) (xs : List Section) → Sound (closes_tag_of page xs)

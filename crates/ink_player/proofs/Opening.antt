@@ -56,12 +56,15 @@ module _ (s : StoryTree) (found : Option (List Part)) (is : found ≡ option_map
     fails globals f h = elim h.why [
       | inl faults ↦ inl (by_run _ faults ∙ ap (λ vs. Err (record { fault = f; globals = vs })) (sym h.kept))
       | inr short ↦
-          inr (short.0, record {
-            first = fresh_at q;
-            declares = first;
-            reached = h.before;
-            got_there = subst (λ d. GetsTo s nothing_bound d [] h.before) begins short.1;
-          })
+          inr (
+            short.0,
+            record {
+              first = fresh_at q;
+              declares = first;
+              reached = h.before;
+              got_there = subst (λ d. GetsTo s nothing_bound d [] h.before) begins short.1;
+            },
+          )
     ]
 
 -- ---- a restart that fails

@@ -18,14 +18,13 @@ mod steps;
 mod storing;
 mod writing;
 
-pub(crate) use opening::Unopened;
-
 use crate::globals::Globals;
 use ink_check::Story;
 use ink_model::{Fault, MAX_STEPS, Passage, Seq};
 use ink_out::Output;
 use ink_tree::Spot;
 use ink_value::EvalStack;
+pub(crate) use opening::Unopened;
 use std::alloc::{AllocError, Global};
 
 /// What changes while a story runs. Of a configuration's fields those that no content writes yet are not kept.

@@ -219,7 +219,7 @@ fn unsupported(alloc: Global, story: &[u8]) -> Result<String, AllocError> {
         Ok(story) => story,
         Err(refusal) => return format!(in alloc; "refused {}", refusal.cause),
     };
-    match runnable(alloc, &story)? {
+    match runnable(&story)? {
         Some(place) => shown_parts(alloc, place.parts()),
         None => String::from_str(alloc, "all"),
     }
@@ -231,7 +231,7 @@ fn opened(alloc: Global, story: &[u8]) -> Result<String, AllocError> {
         Ok(story) => story,
         Err(refusal) => return format!(in alloc; "refused {}", refusal.cause),
     };
-    if runnable(alloc, &story)?.is_some() {
+    if runnable(&story)?.is_some() {
         return String::from_str(alloc, "not all played");
     }
     match Player::open(alloc, story, Desk::new()) {

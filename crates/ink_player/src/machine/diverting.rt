@@ -63,7 +63,13 @@ impl Machine {
     }
 
     /// By a written path, or by what a variable holds.
-    fn divert_to(&mut self, story: &Story, here: Spot, to: &Destination, conditional: bool) -> StepEnd
+    fn divert_to(
+        &mut self,
+        story: &Story,
+        here: Spot,
+        to: &Destination,
+        conditional: bool,
+    ) -> StepEnd
         requires { let s = story_tree story.now in at s (place_of s here) ≡ Some (leaf (leaves.Divert to.now conditional)) }
         ensures { let s = story_tree story.now in Ends false (divert_to s (place_of s here) to.now (config_of s self.old)) self.old.globals (config_of s self.new) result }
     {

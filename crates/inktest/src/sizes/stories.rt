@@ -142,7 +142,7 @@ fn bad_path(alloc: Global, number: usize) -> Result<String, NoAnswer> {
 fn unsupported(alloc: Global, number: usize) -> Result<String, NoAnswer> {
     let text = story_of(alloc, number, r#""\n","#, r#""thread",null"#)?;
     let story = checked(alloc, text.as_str())?;
-    match runnable(alloc, &story)? {
+    match runnable(&story)? {
         Some(place) => Ok(shown_parts(alloc, place.parts())?),
         None => Ok(String::from_str(alloc, "all")?),
     }
