@@ -53,7 +53,7 @@ pub(crate) fn told(alloc: Global, answer: Answer) -> Result<String, AllocError> 
     match answer {
         Ok(text) => Ok(text),
         Err(NoAnswer::OutOfMemory) => Err(AllocError),
-        Err(NoAnswer::Fault(fault)) => format!(in alloc; "{fault}"),
+        Err(NoAnswer::Fault(fault)) => String::from_str(alloc, fault.name()),
         Err(NoAnswer::Refused(refusal)) => shown_refusal(alloc, &refusal),
         Err(NoAnswer::NoQuestion) => String::from_str(alloc, "no question"),
     }

@@ -213,7 +213,7 @@ fn accepted(alloc: Global, bytes: &[u8]) -> Result<Story, ReadRefusal> {
     check(alloc, raw)
 }
 
-/// The place of the first content that is not played.
+/// The place of the first content that is not supported.
 fn unsupported(alloc: Global, story: &[u8]) -> Result<String, AllocError> {
     let story = match accepted(alloc, story) {
         Ok(story) => story,
@@ -232,7 +232,7 @@ fn opened(alloc: Global, story: &[u8]) -> Result<String, AllocError> {
         Err(refusal) => return format!(in alloc; "refused {}", refusal.cause),
     };
     if runnable(&story)?.is_some() {
-        return String::from_str(alloc, "not all played");
+        return String::from_str(alloc, "not all supported");
     }
     match Player::open(alloc, story, Desk::new()) {
         Ok(player) => {

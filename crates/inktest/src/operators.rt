@@ -65,7 +65,7 @@ fn operator_of(word: &str) -> Option<Op> {
 
 // ---- the evaluation stack
 
-/// The answers of calls: `push:VALUE`, `fill:COUNT`, `pop`, `peek:DEPTH` and `len`.
+/// The answers of calls: `push:VALUE`, `fill:COUNT`, `pop`, `peek:DEPTH`, `len`, and `copy`, after which the copy is called.
 fn stack_answers(alloc: Global, calls: &str) -> Answer {
     let mut stack = EvalStack::new(alloc);
     let mut answers = String::new(alloc);
@@ -79,6 +79,7 @@ fn stack_answers(alloc: Global, calls: &str) -> Answer {
 fn stack_answer(alloc: Global, stack: &mut EvalStack, call: &str) -> Answer {
     match call.split_once(':').unwrap_or((call, "")) {
         ("push", value) => stack.push(value_of(alloc, value)?)?,
+        ("copy", _) => *stack = stack.clone_in(alloc)?,
         ("fill", count) => fill(stack, number(count)?)?,
         ("peek", depth) => return Ok(shown_value(alloc, stack.peek(number(depth)?)?)?),
         ("pop", _) => return Ok(shown_value(alloc, &stack.pop()?)?),

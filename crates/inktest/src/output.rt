@@ -11,7 +11,7 @@ use std::alloc::{AllocError, Global};
 ///
 /// `t:TEXT` and `v:VALUE` write, `f:TEXT` and `w:VALUE` in a fresh function; `n` and `N` are newlines, `N` in a fresh
 /// function; `g` is glue; `e` and `l` begin and end a function, `l` with the number of the mark that begins it; `s` and `#`
-/// open a string and a tag, `/s` and `/#` close one; `c` clears; `shown:INDEX`, `more:INDEX`, `len`, `depth`, `newline` and
+/// open a string and a tag, `/s` and `/#` close one; `c` clears; `copy` goes on with a copy; `shown:INDEX`, `more:INDEX`, `len`, `depth`, `newline` and
 /// `ends` ask. `COUNT*` in front repeats a call. Behind `=` stands what the call answers, else it may be anything but a fault.
 pub(crate) fn answer(alloc: Global, row: &str) -> Answer {
     let mut output = Output::new(alloc);
@@ -81,6 +81,7 @@ fn called(alloc: Global, output: &mut Output, call: &str) -> Answer {
         "s" => output.open_string()?,
         "#" => output.open_tag()?,
         "c" => output.clear(),
+        "copy" => *output = output.clone_in(alloc)?,
         _ => return asked(alloc, output, call),
     }
     done(alloc)

@@ -16,7 +16,8 @@ use std::alloc::{AllocError, Global};
 /// - `start`, `land PLACE`, `next PLACE`: where flow starts, lands and goes on
 /// - `entered PLACE PLACE`: the containers that a landing at the second enters, coming from the first, which may be `nowhere`
 /// - `resolve PLACE PATH`: where a path of the content there leads
-/// - `target NODE`: where the written path of a content leads
+/// - `first PLACE`: where a step there performs, and the content
+/// - `target NODE`: where the written path of a content leads; `counted NODE`: the container whose visits it asks for
 ///
 /// A node is a number, a spot a node, and behind a colon perhaps an index.
 pub(crate) fn answer(alloc: Global, story: &str, question: &str) -> Answer {
@@ -30,6 +31,10 @@ pub(crate) fn answer(alloc: Global, story: &str, question: &str) -> Answer {
         "target" => {
             let story = check(alloc, raw)?;
             shown_target(alloc, story.tree(), story.target(node_of(rest)?))
+        }
+        "counted" => {
+            let story = check(alloc, raw)?;
+            shown_container(alloc, story.tree(), story.counted(node_of(rest)?))
         }
         _ => of_tree(alloc, &Tree::build(alloc, raw)?, word, rest),
     }
@@ -47,6 +52,7 @@ fn of_tree(alloc: Global, tree: &Tree, word: &str, rest: &str) -> Answer {
         "start" => shown_place(alloc, tree, tree.start()),
         "land" => shown_place(alloc, tree, tree.land(place_at(alloc, tree, rest)?)),
         "next" => shown_target(alloc, tree, tree.next(place_at(alloc, tree, rest)?)),
+        "first" => first(alloc, tree, place_at(alloc, tree, rest)?),
         "entered" => entered(alloc, tree, rest),
         "resolve" => resolved(alloc, tree, rest),
         _ => Err(NoAnswer::NoQuestion),
@@ -111,6 +117,21 @@ fn shown_target(alloc: Global, tree: &Tree, spot: Option<Spot>) -> Answer {
         Some(spot) => shown_place(alloc, tree, spot),
         None => Ok(String::from_str(alloc, "nowhere")?),
     }
+}
+
+fn shown_container(alloc: Global, tree: &Tree, node: Option<NodeId>) -> Answer {
+    let spot = node.map(|holder| Spot {
+        holder,
+        index: None,
+    });
+    shown_target(alloc, tree, spot)
+}
+
+fn first(alloc: Global, tree: &Tree, spot: Spot) -> Answer {
+    let (spot, content) = tree.first_content(spot);
+    let place = shown_place(alloc, tree, spot)?;
+    let content = shown_content(alloc, content)?;
+    Ok(format!(in alloc; "{place} {content}")?)
 }
 
 fn resolved(alloc: Global, tree: &Tree, rest: &str) -> Answer {

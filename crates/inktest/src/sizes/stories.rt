@@ -138,7 +138,7 @@ fn bad_path(alloc: Global, number: usize) -> Result<String, NoAnswer> {
     }
 }
 
-/// The place of what is not played behind so much content.
+/// The place of what is not supported behind so much content.
 fn unsupported(alloc: Global, number: usize) -> Result<String, NoAnswer> {
     let text = story_of(alloc, number, r#""\n","#, r#""thread",null"#)?;
     let story = checked(alloc, text.as_str())?;
