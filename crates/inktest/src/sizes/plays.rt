@@ -3,7 +3,7 @@
 use super::story_of;
 use crate::answer::NoAnswer;
 use crate::words::shown_value;
-use ink_model::{Fault, Given, Halt, Refusal, Text};
+use ink_model::{Given, Halt, Refusal, Text};
 use ink_player::{Desk, PlayEnd, PlayFault, Player, RunFault, open_story, play};
 use std::alloc::{AllocError, Global};
 
@@ -38,12 +38,13 @@ pub(super) fn of_play(
     }))
 }
 
+// Writing to a vector fails where there is no memory, and no input is longer than is asked for.
 fn fault_of(fault: PlayFault) -> NoAnswer {
     match fault {
         PlayFault::Story(refusal) => NoAnswer::from(refusal),
         PlayFault::Start(fault) => NoAnswer::from(fault),
-        PlayFault::Run(RunFault::OutOfMemory | RunFault::Write) => { NoAnswer::OutOfMemory }
-        PlayFault::Run(RunFault::Read | RunFault::TooLong) => NoAnswer::Fault(Fault::HostRefused),
+        PlayFault::Run(RunFault::OutOfMemory | RunFault::Write) => NoAnswer::OutOfMemory,
+        PlayFault::Run(RunFault::Read | RunFault::TooLong) => NoAnswer::NoQuestion,
     }
 }
 
