@@ -25,7 +25,7 @@ class Fault(Exception):
 
 
 class TooSlow(Exception):
-    """A run that the model leaves alone: crates/inktest/data has the limits."""
+    """A run that the model leaves alone: tests/cases.py has the limits."""
 
 
 # ---- values: int, bool and str stand for themselves, None for void
