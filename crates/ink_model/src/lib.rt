@@ -32,3 +32,6 @@ pub use place::{Part, Path, Place};
 pub use seq::Seq;
 pub use text::Text;
 pub use value::Value;
+
+#[cfg(test)]
+mod tests;

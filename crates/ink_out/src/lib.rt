@@ -11,6 +11,8 @@ mod pile;
 mod section;
 mod state;
 mod tags;
+#[cfg(test)]
+mod tests;
 mod tracker;
 mod walk;
 
