@@ -108,7 +108,7 @@ def is_right(program, story, commands, ample, status, lines, error):
 
 
 def is_run(program, story, commands, ample_lines, lines):
-    """The answers with ample memory, but for one that tells of the want of memory, and then those of a player from there."""
+    """The answers with ample memory, but for one that says that memory was refused, and then those of a player from there."""
     for k, line in enumerate(lines):
         if line != ample_lines[k]:
             before, command, after = commands[:k], commands[k], commands[k + 1:]

@@ -64,7 +64,7 @@ jump_leaf make t by_variable conditional = Err Shape
 abbrev pub read_jump : (Destination → Bool → Leaf) → Data → Data → Result Leaf Cause
 read_jump make d v = jump_leaf make (as_str v) (switch (get (codes "var") d)) (switch (get (codes "c") d))
 
--- a call of the host with so many arguments
+-- a call of an external function with so many arguments
 abbrev pub external_leaf : Option (List ℕ) → Option ℕ → Option Bool → Result Leaf Cause
 external_leaf (Some name) (Some n) (Some conditional) = if nat_lt n (2 ^ 31) then Ok (leaves.External name n conditional) else Err Limit
 external_leaf name n conditional = Err Shape
