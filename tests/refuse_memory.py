@@ -1,18 +1,28 @@
 #!/usr/bin/env python3
-"""Refuses each request for memory in turn while the program plays stories, and looks at what is answered.
+"""Refuses each request for memory in turn, and looks at what is answered: by the program that plays stories, and by the
+libraries' public calls, which inktest makes.
 
-    tests/refuse_memory.py [--program PROGRAM]      the program is ./inkplay's unless another is named
+    tests/refuse_memory.py [--seconds N] [--program PROGRAM] [TABLE..]
+        for inktest some 480 seconds; the program is ./inkplay's, the tables are crates/inktest/data/*, unless others are named
 
 A small library, built here with cc and loaded in front of the C library, refuses the n-th request. For each story below n
-goes from 1 on until no request is left to refuse. Each run has to end as docs/PROTOCOL.md says: OutOfMemory under its name, or the same answers as with ample memory up to the command that found none, the fault OutOfMemory there, and what a
-broken player answers to the lines after it. The last line has the number of runs; the status is 0 only where all hold.
+goes from 1 on until no request is left to refuse. Each run has to end as docs/PROTOCOL.md says: the named error for want of
+memory, or the same answers as with ample memory up to the command that found none, the fault OutOfMemory there, and what a
+broken player answers to the lines after it.
+
+Then inktest runs each table, and with each request that is refused no case may fail: a case holds, or found no memory. Where
+a table makes more requests than the time allows, every k-th is refused. Printed is how many of how many; the status is 0 only
+where all holds.
 """
 import argparse
 import json
 import os
+import re
 import subprocess
 import sys
 import tempfile
+import time
+from concurrent.futures import ThreadPoolExecutor
 
 import toolchain
 
@@ -108,7 +118,7 @@ def is_right(program, story, commands, ample, status, lines, error):
 
 
 def is_run(program, story, commands, ample_lines, lines):
-    """The answers with ample memory, but for one that says that memory was refused, and then those of a player from there."""
+    """The answers with ample memory, but for one that tells of the want of memory, and then those of a player from there."""
     for k, line in enumerate(lines):
         if line != ample_lines[k]:
             before, command, after = commands[:k], commands[k], commands[k + 1:]
@@ -167,14 +177,64 @@ def wrong_stories(program, shim):
     return runs, wrong
 
 
+# ---- inktest
+
+HELD = re.compile(r"(\d+) cases, 0 failed(, \d+ out of memory)?")
+
+
+def run_table(worker, table, shim, **env):
+    """Status, the lines of output, and what the library tells."""
+    with tempfile.TemporaryFile() as told:
+        env = dict(os.environ, LD_PRELOAD=shim, TELL=str(told.fileno()), **env)
+        done = subprocess.run([worker, table], stdin=subprocess.DEVNULL, stdout=subprocess.PIPE, env=env, pass_fds=(told.fileno(),))
+        told.seek(0)
+        return done.returncode, done.stdout.decode(errors="replace").splitlines(), told.read().decode()
+
+
+def is_held(worker, table, shim, n):
+    """Whether no case fails where the n-th request is refused."""
+    status, lines, told = run_table(worker, table, shim, REFUSE=str(n))
+    holds = status == 0 and len(lines) == 1 and HELD.fullmatch(lines[0]) is not None
+    if not holds:
+        print("request %d of %s: status %d, %s" % (n, os.path.basename(table), status, " | ".join(lines)[:300]), flush=True)
+    return holds and told == "x"
+
+
+def wrong_requests(worker, table, shim, seconds, jobs):
+    """How many requests of a table were refused, and how many of these runs were wrong."""
+    begun = time.monotonic()
+    status, lines, told = run_table(worker, table, shim, COUNT="1")
+    took = time.monotonic() - begun
+    if status != 0 or not told:
+        print("%s with ample memory: status %d, %s" % (table, status, " | ".join(lines)[:300]))
+        return 1, 1
+    total = int(told)
+    step = max(1, -(-total // max(1, int(seconds * jobs / took))))
+    with ThreadPoolExecutor(jobs) as pool:
+        held = list(pool.map(lambda n: is_held(worker, table, shim, n), range(1, total + 1, step)))
+    print("%s: %d of %d requests refused, %d wrong" % (os.path.basename(table), len(held), total, held.count(False)), flush=True)
+    return len(held), held.count(False)
+
+
 def main():
     parser = argparse.ArgumentParser()
+    parser.add_argument("--seconds", type=float, default=480)
     parser.add_argument("--program", default=os.path.join(toolchain.TOP, "crates/inkplay/out/inkplay"))
+    parser.add_argument("tables", nargs="*")
     words = parser.parse_args()
     subprocess.run([os.path.join(toolchain.TOP, "inkplay")], input=(HELLO + "\n").encode(), check=True)  # built
+    worker = toolchain.program("inktest", ["data/operators.txt"])
+    data = os.path.join(toolchain.TOP, "crates/inktest/data")
+    tables = words.tables or [os.path.join(data, name) for name in sorted(os.listdir(data))]
+    jobs = os.cpu_count() or 1
     with tempfile.TemporaryDirectory() as folder:
-        runs, wrong = wrong_stories(words.program, shim_in(folder))
-    print("%d requests refused, %d wrong" % (runs, wrong))
+        shim = shim_in(folder)
+        runs, wrong = wrong_stories(words.program, shim)
+        print("stories: %d requests refused, %d wrong" % (runs, wrong), flush=True)
+        for table in tables:
+            more, failed = wrong_requests(worker, table, shim, words.seconds / len(tables), jobs)
+            runs, wrong = runs + more, wrong + failed
+    print("%d runs, %d wrong" % (runs, wrong))
     return 1 if wrong or not runs else 0
 
 

@@ -32,6 +32,3 @@ pub use place::{Part, Path, Place};
 pub use seq::Seq;
 pub use text::Text;
 pub use value::Value;
-
-#[cfg(test)]
-mod tests;

@@ -11,8 +11,6 @@ mod pile;
 mod section;
 mod state;
 mod tags;
-#[cfg(test)]
-mod tests;
 mod tracker;
 mod walk;
 

@@ -14,6 +14,3 @@ pub use operate::apply;
 pub use printing::printed;
 pub use stack::EvalStack;
 pub use truth::is_true;
-
-#[cfg(test)]
-mod tests;

@@ -1,0 +1,294 @@
+//! Tables of whole sessions. A session begins with its name:
+//!
+//! ```text
+//! = NAME          begins a session
+//! < TEXT          a line that is read, the story first; <N TEXT is N such lines, <- TEXT ends without a newline
+//! > TEXT          a line that has to be written; >N TEXT is N such lines
+//! ! END           how the play has to end: `story CAUSE PLACE`, `start FAULT`, `run NAME`; served to its end without it
+//! cut             the reader also fails behind each byte, and the writer before each
+//! ```
+//!
+//! A session is played at once, and a short one also by seven bytes at a time and by `open_story` and `run`.
+
+use crate::answer::{Answer, NoAnswer, told};
+use crate::expansion::expand;
+use crate::lines::is_comment;
+use crate::reading::refused;
+use crate::streams::{Page, Pieces};
+use crate::table::Table;
+use crate::tally::{Tally, Verdict};
+use ink_model::Fault;
+use ink_player::{Desk, PlayEnd, PlayFault, RunFault, open_story, play, run};
+use std::alloc::{AllocError, Global};
+
+/// The longest input that is also played by `open_story` and `run`, and by few bytes at a time.
+const SHORT: usize = 65_536;
+
+/// A session: what is read, what has to be written, and how the play has to end, which is nothing where it is served to its
+/// end. `is_cut` asks for every cut of the input and of the output as well.
+#[derive(Drop)]
+struct Session<'t> {
+    alloc: Global,
+    input: Vec<u8>,
+    wanted: Vec<u8>,
+    end: &'t str,
+    is_cut: bool,
+}
+
+impl<'t> Session<'t> {
+    /// Reads the lines of a session behind its name.
+    fn read(alloc: Global, text: &'t str) -> Result<Session<'t>, AllocError> {
+        let mut session = Session {
+            alloc,
+            input: Vec::new(alloc),
+            wanted: Vec::new(alloc),
+            end: "",
+            is_cut: false,
+        };
+        for line in text.lines().skip(1) {
+            if !is_comment(line) {
+                session.take(line)?;
+            }
+        }
+        Ok(session)
+    }
+
+    /// Reads a line. One that is none of a session's stands for an end that no play has.
+    fn take(&mut self, line: &'t str) -> Result<(), AllocError> {
+        let (mark, text) = line.split_once(' ').unwrap_or((line, ""));
+        match (mark.chars().next(), mark.get(1..)) {
+            (Some('<'), Some("-")) => return expand(self.alloc, &mut self.input, text),
+            (Some('<'), Some(count)) => return push_lines(self.alloc, &mut self.input, text, count),
+            (Some('>'), Some(count)) => return push_lines(
+                self.alloc,
+                &mut self.wanted,
+                text,
+                count,
+            ),
+            (Some('!'), _) => self.end = text,
+            (Some('c'), _) => self.is_cut = true,
+            _ => self.end = line,
+        }
+        Ok(())
+    }
+}
+
+/// Writes a line as many times as is written, which is once where nothing is.
+fn push_lines(
+    alloc: Global,
+    into: &mut Vec<u8>,
+    text: &str,
+    count: &str,
+) -> Result<(), AllocError> {
+    for _ in 0..count.parse::<usize>().unwrap_or(1) {
+        expand(alloc, into, text)?;
+        into.push(b'\n')?;
+    }
+    Ok(())
+}
+
+/// Plays the sessions of a table.
+pub(crate) fn run_sessions(rt: &impl Print, alloc: Global, table: Table<'_>, tally: &mut Tally) {
+    for text in table.text.split("\n= ").skip(1) {
+        let name = text.lines().next().unwrap_or("");
+        tally.count(rt, table.file, name, &verdict(alloc, text));
+    }
+}
+
+fn verdict(alloc: Global, text: &str) -> Result<Verdict, AllocError> {
+    let session = Session::read(alloc, text)?;
+    let wanted = Wanted {
+        text: session.wanted.as_slice(),
+        end: session.end,
+    };
+    let input = session.input.as_slice();
+    let mut verdict = played(alloc, Pieces::whole(input), Page::new(alloc), wanted)?;
+    if is_held(&verdict) && input.len() <= SHORT {
+        verdict = slowly_played(alloc, input, wanted)?;
+    }
+    if is_held(&verdict) && input.len() <= SHORT {
+        verdict = opened_and_run(alloc, input, wanted)?;
+    }
+    if is_held(&verdict) && session.is_cut {
+        verdict = cut(alloc, input, wanted)?;
+    }
+    Ok(verdict)
+}
+
+fn is_held(verdict: &Verdict) -> bool {
+    matches!(verdict, Verdict::Holds)
+}
+
+/// What has to be written in a play, and how it has to end.
+#[derive(Clone, Copy)]
+struct Wanted<'s> {
+    text: &'s [u8],
+    end: &'s str,
+}
+
+// ---- plays
+
+/// Plays from a reader to a writer.
+fn played(
+    alloc: Global,
+    mut reader: Pieces<'_>,
+    mut writer: Page,
+    wanted: Wanted<'_>,
+) -> Result<Verdict, AllocError> {
+    let end = match play(alloc, &mut reader, &mut writer, Desk::new()) {
+        Ok(desk) => {
+            desk.close();
+            None
+        }
+        Err(end) => Some(fault_of(end)),
+    };
+    compared(alloc, &writer, end, wanted)
+}
+
+fn fault_of(end: PlayEnd) -> PlayFault {
+    let PlayEnd { fault, desk } = end;
+    desk.close();
+    fault
+}
+
+/// Plays by few bytes at a time.
+fn slowly_played(alloc: Global, input: &[u8], wanted: Wanted<'_>) -> Result<Verdict, AllocError> {
+    let mut reader = Pieces::whole(input);
+    reader.size = 7;
+    let mut writer = Page::new(alloc);
+    writer.size = 7;
+    played(alloc, reader, writer, wanted)
+}
+
+/// Opens the first line as a story, and runs over the others.
+fn opened_and_run(alloc: Global, input: &[u8], wanted: Wanted<'_>) -> Result<Verdict, AllocError> {
+    let mut lines = input.splitn(2, |byte| *byte == b'\n');
+    let story = lines.next().unwrap_or(b"");
+    let mut reader = Pieces::whole(lines.next().unwrap_or(b""));
+    let mut writer = Page::new(alloc);
+    let end = match open_story(alloc, story, Desk::new()) {
+        Ok(mut player) => {
+            let outcome = run(alloc, &mut reader, &mut writer, &mut player);
+            player.close().close();
+            outcome.err().map(PlayFault::Run)
+        }
+        Err(end) => Some(fault_of(end)),
+    };
+    compared(alloc, &writer, end, wanted)
+}
+
+/// Plays with a reader that fails behind each number of bytes, and with a writer that fails, or takes nothing, behind each.
+fn cut(alloc: Global, input: &[u8], wanted: Wanted<'_>) -> Result<Verdict, AllocError> {
+    for count in 0..=input.len() {
+        let verdict = read_to(alloc, input, count, wanted)?;
+        if !is_held(&verdict) {
+            return Ok(verdict);
+        }
+    }
+    for room in 0..wanted.text.len() {
+        let verdict = written_to(alloc, input, room, wanted)?;
+        if !is_held(&verdict) {
+            return Ok(verdict);
+        }
+    }
+    Ok(Verdict::Holds)
+}
+
+/// The reader fails behind so many bytes. The lines that ended before are answered.
+fn read_to(
+    alloc: Global,
+    input: &[u8],
+    count: usize,
+    wanted: Wanted<'_>,
+) -> Result<Verdict, AllocError> {
+    let front = input.get(..count).unwrap_or(input);
+    let lines = front.iter().filter(|byte| **byte == b'\n').count();
+    let mut reader = Pieces::whole(front);
+    reader.fails = true;
+    let is_read = lines > 0 && !wanted.end.is_empty();
+    let wanted = Wanted {
+        text: first_lines(wanted.text, lines.saturating_sub(1)),
+        end: if is_read { wanted.end } else { "run Read" },
+    };
+    played(alloc, reader, Page::new(alloc), wanted)
+}
+
+/// The first so many lines, each with its newline.
+fn first_lines(text: &[u8], count: usize) -> &[u8] {
+    let mut left = count;
+    for (index, byte) in text.iter().enumerate() {
+        if left == 0 {
+            return text.split_at(index).0;
+        }
+        if *byte == b'\n' {
+            left -= 1;
+        }
+    }
+    text
+}
+
+/// The writer takes so many bytes, and then fails, or takes nothing where the number is even.
+fn written_to(
+    alloc: Global,
+    input: &[u8],
+    room: usize,
+    wanted: Wanted<'_>,
+) -> Result<Verdict, AllocError> {
+    let mut writer = Page::new(alloc);
+    writer.room = room;
+    writer.takes_nothing = room % 2 == 0;
+    let wanted = Wanted {
+        text: wanted.text.get(..room).unwrap_or(wanted.text),
+        end: "run Write",
+    };
+    played(alloc, Pieces::whole(input), writer, wanted)
+}
+
+// ---- what came
+
+fn compared(
+    alloc: Global,
+    writer: &Page,
+    end: Option<PlayFault>,
+    wanted: Wanted<'_>,
+) -> Result<Verdict, AllocError> {
+    let end = told(alloc, ended(alloc, end))?;
+    if writer.bytes.as_slice() == wanted.text && end.as_str() == wanted.end {
+        return Ok(Verdict::Holds);
+    }
+    let line = first_other(&writer.bytes, wanted.text);
+    if writer.found_none || is_want(line) {
+        return Err(AllocError);
+    }
+    Ok(Verdict::Differs(format!(in alloc; "{line}, ended '{end}'")?))
+}
+
+/// How a play ended: nothing where it was served to its end.
+fn ended(alloc: Global, end: Option<PlayFault>) -> Answer {
+    match end {
+        None => Ok(String::new(alloc)),
+        Some(PlayFault::Run(RunFault::OutOfMemory)) => Err(NoAnswer::OutOfMemory),
+        Some(PlayFault::Start(Fault::OutOfMemory)) => Err(NoAnswer::OutOfMemory),
+        Some(PlayFault::Run(fault)) => Ok(format!(in alloc; "run {fault}")?),
+        Some(PlayFault::Start(fault)) => Ok(format!(in alloc; "start {fault}")?),
+        Some(PlayFault::Story(refusal)) => {
+            let refused = refused(alloc, &refusal)?;
+            Ok(format!(in alloc; "story {refused}")?)
+        }
+    }
+}
+
+/// The first line that is not the one that is wanted there.
+fn first_other<'b>(came: &'b [u8], wanted: &[u8]) -> &'b str {
+    let mut wanted = str::from_utf8(wanted).unwrap_or("").lines();
+    for line in str::from_utf8(came).unwrap_or("no text").lines() {
+        if wanted.next() != Some(line) {
+            return line;
+        }
+    }
+    ""
+}
+
+fn is_want(line: &str) -> bool {
+    line == r#"{"refused":"OutOfMemory"}"# || line == r#"{"events":[],"fault":"OutOfMemory"}"#
+}

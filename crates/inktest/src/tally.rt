@@ -1,0 +1,73 @@
+//! How the cases of the tables went.
+
+use std::alloc::AllocError;
+use std::io;
+
+/// The longest that is printed of what came.
+const MOST_PRINTED: usize = 400;
+
+/// What came of one case. `Differs` has what came.
+#[derive(Drop)]
+pub(crate) enum Verdict {
+    Holds,
+    Differs(String),
+}
+
+/// How many cases there were, and of them those that failed and those that found no memory.
+#[derive(Drop)]
+pub(crate) struct Tally {
+    pub cases: u64,
+    pub failed: u64,
+    pub refused: u64,
+}
+
+impl Tally {
+    /// Before the first case.
+    pub(crate) fn new() -> Tally {
+        Tally {
+            cases: 0,
+            failed: 0,
+            refused: 0,
+        }
+    }
+
+    /// Counts a case of a file, and prints it where it fails.
+    pub(crate) fn count(
+        &mut self,
+        rt: &impl Print,
+        file: &str,
+        case: &str,
+        verdict: &Result<Verdict, AllocError>,
+    ) {
+        match verdict {
+            Ok(Verdict::Holds) => self.cases = self.cases.saturating_add(1),
+            Ok(Verdict::Differs(came)) => {
+                let came = came.get(..MOST_PRINTED).unwrap_or(came.as_str());
+                let _ = println!(rt; "{file}: {case}: came {came}");
+                self.fail();
+            }
+            Err(_) => self.refuse(),
+        }
+    }
+
+    /// Counts a case that fails.
+    pub(crate) fn fail(&mut self) {
+        self.cases = self.cases.saturating_add(1);
+        self.failed = self.failed.saturating_add(1);
+    }
+
+    /// Counts a case that found no memory.
+    pub(crate) fn refuse(&mut self) {
+        self.cases = self.cases.saturating_add(1);
+        self.refused = self.refused.saturating_add(1);
+    }
+
+    /// Prints the counts.
+    pub(crate) fn print(&self, rt: &impl Print) -> io::Result<()> {
+        print!(rt; "{} cases, {} failed", self.cases, self.failed)?;
+        if self.refused > 0 {
+            print!(rt; ", {} out of memory", self.refused)?;
+        }
+        println!(rt; "")
+    }
+}
