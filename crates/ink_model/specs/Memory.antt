@@ -1,13 +1,13 @@
 -- Where memory may be refused, and what is answered then (docs/RUNNING.md, "Out of memory").
-use Rattle.std.specs.Prelude.{◌≡◌, ◌<◌, ◌≤◌, ◌⊎◌, ℕ, List, [], ◌∷◌, Bool, true, false, not, ◌&&◌, ◌||◌, Option, Some, None, Result, Ok, Err, OnErr}
+use Rattle.std.specs.Prelude.{◌≡◌, ◌<◌, ◌≤◌, ◌⊎◌, ℕ, List, [], Bool, true, false, not, ◌||◌, Option, Some, None, Result, Ok, Err, OnErr}
 use Rattle.ink_model.specs.Tree.{StoryTree, leaf, container, at}
 use Rattle.ink_model.specs.Place.{entered}
 use Rattle.ink_model.specs.Configuration.{Configuration, current_place, is_evaluating, begun}
 use Rattle.ink_model.specs.Operator.{takes, apply}
 use Rattle.ink_model.specs.Output.{closes_string, closes_tag}
 use Rattle.ink_model.specs.Stack.{popped, taken}
-use Rattle.ink_model.specs.Step.{Bound, is_fresh, in_tag, nothing_bound}
-use Rattle.ink_model.specs.Store.{Values, stored}
+use Rattle.ink_model.specs.Step.{Bound, is_fresh, nothing_bound}
+use Rattle.ink_model.specs.Store.{stored}
 use Rattle.ink_model.specs.Value.{printed}
 use Rattle.ink_model.specs.Run.{At, Stopped, Made, answers_of, moment}
 use Rattle.ink_model.specs.Opening.{declaring}
@@ -19,7 +19,6 @@ use Rattle.ink_model.specs.declared.content.Leaf.{Leaf}
 use Rattle.ink_model.specs.declared.content.Leaf.TheVariants as leaves
 use Rattle.ink_model.specs.declared.fault.Fault.{Fault}
 use Rattle.ink_model.specs.declared.fault.Fault.TheVariants.{OutOfMemory, TooDeep}
-use Rattle.ink_model.specs.declared.host.Given.{Given}
 use Rattle.ink_model.specs.declared.limits.TheConstants.{MAX_STEPS}
 use Rattle.ink_model.specs.declared.operator.Op.{Op}
 use Rattle.ink_model.specs.declared.place.Part.{Part}
