@@ -33,6 +33,7 @@ impl Enters {
     }
 
     /// Notes a mark at an index. The one error is a refused request for memory, and leaves the numbers as they were.
+    #[inline(always)]
     pub(crate) fn note(&mut self, mark: &Mark, at: usize) -> Result<(), AllocError>
         ensures ok { OnOk result ((before : List Mark) → at ≡ length before → Knows self.old before → Knows self.new (mark.now ∷ before)) }
         ensures err { OnErr result ((before : List Mark) → Knows self.old before → Knows self.new before) }
@@ -48,6 +49,7 @@ impl Enters {
 
     /// How far back the end of a function's text reaches: to the start of its number, and past all marks where there is
     /// none.
+    #[inline(always)]
     pub(crate) fn reach(&self, number: Option<u64>) -> Option<usize>
         ensures { (before : List Mark) → Knows self.now before → result ≡ reach_of number before }
     {

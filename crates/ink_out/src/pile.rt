@@ -35,6 +35,7 @@ impl Held<'_> {
 
 impl<'m> Held<'m> {
     /// What is shown where nothing more hides it.
+    #[inline(always)]
     fn now_text(&self, newline: Option<Waiting>, glue: usize) -> &'m str
         ensures { result.now ≡ now_text newline glue self.now }
     {
@@ -73,6 +74,7 @@ impl<'m> Pile<'m> {
     }
 
     /// Puts one on top. The one error is a refused request for memory.
+    #[inline(always)]
     pub(crate) fn push(&mut self, held: Held<'m>) -> Result<(), AllocError>
         ensures { OnOk result (self.new ≡ held.entry ∷ self.old) }
     {
@@ -81,6 +83,7 @@ impl<'m> Pile<'m> {
     }
 
     /// Takes from the top what the end of a function's text that reaches back so far hides.
+    #[inline(always)]
     pub(crate) fn leave(&mut self, reach: Option<usize>)
         ensures { self.new ≡ left_pile reach self.old }
     {
@@ -88,6 +91,7 @@ impl<'m> Pile<'m> {
     }
 
     /// Takes all away.
+    #[inline(always)]
     pub(crate) fn clear(&mut self)
         ensures { self.new ≡ [] }
     {
@@ -96,6 +100,7 @@ impl<'m> Pile<'m> {
 
     /// Writes what is shown where nothing more hides any, by the newline that waits and the index of the last glue. The one
     /// error is a refused request for memory.
+    #[inline(always)]
     pub(crate) fn write(
         &self,
         text: &mut String,
@@ -121,6 +126,7 @@ fn drop_reached(items: &mut Vec<Held<'_>>, reach: Option<usize>)
 }
 
 // Writes what is shown of these, in order.
+#[inline(always)]
 fn write_all(
     text: &mut String,
     items: &[Held<'_>],
@@ -136,6 +142,7 @@ fn write_all(
 }
 
 // The newline that waits stands at an index.
+#[inline(always)]
 fn is_at(at: usize, newline: Option<Waiting>) -> bool
     ensures { result ≡ is_at at newline }
 {

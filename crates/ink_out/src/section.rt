@@ -69,11 +69,10 @@ impl Section {
         let newline = self.state.tracker.newline;
         self.marks.reserve(1)?;
         make_room(&mut self.settled, newline)?;
-        let next = self.state.after(&mark, at, &self.enters);
         self.enters.note(&mark, at)?;
         settle(&mut self.settled, &mark, newline);
+        self.state.add(&mark, at, &self.enters);
         self.marks.push(mark).unwrap();
-        self.state = next;
         Ok(())
     }
 
@@ -84,10 +83,10 @@ impl Section {
     {
         self.marks.reserve(pieces.len())?;
         self.settled.reserve(pieces.len())?;
-        self.state = append(
+        append(
             &mut self.marks,
             &mut self.settled,
-            self.state,
+            &mut self.state,
             &self.enters,
             pieces,
         );
@@ -180,27 +179,25 @@ fn section_of(alloc: Global, marks: &[Mark]) -> Result<Section, AllocError>
     Ok(copy)
 }
 
-// Adds the marks of pieces, where there is room, and answers what is known then.
+// Adds the marks of pieces, where there is room.
 fn append(
     marks: &mut Vec<Mark>,
     settled: &mut Vec<usize>,
-    mut state: State,
+    state: &mut State,
     enters: &Enters,
     pieces: Vec<Piece>,
-) -> State
+)
     requires marks { vec_len marks.old + length pieces.items ≤ vec_capacity marks.old }
     requires settled { vec_len settled.old + length pieces.items ≤ vec_capacity settled.old }
     ensures marks { marks.new.items ≡ marks.old.items ++ map piece_mark pieces.items }
-    ensures sees { Sees marks.old.items settled.old.items state enters.now → Sees marks.new.items settled.new.items result enters.now }
+    ensures sees { Sees marks.old.items settled.old.items state.old enters.now → Sees marks.new.items settled.new.items state.new enters.now }
 {
     for piece in pieces {
         let mark = piece.into_mark();
-        let newline = state.tracker.newline;
-        state = state.after(&mark, marks.len(), enters);
-        settle(settled, &mark, newline);
+        settle(settled, &mark, state.tracker.newline);
+        state.add(&mark, marks.len(), enters);
         marks.push(mark).unwrap();
     }
-    state
 }
 
 // The index of the last text or tag, if there is one, is past an index or the same.

@@ -29,27 +29,23 @@ impl State {
         }
     }
 
-    /// After a mark at an index, where the starts of the numbers before it are known.
-    pub(crate) fn after(self, mark: &Mark, at: usize, enters: &Enters) -> State
-        ensures { (before : List Mark) (settled : List ℕ) → at ≡ length before → Knows enters.now before → Stands before settled self
-            → Stands (mark.now ∷ before) (settled_after mark.now self.tracker.newline settled) result }
+    /// Goes past a mark at an index, where the starts of the numbers up to it are known.
+    #[inline(always)]
+    pub(crate) fn add(&mut self, mark: &Mark, at: usize, enters: &Enters)
+        ensures { (before : List Mark) (settled : List ℕ) → at ≡ length before → Knows enters.now (mark.now ∷ before) → Stands before settled self.old
+            → Stands (mark.now ∷ before) (settled_after mark.now self.old.tracker.newline settled) self.new }
     {
-        let tracker = self.tracker.after(mark, at, enters);
+        self.tracker.add(mark, at, enters);
         match mark {
-            Mark::Text(_) => State {
-                tracker,
-                more: Some(at),
-            },
-            Mark::Tag(_) => State {
-                tracker,
-                more: Some(at),
-            },
-            _ => State { tracker, ..self },
+            Mark::Text(_) => self.more = Some(at),
+            Mark::Tag(_) => self.more = Some(at),
+            _ => {}
         }
     }
 }
 
 /// Makes room for the newline that waits, if one does. The one error is a refused request for memory.
+#[inline(always)]
 pub(crate) fn make_room(
     settled: &mut Vec<usize>,
     newline: Option<Waiting>,
@@ -64,6 +60,7 @@ pub(crate) fn make_room(
 }
 
 /// Adds the newline that waits to the settled ones, where the mark is a text.
+#[inline(always)]
 pub(crate) fn settle(settled: &mut Vec<usize>, mark: &Mark, newline: Option<Waiting>)
     requires { IsSome newline → vec_len settled.old < vec_capacity settled.old }
     ensures items { reverse settled.new.items ≡ settled_after mark.now newline (reverse settled.old.items) }

@@ -95,7 +95,7 @@ impl<'m> Walk<'m> {
             .write(&mut self.text, self.tracker.newline, self.glue)?;
         self.text.push_str(text.as_str())?;
         self.held.clear();
-        self.tracker = self.tracker.text();
+        self.tracker.text();
         self.glue = 0;
         Ok(())
     }
@@ -109,7 +109,7 @@ impl<'m> Walk<'m> {
             text,
         };
         self.held.push(blank)?;
-        self.tracker = self.tracker.blank(at);
+        self.tracker.blank(at);
         Ok(())
     }
 
@@ -117,21 +117,21 @@ impl<'m> Walk<'m> {
         ensures { OnOk result ((before : List Mark) → at ≡ length before → Walks before self.old → Walks (kinds.Newline ∷ before) self.new) }
     {
         self.held.push(Held::Newline { at })?;
-        self.tracker = self.tracker.newline(at);
+        self.tracker.newline(at);
         Ok(())
     }
 
     fn glue(&mut self, at: usize)
         ensures { (before : List Mark) → at ≡ length before → Walks before self.old → Walks (kinds.Glue ∷ before) self.new }
     {
-        self.tracker = self.tracker.glue();
+        self.tracker.glue();
         self.glue = at;
     }
 
     fn tag(&mut self)
         ensures { (before : List Mark) (text : List ℕ) → Walks before self.old → Walks (kinds.Tag text ∷ before) self.new }
     {
-        self.tracker = self.tracker.tag();
+        self.tracker.tag();
     }
 
     // The start of a function's text.
@@ -139,7 +139,7 @@ impl<'m> Walk<'m> {
         ensures { OnOk result ((before : List Mark) (n : ℕ) → mark.now ≡ kinds.Enter n → at ≡ length before → Walks before self.old → Walks (kinds.Enter n ∷ before) self.new) }
     {
         self.enters.note(mark, at)?;
-        self.tracker = self.tracker.enter();
+        self.tracker.enter();
         Ok(())
     }
 
@@ -148,7 +148,7 @@ impl<'m> Walk<'m> {
         ensures { (before : List Mark) → Walks before self.old → Walks (kinds.Leave number ∷ before) self.new }
     {
         let reach = self.enters.reach(number);
-        self.tracker = self.tracker.leave(reach);
+        self.tracker.leave(reach);
         self.held.leave(reach);
     }
 }

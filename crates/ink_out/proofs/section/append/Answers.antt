@@ -21,8 +21,8 @@ loop-piece-preserved c =
           let sees = c.loop-piece.invariant.5 h in
           let knows : Knows c.args.enters.now (mark ∷ reverse marks) = rw c.into_mark-mark.ensures (knows_piece c.in-Some.piece c.args.enters.now (reverse marks) sees.knows) in
           rw is
-          (sees_more marks settled c.settle.new.settled.items c.loop-piece.state c.after-state.result c.args.enters.now c.args.enters.now mark
+          (sees_more marks settled c.settle.new.settled.items c.loop-piece.state c.add.new.self c.args.enters.now c.args.enters.now mark
           (search rules)
-          (c.after-state.ensures (reverse marks) (reverse settled) at sees.knows)
+          (c.add.ensures (reverse marks) (reverse settled) at knows)
           knows sees),
     )

@@ -10,8 +10,8 @@ invariant_of-self-2 c =
     let marks : c.push.new.self.items ≡ s.marks.items ++ c.args.mark ∷ [] = search rules in
     let at : c.len-at.result ≡ length before = let len : c.len-at.result ≡ length s.marks.items = search rules in len ∙ sym (length-reverse s.marks.items) in
     rw marks
-    (sees_more s.marks.items s.settled.items c.settle.new.settled.items s.state c.after-next.result s.enters c.note.new.self c.args.mark
+    (sees_more s.marks.items s.settled.items c.settle.new.settled.items s.state c.add.new.self s.enters c.note.new.self c.args.mark
     (search rules)
-    (c.after-next.ensures before (reverse s.settled.items) at c.self.invariant.knows)
+    (c.add.ensures before (reverse s.settled.items) at (c.in_ok-note.ensures.ok before at c.self.invariant.knows))
     (c.in_ok-note.ensures.ok before at c.self.invariant.knows)
     c.self.invariant)

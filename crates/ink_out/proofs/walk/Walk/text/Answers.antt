@@ -8,4 +8,4 @@ returns c before k =
     let w = c.args.self.now in
     let out : string_bytes c.push_str.new.self ≡ (string_bytes w.text ++ pile_now w.tracker.newline w.glue w.held) ++ c.args.text.now = search rules in
     rw c.clear.ensures
-    (walk_text before w record w { text = c.push_str.new.self } c.text-self.result c.args.text.now out (c.text-self.ensures before c.args.text.now) k)
+    (walk_text before w record w { text = c.push_str.new.self } c.text.new.self c.args.text.now out (c.text.ensures before c.args.text.now) k)
