@@ -1,8 +1,10 @@
 //! What waits to be written.
 
-ghost use Rattle.std.specs.Prelude.{◌≡◌, [], ◌∷◌, ◌++◌, reverse, OnOk, string_bytes};
+ghost use Rattle.std.specs.Prelude.{◌≡◌, ℕ, List, [], ◌∷◌, ◌++◌, Bool, reverse, OnOk};
+ghost use Rattle.ink_out.specs.Cleaning.{Holds};
 ghost use Rattle.ink_out.specs.Walks.{held_at, is_at, left_pile, now_text, pile_now};
 
+use crate::cleaning::Shown;
 use crate::tracker::{Waiting, is_reached};
 use ink_model::Text;
 use std::alloc::{AllocError, Global};
@@ -103,13 +105,13 @@ impl<'m> Pile<'m> {
     #[inline(always)]
     pub(crate) fn write(
         &self,
-        text: &mut String,
+        shown: &mut Shown,
         newline: Option<Waiting>,
         glue: usize,
     ) -> Result<(), AllocError>
-        ensures { OnOk result (string_bytes text.new ≡ string_bytes text.old ++ pile_now newline glue self.now) }
+        ensures { OnOk result ((cleans : Bool) (written : List ℕ) → Holds cleans shown.old written → Holds cleans shown.new (written ++ pile_now newline glue self.now)) }
     {
-        write_all(text, &self.items, newline, glue)
+        write_all(shown, &self.items, newline, glue)
     }
 }
 
@@ -128,15 +130,15 @@ fn drop_reached(items: &mut Vec<Held<'_>>, reach: Option<usize>)
 // Writes what is shown of these, in order.
 #[inline(always)]
 fn write_all(
-    text: &mut String,
+    shown: &mut Shown,
     items: &[Held<'_>],
     newline: Option<Waiting>,
     glue: usize,
 ) -> Result<(), AllocError>
-    ensures { OnOk result (string_bytes text.new ≡ string_bytes text.old ++ pile_now newline glue (reverse items.now)) }
+    ensures { OnOk result ((cleans : Bool) (written : List ℕ) → Holds cleans shown.old written → Holds cleans shown.new (written ++ pile_now newline glue (reverse items.now))) }
 {
     for held in items {
-        text.push_str(held.now_text(newline, glue))?;
+        shown.push_str(held.now_text(newline, glue))?;
     }
     Ok(())
 }

@@ -7,7 +7,6 @@ ghost use Rattle.ink_model.specs.Shown.{is_shown, more_from, open_newline, shown
 ghost use Rattle.ink_out.specs.Cutting.{piece_mark};
 ghost use Rattle.ink_out.specs.Stands.{Sees, is_past};
 
-use crate::cleaning::clean_text;
 use crate::copying::copied_mark;
 use crate::cutting::Piece;
 use crate::enters::Enters;
@@ -138,15 +137,14 @@ impl Section {
         if self.marks.is_empty() {
             return Ok(Text::from_string(String::new(alloc)));
         }
-        let text = self.raw_text(alloc)?;
-        clean_text(alloc, text.as_str())
+        shown_text(alloc, self.marks.as_slice(), true)
     }
 
     /// The shown text as it is, not cleaned. The one error is a refused request for memory.
     pub(crate) fn raw_text(&self, alloc: Global) -> Result<Text, AllocError>
         ensures { IfOk result (λ text. text ≡ shown_text self.now) }
     {
-        shown_text(alloc, self.marks.as_slice())
+        shown_text(alloc, self.marks.as_slice(), false)
     }
 
     /// The tags, in order. The one error is a refused request for memory, which is never made where there are none.
