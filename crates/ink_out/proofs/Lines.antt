@@ -1,29 +1,19 @@
 -- A text cleaned in one walk, which keeps what stands on the line before a character.
-use Rattle.std.proofs.Common.{◌≡◌, ℕ, suc, ◌<◌, ◌≢◌, ◌⊎◌, Bool, true, false, cond, if◌then◌else◌, List, [], ◌∷◌, ◌++◌, map, filter, length, get_or, refl, sym, ap, ◌∙◌, arith, inl, inr}
-use Rattle.std.proofs.lemmas.Bool.{cases_lt, ne_eqb, or_parts}
-use Rattle.std.proofs.lemmas.List.{append-nil, append_assoc}
-use Rattle.std.proofs.lemmas.Str.{inside_one, length-encode, len_utf8_bounds}
-use lib.Utf8.{encode}
+use Rattle.std.proofs.Common.{◌≡◌, ℕ, suc, ◌<◌, ◌≤◌, Bool, true, false, not, cond, if◌then◌else◌, List, [], ◌∷◌, ◌++◌, Option, None, Some, map, filter, length, take, drop, get_or, refl, sym, ap, ◌∙◌, arith, inl, inr}
+use Rattle.std.specs.List.{prefix_len}
+use Rattle.std.specs.Str.{IsUtf8, IsCharBoundary}
+use Rattle.std.proofs.lemmas.Bool.{cases_lt, ne_eqb, eqb-true, or_parts, or_cases}
+use Rattle.std.proofs.lemmas.List.{append-nil, append_assoc, take-append-drop, length-take-le, get_or-take}
+use Rattle.std.proofs.lemmas.List.Sums.{prefix_len-le-length, prefix_len_passes, prefix_len_stops}
+use Rattle.std.proofs.lemmas.Str.{IsCharBoundary-end, IsCharBoundary-before_ascii, IsCharBoundary-after_ascii}
 use Rattle.ink_model.specs.Bytes.{is_newline, is_blank, is_white, onto, pieces, joined, is_filled}
 use Rattle.ink_model.specs.Clean.{clean_line, clean}
-use Rattle.ink_out.specs.Cleaning.{space}
+use Rattle.ink_out.specs.Cleaning.{space, gap, cleaned_on, shown_as, HoldsBytes}
 use Rattle.ink_out.specs.declared.cleaning.Before.{Before}
 use Rattle.ink_out.specs.declared.cleaning.Before.TheVariants.{Nothing, Word, Gap}
+use Rattle.ink_out.proofs.WhiteEnds.{white_ascii}
 
 -- ---- the walk
-
--- what stands before what follows a blank
-abbrev pub gap : Before → Before
-gap Nothing = Nothing
-gap Word = Gap
-gap Gap = Gap
-
--- what is written from here on
-abbrev pub cleaned_on : Before → List ℕ → List ℕ
-cleaned_on before [] = []
-cleaned_on before (c ∷ cs) =
-    if is_newline c then 10 ∷ cleaned_on Nothing cs else
-    (if is_blank c then cleaned_on (gap before) cs else space before ++ c ∷ cleaned_on Word cs)
 
 -- the same on one line
 abbrev words_on : Before → List ℕ → List ℕ
@@ -127,13 +117,10 @@ pub clean_is : (cs : List ℕ) → clean cs ≡ cleaned_on Nothing cs
 unfolding clean
 clean_is cs = lines_on_is (pieces is_newline cs) ∙ sym (cleaned_on_is Nothing cs)
 
--- ---- a character
+-- ---- a piece
 
 abbrev IsWord : List ℕ → Type 0
 IsWord cs = (k : ℕ) → k < length cs → is_white (get_or cs k 0) ≡ false
-
-is_white_none : (c : ℕ) → c ≢ 9 → c ≢ 10 → c ≢ 32 → is_white c ≡ false
-is_white_none c tab newline blank = rw (ne_eqb c 32 blank, ne_eqb c 9 tab, ne_eqb c 10 newline) refl
 
 word_more : (cs rest : List ℕ) → IsWord cs → cleaned_on Word (cs ++ rest) ≡ cs ++ cleaned_on Word rest
 word_more [] rest h = refl
@@ -147,24 +134,77 @@ word_first before (c ∷ cs) rest some h =
     let (blank, newline) = or_parts (is_blank c) (is_newline c) (h 0 (omega arith)) in
     rw (newline, blank) (ap (λ ds. space before ++ c ∷ ds) (word_more cs rest (λ k l. h (suc k) (omega arith))))
 
-IsWord-encode : (c : ℕ) → c ≢ 9 → c ≢ 10 → c ≢ 32 → IsWord (encode c)
-IsWord-encode c tab newline blank = λ k l.
-    elim (cases_lt (get_or (encode c) k 0) 128) [
-      | inl m ↦
-          let same = inside_one c [] (encode c) k (sym (append-nil (encode c))) l m in
-          rw (sym same) (is_white_none c tab newline blank)
-      | inr m ↦ is_white_none (get_or (encode c) k 0) (omega arith) (omega arith) (omega arith)
+-- the bytes up to the first white one
+abbrev pub word_of : List ℕ → ℕ
+word_of cs = prefix_len (λ byte. not (is_white byte)) cs
+
+not_true : (b : Bool) → not b ≡ true → b ≡ false
+not_true true e = cc
+not_true false e = refl
+
+not_false : (b : Bool) → not b ≡ false → b ≡ true
+not_false true e = refl
+not_false false e = cc
+
+word_within : (cs : List ℕ) (n : ℕ) → n ≡ word_of cs → n ≤ length cs
+word_within cs n e = omega (arith, e, prefix_len-le-length (λ byte. not (is_white byte)) cs)
+
+word_passes : (cs : List ℕ) (n : ℕ) → n ≡ word_of cs → IsWord (take n cs)
+word_passes cs n e = λ k l.
+    let len = length-take-le n cs (word_within cs n e) in
+    let below : k < n = omega (arith, l, len) in
+    let passes = prefix_len_passes (λ byte. not (is_white byte)) cs k 0 (omega (arith, below, e)) in
+    rw (get_or-take n cs k 0 below) (not_true (is_white (get_or cs k 0)) passes)
+
+pub word_step : (out cs more : List ℕ) (before : Before) (n : ℕ) → 0 < n → n ≡ word_of cs → ((out ++ space before) ++ take n cs) ++ cleaned_on Word (drop n cs ++ more) ≡ out ++ cleaned_on before (cs ++ more)
+word_step out cs more before n some e =
+    let len = length-take-le n cs (word_within cs n e) in
+    let filled : 0 < length (take n cs) = omega (arith, some, len) in
+    append_assoc (out ++ space before) (take n cs) (cleaned_on Word (drop n cs ++ more))
+    ∙ append_assoc out (space before) (take n cs ++ cleaned_on Word (drop n cs ++ more))
+    ∙ ap (λ ds. out ++ ds) (sym (word_first before (take n cs) (drop n cs ++ more) filled (word_passes cs n e)))
+    ∙ ap (λ ds. out ++ cleaned_on before ds) (sym (append_assoc (take n cs) (drop n cs) more) ∙ ap (λ ds. ds ++ more) (take-append-drop n cs))
+
+-- a text may be cut behind a word
+pub word_boundary : (cs : List ℕ) (n : ℕ) → n ≡ word_of cs → IsCharBoundary cs n
+word_boundary cs n e =
+    elim (cases_lt n (length cs)) [
+      | inl l ↦
+          let stops = prefix_len_stops (λ byte. not (is_white byte)) cs 0 (omega (arith, l, e)) in
+          let white : is_white (get_or cs n 0) ≡ true = ap (λ k. is_white (get_or cs k 0)) e ∙ not_false (is_white (get_or cs (word_of cs) 0)) stops in
+          IsCharBoundary-before_ascii cs n l (white_ascii (get_or cs n 0) white)
+      | inr l ↦ let end : n ≡ length cs = omega (arith, l, word_within cs n e) in rw end (IsCharBoundary-end cs)
     ]
 
-pub word_step : (out rest : List ℕ) (before : Before) (c : ℕ) → c ≢ 9 → c ≢ 10 → c ≢ 32 → ((out ++ space before) ++ encode c) ++ cleaned_on Word rest ≡ out ++ cleaned_on before (encode c ++ rest)
-word_step out rest before c tab newline blank =
-    let some : 0 < length (encode c) = omega (arith, length-encode c, (len_utf8_bounds c).0) in
-    append_assoc (out ++ space before) (encode c) (cleaned_on Word rest)
-    ∙ append_assoc out (space before) (encode c ++ cleaned_on Word rest)
-    ∙ ap (λ cs. out ++ cs) (sym (word_first before (encode c) rest some (IsWord-encode c tab newline blank)))
+-- no word stands at a text's beginning
+pub white_first : (cs : List ℕ) → 0 < length cs → word_of cs ≡ 0 → is_white (get_or cs 0 0) ≡ true
+white_first cs some none =
+    let stops = prefix_len_stops (λ byte. not (is_white byte)) cs 0 (omega (arith, some, none)) in
+    ap (λ k. is_white (get_or cs k 0)) (sym none) ∙ not_false (is_white (get_or cs (word_of cs) 0)) stops
 
-pub blank_step : (out text rest next : List ℕ) (before after : Before) (c : ℕ) → (c ≡ 9) ⊎ (c ≡ 32) → gap before ≡ after → rest ≡ encode c ++ next → out ++ cleaned_on before rest ≡ text → out ++ cleaned_on after next ≡ text
-unfolding encode
-blank_step out text rest next before after c blank goes e so_far =
-    let gone : cleaned_on before (encode c ++ next) ≡ cleaned_on (gap before) next = elim blank [ inl t ↦ rw t refl | inr s ↦ rw s refl ] in
-    rw (sym goes) (ap (λ cs. out ++ cs) (sym (ap (cleaned_on before) e ∙ gone)) ∙ so_far)
+pub white_boundary : (cs : List ℕ) → IsUtf8 cs → 0 < length cs → is_white (get_or cs 0 0) ≡ true → IsCharBoundary cs 1
+white_boundary cs u some white = IsCharBoundary-after_ascii cs 0 u some (white_ascii (get_or cs 0 0) white)
+
+pub blank_step : (out more : List ℕ) (before : Before) (c : ℕ) → is_white c ≡ true → (c ≡ 10 → ⊥) → out ++ cleaned_on (gap before) more ≡ out ++ cleaned_on before (c ∷ more)
+blank_step out more before c white other =
+    elim (or_cases (is_blank c) (is_newline c) white) [
+      | inl blank ↦ rw (ne_eqb c 10 other, blank) refl
+      | inr newline ↦ absurd (other (eqb-true c 10 newline))
+    ]
+
+pub newline_step : (out more : List ℕ) (before : Before) (c : ℕ) → c ≡ 10 → (out ++ 10 ∷ []) ++ cleaned_on Nothing more ≡ out ++ cleaned_on before (c ∷ more)
+newline_step out more before c e = rw e (append_assoc out (10 ∷ []) (cleaned_on Nothing more))
+
+-- a text's first byte in front of the rest
+pub first_of_rest : (cs more : List ℕ) → 0 < length cs → get_or cs 0 0 ∷ (drop 1 cs ++ more) ≡ cs ++ more
+first_of_rest [] more some = absurd (omega arith)
+first_of_rest (c ∷ cs) more some = refl
+
+-- ---- what was written
+
+pub all_held : (cleans : Bool) (before : Option Before) (bytes written : List ℕ) → HoldsBytes cleans before bytes written → bytes ≡ shown_as cleans written
+all_held true None bytes written h = absurd h
+all_held true (Some before) bytes written h =
+    sym (append-nil bytes) ∙ h [] ∙ ap (cleaned_on Nothing) (append-nil written) ∙ sym (clean_is written)
+all_held false None bytes written h = h
+all_held false (Some before) bytes written h = absurd h

@@ -1,11 +1,13 @@
 -- Marks written at the end of the open section.
-use Rattle.std.proofs.Common.{◌≡◌, ℕ, suc, ◌+◌, ◌-◌, ◌<◌, ◌≤◌, nat_lt, Bool, false, List, [], ◌∷◌, ◌++◌, length, get_or, set, take, drop, reverse, Result, Ok, refl, sym, ap, ◌∙◌, arith}
+use Rattle.std.proofs.Common.{◌≡◌, ℕ, suc, ◌+◌, ◌-◌, ◌<◌, ◌≤◌, nat_lt, Bool, true, false, not, ◌||◌, cond, List, [], ◌∷◌, ◌++◌, length, get_or, set, take, drop, reverse, Result, Ok, refl, sym, ap, ◌∙◌, arith}
 use Rattle.std.proofs.Math.Bool.{and-false}
-use Rattle.std.proofs.lemmas.Bool.{le-ltb}
+use Rattle.std.specs.List.{list_any}
+use Rattle.std.proofs.lemmas.Bool.{le-ltb, or_parts}
 use Rattle.std.proofs.Math.Seq.{split_at}
 use Rattle.std.proofs.lemmas.List.{append-nil, reverse-append, set_split, drop_all}
 use Rattle.ink_model.specs.Configuration.{Page, Section}
-use Rattle.ink_model.specs.Mark.{cut}
+use Rattle.ink_model.specs.Bytes.{is_blank, is_white, has_newline, leading, trailing}
+use Rattle.ink_model.specs.Mark.{cut, piece}
 use Rattle.ink_model.specs.Output.{writes_marks, writes_text, let_through, noted_in, is_line}
 use Rattle.ink_model.specs.declared.limits.TheConstants.{MAX_MARKS}
 use Rattle.ink_model.specs.declared.fault.Fault.{Fault}
@@ -66,3 +68,18 @@ let_through-false (Glue ∷ ms) = ap (λ (rest : List Mark). Glue ∷ rest) (let
 let_through-false (Tag t ∷ ms) = ap (λ (rest : List Mark). Tag t ∷ rest) (let_through-false ms)
 let_through-false (Enter n ∷ ms) = ap (λ (rest : List Mark). Enter n ∷ rest) (let_through-false ms)
 let_through-false (Leave n ∷ ms) = ap (λ (rest : List Mark). Leave n ∷ rest) (let_through-false ms)
+
+-- ---- a text of one piece
+
+pub whole_cut : (cs : List ℕ) → (has_newline (leading is_white cs) || has_newline (trailing is_white cs)) ≡ false → cut cs ≡ piece cs
+unfolding cut
+whole_cut cs e =
+    let (start, end) = or_parts (has_newline (leading is_white cs)) (has_newline (trailing is_white cs)) e in
+    rw (start, end) refl
+
+pub let_through-piece : (fresh : Bool) (cs : List ℕ) → let_through fresh (piece cs) ≡ piece cs
+let_through-piece fresh [] = refl
+let_through-piece true (c ∷ cs) =
+    elim (list_any (λ x. not (is_blank x)) (c ∷ cs)) as (λ b. let_through true (cond b (Text (c ∷ cs) ∷ []) (Blank (c ∷ cs) ∷ [])) ≡ cond b (Text (c ∷ cs) ∷ []) (Blank (c ∷ cs) ∷ []))
+    [ true ↦ refl | false ↦ refl ]
+let_through-piece false (c ∷ cs) = let_through-false (piece (c ∷ cs))

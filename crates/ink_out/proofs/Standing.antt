@@ -1,166 +1,108 @@
--- What stands beside marks, after one more mark.
-use Rattle.std.proofs.Common.{◌≡◌, ℕ, ◌<◌, ◌≤◌, true, false, eqb, List, [], ◌∷◌, ◌++◌, length, reverse, take, get_or, suc, Option, None, Some, refl, sym, ap, ◌∙◌, subst, arith}
-use Rattle.std.proofs.lemmas.Bool.{ne_eqb, eq-eqb, or_from, or_left}
-use Rattle.std.proofs.lemmas.List.{take-append-le, take_at, get_or_append_left, get_or_push, length-take-le, length_push, length-reverse, reverse-append, reverse-reverse}
-use Rattle.ink_model.specs.Shown.{is_among}
+-- What is known of a section's marks, after one more mark.
+use Rattle.std.proofs.Common.{◌≡◌, ℕ, suc, ◌+◌, ◌-◌, ◌<◌, ◌≤◌, Bool, true, false, ◌||◌, cond, eqb, List, [], ◌∷◌, ◌++◌, length, reverse, take, get_or, refl, sym, ap, ◌∙◌, subst, arith}
+use Rattle.std.proofs.lemmas.Bool.{ne_eqb, or_from}
+use Rattle.std.proofs.lemmas.List.{reverse-append, take_more}
+use Rattle.ink_model.specs.Shown.{newline_shown, newlines_before, is_among}
 use Rattle.ink_model.specs.declared.mark.Mark.{Mark}
 use Rattle.ink_model.specs.declared.mark.Mark.TheVariants.{Text, Blank, Newline, Glue, Tag, Enter, Leave}
-use Rattle.ink_out.specs.declared.state.Past.{Past}
-use Rattle.ink_out.specs.declared.state.Settled.{Settled}
+use Rattle.ink_out.specs.declared.cutting.Piece.{Piece}
+use Rattle.ink_out.specs.declared.cutting.Piece.TheVariants as pieces
+use Rattle.ink_out.specs.declared.enters.Enters.{Enters}
 use Rattle.ink_out.specs.declared.state.State.{State}
 use Rattle.ink_out.specs.declared.tracker.Tracker.{Tracker}
-use Rattle.ink_out.specs.declared.tracker.Waiting.{Waiting}
-use Rattle.ink_out.specs.Tracks.{Tracks, Fits, FitsNewline, settled_after}
-use Rattle.ink_out.specs.declared.enters.Enters.{Enters}
-use Rattle.ink_out.specs.Stands.{more_at, IsChain, Stands, Knows, Was, Stood, Sees}
+use Rattle.ink_out.specs.Cutting.{piece_mark}
+use Rattle.ink_out.specs.Tracks.{Tracks, settled_after, waiting_at}
+use Rattle.ink_out.specs.Stands.{more_at, Falling, Stands, Knows, Sees}
+
+-- ---- the last text or tag
+
+-- a mark that is no text and no tag
+pub more_same : (m : Mark) (before : List Mark) → ((t : List ℕ) → m ≡ Text t → ⊥) → ((t : List ℕ) → m ≡ Tag t → ⊥) → more_at (m ∷ before) ≡ more_at before
+more_same (Text t) before text tag = absurd (text t refl)
+more_same (Tag t) before text tag = absurd (tag t refl)
+more_same (Blank t) before text tag = refl
+more_same Newline before text tag = refl
+more_same Glue before text tag = refl
+more_same (Enter n) before text tag = refl
+more_same (Leave n) before text tag = refl
 
 -- ---- the settled newlines
 
-chain_more : (past : List Past) (p : Past) (o : Option Settled) (ks : List ℕ) → IsChain past o ks → IsChain (past ++ p ∷ []) o ks
-chain_more past p None [] h = h
-chain_more past p None (k ∷ ks) h = h
-chain_more past p (Some q) [] h = h
-chain_more past p (Some q) (k ∷ ks) h =
-    let (same, under, within, rest) = h in
-    let le : q.by ≤ length past = omega arith in (
-      same,
-      under,
-      omega (arith, length_push past p),
-      λ d. rw (take-append-le q.by past (p ∷ []) le, get_or_append_left past (p ∷ []) d q.by within) (rest d),
-    )
+falling_less : (n k : ℕ) (ks : List ℕ) → n ≤ k → Falling n ks → Falling k ks
+falling_less n k [] h f = f
+falling_less n k (i ∷ ks) h f = let first = f.0 in (omega (arith, first), f.1)
 
--- the first link
-linked : (past : List Past) (o : Option Settled) (q : Settled) (ks : List ℕ) → o ≡ Some q → IsChain past o ks → (k : ℕ) × (rest : List ℕ) × (ks ≡ k ∷ rest) × IsChain past (Some q) (k ∷ rest)
-linked past None q ks e h = cc
-linked past (Some p) q [] e h = absurd h
-linked past (Some p) q (k ∷ ks) e h = (k, ks, refl, subst (λ l. IsChain past l (k ∷ ks)) e h)
+-- the shown newlines fall
+newlines_fall : (before after : List Mark) → Falling (length before) (newlines_before before after)
+newlines_fall [] after = tt
+newlines_fall (Newline ∷ before) after =
+    let rest = newlines_fall before (Newline ∷ after) in
+    elim (newline_shown before after) as (λ b. Falling (suc (length before)) (cond b (length before ∷ newlines_before before (Newline ∷ after)) (newlines_before before (Newline ∷ after))))
+    [ true ↦ (omega arith, rest) | false ↦ falling_less (length before) (suc (length before)) (newlines_before before (Newline ∷ after)) (omega arith) rest ]
+newlines_fall (Text t ∷ before) after = falling_less (length before) (suc (length before)) (newlines_before before (Text t ∷ after)) (omega arith) (newlines_fall before (Text t ∷ after))
+newlines_fall (Blank t ∷ before) after = falling_less (length before) (suc (length before)) (newlines_before before (Blank t ∷ after)) (omega arith) (newlines_fall before (Blank t ∷ after))
+newlines_fall (Glue ∷ before) after = falling_less (length before) (suc (length before)) (newlines_before before (Glue ∷ after)) (omega arith) (newlines_fall before (Glue ∷ after))
+newlines_fall (Tag t ∷ before) after = falling_less (length before) (suc (length before)) (newlines_before before (Tag t ∷ after)) (omega arith) (newlines_fall before (Tag t ∷ after))
+newlines_fall (Enter n ∷ before) after = falling_less (length before) (suc (length before)) (newlines_before before (Enter n ∷ after)) (omega arith) (newlines_fall before (Enter n ∷ after))
+newlines_fall (Leave n ∷ before) after = falling_less (length before) (suc (length before)) (newlines_before before (Leave n ∷ after)) (omega arith) (newlines_fall before (Leave n ∷ after))
 
--- one that stands there
-head_or : (past : List Past) (q : Settled) → q.by < length past → Past
-head_or [] q h = absurd (omega arith)
-head_or (p ∷ past) q h = p
+falling_rest : (n : ℕ) (ks rest : List ℕ) → Falling n (ks ++ rest) → Falling n rest
+falling_rest n [] rest f = f
+falling_rest n (k ∷ ks) rest f = let first = f.0 in falling_less k n rest (omega (arith, first)) (falling_rest k ks rest f.1)
 
--- no index from the text on that settled the last is among them
-chain_under : (past : List Past) (o : Option Settled) (ks : List ℕ) (i : ℕ) → IsChain past o ks → ((q : Settled) → o ≡ Some q → q.by ≤ i) → is_among i ks ≡ false
-chain_under past None [] i h l = refl
-chain_under past None (k ∷ ks) i h l = absurd h
-chain_under past (Some q) [] i h l = refl
-chain_under past (Some q) (k ∷ ks) i h l =
-    let (same, under, within, rest) = h in
-    let by : q.by ≤ i = l q refl in
-    let beside = head_or past q within in
-    let short = length-take-le q.by past (omega arith) in
-    or_from (eqb i k) (is_among i ks)
-    (ne_eqb i k (λ e. omega arith))
-    (chain_under (take q.by past) (get_or past q.by beside).state.settled ks i (rest beside)
-    (λ r e. let (j, js, is, link) = linked (take q.by past) (get_or past q.by beside).state.settled r ks e (rest beside) in let inside = link.2 in omega arith))
+-- and so do the settled ones among them
+pub settled_fall : (before : List Mark) (s : Tracker) (settled : List ℕ) → Tracks before s settled → Falling (length before) settled
+settled_fall before s settled t =
+    falling_rest (length before) (waiting_at before s.newline []) settled
+    (subst (λ (ks : List ℕ). Falling (length before) ks) (t.newlines []) (newlines_fall before []))
 
--- ---- one more mark
+among_under : (n i : ℕ) (ks : List ℕ) → n ≤ i → Falling n ks → is_among i ks ≡ false
+among_under n i [] h f = refl
+among_under n i (k ∷ ks) h f =
+    let first = f.0 in
+    or_from (eqb i k) (is_among i ks) (ne_eqb i k (λ e. omega (arith, first, e))) (among_under k i ks (omega (arith, first)) f.1)
 
-stands_on : (m : Mark) (before : List Mark) (past : List Past) (p : Past) (s : State) (tr : Tracker) (more : Option ℕ) → ((settled : List ℕ) → Tracks before s.tracker settled → Tracks (m ∷ before) tr settled) → (s.more ≡ more_at before → more ≡ more_at (m ∷ before)) → Stands before past s → Stands (m ∷ before) (past ++ p ∷ []) record { tracker = tr; more = more; settled = s.settled }
-stands_on m before past p s tr more tracks e st =
-    record { settled = st.settled; tracks = tracks st.settled st.tracks; more = e st.more; chain = chain_more past p s.settled st.settled st.chain }
+-- ---- the settled newlines, looked for from the last one on
 
--- what a tracker comes to by a mark
-abbrev Comes : Mark → List Mark → State → Tracker → Type 0
-Comes m before s tr = (settled : List ℕ) → Tracks before s.tracker settled → Tracks (m ∷ before) tr (settled_after m s.tracker.newline settled)
+turned_end : (xs : List ℕ) (end : ℕ) → 0 < end → end ≤ length xs → reverse (take end xs) ≡ get_or xs (end - 1) 0 ∷ reverse (take (end - 1) xs)
+turned_end xs end some fits =
+    let e : end - 1 + 1 ≡ end = omega arith in
+    let more = take_more xs (end - 1) 0 (omega arith) in
+    ap reverse (rw e at more) ∙ reverse-append (take (end - 1) xs) (get_or xs (end - 1) 0 ∷ [])
 
--- a text that settles a newline
-pub stands_settled : (m : Mark) (before : List Mark) (text : List ℕ) (past : List Past) (p : Past) (s : State) (tr : Tracker) (w : Waiting) (at : ℕ) → m ≡ Text text → s.tracker.newline ≡ Some w → Comes m before s tr → at ≡ length before → length past ≡ length before → p.state ≡ s → Stands before past s → Stands (m ∷ before) (past ++ p ∷ []) record { tracker = tr; more = Some at; settled = Some record { at = w.at; by = at } }
-stands_settled m before text past p s tr w at here is comes e l ps st =
-    let fits : FitsNewline before s.tracker w = subst (λ o. Fits before s.tracker o) is st.tracks.fits in
-    let within = fits.within in
-    let len : length past ≡ at = omega arith in
-    let tracks = rw here at (comes st.settled st.tracks) in
-    rw here
-    record {
-      settled = w.at ∷ st.settled;
-      tracks = rw is at tracks;
-      more = ap Some e;
-      chain = (
-        refl,
-        omega arith,
-        omega (arith, length_push past p),
-        λ d. rw (take_at past (p ∷ []) at len, get_or_push past p d at len, ps) st.chain,
-      );
-    }
+or_nothing : (b c : Bool) → c ≡ false → (b || c) ≡ b
+or_nothing true c e = refl
+or_nothing false c e = e
 
-pub stands_text : (m : Mark) (before : List Mark) (text : List ℕ) (past : List Past) (p : Past) (s : State) (tr : Tracker) (at : ℕ) → m ≡ Text text → s.tracker.newline ≡ None → Comes m before s tr → at ≡ length before → Stands before past s → Stands (m ∷ before) (past ++ p ∷ []) record { tracker = tr; more = Some at; settled = s.settled }
-stands_text m before text past p s tr at here is comes e st =
-    rw here (stands_on (Text text) before past p s tr (Some at) (λ settled t. let tracks = rw here at (comes settled t) in rw is at tracks) (λ _. ap Some e) st)
+-- where none behind the one that is looked at can be it, this is the one or there is none
+pub among_here : (xs : List ℕ) (end i n : ℕ) → 0 < end → end ≤ length xs → Falling n (reverse (take end xs)) → get_or xs (end - 1) 0 ≤ i → eqb i (get_or xs (end - 1) 0) ≡ is_among i (reverse (take end xs))
+among_here xs end i n some fits f at =
+    let k = get_or xs (end - 1) 0 in
+    let rest = reverse (take (end - 1) xs) in
+    let is = turned_end xs end some fits in
+    let falls : Falling n (k ∷ rest) = subst (λ (ks : List ℕ). Falling n ks) is f in
+    sym (ap (is_among i) is ∙ or_nothing (eqb i k) (is_among i rest) (among_under k i rest at falls.1))
 
-pub stands_tag : (m : Mark) (before : List Mark) (text : List ℕ) (past : List Past) (p : Past) (s : State) (tr : Tracker) (at : ℕ) → m ≡ Tag text → Comes m before s tr → at ≡ length before → Stands before past s → Stands (m ∷ before) (past ++ p ∷ []) record { tracker = tr; more = Some at; settled = s.settled }
-stands_tag m before text past p s tr at here comes e st =
-    rw here (stands_on (Tag text) before past p s tr (Some at) (λ settled t. rw here at (comes settled t)) (λ _. ap Some e) st)
-
--- a mark that is no text and no tag
-pub stands_plain : (m : Mark) (before : List Mark) (past : List Past) (p : Past) (s : State) (tr : Tracker) → ((t : List ℕ) → m ≡ Text t → ⊥) → ((t : List ℕ) → m ≡ Tag t → ⊥) → Comes m before s tr → Stands before past s → Stands (m ∷ before) (past ++ p ∷ []) record { tracker = tr; more = s.more; settled = s.settled }
-stands_plain (Text t) before past p s tr text tag comes st = absurd (text t refl)
-stands_plain (Tag t) before past p s tr text tag comes st = absurd (tag t refl)
-stands_plain (Blank t) before past p s tr text tag comes st = stands_on (Blank t) before past p s tr s.more comes (λ e. e) st
-stands_plain Newline before past p s tr text tag comes st = stands_on Newline before past p s tr s.more comes (λ e. e) st
-stands_plain Glue before past p s tr text tag comes st = stands_on Glue before past p s tr s.more comes (λ e. e) st
-stands_plain (Enter n) before past p s tr text tag comes st = stands_on (Enter n) before past p s tr s.more comes (λ e. e) st
-stands_plain (Leave n) before past p s tr text tag comes st = stands_on (Leave n) before past p s tr s.more comes (λ e. e) st
-
--- ---- one link
-
-pub chain_here : (past : List Past) (o : Option Settled) (q : Settled) (ks : List ℕ) (i : ℕ) → o ≡ Some q → q.at ≡ i → IsChain past o ks → true ≡ is_among i ks
-chain_here past o q ks i e same h =
-    let (k, rest, is, link) = linked past o q ks e h in
-    rw is (sym (or_left (eqb i k) (is_among i rest) (eq-eqb i k (sym same ∙ link.0))))
-
-pub chain_over : (past : List Past) (o : Option Settled) (q : Settled) (ks : List ℕ) (i : ℕ) → o ≡ Some q → q.by ≤ i → IsChain past o ks → false ≡ is_among i ks
-chain_over past o q ks i e l h =
-    let by : (p : Settled) → o ≡ Some p → p.by ≤ i = λ p is. let same : q ≡ p = cc in subst (λ (x : Settled). x.by ≤ i) same l in
-    sym (chain_under past o ks i h by)
-
-pub chain_none : (past : List Past) (o : Option Settled) (ks : List ℕ) (i : ℕ) → o ≡ None → IsChain past o ks → false ≡ is_among i ks
-chain_none past o ks i e h = sym (chain_under past o ks i h (λ q is. cc))
-
-pub chain_within : (past : List Past) (o : Option Settled) (q : Settled) (ks : List ℕ) (i : ℕ) → o ≡ Some q → length past ≤ q.by → IsChain past o ks → false ≡ is_among i ks
-chain_within past o q ks i e l h =
-    let (k, rest, is, link) = linked past o q ks e h in
-    let (same, under, within, next) = link in
-    absurd (omega arith)
-
-pub chain_step : (past : List Past) (o : Option Settled) (q : Settled) (b : Past) (ks : List ℕ) (i : ℕ) → o ≡ Some q → (q.at ≡ i → ⊥) → b ≡ get_or past q.by b → IsChain past o ks → (rest : List ℕ) × IsChain (take q.by past) b.state.settled rest × (is_among i ks ≡ is_among i rest)
-chain_step past o q b ks i e n at h =
-    let (k, rest, is, link) = linked past o q ks e h in
-    let (same, under, within, next) = link in
-    let other : i ≡ k → ⊥ = λ here. n (same ∙ sym here) in
-    (rest, subst (λ (p : Past). IsChain (take q.by past) p.state.settled rest) (sym at) (next b), ap (is_among i) is ∙ rw (ne_eqb i k other) refl)
+-- else it is looked for before that
+pub among_over : (xs : List ℕ) (end i n : ℕ) → 0 < end → end ≤ length xs → Falling n (reverse (take end xs)) → i < get_or xs (end - 1) 0 → Falling (get_or xs (end - 1) 0) (reverse (take (end - 1) xs)) × (is_among i (reverse (take end xs)) ≡ is_among i (reverse (take (end - 1) xs)))
+among_over xs end i n some fits f at =
+    let k = get_or xs (end - 1) 0 in
+    let rest = reverse (take (end - 1) xs) in
+    let is = turned_end xs end some fits in
+    let falls : Falling n (k ∷ rest) = subst (λ (ks : List ℕ). Falling n ks) is f in
+    (falls.1, ap (is_among i) is ∙ ap (λ (b : Bool). b || is_among i rest) (ne_eqb i k (λ e. omega (arith, at, e))))
 
 -- ---- a section
 
-pub stood_length : (marks : List Mark) (past : List Past) → Stood marks past → length past ≡ length marks
-stood_length [] [] h = refl
-stood_length [] (p ∷ ps) h = absurd h
-stood_length (m ∷ before) [] h = absurd h
-stood_length (m ∷ before) (p ∷ ps) h = ap suc (stood_length before ps h.2)
+pub knows_piece : (p : Piece) (enters : Enters) (before : List Mark) → Knows enters before → Knows enters (piece_mark p ∷ before)
+knows_piece (pieces.Text t) enters before k = record { at = k.at }
+knows_piece (pieces.Blank t) enters before k = record { at = k.at }
+knows_piece pieces.Newline enters before k = record { at = k.at }
 
-pub sees_length : (marks : List Mark) (past : List Past) (state : State) (enters : Enters) → Sees marks past state enters → length past ≡ length marks
-sees_length marks past state enters h =
-    sym (length-reverse past) ∙ stood_length (reverse marks) (reverse past) h.stood ∙ length-reverse marks
-
-pub sees_more : (marks : List Mark) (past : List Past) (state next : State) (enters noted : Enters) (m : Mark) (p : Past) → p.state ≡ state → Was m p.earlier (reverse marks) → Stands (m ∷ reverse marks) (past ++ p ∷ []) next → Knows noted (m ∷ reverse marks) → Sees marks past state enters → Sees (marks ++ m ∷ []) (past ++ p ∷ []) next noted
-sees_more marks past state next enters noted m p same was stands knows h =
+pub sees_more : (marks : List Mark) (settled next_settled : List ℕ) (state next : State) (enters noted : Enters) (m : Mark) → reverse next_settled ≡ settled_after m state.tracker.newline (reverse settled) → (Stands (reverse marks) (reverse settled) state → Stands (m ∷ reverse marks) (settled_after m state.tracker.newline (reverse settled)) next) → Knows noted (m ∷ reverse marks) → Sees marks settled state enters → Sees (marks ++ m ∷ []) next_settled next noted
+sees_more marks settled next_settled state next enters noted m same stands knows h =
     let ms = reverse-append marks (m ∷ []) in
-    let ps = reverse-append past (p ∷ []) in
-    let back : reverse (reverse past) ≡ past = reverse-reverse past in
     record {
-      stood = rw (ms, ps, back) (subst (λ s. Stands (reverse marks) past s) (sym same) h.stands, was, h.stood);
-      stands = rw ms stands;
+      stands = rw (ms, same) (stands h.stands);
       knows = rw ms knows;
     }
-
-pub sees_less : (marks : List Mark) (past : List Past) (state : State) (enters : Enters) (m : Mark) (p : Past) → Sees (marks ++ m ∷ []) (past ++ p ∷ []) state enters → Was m p.earlier (reverse marks) × Knows enters (m ∷ reverse marks) × ((forgot : Enters) → Knows forgot (reverse marks) → Sees marks past p.state forgot)
-sees_less marks past state enters m p h =
-    let ms = reverse-append marks (m ∷ []) in
-    let ps = reverse-append past (p ∷ []) in
-    let back : reverse (reverse past) ≡ past = reverse-reverse past in
-    let stood = rw (ms, ps, back) at h.stood in (
-      stood.1,
-      rw ms at h.knows,
-      λ forgot knows. record { stood = stood.2; stands = stood.0; knows = knows },
-    )

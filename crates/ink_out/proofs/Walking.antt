@@ -1,5 +1,5 @@
 -- One more mark under the walk over marks.
-use Rattle.std.proofs.Common.{◌≡◌, ℕ, suc, ◌<◌, ◌≤◌, Bool, true, false, not, ◌||◌, ◌&&◌, cond, eqb, nat_lt, List, [], ◌∷◌, ◌++◌, length, Option, None, Some, refl, sym, ap, ◌∙◌, subst, arith, inl, inr, string_bytes}
+use Rattle.std.proofs.Common.{◌≡◌, ℕ, suc, ◌<◌, ◌≤◌, Bool, true, false, not, ◌||◌, ◌&&◌, cond, eqb, nat_lt, List, [], ◌∷◌, ◌++◌, length, Option, None, Some, refl, sym, ap, ◌∙◌, subst, arith, inl, inr}
 use Rattle.std.proofs.lemmas.Bool.{cases_Bool, or_left, or_right, or_from, ne_eqb, eqb-true, eq-eqb, lt-ltb, le-ltb, leb-false, lt-leb}
 use Rattle.std.proofs.lemmas.List.{append-nil, append_assoc, append_cancel_right, nil_from_length}
 use Rattle.ink_model.specs.Shown.{glues, joins, covered, passes, newline_shown, newlines_before, is_among, text_before, written, broken}
@@ -15,6 +15,8 @@ use Rattle.ink_out.specs.Tracks.{since, hidden_by, waits, waiting_at, reached, r
 use Rattle.std.specs.Borrow.{Bor}
 use Rattle.ink_out.specs.declared.enters.Enters.{Enters}
 use Rattle.ink_out.specs.declared.walk.Walk.{Walk}
+use Rattle.ink_out.specs.declared.cleaning.Shown.{Shown}
+use Rattle.ink_out.specs.Cleaning.{Holds}
 use Rattle.ink_out.specs.Stands.{Knows}
 use Rattle.ink_out.specs.Walks.{Walks, held_at, glue_at, held_text, pile_text, left_pile, is_at, now_text, pile_now, Falls}
 use Rattle.ink_out.proofs.Covers.{since_more, since_here, passes_reached}
@@ -242,27 +244,31 @@ quiet_pile before after o (p ∷ ps) q = rw (quiet_pile before after o ps q, qui
 
 -- ---- the walk
 
-pub walk_plain : (m : Mark) (before : List Mark) (w : Walk) (next : Tracker) (enters : Enters) (glue : ℕ) → Smooth m before → ((after : List Mark) → newlines_before (m ∷ before) after ≡ newlines_before before (m ∷ after)) → ((after : List Mark) → text_before (m ∷ before) after ≡ text_before before (m ∷ after)) → (w.glue ≡ glue_at before → glue ≡ glue_at (m ∷ before)) → Knows enters (m ∷ before) → ((settled : List ℕ) → Tracks before w.tracker settled → Tracks (m ∷ before) next settled) → Walks before w → Walks (m ∷ before) record { tracker = next; enters = enters; glue = glue; held = w.held; text = w.text }
+pub walk_plain : {cleans : Bool} → (m : Mark) (before : List Mark) (w : Walk) (next : Tracker) (enters : Enters) (glue : ℕ) → Smooth m before → ((after : List Mark) → newlines_before (m ∷ before) after ≡ newlines_before before (m ∷ after)) → ((after : List Mark) → text_before (m ∷ before) after ≡ text_before before (m ∷ after)) → (w.glue ≡ glue_at before → glue ≡ glue_at (m ∷ before)) → Knows enters (m ∷ before) → ((settled : List ℕ) → Tracks before w.tracker settled → Tracks (m ∷ before) next settled) → Walks cleans before w → Walks cleans (m ∷ before) record { tracker = next; enters = enters; glue = glue; held = w.held; shown = w.shown }
 walk_plain m before w next enters glue smooth over texts g knows tracks k =
     let t' = tracks k.settled k.tracks in
     record {
       settled = k.settled;
+      written = k.written;
+      holds = k.holds;
       tracks = t';
       knows = knows;
       glue = g k.glue;
       falls = falls_less (length before) (suc (length before)) w.held (omega arith) k.falls;
       text = λ after.
           texts after ∙ k.text (m ∷ after)
-          ∙ ap (λ cs. string_bytes w.text ++ cs)
+          ∙ ap (λ cs. k.written ++ cs)
           (pile_over m before after w.tracker.newline next.newline w.held smooth
           (λ at l. ap (is_among at) (same_waiting m before after w.tracker next k.settled (over after) k.tracks t')) k.falls);
     }
 
 -- one more that waits
-walk_held : (m : Mark) (before : List Mark) (w : Walk) (next : Tracker) (p : Held) → held_at p ≡ length before → glue_at (m ∷ before) ≡ glue_at before → Knows w.enters (m ∷ before) → (settled : List ℕ) → Tracks (m ∷ before) next settled → ((after : List Mark) → text_before (m ∷ before) after ≡ text_before before (m ∷ after) ++ written before m after) → ((after : List Mark) → pile_text before w.tracker.newline w.held (m ∷ after) ++ written before m after ≡ pile_text (m ∷ before) next.newline (p ∷ w.held) after) → Walks before w → Walks (m ∷ before) record { tracker = next; enters = w.enters; glue = w.glue; held = p ∷ w.held; text = w.text }
+walk_held : {cleans : Bool} → (m : Mark) (before : List Mark) (w : Walk) (next : Tracker) (p : Held) → held_at p ≡ length before → glue_at (m ∷ before) ≡ glue_at before → Knows w.enters (m ∷ before) → (settled : List ℕ) → Tracks (m ∷ before) next settled → ((after : List Mark) → text_before (m ∷ before) after ≡ text_before before (m ∷ after) ++ written before m after) → ((after : List Mark) → pile_text before w.tracker.newline w.held (m ∷ after) ++ written before m after ≡ pile_text (m ∷ before) next.newline (p ∷ w.held) after) → Walks cleans before w → Walks cleans (m ∷ before) record { tracker = next; enters = w.enters; glue = w.glue; held = p ∷ w.held; shown = w.shown }
 walk_held m before w next p at glued knows settled tracks shows piles k =
     record {
       settled = settled;
+      written = k.written;
+      holds = k.holds;
       tracks = tracks;
       knows = knows;
       glue = k.glue ∙ sym glued;
@@ -270,11 +276,11 @@ walk_held m before w next p at glued knows settled tracks shows piles k =
       text = λ after.
           shows after
           ∙ ap (λ cs. cs ++ written before m after) (k.text (m ∷ after))
-          ∙ append_assoc (string_bytes w.text) (pile_text before w.tracker.newline w.held (m ∷ after)) (written before m after)
-          ∙ ap (λ cs. string_bytes w.text ++ cs) (piles after);
+          ∙ append_assoc (k.written) (pile_text before w.tracker.newline w.held (m ∷ after)) (written before m after)
+          ∙ ap (λ cs. k.written ++ cs) (piles after);
     }
 
-pub walk_blank : (before : List Mark) (w : Walk) (next : Tracker) (at : ℕ) (text : Bor (List ℕ)) → at ≡ length before → ((settled : List ℕ) → Tracks before w.tracker settled → Tracks (kinds.Blank text.now ∷ before) next settled) → Walks before w → Walks (kinds.Blank text.now ∷ before) record { tracker = next; enters = w.enters; glue = w.glue; held = Blank at w.tracker.broken text ∷ w.held; text = w.text }
+pub walk_blank : {cleans : Bool} → (before : List Mark) (w : Walk) (next : Tracker) (at : ℕ) (text : Bor (List ℕ)) → at ≡ length before → ((settled : List ℕ) → Tracks before w.tracker settled → Tracks (kinds.Blank text.now ∷ before) next settled) → Walks cleans before w → Walks cleans (kinds.Blank text.now ∷ before) record { tracker = next; enters = w.enters; glue = w.glue; held = Blank at w.tracker.broken text ∷ w.held; shown = w.shown }
 walk_blank before w next at text here tracks k =
     let m = kinds.Blank text.now in
     let t' = tracks k.settled k.tracks in
@@ -286,19 +292,21 @@ walk_blank before w next at text here tracks k =
     ) refl in
     rw here (walk_held m before w next (Blank (length before) w.tracker.broken text) refl refl record { at = k.knows.at } k.settled t' (λ after. refl) piles k)
 
-pub walk_newline : (before : List Mark) (w : Walk) (next : Tracker) (at : ℕ) → at ≡ length before → ((settled : List ℕ) → Tracks before w.tracker settled → Tracks (kinds.Newline ∷ before) next settled) → Walks before w → Walks (kinds.Newline ∷ before) record { tracker = next; enters = w.enters; glue = w.glue; held = Newline at ∷ w.held; text = w.text }
+pub walk_newline : {cleans : Bool} → (before : List Mark) (w : Walk) (next : Tracker) (at : ℕ) → at ≡ length before → ((settled : List ℕ) → Tracks before w.tracker settled → Tracks (kinds.Newline ∷ before) next settled) → Walks cleans before w → Walks cleans (kinds.Newline ∷ before) record { tracker = next; enters = w.enters; glue = w.glue; held = Newline at ∷ w.held; shown = w.shown }
 walk_newline before w next at here tracks k =
     let t' = tracks k.settled k.tracks in
     rw here (walk_held kinds.Newline before w next (Newline (length before)) refl refl record { at = k.knows.at } k.settled t' (λ after. refl)
     (λ after. pile_newline before after w.tracker next k.settled w.held k.tracks t' k.falls) k)
 
-pub walk_leave : (n : Option ℕ) (before : List Mark) (w : Walk) (next : Tracker) (reach : Option ℕ) → reach ≡ reach_of n before → ((settled : List ℕ) → Tracks before w.tracker settled → Tracks (kinds.Leave n ∷ before) next settled) → Walks before w → Walks (kinds.Leave n ∷ before) record { tracker = next; enters = w.enters; glue = w.glue; held = left_pile reach w.held; text = w.text }
+pub walk_leave : {cleans : Bool} → (n : Option ℕ) (before : List Mark) (w : Walk) (next : Tracker) (reach : Option ℕ) → reach ≡ reach_of n before → ((settled : List ℕ) → Tracks before w.tracker settled → Tracks (kinds.Leave n ∷ before) next settled) → Walks cleans before w → Walks cleans (kinds.Leave n ∷ before) record { tracker = next; enters = w.enters; glue = w.glue; held = left_pile reach w.held; shown = w.shown }
 walk_leave n before w next reach e tracks k =
     let m = kinds.Leave n in
     let t' = tracks k.settled k.tracks in
     rw e
     record {
       settled = k.settled;
+      written = k.written;
+      holds = k.holds;
       tracks = t';
       knows = record { at = k.knows.at };
       glue = k.glue;
@@ -306,14 +314,17 @@ walk_leave n before w next reach e tracks k =
       text = λ after.
           append-nil (text_before before (m ∷ after))
           ∙ k.text (m ∷ after)
-          ∙ ap (λ cs. string_bytes w.text ++ cs)
+          ∙ ap (λ cs. k.written ++ cs)
           (pile_left n before after w.tracker.newline next.newline (length before) w.held (same_waiting m before after w.tracker next k.settled refl k.tracks t') (omega arith) k.falls);
     }
 
-pub walk_text : (before : List Mark) (w v : Walk) (next : Tracker) (text : List ℕ) → string_bytes v.text ≡ (string_bytes w.text ++ pile_now w.tracker.newline w.glue w.held) ++ text → ((settled : List ℕ) → Tracks before w.tracker settled → Tracks (kinds.Text text ∷ before) next (settled_by w.tracker.newline settled)) → Walks before w → Walks (kinds.Text text ∷ before) record { tracker = next; enters = w.enters; glue = 0; held = []; text = v.text }
-walk_text before w v next text e tracks k =
+pub walk_text : {cleans : Bool} → (before : List Mark) (w : Walk) (shown : Shown) (next : Tracker) (text : List ℕ) → ((written : List ℕ) → Holds cleans w.shown written → Holds cleans shown ((written ++ pile_now w.tracker.newline w.glue w.held) ++ text)) → ((settled : List ℕ) → Tracks before w.tracker settled → Tracks (kinds.Text text ∷ before) next (settled_by w.tracker.newline settled)) → Walks cleans before w → Walks cleans (kinds.Text text ∷ before) record { tracker = next; enters = w.enters; glue = 0; held = []; shown = shown }
+walk_text before w shown next text holds tracks k =
+    let written = (k.written ++ pile_now w.tracker.newline w.glue w.held) ++ text in
     record {
       settled = settled_by w.tracker.newline k.settled;
+      written = written;
+      holds = holds k.written k.holds;
       tracks = tracks k.settled k.tracks;
       knows = record { at = k.knows.at };
       glue = refl;
@@ -321,13 +332,13 @@ walk_text before w v next text e tracks k =
       text = λ after.
           ap (λ cs. cs ++ text)
           (k.text (kinds.Text text ∷ after)
-          ∙ ap (λ cs. string_bytes w.text ++ cs) (quiet_pile before (kinds.Text text ∷ after) w.tracker.newline w.held (quiet_text text after) ∙ ap (λ g. pile_now w.tracker.newline g w.held) (sym k.glue)))
-          ∙ sym e
-          ∙ sym (append-nil (string_bytes v.text));
+          ∙ ap (λ cs. k.written ++ cs) (quiet_pile before (kinds.Text text ∷ after) w.tracker.newline w.held (quiet_text text after) ∙ ap (λ g. pile_now w.tracker.newline g w.held) (sym k.glue)))
+          ∙ sym (append-nil written);
     }
 
-pub walk_end : (before : List Mark) (w : Walk) → Walks before w → string_bytes w.text ++ pile_now w.tracker.newline w.glue w.held ≡ text_before before []
+-- what was written, and what waits, is all that is shown
+pub walk_end : {cleans : Bool} → (before : List Mark) (w : Walk) (k : Walks cleans before w) → k.written ++ pile_now w.tracker.newline w.glue w.held ≡ text_before before []
 walk_end before w k =
-    ap (λ g. string_bytes w.text ++ pile_now w.tracker.newline g w.held) k.glue
-    ∙ ap (λ cs. string_bytes w.text ++ cs) (sym (quiet_pile before [] w.tracker.newline w.held quiet_end))
+    ap (λ g. k.written ++ pile_now w.tracker.newline g w.held) k.glue
+    ∙ ap (λ cs. k.written ++ cs) (sym (quiet_pile before [] w.tracker.newline w.held quiet_end))
     ∙ sym (k.text [])

@@ -104,7 +104,7 @@ piece_blank (c ∷ cs) e h = rw h refl
 
 -- ---- where a text may be cut
 
-white_ascii : (c : ℕ) → is_white c ≡ true → c < 128
+pub white_ascii : (c : ℕ) → is_white c ≡ true → c < 128
 white_ascii c e =
     elim (or_cases (is_blank c) (eqb c 10) e) [
       | inl b ↦ elim (or_cases (eqb c 32) (eqb c 9) b) [ inl h ↦ omega (arith, eqb-true c 32 h) | inr h ↦ omega (arith, eqb-true c 9 h) ]

@@ -1,10 +1,40 @@
--- The walk that cleans a text.
-use Rattle.std.specs.Prelude.{ℕ, List, [], ◌∷◌}
+-- A text that is made by pieces, as it is or cleaned.
+use Rattle.std.specs.Prelude.{◌≡◌, ℕ, List, [], ◌∷◌, ◌++◌, Bool, true, false, if◌then◌else◌, Option, None, Some, string_bytes}
+use Rattle.ink_model.specs.Bytes.{is_blank, is_newline}
+use Rattle.ink_model.specs.Clean.{clean}
 use Rattle.ink_out.specs.declared.cleaning.Before.{Before}
 use Rattle.ink_out.specs.declared.cleaning.Before.TheVariants.{Nothing, Word, Gap}
+use Rattle.ink_out.specs.declared.cleaning.Shown.{Shown}
 
 -- what is written in front of a word's character
 abbrev pub space : Before → List ℕ
 space Nothing = []
 space Word = []
 space Gap = 32 ∷ []
+
+-- what stands before what follows a blank
+abbrev pub gap : Before → Before
+gap Nothing = Nothing
+gap Word = Gap
+gap Gap = Gap
+
+-- what the rest of a text comes to, by what stands on the line before it
+abbrev pub cleaned_on : Before → List ℕ → List ℕ
+cleaned_on before [] = []
+cleaned_on before (c ∷ cs) =
+    if is_newline c then 10 ∷ cleaned_on Nothing cs else
+    (if is_blank c then cleaned_on (gap before) cs else space before ++ c ∷ cleaned_on Word cs)
+
+abbrev pub shown_as : Bool → List ℕ → List ℕ
+shown_as true cs = clean cs
+shown_as false cs = cs
+
+-- these bytes are what was written; where they are cleaned, they are so whatever follows
+abbrev pub HoldsBytes : Bool → Option Before → List ℕ → List ℕ → Type 0
+HoldsBytes true None bytes written = ⊥
+HoldsBytes true (Some before) bytes written = (rest : List ℕ) → bytes ++ cleaned_on before rest ≡ cleaned_on Nothing (written ++ rest)
+HoldsBytes false None bytes written = bytes ≡ written
+HoldsBytes false (Some before) bytes written = ⊥
+
+abbrev pub Holds : Bool → Shown → List ℕ → Type 0
+Holds cleans s written = HoldsBytes cleans s.before (string_bytes s.text) written

@@ -1,9 +1,18 @@
--- The bytes at the ends of a text.
+-- The bytes at the ends of a text, and its pieces.
 use Rattle.std.specs.Prelude.{ℕ, Bool}
 use Rattle.ink_model.specs.Bytes.{is_blank, is_white}
+use Rattle.ink_model.specs.declared.mark.Mark.{Mark}
+use Rattle.ink_model.specs.declared.mark.Mark.TheVariants as kinds
+use Rattle.ink_out.specs.declared.cutting.Piece.{Piece}
+use Rattle.ink_out.specs.declared.cutting.Piece.TheVariants as pieces
 use Rattle.ink_out.specs.declared.cutting.Space.{Space}
 use Rattle.ink_out.specs.declared.cutting.Space.TheVariants.{Blank, White}
 
 abbrev pub is_space : Space → ℕ → Bool
 is_space Blank = is_blank
 is_space White = is_white
+
+abbrev pub piece_mark : Piece → Mark
+piece_mark (pieces.Text t) = kinds.Text t
+piece_mark (pieces.Blank t) = kinds.Blank t
+piece_mark pieces.Newline = kinds.Newline

@@ -1,5 +1,5 @@
 -- What the walk over marks has written, and what waits to be written.
-use Rattle.std.specs.Prelude.{◌≡◌, ℕ, ◌<◌, nat_lt, List, [], ◌∷◌, ◌++◌, length, Option, None, Some, Bool, false, not, ◌||◌, ◌&&◌, ◌==◌, if◌then◌else◌, string_bytes}
+use Rattle.std.specs.Prelude.{◌≡◌, ℕ, ◌<◌, nat_lt, List, [], ◌∷◌, ◌++◌, length, Option, None, Some, Bool, false, not, ◌||◌, ◌&&◌, ◌==◌, if◌then◌else◌}
 use Rattle.ink_model.specs.Shown.{joins, covered, is_among, text_before}
 use Rattle.ink_model.specs.declared.mark.Mark.{Mark}
 use Rattle.ink_model.specs.declared.mark.Mark.TheVariants.{Text, Glue}
@@ -8,6 +8,7 @@ use Rattle.ink_out.specs.declared.pile.Held.TheVariants.{Blank, Newline}
 use Rattle.ink_out.specs.declared.tracker.Waiting.{Waiting}
 use Rattle.ink_out.specs.declared.walk.Walk.{Walk}
 use Rattle.ink_out.specs.Tracks.{since, waiting_at, reached, Tracks}
+use Rattle.ink_out.specs.Cleaning.{Holds}
 use Rattle.ink_out.specs.Stands.{Knows}
 
 abbrev pub held_at : Held → ℕ
@@ -60,10 +61,12 @@ abbrev pub Falls : ℕ → List Held → Type 0
 Falls n [] = Unit {0}
 Falls n (p ∷ ps) = (held_at p < n) × Falls (held_at p) ps
 
-pub record Walks (before : List Mark) (w : Walk) : Type 0 where
+pub record Walks (cleans : Bool) (before : List Mark) (w : Walk) : Type 0 where
   pub settled : List ℕ
+  pub written : List ℕ
+  pub holds : Holds cleans w.shown written
   pub tracks : Tracks before w.tracker settled
   pub knows : Knows w.enters before
   pub glue : w.glue ≡ glue_at before
   pub falls : Falls (length before) w.held
-  pub text : (after : List Mark) → text_before before after ≡ string_bytes w.text ++ pile_text before w.tracker.newline w.held after
+  pub text : (after : List Mark) → text_before before after ≡ written ++ pile_text before w.tracker.newline w.held after

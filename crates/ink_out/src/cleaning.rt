@@ -1,53 +1,125 @@
-//! Cleaning a text (docs/TEXT.md, "Cleaning").
+//! The text that is shown, as it is or cleaned (docs/TEXT.md, "Cleaning").
 
-ghost use Rattle.std.specs.Prelude.{◌≡◌, ◌++◌, IfOk, OnOk, string_bytes};
-ghost use Rattle.std.specs.Char.{encode_utf8};
-ghost use Rattle.ink_model.specs.Clean.{clean};
-ghost use Rattle.ink_out.specs.Cleaning.{space};
+ghost use Rattle.std.specs.Prelude.{◌≡◌, ℕ, List, [], ◌∷◌, ◌++◌, Bool, not, IfOk, IsTrue, OnOk, string_bytes};
+ghost use Rattle.std.specs.List.{prefix_len};
+ghost use Rattle.ink_model.specs.Bytes.{is_white};
+ghost use Rattle.ink_out.specs.Cleaning.{Holds, cleaned_on, shown_as, space};
 
 use ink_model::Text;
 use std::alloc::{AllocError, Global};
 
 /// What stands on a line before a character.
 #[derive(Clone, Copy)]
-enum Before {
+pub(crate) enum Before {
     Nothing,
     Word,
     Gap,
 }
 
-/// A text with each line's words, one space between any two. The one error is a refused request for memory.
-pub(crate) fn clean_text(alloc: Global, text: &str) -> Result<Text, AllocError>
-    ensures { IfOk result (λ cleaned. cleaned ≡ clean text.now) }
-{
-    let mut cleaned = String::new(alloc);
-    let mut before = Before::Nothing;
-    for character in text.chars() {
-        before = match character {
-            '\n' => {
-                cleaned.push('\n')?;
-                Before::Nothing
-            }
-            ' ' | '\t' => match before {
-                Before::Nothing => Before::Nothing,
-                Before::Word | Before::Gap => Before::Gap,
-            },
-            _ => {
-                push_in_word(&mut cleaned, before, character)?;
-                Before::Word
-            }
-        };
-    }
-    Ok(Text::from_string(cleaned))
+/// A text that is made by pieces; where it is cleaned, with what stands on its last line.
+#[derive(Drop)]
+pub(crate) struct Shown {
+    text: String,
+    before: Option<Before>,
 }
 
-/// Adds a character of a word, and in front of it the space that a gap leaves. The one error is a refused request for
-/// memory.
-fn push_in_word(text: &mut String, before: Before, character: char) -> Result<(), AllocError>
-    ensures { OnOk result (string_bytes text.new ≡ string_bytes text.old ++ space before ++ encode_utf8 character) }
+impl Shown {
+    /// No text yet, which takes no memory.
+    pub(crate) fn new(alloc: Global, cleans: bool) -> Shown
+        ensures { Holds cleans result [] }
+    {
+        let text = String::new(alloc);
+        if cleans {
+            return Shown {
+                text,
+                before: Some(Before::Nothing),
+            };
+        }
+        Shown { text, before: None }
+    }
+
+    /// Adds a piece. The one error is a refused request for memory.
+    #[inline(always)]
+    pub(crate) fn push_str(&mut self, piece: &str) -> Result<(), AllocError>
+        ensures { OnOk result ((cleans : Bool) (written : List ℕ) → Holds cleans self.old written → Holds cleans self.new (written ++ piece.now)) }
+    {
+        match self.before {
+            Some(before) => {
+                let before = push_cleaned(&mut self.text, before, piece)?;
+                self.before = Some(before);
+                Ok(())
+            }
+            None => self.text.push_str(piece),
+        }
+    }
+
+    /// The text.
+    pub(crate) fn into_text(self) -> Text
+        ensures { (cleans : Bool) (written : List ℕ) → Holds cleans self written → result ≡ shown_as cleans written }
+    {
+        Text::from_string(self.text)
+    }
+}
+
+/// Adds a piece with one space between any two words of a line, and answers what stands on its last line. The one error is
+/// a refused request for memory.
+fn push_cleaned(text: &mut String, mut before: Before, piece: &str) -> Result<Before, AllocError>
+    ensures { IfOk result (λ after. (more : List ℕ) → string_bytes text.new ++ cleaned_on after more ≡ string_bytes text.old ++ cleaned_on before (piece.now ++ more)) }
+{
+    let mut rest = piece;
+    while !rest.is_empty() {
+        let len = word_len(rest);
+        if len > 0 {
+            let (word, after) = rest.split_at(len);
+            push_word(text, before, word)?;
+            before = Before::Word;
+            rest = after;
+        } else {
+            before = push_white(text, before, rest.as_bytes()[0])?;
+            rest = &rest[1..];
+        }
+    }
+    Ok(before)
+}
+
+/// Adds a word's bytes, and in front of them the space that a gap leaves. The one error is a refused request for memory.
+fn push_word(text: &mut String, before: Before, word: &str) -> Result<(), AllocError>
+    ensures { OnOk result (string_bytes text.new ≡ string_bytes text.old ++ space before ++ word.now) }
 {
     if let Before::Gap = before {
-        text.push(' ')?;
+        text.push_str(" ")?;
     }
-    text.push(character)
+    text.push_str(word)
+}
+
+/// Goes past a blank or a newline, which is added. The one error is a refused request for memory.
+fn push_white(text: &mut String, before: Before, byte: u8) -> Result<Before, AllocError>
+    requires { IsTrue (is_white byte) }
+    ensures { IfOk result (λ after. (more : List ℕ) → string_bytes text.new ++ cleaned_on after more ≡ string_bytes text.old ++ cleaned_on before (byte ∷ more)) }
+{
+    if byte == b'\n' {
+        text.push_str("\n")?;
+        return Ok(Before::Nothing);
+    }
+    match before {
+        Before::Nothing => Ok(Before::Nothing),
+        Before::Word => Ok(Before::Gap),
+        Before::Gap => Ok(Before::Gap),
+    }
+}
+
+/// How many bytes a text begins with that are no blank and no newline.
+fn word_len(text: &str) -> usize
+    ensures { result ≡ prefix_len (λ byte. not (is_white byte)) text.now }
+{
+    text.as_bytes()
+        .iter()
+        .take_while(|byte| !is_white(**byte))
+        .count()
+}
+
+fn is_white(byte: u8) -> bool
+    ensures { result ≡ is_white byte }
+{
+    byte == b' ' || byte == b'\t' || byte == b'\n'
 }

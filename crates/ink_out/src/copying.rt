@@ -5,19 +5,8 @@ ghost use Rattle.std.specs.Prelude.{◌≡◌, IfOk};
 use ink_model::Mark;
 use std::alloc::{AllocError, Global};
 
-/// Copies of marks, in order. The one error is a refused request for memory.
-pub(crate) fn copied_marks(alloc: Global, marks: &[Mark]) -> Result<Vec<Mark>, AllocError>
-    ensures { IfOk result (λ copies. copies.items ≡ marks.now) }
-{
-    let mut copies = Vec::with_capacity(alloc, marks.len())?;
-    for mark in marks {
-        let copy = copied_mark(alloc, mark)?;
-        copies.push(copy)?;
-    }
-    Ok(copies)
-}
-
-fn copied_mark(alloc: Global, mark: &Mark) -> Result<Mark, AllocError>
+/// A copy of a mark. The one error is a refused request for memory.
+pub(crate) fn copied_mark(alloc: Global, mark: &Mark) -> Result<Mark, AllocError>
     ensures { IfOk result (λ copy. copy ≡ mark.now) }
 {
     match mark {

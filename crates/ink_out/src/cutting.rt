@@ -1,10 +1,12 @@
 //! Cutting a written text into marks (docs/TEXT.md, "Cutting").
 
-ghost use Rattle.std.specs.Prelude.{◌≡◌, [], ◌∷◌, ◌++◌, not, IfOk, OnOk, IfSome, is_some, slice_index};
+ghost use Rattle.std.specs.Prelude.{◌≡◌, ◌≢◌, [], ◌∷◌, ◌++◌, ◌||◌, map, not, IfOk, OnOk, IfSome, is_some, slice_index};
 ghost use Rattle.std.specs.List.{list_any, prefix_len, suffix_len};
 ghost use Rattle.ink_model.specs.Mark.{cut, cut_end, piece};
+ghost use Rattle.ink_model.specs.Output.{is_text};
 ghost use Rattle.ink_model.specs.Bytes.{has_newline, is_blank, is_newline, is_white, leading, trailing, trimmed, without};
-ghost use Rattle.ink_out.specs.Cutting.{is_space};
+ghost use Rattle.ink_model.specs.declared.mark.Mark.{Mark};
+ghost use Rattle.ink_out.specs.Cutting.{is_space, piece_mark};
 
 use ink_model::{Mark, Text};
 use std::alloc::{AllocError, Global};
@@ -27,61 +29,103 @@ impl Space {
     }
 }
 
-/// The marks of a written text (docs/TEXT.md, "Cutting"). The one error is a refused request for memory.
-#[tactic(auto, unfolding(ink_model::specs::Mark::cut))]
-pub(crate) fn cut_text(alloc: Global, text: &str) -> Result<Vec<Mark>, AllocError>
-    ensures { IfOk result (λ marks. marks.items ≡ cut text.now) }
-{
-    let mut marks = Vec::new(alloc);
-    match split_start(text) {
-        Some((before, after)) => {
-            push_line(alloc, &mut marks, before)?;
-            push_end(alloc, &mut marks, after)?;
-            Ok(marks)
+/// What a written text is cut into: pieces, and newlines at its ends.
+#[derive(Drop)]
+pub(crate) enum Piece {
+    Text(Text),
+    Blank(Text),
+    Newline,
+}
+
+impl Piece {
+    /// The piece of bytes without newlines at their ends, of which there are some. The one error is a refused request for
+    /// memory.
+    pub(crate) fn from_str(alloc: Global, text: &str) -> Result<Piece, AllocError>
+        ensures { text.now ≢ [] → IfOk result (λ one. piece_mark one ∷ [] ≡ piece text.now) }
+    {
+        let copy = Text::from_str(alloc, text)?;
+        if has_words(text) {
+            Ok(Piece::Text(copy))
+        } else {
+            Ok(Piece::Blank(copy))
         }
-        None => {
-            push_end(alloc, &mut marks, text)?;
-            Ok(marks)
+    }
+
+    /// A text, and no blanks or newline.
+    pub(crate) fn is_text(&self) -> bool
+        ensures { result ≡ is_text (piece_mark self.now) }
+    {
+        matches!(self, Piece::Text(_))
+    }
+
+    /// The mark that it leaves.
+    pub(crate) fn into_mark(self) -> Mark
+        ensures { result ≡ piece_mark self }
+    {
+        match self {
+            Piece::Text(text) => Mark::Text(text),
+            Piece::Blank(text) => Mark::Blank(text),
+            Piece::Newline => Mark::Newline,
         }
     }
 }
 
-/// Adds the marks of what follows a white beginning. The one error is a refused request for memory.
-fn push_end(alloc: Global, marks: &mut Vec<Mark>, text: &str) -> Result<(), AllocError>
-    ensures { OnOk result (marks.new.items ≡ marks.old.items ++ cut_end text.now) }
+/// The white at one of a text's ends holds a newline, so that the text is more than one piece.
+pub(crate) fn is_cut(text: &str) -> bool
+    ensures { result ≡ (has_newline (leading is_white text.now) || has_newline (trailing is_white text.now)) }
+{
+    split_start(text).is_some() || split_end(text).is_some()
+}
+
+/// The pieces of a written text (docs/TEXT.md, "Cutting"). The one error is a refused request for memory.
+#[tactic(auto, unfolding(ink_model::specs::Mark::cut))]
+pub(crate) fn cut_text(alloc: Global, text: &str) -> Result<Vec<Piece>, AllocError>
+    ensures { IfOk result (λ pieces. map piece_mark pieces.items ≡ cut text.now) }
+{
+    let mut pieces = Vec::new(alloc);
+    match split_start(text) {
+        Some((before, after)) => {
+            push_line(alloc, &mut pieces, before)?;
+            push_end(alloc, &mut pieces, after)?;
+            Ok(pieces)
+        }
+        None => {
+            push_end(alloc, &mut pieces, text)?;
+            Ok(pieces)
+        }
+    }
+}
+
+/// Adds the pieces of what follows a white beginning. The one error is a refused request for memory.
+fn push_end(alloc: Global, pieces: &mut Vec<Piece>, text: &str) -> Result<(), AllocError>
+    ensures { OnOk result (map piece_mark pieces.new.items ≡ map piece_mark pieces.old.items ++ cut_end text.now) }
 {
     match split_end(text) {
         Some((before, after)) => {
-            push_line(alloc, marks, before)?;
-            push_piece(alloc, marks, after)
+            push_line(alloc, pieces, before)?;
+            push_piece(alloc, pieces, after)
         }
-        None => push_piece(alloc, marks, text),
+        None => push_piece(alloc, pieces, text),
     }
 }
 
-/// Adds the mark of a piece, and a newline. The one error is a refused request for memory.
-fn push_line(alloc: Global, marks: &mut Vec<Mark>, text: &str) -> Result<(), AllocError>
-    ensures { OnOk result (marks.new.items ≡ marks.old.items ++ (piece text.now ++ Mark.Newline ∷ [])) }
+/// Adds a piece, and a newline. The one error is a refused request for memory.
+fn push_line(alloc: Global, pieces: &mut Vec<Piece>, text: &str) -> Result<(), AllocError>
+    ensures { OnOk result (map piece_mark pieces.new.items ≡ map piece_mark pieces.old.items ++ (piece text.now ++ Mark.Newline ∷ [])) }
 {
-    push_piece(alloc, marks, text)?;
-    marks.push(Mark::Newline)?;
+    push_piece(alloc, pieces, text)?;
+    pieces.push(Piece::Newline)?;
     Ok(())
 }
 
-/// Adds the mark of a piece, if it is not empty. The one error is a refused request for memory.
-fn push_piece(alloc: Global, marks: &mut Vec<Mark>, text: &str) -> Result<(), AllocError>
-    ensures { OnOk result (marks.new.items ≡ marks.old.items ++ piece text.now) }
+/// Adds a piece, if it is not empty. The one error is a refused request for memory.
+fn push_piece(alloc: Global, pieces: &mut Vec<Piece>, text: &str) -> Result<(), AllocError>
+    ensures { OnOk result (map piece_mark pieces.new.items ≡ map piece_mark pieces.old.items ++ piece text.now) }
 {
     if text.is_empty() {
         return Ok(());
     }
-    let copy = Text::from_str(alloc, text)?;
-    let mark = if has_words(text) {
-        Mark::Text(copy)
-    } else {
-        Mark::Blank(copy)
-    };
-    marks.push(mark)?;
+    pieces.push(Piece::from_str(alloc, text)?)?;
     Ok(())
 }
 

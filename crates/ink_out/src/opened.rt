@@ -1,13 +1,15 @@
 //! Strings and tags that are open on the line, and where a mark is written.
 
-ghost use Rattle.std.specs.Prelude.{ℕ, IfErr, ◌≡◌, ◌≤◌, [], ◌∷◌, ◌++◌, ◌-◌, ◌<◌, length, take, IfOk, OnOk, OnErr};
+ghost use Rattle.std.specs.Prelude.{ℕ, IfErr, ◌≡◌, ◌≤◌, [], ◌∷◌, ◌++◌, ◌-◌, ◌<◌, length, map, take, IfOk, OnOk, OnErr};
 ghost use Rattle.ink_model.specs.Clean.{clean};
 ghost use Rattle.ink_model.specs.Output.{is_string, writes_marks};
 ghost use Rattle.ink_model.specs.declared.limits.TheConstants.{MAX_MARKS};
 ghost use Rattle.ink_model.specs.Shown.{shown_text};
+ghost use Rattle.ink_out.specs.Cutting.{piece_mark};
 ghost use Rattle.ink_out.specs.Opened.{section_kind};
 ghost use Rattle.ink_out.specs.Writing.{Notes, page_of};
 
+use crate::cutting::Piece;
 use crate::section::Section;
 use ink_model::{Fault, MAX_MARKS, Mark, Text};
 use std::alloc::{AllocError, Global};
@@ -28,6 +30,7 @@ pub(crate) struct Opened {
 
 impl Model for Opened {
     ghost use Rattle.ink_model.specs.Configuration.{Section};
+    ghost use Rattle.ink_out.specs.Cutting.{piece_mark};
     ghost use Rattle.ink_out.specs.Opened.{section_kind};
 
     ghost Value = { Section };
@@ -71,12 +74,12 @@ impl Opened {
         self.marks.add(mark)
     }
 
-    /// Adds marks. The one error is a refused request for memory, and leaves all as it was.
-    fn extend(&mut self, marks: Vec<Mark>) -> Result<(), AllocError>
-        ensures ok { OnOk result (self.new ≡ record self.old { marks = self.old.marks ++ marks.items }) }
+    /// Adds the marks of pieces. The one error is a refused request for memory, and leaves all as it was.
+    fn extend(&mut self, pieces: Vec<Piece>) -> Result<(), AllocError>
+        ensures ok { OnOk result (self.new ≡ record self.old { marks = self.old.marks ++ map piece_mark pieces.items }) }
         ensures err { OnErr result (self.new ≡ self.old) }
     {
-        self.marks.extend(marks)
+        self.marks.extend(pieces)
     }
 
     /// The shown text, cleaned. The one error is a refused request for memory.
@@ -130,25 +133,25 @@ pub(crate) fn note(line: &mut Section, sections: &mut [Opened], mark: Mark) -> R
     }
 }
 
-/// Adds marks in the same way, all or none.
+/// Adds the marks of pieces in the same way, all or none.
 pub(crate) fn note_all(
     line: &mut Section,
     sections: &mut [Opened],
-    marks: Vec<Mark>,
+    pieces: Vec<Piece>,
 ) -> Result<(), Fault>
-    ensures page { Notes marks.items line.old sections.old line.new sections.new result }
+    ensures page { Notes (map piece_mark pieces.items) line.old sections.old line.new sections.new result }
     ensures within { length line.old ≤ MAX_MARKS → length line.new ≤ MAX_MARKS }
 {
     match sections.len() {
         0 => {
-            if line.len().saturating_add(marks.len()) > MAX_MARKS {
+            if line.len().saturating_add(pieces.len()) > MAX_MARKS {
                 return Err(Fault::TooDeep);
             }
-            line.extend(marks)?;
+            line.extend(pieces)?;
             Ok(())
         }
         open => {
-            sections[open - 1].extend(marks)?;
+            sections[open - 1].extend(pieces)?;
             Ok(())
         }
     }

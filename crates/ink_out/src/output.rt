@@ -1,19 +1,20 @@
 //! The text being written (docs/TEXT.md, "Sections").
 
-ghost use Rattle.std.specs.Prelude.{◌≡◌, ◌<◌, ◌≤◌, [], ◌∷◌, length, reverse, IfErr, IfOk, IsOk, IsTrue};
+ghost use Rattle.std.specs.Prelude.{◌≡◌, ◌<◌, ◌≤◌, [], ◌∷◌, length, map, reverse, ◌≢◌, IfErr, IfOk, IsOk, IsTrue};
 ghost use Rattle.std.specs.List.{list_any};
 ghost use Rattle.ink_model.specs.Clean.{clean};
 ghost use Rattle.ink_model.specs.Configuration.{string_section, tag_section};
-ghost use Rattle.ink_model.specs.Mark.{cut, tags};
+ghost use Rattle.ink_model.specs.Mark.{cut, piece, tags};
 ghost use Rattle.ink_model.specs.Memory.{Hands, Leaves};
 ghost use Rattle.ink_model.specs.Output.{writes_marks, writes_value, writes_text, writes_newline, writes_glue, begins_function, ends_function, opens, closes_string, closes_tag, prints_text, ends_line, empty_page, is_string, is_text, kept_text, let_through};
 ghost use Rattle.ink_model.specs.declared.limits.TheConstants.{MAX_MARKS};
 ghost use Rattle.ink_model.specs.Shown.{shown_text, is_shown, open_newline, more_from};
 ghost use Rattle.ink_model.specs.Value.{printed};
+ghost use Rattle.ink_out.specs.Cutting.{piece_mark};
 ghost use Rattle.ink_out.specs.Opened.{section_kind};
 ghost use Rattle.ink_out.specs.Writing.{closed, prints_nothing};
 
-use crate::cutting::cut_text;
+use crate::cutting::{Piece, cut_text, is_cut};
 use crate::opened::{Kind, Opened, copied_sections, note, note_all, note_below};
 use crate::section::Section;
 use ink_model::{Fault, MAX_SECTIONS, MAX_TEXT, Mark, Seq, Text, Value};
@@ -96,14 +97,38 @@ impl Output {
         ensures text { IfOk result (λ has_text. has_text ≡ list_any is_text (cut text.now)) }
         ensures nothing { text.now ≡ [] → IsOk result }
     {
-        let line = &mut self.line;
+        let _line = &self.line;
         if text.is_empty() {
             return Ok(false);
         }
-        let marks = cut_text(self.alloc, text)?;
-        let has_text = has_text(&marks);
-        let marks = let_through(self.alloc, marks, fresh)?;
-        note_all(line, &mut self.sections, marks)?;
+        if is_cut(text) {
+            self.write_cut(text, fresh)
+        } else {
+            self.write_piece(text)
+        }
+    }
+
+    // Writes the pieces of a text.
+    fn write_cut(&mut self, text: &str, fresh: bool) -> Result<bool, Fault>
+        ensures page { Leaves (writes_text fresh text.now self.old.page) self.old.page self.new.page result }
+        ensures text { IfOk result (λ has_text. has_text ≡ list_any is_text (cut text.now)) }
+    {
+        let pieces = cut_text(self.alloc, text)?;
+        let has_text = has_text(&pieces);
+        let pieces = let_through(self.alloc, pieces, fresh)?;
+        note_all(&mut self.line, &mut self.sections, pieces)?;
+        Ok(has_text)
+    }
+
+    // Writes a text of one piece.
+    fn write_piece(&mut self, text: &str) -> Result<bool, Fault>
+        requires { text.now ≢ [] }
+        ensures page { Leaves (writes_marks (piece text.now) self.old.page) self.old.page self.new.page result }
+        ensures text { IfOk result (λ has_text. has_text ≡ list_any is_text (piece text.now)) }
+    {
+        let piece = Piece::from_str(self.alloc, text)?;
+        let has_text = piece.is_text();
+        note(&mut self.line, &mut self.sections, piece.into_mark())?;
         Ok(has_text)
     }
 
@@ -315,29 +340,34 @@ fn has_string(sections: &[Opened]) -> bool
     sections.iter().rev().any(|opened| opened.is_string())
 }
 
-fn has_text(marks: &[Mark]) -> bool
-    ensures { result ≡ list_any is_text marks.now }
+fn has_text(pieces: &[Piece]) -> bool
+    ensures { result ≡ list_any is_text (map piece_mark pieces.now) }
 {
-    marks.iter().any(|mark| matches!(mark, Mark::Text(_)))
+    for piece in pieces {
+        if piece.is_text() {
+            return true;
+        }
+    }
+    false
 }
 
-/// The marks that are let through, which newlines before a text are not where the top frame is a `fresh` function. The one
+/// The pieces that are let through, which newlines before a text are not where the top frame is a `fresh` function. The one
 /// error is a refused request for memory.
-fn let_through(alloc: Global, marks: Vec<Mark>, mut fresh: bool) -> Result<Vec<Mark>, AllocError>
-    ensures { IfOk result (λ kept. kept.items ≡ let_through fresh marks.items) }
+fn let_through(alloc: Global, pieces: Vec<Piece>, mut fresh: bool) -> Result<Vec<Piece>, AllocError>
+    ensures { IfOk result (λ kept. map piece_mark kept.items ≡ let_through fresh (map piece_mark pieces.items)) }
 {
     if !fresh {
-        return Ok(marks);
+        return Ok(pieces);
     }
-    let mut kept = Vec::with_capacity(alloc, marks.len())?;
-    for mark in marks {
-        match mark {
-            Mark::Newline if fresh => {}
-            Mark::Text(text) => {
+    let mut kept = Vec::with_capacity(alloc, pieces.len())?;
+    for piece in pieces {
+        match piece {
+            Piece::Newline if fresh => {}
+            Piece::Text(text) => {
                 fresh = false;
-                kept.push(Mark::Text(text))?;
+                kept.push(Piece::Text(text))?;
             }
-            mark => kept.push(mark)?,
+            piece => kept.push(piece)?,
         }
     }
     Ok(kept)

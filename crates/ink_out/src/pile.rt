@@ -1,8 +1,10 @@
 //! What waits to be written.
 
-ghost use Rattle.std.specs.Prelude.{◌≡◌, [], ◌∷◌, ◌++◌, reverse, OnOk, string_bytes};
+ghost use Rattle.std.specs.Prelude.{◌≡◌, ℕ, List, [], ◌∷◌, ◌++◌, Bool, reverse, OnOk};
+ghost use Rattle.ink_out.specs.Cleaning.{Holds};
 ghost use Rattle.ink_out.specs.Walks.{held_at, is_at, left_pile, now_text, pile_now};
 
+use crate::cleaning::Shown;
 use crate::tracker::{Waiting, is_reached};
 use ink_model::Text;
 use std::alloc::{AllocError, Global};
@@ -35,6 +37,7 @@ impl Held<'_> {
 
 impl<'m> Held<'m> {
     /// What is shown where nothing more hides it.
+    #[inline(always)]
     fn now_text(&self, newline: Option<Waiting>, glue: usize) -> &'m str
         ensures { result.now ≡ now_text newline glue self.now }
     {
@@ -73,6 +76,7 @@ impl<'m> Pile<'m> {
     }
 
     /// Puts one on top. The one error is a refused request for memory.
+    #[inline(always)]
     pub(crate) fn push(&mut self, held: Held<'m>) -> Result<(), AllocError>
         ensures { OnOk result (self.new ≡ held.entry ∷ self.old) }
     {
@@ -81,6 +85,7 @@ impl<'m> Pile<'m> {
     }
 
     /// Takes from the top what the end of a function's text that reaches back so far hides.
+    #[inline(always)]
     pub(crate) fn leave(&mut self, reach: Option<usize>)
         ensures { self.new ≡ left_pile reach self.old }
     {
@@ -88,6 +93,7 @@ impl<'m> Pile<'m> {
     }
 
     /// Takes all away.
+    #[inline(always)]
     pub(crate) fn clear(&mut self)
         ensures { self.new ≡ [] }
     {
@@ -96,15 +102,16 @@ impl<'m> Pile<'m> {
 
     /// Writes what is shown where nothing more hides any, by the newline that waits and the index of the last glue. The one
     /// error is a refused request for memory.
+    #[inline(always)]
     pub(crate) fn write(
         &self,
-        text: &mut String,
+        shown: &mut Shown,
         newline: Option<Waiting>,
         glue: usize,
     ) -> Result<(), AllocError>
-        ensures { OnOk result (string_bytes text.new ≡ string_bytes text.old ++ pile_now newline glue self.now) }
+        ensures { OnOk result ((cleans : Bool) (written : List ℕ) → Holds cleans shown.old written → Holds cleans shown.new (written ++ pile_now newline glue self.now)) }
     {
-        write_all(text, &self.items, newline, glue)
+        write_all(shown, &self.items, newline, glue)
     }
 }
 
@@ -121,21 +128,23 @@ fn drop_reached(items: &mut Vec<Held<'_>>, reach: Option<usize>)
 }
 
 // Writes what is shown of these, in order.
+#[inline(always)]
 fn write_all(
-    text: &mut String,
+    shown: &mut Shown,
     items: &[Held<'_>],
     newline: Option<Waiting>,
     glue: usize,
 ) -> Result<(), AllocError>
-    ensures { OnOk result (string_bytes text.new ≡ string_bytes text.old ++ pile_now newline glue (reverse items.now)) }
+    ensures { OnOk result ((cleans : Bool) (written : List ℕ) → Holds cleans shown.old written → Holds cleans shown.new (written ++ pile_now newline glue (reverse items.now))) }
 {
     for held in items {
-        text.push_str(held.now_text(newline, glue))?;
+        shown.push_str(held.now_text(newline, glue))?;
     }
     Ok(())
 }
 
 // The newline that waits stands at an index.
+#[inline(always)]
 fn is_at(at: usize, newline: Option<Waiting>) -> bool
     ensures { result ≡ is_at at newline }
 {

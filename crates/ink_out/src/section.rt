@@ -1,27 +1,28 @@
 //! A section of marks.
 
-ghost use Rattle.std.specs.Prelude.{◌≡◌, [], ◌∷◌, ◌++◌, length, take, option_to_list, IfNone, IfOk, IsOk, OnOk, OnErr};
+ghost use Rattle.std.specs.Prelude.{◌≡◌, ◌≤◌, ◌+◌, [], ◌∷◌, ◌++◌, length, map, vec_len, vec_capacity, IfOk, IsOk, OnOk, OnErr};
 ghost use Rattle.ink_model.specs.Clean.{clean};
 ghost use Rattle.ink_model.specs.Mark.{tags};
 ghost use Rattle.ink_model.specs.Shown.{is_shown, more_from, open_newline, shown_text};
-ghost use Rattle.ink_out.specs.Stands.{is_past};
+ghost use Rattle.ink_out.specs.Cutting.{piece_mark};
+ghost use Rattle.ink_out.specs.Stands.{Sees, is_past};
 
-use crate::cleaning::clean_text;
-use crate::copying::copied_marks;
+use crate::copying::copied_mark;
+use crate::cutting::Piece;
 use crate::enters::Enters;
-use crate::state::{Past, State, is_settled};
+use crate::state::{State, is_settled, make_room, settle};
 use crate::tags::tag_texts;
 use crate::walk::shown_text;
 use ink_model::{Mark, Seq, Text};
 use std::alloc::{AllocError, Global};
 use std::marker::Model;
 
-/// The marks that were written into the line, a string or a tag, with what stands beside each. A contract sees the marks,
-/// the oldest first.
+/// The marks that were written into the line, a string or a tag, the shown newlines that nothing can hide any more, and what
+/// the marks leave to decide. A contract sees the marks, the oldest first.
 #[derive(Drop)]
 pub(crate) struct Section {
     marks: Vec<Mark>,
-    past: Vec<Past>,
+    settled: Vec<usize>,
     state: State,
     enters: Enters,
 }
@@ -35,7 +36,7 @@ impl Model for Section {
 
     ghost view = { λ s. s.marks.items };
 
-    ghost invariant = { λ s. Sees s.marks.items s.past.items s.state s.enters };
+    ghost invariant = { λ s. Sees s.marks.items s.settled.items s.state s.enters };
 }
 
 impl Section {
@@ -45,7 +46,7 @@ impl Section {
     {
         Section {
             marks: Vec::new(alloc),
-            past: Vec::new(alloc),
+            settled: Vec::new(alloc),
             state: State::new(),
             enters: Enters::new(alloc),
         }
@@ -55,10 +56,7 @@ impl Section {
     pub(crate) fn clone_in(&self, alloc: Global) -> Result<Section, AllocError>
         ensures { IfOk result (λ copy. copy ≡ self.now) }
     {
-        let marks = copied_marks(alloc, self.marks.as_slice())?;
-        let mut copy = Section::new(alloc);
-        copy.extend(marks)?;
-        Ok(copy)
+        section_of(alloc, self.marks.as_slice())
     }
 
     /// Adds a mark. The one error is a refused request for memory, and leaves the section as it was.
@@ -67,55 +65,31 @@ impl Section {
         ensures err { OnErr result (self.new ≡ self.old) }
     {
         let at = self.marks.len();
+        let newline = self.state.tracker.newline;
         self.marks.reserve(1)?;
-        self.past.reserve(1)?;
-        let next = self.state.after(&mark, at, &self.enters);
-        let earlier = self.enters.note(&mark, at)?;
-        let beside = Past {
-            state: self.state,
-            earlier,
-        };
-        self.past.push(beside).unwrap();
+        make_room(&mut self.settled, newline)?;
+        self.enters.note(&mark, at)?;
+        settle(&mut self.settled, &mark, newline);
+        self.state.add(&mark, at, &self.enters);
         self.marks.push(mark).unwrap();
-        self.state = next;
         Ok(())
     }
 
-    /// Takes the last mark back, with all that it changed.
-    pub(crate) fn pop(&mut self) -> Option<Mark>
-        ensures last { self.old ≡ self.new ++ option_to_list result }
-        ensures empty { IfNone result (self.new ≡ []) }
-    {
-        let mark = self.marks.pop()?;
-        if let Some(beside) = self.past.pop() {
-            self.enters.forget(&mark, beside.earlier);
-            self.state = beside.state;
-        }
-        Some(mark)
-    }
-
-    /// Adds marks. The one error is a refused request for memory, and leaves the section as it was.
-    pub(crate) fn extend(&mut self, marks: Vec<Mark>) -> Result<(), AllocError>
-        ensures ok { OnOk result (self.new ≡ self.old ++ marks.items) }
+    /// Adds the marks of pieces. The one error is a refused request for memory, and leaves the section as it was.
+    pub(crate) fn extend(&mut self, pieces: Vec<Piece>) -> Result<(), AllocError>
+        ensures ok { OnOk result (self.new ≡ self.old ++ map piece_mark pieces.items) }
         ensures err { OnErr result (self.new ≡ self.old) }
     {
-        let len = self.len();
-        for mark in marks {
-            if let Err(refused) = self.add(mark) {
-                self.truncate(len);
-                return Err(refused);
-            }
-        }
+        self.marks.reserve(pieces.len())?;
+        self.settled.reserve(pieces.len())?;
+        append(
+            &mut self.marks,
+            &mut self.settled,
+            &mut self.state,
+            &self.enters,
+            pieces,
+        );
         Ok(())
-    }
-
-    /// Takes marks back until so many are left.
-    pub(crate) fn truncate(&mut self, len: usize)
-        ensures { self.new ≡ take len self.old }
-    {
-        while self.len() > len {
-            let _ = self.pop();
-        }
     }
 
     /// How many marks there are.
@@ -131,7 +105,7 @@ impl Section {
     {
         match self.state.tracker.newline {
             Some(newline) if newline.at == index => true,
-            _ => is_settled(self.past.as_slice(), self.state.settled, index),
+            _ => is_settled(self.settled.as_slice(), index),
         }
     }
 
@@ -163,15 +137,14 @@ impl Section {
         if self.marks.is_empty() {
             return Ok(Text::from_string(String::new(alloc)));
         }
-        let text = self.raw_text(alloc)?;
-        clean_text(alloc, text.as_str())
+        shown_text(alloc, self.marks.as_slice(), true)
     }
 
     /// The shown text as it is, not cleaned. The one error is a refused request for memory.
     pub(crate) fn raw_text(&self, alloc: Global) -> Result<Text, AllocError>
         ensures { IfOk result (λ text. text ≡ shown_text self.now) }
     {
-        shown_text(alloc, self.marks.as_slice())
+        shown_text(alloc, self.marks.as_slice(), false)
     }
 
     /// The tags, in order. The one error is a refused request for memory, which is never made where there are none.
@@ -187,9 +160,41 @@ impl Section {
         ensures { self.new ≡ [] }
     {
         self.marks.clear();
-        self.past.clear();
+        self.settled.clear();
         self.state = State::new();
         self.enters.clear();
+    }
+}
+
+// A section of copies of these marks. The one error is a refused request for memory.
+fn section_of(alloc: Global, marks: &[Mark]) -> Result<Section, AllocError>
+    ensures { IfOk result (λ copy. copy ≡ marks.now) }
+{
+    let mut copy = Section::new(alloc);
+    for mark in marks {
+        copy.add(copied_mark(alloc, mark)?)?;
+    }
+    Ok(copy)
+}
+
+// Adds the marks of pieces, where there is room.
+fn append(
+    marks: &mut Vec<Mark>,
+    settled: &mut Vec<usize>,
+    state: &mut State,
+    enters: &Enters,
+    pieces: Vec<Piece>,
+)
+    requires marks { vec_len marks.old + length pieces.items ≤ vec_capacity marks.old }
+    requires settled { vec_len settled.old + length pieces.items ≤ vec_capacity settled.old }
+    ensures marks { marks.new.items ≡ marks.old.items ++ map piece_mark pieces.items }
+    ensures sees { Sees marks.old.items settled.old.items state.old enters.now → Sees marks.new.items settled.new.items state.new enters.now }
+{
+    for piece in pieces {
+        let mark = piece.into_mark();
+        settle(settled, &mark, state.tracker.newline);
+        state.add(&mark, marks.len(), enters);
+        marks.push(mark).unwrap();
     }
 }
 

@@ -1,34 +1,21 @@
-//! What is known after each mark of a section.
+//! What is known after the marks of a section.
 
-ghost use Rattle.std.specs.Prelude.{◌≡◌, ℕ, List, [], ◌∷◌, ◌++◌, length};
+ghost use Rattle.std.specs.Prelude.{◌≡◌, ℕ, List, [], ◌∷◌, ◌+◌, ◌<◌, ◌≤◌, length, reverse, vec_len, vec_capacity, IsSome, OnOk};
 ghost use Rattle.ink_model.specs.declared.mark.Mark.{Mark};
 ghost use Rattle.ink_model.specs.Shown.{is_among};
-ghost use Rattle.ink_out.specs.Stands.{IsChain, Knows, Stands};
+ghost use Rattle.ink_out.specs.Stands.{Falling, Knows, Stands};
+ghost use Rattle.ink_out.specs.Tracks.{settled_after};
 
 use crate::enters::Enters;
-use crate::tracker::Tracker;
+use crate::tracker::{Tracker, Waiting};
 use ink_model::Mark;
+use std::alloc::{AllocError, Global};
 
-/// A shown newline that nothing can hide any more, and the text that settled it.
-#[derive(Clone, Copy)]
-pub(crate) struct Settled {
-    pub(crate) at: usize,
-    pub(crate) by: usize,
-}
-
-/// What the marks so far leave to decide, the last text or tag, and the last settled newline.
+/// What the marks so far leave to decide, and the last text or tag.
 #[derive(Clone, Copy)]
 pub(crate) struct State {
     pub(crate) tracker: Tracker,
     pub(crate) more: Option<usize>,
-    pub(crate) settled: Option<Settled>,
-}
-
-/// What stands beside a mark: the state before it, and where its number started before.
-#[derive(Clone, Copy)]
-pub(crate) struct Past {
-    pub(crate) state: State,
-    pub(crate) earlier: Option<usize>,
 }
 
 impl State {
@@ -39,57 +26,64 @@ impl State {
         State {
             tracker: Tracker::new(),
             more: None,
-            settled: None,
         }
     }
 
-    /// After a mark at an index, where the starts of the numbers before it are known.
-    pub(crate) fn after(self, mark: &Mark, at: usize, enters: &Enters) -> State
-        ensures { (before : List Mark) (past : List Past) (p : Past) → at ≡ length before → length past ≡ length before → p.state ≡ self → Knows enters.now before
-            → Stands before past self → Stands (mark.now ∷ before) (past ++ p ∷ []) result }
+    /// Goes past a mark at an index, where the starts of the numbers up to it are known.
+    #[inline(always)]
+    pub(crate) fn add(&mut self, mark: &Mark, at: usize, enters: &Enters)
+        ensures { (before : List Mark) (settled : List ℕ) → at ≡ length before → Knows enters.now (mark.now ∷ before) → Stands before settled self.old
+            → Stands (mark.now ∷ before) (settled_after mark.now self.old.tracker.newline settled) self.new }
     {
-        let tracker = self.tracker.after(mark, at, enters);
+        self.tracker.add(mark, at, enters);
         match mark {
-            Mark::Text(_) => State {
-                tracker,
-                more: Some(at),
-                settled: match self.tracker.newline {
-                    Some(newline) => Some(Settled {
-                        at: newline.at,
-                        by: at,
-                    }),
-                    None => self.settled,
-                },
-            },
-            Mark::Tag(_) => State {
-                tracker,
-                more: Some(at),
-                ..self
-            },
-            _ => State { tracker, ..self },
+            Mark::Text(_) => self.more = Some(at),
+            Mark::Tag(_) => self.more = Some(at),
+            _ => {}
         }
     }
 }
 
-/// A newline at an index is settled, by the last settled one and what stands beside the marks.
-pub(crate) fn is_settled(past: &[Past], last: Option<Settled>, index: usize) -> bool
-    ensures { (ks : List ℕ) → IsChain past.now last ks → result ≡ is_among index ks }
+/// Makes room for the newline that waits, if one does. The one error is a refused request for memory.
+#[inline(always)]
+pub(crate) fn make_room(
+    settled: &mut Vec<usize>,
+    newline: Option<Waiting>,
+) -> Result<(), AllocError>
+    ensures items { settled.new.items ≡ settled.old.items }
+    ensures room { OnOk result (IsSome newline → vec_len settled.new < vec_capacity settled.new) }
 {
-    let mut rest = past;
-    let mut link = last;
-    while let Some(settled) = link {
-        if settled.at == index {
-            return true;
+    match newline {
+        Some(_) => settled.reserve(1),
+        None => Ok(()),
+    }
+}
+
+/// Adds the newline that waits to the settled ones, where the mark is a text.
+#[inline(always)]
+pub(crate) fn settle(settled: &mut Vec<usize>, mark: &Mark, newline: Option<Waiting>)
+    requires { IsSome newline → vec_len settled.old < vec_capacity settled.old }
+    ensures items { reverse settled.new.items ≡ settled_after mark.now newline (reverse settled.old.items) }
+    ensures len { vec_len settled.new ≤ vec_len settled.old + 1 }
+    ensures capacity { vec_capacity settled.old ≤ vec_capacity settled.new }
+{
+    match (mark, newline) {
+        (Mark::Text(_), Some(newline)) => settled.push(newline.at).unwrap(),
+        _ => {}
+    }
+}
+
+/// A newline at an index is among the settled ones.
+pub(crate) fn is_settled(settled: &[usize], index: usize) -> bool
+    ensures { (n : ℕ) → Falling n (reverse settled.now) → result ≡ is_among index (reverse settled.now) }
+{
+    let mut end = settled.len();
+    while end > 0 {
+        let at = settled[end - 1];
+        if at <= index {
+            return index == at;
         }
-        if settled.by <= index {
-            return false;
-        }
-        let Some(beside) = rest.get(settled.by) else {
-            return false;
-        };
-        let (older, _) = rest.split_at(settled.by);
-        link = beside.state.settled;
-        rest = older;
+        end -= 1;
     }
     false
 }

@@ -58,9 +58,10 @@ impl Tracker {
         }
     }
 
-    /// After a mark at an index, where the starts of the numbers before it are known.
-    pub(crate) fn after(self, mark: &Mark, at: usize, enters: &Enters) -> Tracker
-        ensures { (before : List Mark) (settled : List ℕ) → at ≡ length before → Knows enters.now before → Tracks before self settled → Tracks (mark.now ∷ before) result (settled_after mark.now self.newline settled) }
+    /// Goes past a mark at an index, where the starts of the numbers up to it are known.
+    #[inline(always)]
+    pub(crate) fn add(&mut self, mark: &Mark, at: usize, enters: &Enters)
+        ensures { (before : List Mark) (settled : List ℕ) → at ≡ length before → Knows enters.now (mark.now ∷ before) → Tracks before self.old settled → Tracks (mark.now ∷ before) self.new (settled_after mark.now self.old.newline settled) }
     {
         match mark {
             Mark::Text(_) => self.text(),
@@ -73,66 +74,57 @@ impl Tracker {
         }
     }
 
-    /// After a text, which settles the newline that waits.
-    pub(crate) fn text(self) -> Tracker
-        ensures { (before : List Mark) (text settled : List ℕ) → Tracks before self settled → Tracks (mark.Text text ∷ before) result (settled_by self.newline settled) }
+    /// Goes past a text, which settles the newline that waits.
+    #[inline(always)]
+    pub(crate) fn text(&mut self)
+        ensures { (before : List Mark) (text settled : List ℕ) → Tracks before self.old settled → Tracks (mark.Text text ∷ before) self.new (settled_by self.old.newline settled) }
     {
-        Tracker {
-            text: true,
-            glue: false,
-            broken: false,
-            newline: None,
-            blank: None,
-        }
+        self.text = true;
+        self.glue = false;
+        self.broken = false;
+        self.newline = None;
+        self.blank = None;
     }
 
-    /// After a blank at an index.
-    pub(crate) fn blank(self, at: usize) -> Tracker
-        ensures { (before : List Mark) (text settled : List ℕ) → at ≡ length before → Tracks before self settled → Tracks (mark.Blank text ∷ before) result settled }
+    /// Goes past a blank at an index.
+    #[inline(always)]
+    pub(crate) fn blank(&mut self, at: usize)
+        ensures { (before : List Mark) (text settled : List ℕ) → at ≡ length before → Tracks before self.old settled → Tracks (mark.Blank text ∷ before) self.new settled }
     {
         if self.text || self.blank.is_some() {
-            return self;
+            return;
         }
-        let first = First {
+        self.blank = Some(First {
             at,
             broken: self.broken,
-        };
-        Tracker {
-            blank: Some(first),
-            ..self
-        }
+        });
     }
 
-    /// After a newline at an index.
-    pub(crate) fn newline(self, at: usize) -> Tracker
-        ensures { (before : List Mark) (settled : List ℕ) → at ≡ length before → Tracks before self settled → Tracks (mark.Newline ∷ before) result settled }
+    /// Goes past a newline at an index.
+    #[inline(always)]
+    pub(crate) fn newline(&mut self, at: usize)
+        ensures { (before : List Mark) (settled : List ℕ) → at ≡ length before → Tracks before self.old settled → Tracks (mark.Newline ∷ before) self.new settled }
     {
         if self.newline.is_some() {
-            return self;
+            return;
         }
         match self.hides_next() {
             Some(hides) => {
-                let newline = Waiting {
+                self.broken = true;
+                self.newline = Some(Waiting {
                     at,
                     hides,
                     tagged: false,
-                };
-                Tracker {
-                    broken: true,
-                    newline: Some(newline),
-                    ..self
-                }
+                });
             }
-            None => Tracker {
-                broken: true,
-                ..self
-            },
+            None => self.broken = true,
         }
     }
 
     /// Which glue would hide a newline that comes next, where it may be shown at all and none waits.
-    fn hides_next(self) -> Option<Hides>
-        ensures { result ≡ hides_next self }
+    #[inline(always)]
+    fn hides_next(&self) -> Option<Hides>
+        ensures { result ≡ hides_next self.now }
     {
         if self.glue {
             return None;
@@ -147,32 +139,31 @@ impl Tracker {
         }
     }
 
-    /// After glue.
-    pub(crate) fn glue(self) -> Tracker
-        ensures { (before : List Mark) (settled : List ℕ) → Tracks before self settled → Tracks (mark.Glue ∷ before) result settled }
+    /// Goes past glue.
+    #[inline(always)]
+    pub(crate) fn glue(&mut self)
+        ensures { (before : List Mark) (settled : List ℕ) → Tracks before self.old settled → Tracks (mark.Glue ∷ before) self.new settled }
     {
-        Tracker {
-            glue: true,
-            newline: match self.newline {
-                Some(
-                    Waiting {
-                        hides: Hides::Never,
-                        ..
-                    },
-                ) => self.newline,
-                _ => None,
-            },
-            blank: match self.blank {
-                Some(First { broken: false, .. }) => self.blank,
-                _ => None,
-            },
-            ..self
-        }
+        self.glue = true;
+        self.newline = match self.newline {
+            Some(
+                Waiting {
+                    hides: Hides::Never,
+                    ..
+                },
+            ) => self.newline,
+            _ => None,
+        };
+        self.blank = match self.blank {
+            Some(First { broken: false, .. }) => self.blank,
+            _ => None,
+        };
     }
 
-    /// After a tag.
-    pub(crate) fn tag(self) -> Tracker
-        ensures { (before : List Mark) (text settled : List ℕ) → Tracks before self settled → Tracks (mark.Tag text ∷ before) result settled }
+    /// Goes past a tag.
+    #[inline(always)]
+    pub(crate) fn tag(&mut self)
+        ensures { (before : List Mark) (text settled : List ℕ) → Tracks before self.old settled → Tracks (mark.Tag text ∷ before) self.new settled }
     {
         match self.newline {
             Some(newline) => {
@@ -181,40 +172,36 @@ impl Tracker {
                     Hides::Any => Hides::Any,
                     Hides::Never => Hides::Never,
                 };
-                let newline = Waiting {
+                self.newline = Some(Waiting {
                     hides,
                     tagged: true,
                     ..newline
-                };
-                Tracker {
-                    newline: Some(newline),
-                    ..self
-                }
+                });
             }
-            None => self,
+            None => {}
         }
     }
 
-    /// After the start of a function's text.
-    pub(crate) fn enter(self) -> Tracker
-        ensures { (before : List Mark) (n : ℕ) (settled : List ℕ) → Tracks before self settled → Tracks (mark.Enter n ∷ before) result settled }
+    /// Goes past the start of a function's text.
+    #[inline(always)]
+    pub(crate) fn enter(&mut self)
+        ensures { (before : List Mark) (n : ℕ) (settled : List ℕ) → Tracks before self.old settled → Tracks (mark.Enter n ∷ before) self.new settled }
     {
-        self
+        let _unchanged = &self;
     }
 
-    /// After the end of a function's text, which reaches back to an index, or to the start.
-    pub(crate) fn leave(self, reach: Option<usize>) -> Tracker
-        ensures { (before : List Mark) (n : Option ℕ) (settled : List ℕ) → reach ≡ reach_of n before → Tracks before self settled → Tracks (mark.Leave n ∷ before) result settled }
+    /// Goes past the end of a function's text, which reaches back to an index, or to the start.
+    #[inline(always)]
+    pub(crate) fn leave(&mut self, reach: Option<usize>)
+        ensures { (before : List Mark) (n : Option ℕ) (settled : List ℕ) → reach ≡ reach_of n before → Tracks before self.old settled → Tracks (mark.Leave n ∷ before) self.new settled }
     {
-        Tracker {
-            newline: newline_left(self.newline, reach),
-            blank: blank_left(self.blank, reach),
-            ..self
-        }
+        self.newline = newline_left(self.newline, reach);
+        self.blank = blank_left(self.blank, reach);
     }
 }
 
 /// The waiting newline, where the end of a function's text leaves it.
+#[inline(always)]
 fn newline_left(newline: Option<Waiting>, reach: Option<usize>) -> Option<Waiting>
     ensures { result ≡ newline_left newline reach }
 {
@@ -225,6 +212,7 @@ fn newline_left(newline: Option<Waiting>, reach: Option<usize>) -> Option<Waitin
 }
 
 /// The first blank, where the end of a function's text leaves it.
+#[inline(always)]
 fn blank_left(blank: Option<First>, reach: Option<usize>) -> Option<First>
     ensures { result ≡ blank_left blank reach }
 {
@@ -235,6 +223,7 @@ fn blank_left(blank: Option<First>, reach: Option<usize>) -> Option<First>
 }
 
 /// What reaches back so far reaches past an index.
+#[inline(always)]
 pub(crate) fn is_reached(at: usize, reach: Option<usize>) -> bool
     ensures { result ≡ reached at reach }
 {

@@ -1,22 +1,24 @@
 //! The shown text, by one walk over the marks (docs/TEXT.md, "What is shown").
 
-ghost use Rattle.std.specs.Prelude.{◌≡◌, ℕ, List, [], ◌∷◌, Option, length, IfOk, OnOk};
+ghost use Rattle.std.specs.Prelude.{◌≡◌, ℕ, List, [], ◌∷◌, Bool, Option, length, IfOk, OnOk};
 ghost use Rattle.ink_model.specs.declared.mark.Mark.{Mark};
 ghost use Rattle.ink_model.specs.declared.mark.Mark.TheVariants as kinds;
 ghost use Rattle.ink_model.specs.Shown.{shown_text, text_before};
+ghost use Rattle.ink_out.specs.Cleaning.{shown_as};
 ghost use Rattle.ink_out.specs.Walks.{Walks};
 
+use crate::cleaning::Shown;
 use crate::enters::Enters;
 use crate::pile::{Held, Pile};
 use crate::tracker::Tracker;
 use ink_model::{Mark, Text};
 use std::alloc::{AllocError, Global};
 
-/// The text that marks show, before it is cleaned. The one error is a refused request for memory.
-pub(crate) fn shown_text(alloc: Global, marks: &[Mark]) -> Result<Text, AllocError>
-    ensures { IfOk result (λ text. text ≡ shown_text marks.now) }
+/// The text that marks show, cleaned or as it is. The one error is a refused request for memory.
+pub(crate) fn shown_text(alloc: Global, marks: &[Mark], cleans: bool) -> Result<Text, AllocError>
+    ensures { IfOk result (λ text. text ≡ shown_as cleans (shown_text marks.now)) }
 {
-    let mut walk = Walk::new(alloc);
+    let mut walk = Walk::new(alloc, cleans);
     for (at, mark) in marks.iter().enumerate() {
         walk.add(mark, at)?;
     }
@@ -31,26 +33,26 @@ struct Walk<'m> {
     enters: Enters,
     glue: usize,
     held: Pile<'m>,
-    text: String,
+    shown: Shown,
 }
 
 impl<'m> Walk<'m> {
     /// At the start.
-    fn new(alloc: Global) -> Walk<'m>
-        ensures { Walks [] result }
+    fn new(alloc: Global, cleans: bool) -> Walk<'m>
+        ensures { Walks cleans [] result }
     {
         Walk {
             tracker: Tracker::new(),
             enters: Enters::new(alloc),
             glue: 0,
             held: Pile::new(alloc),
-            text: String::new(alloc),
+            shown: Shown::new(alloc, cleans),
         }
     }
 
     /// Goes past the mark at an index. The one error is a refused request for memory.
     fn add(&mut self, mark: &'m Mark, at: usize) -> Result<(), AllocError>
-        ensures { OnOk result ((before : List Mark) → at ≡ length before → Walks before self.old → Walks (mark.now ∷ before) self.new) }
+        ensures { OnOk result ((cleans : Bool) (before : List Mark) → at ≡ length before → Walks cleans before self.old → Walks cleans (mark.now ∷ before) self.new) }
     {
         match mark {
             Mark::Text(text) => self.text(text),
@@ -74,34 +76,34 @@ impl<'m> Walk<'m> {
 
     /// The text, where no mark is left. The one error is a refused request for memory.
     fn finish(self) -> Result<Text, AllocError>
-        ensures { IfOk result (λ text. (before : List Mark) → Walks before self.entry → text ≡ text_before before []) }
+        ensures { IfOk result (λ text. (cleans : Bool) (before : List Mark) → Walks cleans before self.entry → text ≡ shown_as cleans (text_before before [])) }
     {
         let Walk {
             tracker,
             glue,
             held,
-            mut text,
+            mut shown,
             ..
         } = self;
-        held.write(&mut text, tracker.newline, glue)?;
-        Ok(Text::from_string(text))
+        held.write(&mut shown, tracker.newline, glue)?;
+        Ok(shown.into_text())
     }
 
     // A text: nothing hides what waits any more.
     fn text(&mut self, text: &Text) -> Result<(), AllocError>
-        ensures { OnOk result ((before : List Mark) → Walks before self.old → Walks (kinds.Text text.now ∷ before) self.new) }
+        ensures { OnOk result ((cleans : Bool) (before : List Mark) → Walks cleans before self.old → Walks cleans (kinds.Text text.now ∷ before) self.new) }
     {
         self.held
-            .write(&mut self.text, self.tracker.newline, self.glue)?;
-        self.text.push_str(text.as_str())?;
+            .write(&mut self.shown, self.tracker.newline, self.glue)?;
+        self.shown.push_str(text.as_str())?;
         self.held.clear();
-        self.tracker = self.tracker.text();
+        self.tracker.text();
         self.glue = 0;
         Ok(())
     }
 
     fn blank(&mut self, text: &'m Text, at: usize) -> Result<(), AllocError>
-        ensures { OnOk result ((before : List Mark) → at ≡ length before → Walks before self.old → Walks (kinds.Blank text.now ∷ before) self.new) }
+        ensures { OnOk result ((cleans : Bool) (before : List Mark) → at ≡ length before → Walks cleans before self.old → Walks cleans (kinds.Blank text.now ∷ before) self.new) }
     {
         let blank = Held::Blank {
             at,
@@ -109,46 +111,46 @@ impl<'m> Walk<'m> {
             text,
         };
         self.held.push(blank)?;
-        self.tracker = self.tracker.blank(at);
+        self.tracker.blank(at);
         Ok(())
     }
 
     fn newline(&mut self, at: usize) -> Result<(), AllocError>
-        ensures { OnOk result ((before : List Mark) → at ≡ length before → Walks before self.old → Walks (kinds.Newline ∷ before) self.new) }
+        ensures { OnOk result ((cleans : Bool) (before : List Mark) → at ≡ length before → Walks cleans before self.old → Walks cleans (kinds.Newline ∷ before) self.new) }
     {
         self.held.push(Held::Newline { at })?;
-        self.tracker = self.tracker.newline(at);
+        self.tracker.newline(at);
         Ok(())
     }
 
     fn glue(&mut self, at: usize)
-        ensures { (before : List Mark) → at ≡ length before → Walks before self.old → Walks (kinds.Glue ∷ before) self.new }
+        ensures { (cleans : Bool) (before : List Mark) → at ≡ length before → Walks cleans before self.old → Walks cleans (kinds.Glue ∷ before) self.new }
     {
-        self.tracker = self.tracker.glue();
+        self.tracker.glue();
         self.glue = at;
     }
 
     fn tag(&mut self)
-        ensures { (before : List Mark) (text : List ℕ) → Walks before self.old → Walks (kinds.Tag text ∷ before) self.new }
+        ensures { (cleans : Bool) (before : List Mark) (text : List ℕ) → Walks cleans before self.old → Walks cleans (kinds.Tag text ∷ before) self.new }
     {
-        self.tracker = self.tracker.tag();
+        self.tracker.tag();
     }
 
     // The start of a function's text.
     fn enter(&mut self, mark: &Mark, at: usize) -> Result<(), AllocError>
-        ensures { OnOk result ((before : List Mark) (n : ℕ) → mark.now ≡ kinds.Enter n → at ≡ length before → Walks before self.old → Walks (kinds.Enter n ∷ before) self.new) }
+        ensures { OnOk result ((cleans : Bool) (before : List Mark) (n : ℕ) → mark.now ≡ kinds.Enter n → at ≡ length before → Walks cleans before self.old → Walks cleans (kinds.Enter n ∷ before) self.new) }
     {
         self.enters.note(mark, at)?;
-        self.tracker = self.tracker.enter();
+        self.tracker.enter();
         Ok(())
     }
 
     // The end of a function's text, which hides what waits since its start.
     fn leave(&mut self, number: Option<u64>)
-        ensures { (before : List Mark) → Walks before self.old → Walks (kinds.Leave number ∷ before) self.new }
+        ensures { (cleans : Bool) (before : List Mark) → Walks cleans before self.old → Walks cleans (kinds.Leave number ∷ before) self.new }
     {
         let reach = self.enters.reach(number);
-        self.tracker = self.tracker.leave(reach);
+        self.tracker.leave(reach);
         self.held.leave(reach);
     }
 }

@@ -1,6 +1,6 @@
 //! Work to be timed: bench/bench.py runs this program and takes the time. `json` parses what standard input holds, `story`
 //! reads and checks it; `marks COUNT ROUNDS` writes so many marks and shows them, so many times, and `asked` asks after each
-//! mark whether the line ends. It exits with 0 where the work was done.
+//! mark whether the line ends; `strings` and `tags` open, write and close so many. It exits with 0 where the work was done.
 #![tactic(auto)]
 
 use ink_check::check;
@@ -22,8 +22,10 @@ fn main(rt: HostRuntime) -> ExitCode {
     let done = match word(&words, 1) {
         "json" => parses(alloc, &mut reader),
         "story" => accepts(alloc, &mut reader),
-        "marks" => writes(alloc, number(&words, 2), number(&words, 3), false),
-        "asked" => writes(alloc, number(&words, 2), number(&words, 3), true),
+        "marks" => repeats(alloc, &words, Work::Marks),
+        "asked" => repeats(alloc, &words, Work::Asked),
+        "strings" => repeats(alloc, &words, Work::Strings),
+        "tags" => repeats(alloc, &words, Work::Tags),
         _ => true,
     };
     if done {
@@ -73,20 +75,38 @@ fn accepts<R: Read>(alloc: Global, reader: &mut R) -> bool {
     }
 }
 
-fn writes(alloc: Global, count: u32, rounds: u32, asks: bool) -> bool {
-    for _round in 0..rounds {
-        if write_passage(alloc, count, asks).is_err() {
-            return false;
+/// What is written, so many of each.
+#[derive(Clone, Copy)]
+enum Work {
+    Marks,
+    Asked,
+    Strings,
+    Tags,
+}
+
+/// Does work as often as the words say, and answers whether something came of it each time.
+fn repeats(alloc: Global, words: &Vec<String>, work: Work) -> bool {
+    let count = number(words, 2);
+    for _round in 0..number(words, 3) {
+        let done = match work {
+            Work::Marks => writes(alloc, count, false),
+            Work::Asked => writes(alloc, count, true),
+            Work::Strings => writes_strings(alloc, count),
+            Work::Tags => writes_tags(alloc, count),
+        };
+        match done {
+            Ok(0) | Err(_) => return false,
+            Ok(_) => {}
         }
     }
     true
 }
 
-/// Writes texts, newlines and glue, and shows them. Answers how often the line ended, and the bytes of the text.
-fn write_passage(alloc: Global, count: u32, asks: bool) -> Result<(u32, usize), Fault> {
+/// Writes texts, newlines and glue, and shows them. Answers the bytes of the text, and how often the line ended.
+fn writes(alloc: Global, count: u32, asks: bool) -> Result<usize, Fault> {
     let mut output = Output::new(alloc);
     let value = Value::Text(Text::from_str(alloc, "word")?);
-    let mut ends: u32 = 0;
+    let mut ends: usize = 0;
     for mark in 0..count {
         match mark % 4 {
             0 | 1 => {
@@ -100,5 +120,30 @@ fn write_passage(alloc: Global, count: u32, asks: bool) -> Result<(u32, usize), 
         }
     }
     let text = output.text()?;
-    Ok((ends, text.as_str().len()))
+    Ok(text.as_str().len().wrapping_add(ends))
+}
+
+/// Writes strings, and closes each. Answers the bytes of their texts.
+fn writes_strings(alloc: Global, count: u32) -> Result<usize, Fault> {
+    let mut output = Output::new(alloc);
+    let value = Value::Text(Text::from_str(alloc, "a word or two")?);
+    let mut bytes: usize = 0;
+    for _string in 0..count {
+        output.open_string()?;
+        output.write(&value, false)?;
+        bytes = bytes.wrapping_add(output.close_string()?.as_str().len());
+    }
+    Ok(bytes)
+}
+
+/// Writes tags, and closes each. Answers how many the line has.
+fn writes_tags(alloc: Global, count: u32) -> Result<usize, Fault> {
+    let mut output = Output::new(alloc);
+    let value = Value::Text(Text::from_str(alloc, "a word or two")?);
+    for _tag in 0..count {
+        output.open_tag()?;
+        output.write(&value, false)?;
+        let _ = output.close_tag()?;
+    }
+    Ok(output.tags()?.as_slice().len())
 }

@@ -1,7 +1,8 @@
-use Rattle.std.proofs.Common.{◌≡◌, ◌++◌, reverse, take, string_bytes}
+use Rattle.std.proofs.Common.{ℕ, Bool, List, ◌++◌, reverse, take}
+use Rattle.ink_out.specs.Cleaning.{Holds}
 use Rattle.ink_out.specs.Walks.{pile_now}
 use Rattle.ink_out.proofs.pile.write_all.Given as goal
 
 abbrev pub invariant-loop-held : goal.invariant-loop-held
 invariant-loop-held l =
-    string_bytes l.text ≡ string_bytes l.fn.text ++ pile_now l.newline l.glue (reverse (take l.held-index l.items))
+    (cleans : Bool) (written : List ℕ) → Holds cleans l.fn.shown written → Holds cleans l.shown (written ++ pile_now l.newline l.glue (reverse (take l.held-index l.items)))

@@ -1,7 +1,7 @@
-use Rattle.std.proofs.Common.{◌≡◌, length, refl, arith}
+use Rattle.std.proofs.Common.{◌≡◌, length, refl, arith, rules}
 use Rattle.std.proofs.lemmas.List.{nil_from_length}
 use Rattle.ink_model.specs.Mark.{cut}
-use Rattle.ink_out.proofs.Noting.{empty_text}
+use Rattle.ink_out.proofs.Noting.{empty_text, whole_cut, let_through-piece}
 use Rattle.ink_out.proofs.output.Output.write_text.Goals as goal
 
 pub returns-then-is_empty-clause-page : goal.returns-then-is_empty-clause-page
@@ -15,3 +15,11 @@ unfolding cut
 returns-then-is_empty-clause-text c =
     let len : length c.args.text.now ≡ 0 = grind arith in
     rw (nil_from_length c.args.text.now len) refl
+
+pub returns-else-is_cut-clause-page : goal.returns-else-is_cut-clause-page
+returns-else-is_cut-clause-page c =
+    let whole = whole_cut c.args.text.now (search rules) in
+    rw (whole, let_through-piece c.args.fresh c.args.text.now) c.write_piece.ensures.page
+
+pub returns-else-is_cut-clause-text : goal.returns-else-is_cut-clause-text
+returns-else-is_cut-clause-text c = rw (whole_cut c.args.text.now (search rules)) c.write_piece.ensures.text

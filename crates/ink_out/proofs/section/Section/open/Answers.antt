@@ -1,4 +1,4 @@
-use Rattle.std.proofs.Common.{◌≡◌, None, ap, ◌∙◌, arith}
+use Rattle.std.proofs.Common.{◌≡◌, None, reverse, ap, ◌∙◌, arith}
 use Rattle.ink_model.specs.Shown.{open_newline}
 use Rattle.ink_out.proofs.Answering.{open_waiting, open_tagged, open_nothing}
 use Rattle.ink_out.proofs.section.Section.open.Goals as goal
@@ -7,16 +7,16 @@ pub returns-in_err-newline : goal.returns-in_err-newline
 returns-in_err-newline c =
     let s = c.self.inside in
     let result : c.from_residual.result ≡ None = grind arith in
-    result ∙ open_nothing s.marks.items s.past.items s.state c.in_err-newline.was c.self.invariant.stands ∙ ap open_newline c.self.view_is
+    result ∙ open_nothing s.marks.items (reverse s.settled.items) s.state c.in_err-newline.was c.self.invariant.stands ∙ ap open_newline c.self.view_is
 
 pub returns-then-newline : goal.returns-then-newline
 returns-then-newline c =
     let s = c.self.inside in
-    open_tagged s.marks.items s.past.items s.state c.in_ok-newline.newline c.in_ok-newline.was c.if-newline.true c.self.invariant.stands
+    open_tagged s.marks.items (reverse s.settled.items) s.state c.in_ok-newline.newline c.in_ok-newline.was c.if-newline.true c.self.invariant.stands
     ∙ ap open_newline c.self.view_is
 
 pub returns : goal.returns
 returns c =
     let s = c.self.inside in
-    open_waiting s.marks.items s.past.items s.state c.in_ok-newline.newline c.in_ok-newline.was c.if-newline.false c.self.invariant.stands
+    open_waiting s.marks.items (reverse s.settled.items) s.state c.in_ok-newline.newline c.in_ok-newline.was c.if-newline.false c.self.invariant.stands
     ∙ ap open_newline c.self.view_is

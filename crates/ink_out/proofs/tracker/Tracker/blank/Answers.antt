@@ -7,7 +7,7 @@ use Rattle.ink_out.proofs.tracker.Tracker.blank.Goals.{then-self-via-then-self, 
 
 pub returns-then-self : goal.returns-then-self
 returns-then-self c before text settled at t =
-    let s = c.args.self in
+    let s = c.args.self.now in
     let h : (s.text || is_some s.blank) ≡ true =
     elim c.then-self.branch [
       | then-self-via-then-self w ↦ or_left s.text (is_some s.blank) (search rules)

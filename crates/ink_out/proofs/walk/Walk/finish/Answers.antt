@@ -1,6 +1,11 @@
-use Rattle.std.proofs.Common.{◌∙◌}
+use Rattle.std.proofs.Common.{◌++◌, ap, ◌∙◌}
+use Rattle.ink_out.specs.Cleaning.{shown_as}
+use Rattle.ink_out.specs.Walks.{pile_now}
 use Rattle.ink_out.proofs.Walking.{walk_end}
 use Rattle.ink_out.proofs.walk.Walk.finish.Goals as goal
 
 pub returns : goal.returns
-returns c before k = c.from_string.ensures ∙ c.in_ok-write.ensures ∙ walk_end before c.args.self k
+returns c cleans before k =
+    let w = c.args.self in
+    c.into_text.ensures cleans (k.written ++ pile_now w.tracker.newline w.glue w.held) (c.in_ok-write.ensures cleans k.written k.holds)
+    ∙ ap (shown_as cleans) (walk_end before w k)

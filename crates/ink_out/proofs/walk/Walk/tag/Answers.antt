@@ -6,7 +6,7 @@ use Rattle.ink_out.proofs.Walking.{walk_plain, smooth_tag}
 use Rattle.ink_out.proofs.walk.Walk.tag.Goals as goal
 
 pub returns : goal.returns
-returns c before text k =
+returns c cleans before text k =
     let w = c.args.self.now in
-    walk_plain (kinds.Tag text) before w c.tag-self.result w.enters w.glue (smooth_tag text before) (λ after. refl) (λ after. append-nil (text_before before (kinds.Tag text ∷ after))) (λ g. g)
-    record { at = k.knows.at } (c.tag-self.ensures before text) k
+    walk_plain (kinds.Tag text) before w c.tag.new.self w.enters w.glue (smooth_tag text before) (λ after. refl) (λ after. append-nil (text_before before (kinds.Tag text ∷ after))) (λ g. g)
+    record { at = k.knows.at } (c.tag.ensures before text) k

@@ -1,11 +1,12 @@
-use Rattle.std.proofs.Common.{◌≡◌, ◌++◌, string_bytes, rules}
+use Rattle.std.proofs.Common.{◌++◌}
 use Rattle.ink_out.specs.Walks.{pile_now}
 use Rattle.ink_out.proofs.Walking.{walk_text}
 use Rattle.ink_out.proofs.walk.Walk.text.Goals as goal
 
 pub returns : goal.returns
-returns c before k =
+returns c cleans before k =
     let w = c.args.self.now in
-    let out : string_bytes c.push_str.new.self ≡ (string_bytes w.text ++ pile_now w.tracker.newline w.glue w.held) ++ c.args.text.now = search rules in
     rw c.clear.ensures
-    (walk_text before w record w { text = c.push_str.new.self } c.text-self.result c.args.text.now out (c.text-self.ensures before c.args.text.now) k)
+    (walk_text before w c.push_str.new.self c.text.new.self c.args.text.now
+    (λ written holds. rw c.as_str.ensures at (c.in_ok-push_str.ensures cleans (written ++ pile_now w.tracker.newline w.glue w.held) (c.in_ok-write.ensures cleans written holds)))
+    (c.text.ensures before c.args.text.now) k)

@@ -1,4 +1,9 @@
-use Rattle.ink_out.proofs.tracker.Tracker.after.Goals as goal
+use Rattle.std.proofs.Common.{ℕ, List, ◌∷◌, Option}
+use Rattle.ink_model.specs.declared.mark.Mark.{Mark}
+use Rattle.ink_model.specs.declared.mark.Mark.TheVariants.{Leave}
+use Rattle.ink_out.specs.declared.enters.Enters.{Enters}
+use Rattle.ink_out.specs.Stands.{Knows}
+use Rattle.ink_out.proofs.tracker.Tracker.add.Goals as goal
 
 pub returns-in-Text : goal.returns-in-Text
 returns-in-Text c before settled at knows t = rw c.in-Text.is (c.text.ensures before _ settled t)
@@ -18,5 +23,11 @@ returns-in-Tag c before settled at knows t = rw c.in-Tag.is (c.tag.ensures befor
 pub returns-in-Enter : goal.returns-in-Enter
 returns-in-Enter c before settled at knows t = rw c.in-Enter.is (c.enter.ensures before _ settled t)
 
+-- an end adds no start
+started : (n : Option ℕ) (enters : Enters) (before : List Mark) → Knows enters (Leave n ∷ before) → Knows enters before
+started n enters before k = record { at = k.at }
+
 pub returns-in-Leave : goal.returns-in-Leave
-returns-in-Leave c before settled at knows t = rw c.in-Leave.is (c.leave.ensures before _ settled (c.reach.ensures before knows) t)
+returns-in-Leave c before settled at knows t =
+    let known : Knows c.args.enters.now (Leave c.in-Leave.number ∷ before) = rw c.in-Leave.is at knows in
+    rw c.in-Leave.is (c.leave.ensures before _ settled (c.reach.ensures before (started c.in-Leave.number c.args.enters.now before known)) t)
