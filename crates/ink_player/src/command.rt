@@ -1,14 +1,11 @@
 //! The commands that lines spell (docs/PROTOCOL.md, "Command lines").
 
-ghost use Rattle.std.specs.Prelude.{◌≡◌, IfOk, OnErr, option_map, option_and_then, string_bytes};
-ghost use Rattle.serde_json.specs.Find.{as_integer};
-ghost use Rattle.serde_json.specs.View.{view, number_view};
+ghost use Rattle.std.specs.Prelude.{◌≡◌, IfOk, OnErr, option_map, option_and_then};
 ghost use Rattle.ink_model.specs.Command.{NeedsMemory, command_of, command_word, get_command as get_of, set_command as set_of};
 ghost use Rattle.ink_model.specs.Bytes.{after as after_word, at_space as parts_at_space};
-ghost use Rattle.ink_model.specs.ValueJson.{given_by as given_from, given_integer, given_of as given_in, given_text};
 
-use ink_model::{Command, Given, MAX_TEXT, Text};
-use serde_json::{Number, Value};
+use crate::given::given_of;
+use ink_model::{Command, Text};
 use std::alloc::{AllocError, Global};
 
 /// The command of a line, without its newline (docs/PROTOCOL.md, "Command lines"). A line that is no text, or no
@@ -87,50 +84,4 @@ fn set_command(alloc: Global, name: &str, text: &str) -> Result<Option<Command>,
     let name = Text::from_str(alloc, name)?;
     let value = given_of(alloc, text)?;
     Ok(Some(Command::Set { name, value }))
-}
-
-// The value that a text spells, if it spells one.
-fn given_of(alloc: Global, text: &str) -> Result<Option<Given>, AllocError>
-    ensures { IfOk result (λ given. given ≡ given_in text.now) }
-{
-    match Value::from_str(alloc, text) {
-        Ok(value) => Ok(given_by(value)),
-        Err(error) => {
-            if error.is_memory() {
-                return Err(AllocError);
-            }
-            Ok(None)
-        }
-    }
-}
-
-// An integer of 32 bits, a boolean, or a text within its limit.
-fn given_by(value: Value) -> Option<Given>
-    ensures { result ≡ given_from (view value) }
-{
-    match value {
-        Value::Bool(truth) => Some(Given::Bool(truth)),
-        Value::Number(number) => small_integer(number),
-        Value::String(text) => short_text(text),
-        Value::Null | Value::Array(_) | Value::Object(_) => None,
-    }
-}
-
-fn small_integer(number: Number) -> Option<Given>
-    ensures { result ≡ given_integer (as_integer (number_view number)) }
-{
-    let integer = number.as_i128()?;
-    if integer < i32::MIN as i128 || integer > i32::MAX as i128 {
-        return None;
-    }
-    Some(Given::Int(integer as i32))
-}
-
-fn short_text(text: String) -> Option<Given>
-    ensures { result ≡ given_text (string_bytes text) }
-{
-    if text.len() > MAX_TEXT {
-        return None;
-    }
-    Some(Given::Text(Text::from_string(text)))
 }
