@@ -144,7 +144,7 @@ fn answer_line<T: Sink>(
     let Ok(text) = answer_text(alloc, outcome) else {
         return Err(RunFault::OutOfMemory);
     };
-    match write_whole(sink, text.as_bytes()) {
+    match write_whole(sink, &text) {
         Ok(()) => Ok(()),
         Err(WriteFailed) => Err(RunFault::Write),
     }

@@ -1,4 +1,4 @@
-use Rattle.std.proofs.Common.{true, false, sym, ◌∙◌}
+use Rattle.std.proofs.Common.{true, false, sym}
 use Rattle.ink_player.proofs.Spelling.{same_bytes, given_truth_of}
 use Rattle.ink_player.proofs.given.plain_given.Goals as goal
 

@@ -15,12 +15,12 @@ pub returns-in-Ok-write_whole-clause-answers : goal.returns-in-Ok-write_whole-cl
 returns-in-Ok-write_whole-clause-answers g c = record {
   reply = reply_by c.outcome_of-outcome.result;
   serves = c.outcome_of-outcome.ensures.serves;
-  appended = written_as _ _ _ _ (c.as_bytes.ensures.value ∙ c.in-Ok.ensures) c.in-Ok-write_whole.ensures.written;
+  appended = written_as _ _ _ _ (c.deref.ensures.value ∙ c.in-Ok.ensures) c.in-Ok-write_whole.ensures.written;
 }
 
 pub returns-clause-answers : goal.returns-clause-answers
 returns-clause-answers g c = record {
   reply = reply_by c.outcome_of-outcome.result;
   serves = c.outcome_of-outcome.ensures.serves;
-  falls = cut_as _ _ _ _ (c.as_bytes.ensures.value ∙ c.in-Ok.ensures) c.in-Err.ensures.written;
+  falls = cut_as _ _ _ _ (c.deref.ensures.value ∙ c.in-Ok.ensures) c.in-Err.ensures.written;
 }
