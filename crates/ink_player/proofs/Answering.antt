@@ -1,5 +1,5 @@
 -- The tokens of answers, one behind another, and the text that they come to. There are no events yet.
-use Rattle.std.proofs.Common.{◌≡◌, ◌∙◌, refl, sym, ap, subst, ℕ, ◌+◌, ◌<◌, ◌≤◌, ℤ, pos, negsuc, suc, List, [], ◌∷◌, ◌++◌, length, take, get_or, map, flat_map, Result, Ok, Err, OnOk, arith, append_assoc, append-nil}
+use Rattle.std.proofs.Common.{◌≡◌, ◌∙◌, refl, sym, ap, subst, ℕ, ◌+◌, ◌<◌, ◌≤◌, ℤ, pos, negsuc, suc, List, [], ◌∷◌, ◌++◌, length, take, get_or, map, flat_map, Result, Ok, Err, OnOk, arith, append_assoc, append-nil, codes}
 use Rattle.std.proofs.Math.Seq.{take-suc}
 use Rattle.std.proofs.lemmas.Grind.{flat_map-append}
 use Rattle.std.proofs.lemmas.List.{map-append, take_all}
@@ -12,6 +12,7 @@ use Rattle.json.specs.Written.{Written, Writes}
 use Rattle.serde_json.specs.Data.{Data, array, number}
 use Rattle.serde_json.specs.Find.{of_integer}
 use Rattle.serde_json.specs.Written.{items_outline}
+use Rattle.serde_json.proofs.OnLiterals.{serde_json_on_literals}
 use Rattle.serde_json.proofs.Texts.{print-outline}
 use Rattle.ink_model.specs.Answer.{Reply, Acts, Breaks, reply_data, passage_data, answer, items_of}
 use Rattle.ink_model.specs.declared.fault.Fault.{Fault}
@@ -96,3 +97,8 @@ answer_from_tokens r start end text line none no_tokens added is ends =
     let tokens : end.tokens ≡ data_tokens (reply_data r) = added.tokens ∙ ap (λ ts. ts ++ data_tokens (reply_data r)) no_tokens in
     let before : end.before ≡ [] = added.before ∙ none in
     ends ∙ ap (λ t. t ++ 10 ∷ []) (is ∙ ap (λ b. b ++ print end.tokens) before ∙ ap print tokens ∙ print-outline (reply_data r))
+
+-- the answer of what is done and tells nothing
+pub done_text : (events : List Event) → answer (Acts events) ≡ codes "{\"events\":[]}\n"
+unfolding answer serde_json_on_literals
+done_text events = ap (λ (es : List Event). answer (Acts es)) (no_events events)

@@ -1,12 +1,12 @@
 //! Answers as they are written (docs/PROTOCOL.md, "Answers").
 
-ghost use Rattle.std.specs.Prelude.{◌≡◌, [], ◌∷◌, OnOk, IfOk, map, codes};
+ghost use Rattle.std.specs.Prelude.{◌≡◌, [], ◌∷◌, OnOk, IfOk, IfSome, map, codes};
 ghost use Rattle.json.specs.Print.{IsPrintable};
 ghost use Rattle.json.specs.Reads.{token_of};
 ghost use Rattle.json.specs.Token as tokens;
 ghost use Rattle.serde_json.specs.Data.{Data, array, string, number};
 ghost use Rattle.serde_json.specs.Find.{of_integer};
-ghost use Rattle.ink_model.specs.Answer.{answer, refusal_data, reply_data, reply_of_halt, Acts, Breaks, Shows, items_of, passage_data, shown_data};
+ghost use Rattle.ink_model.specs.Answer.{answer, refusal_data, reply_data, reply_of_events, reply_of_halt, Acts, Breaks, Shows, items_of, passage_data, shown_data};
 ghost use Rattle.ink_model.specs.ValueJson.{value_data};
 ghost use Rattle.ink_player.specs.Answers.{Added, data_tokens};
 ghost use Rattle.ink_player.specs.Replies.{reply_by};
@@ -25,12 +25,34 @@ pub(crate) enum Outcome {
     Refused(Refusal),
 }
 
+/// Most answers are no longer.
+const USUAL_LENGTH: usize = 128;
+
+/// The line that is written where a command's call was done and tells nothing, its newline at the end. Takes no memory.
+pub(crate) fn fixed_answer(outcome: &Outcome) -> Option<&'static str>
+    ensures { IfSome result (λ text. text.now ≡ answer (reply_by outcome.now)) }
+{
+    match outcome {
+        Outcome::Events(events) => done_answer(events),
+        _ => None,
+    }
+}
+
+fn done_answer(events: &Result<Seq<Event>, Halt>) -> Option<&'static str>
+    ensures { IfSome result (λ text. text.now ≡ answer (reply_of_events events.now)) }
+{
+    match events {
+        Ok(_) => Some("{\"events\":[]}\n"),
+        Err(_) => None,
+    }
+}
+
 /// What a command's call returned, as the line that is written, its newline at the end. The one error is a refused request
 /// for memory.
 pub(crate) fn answer_text(alloc: Global, outcome: Outcome) -> Result<Vec<u8>, AllocError>
     ensures { IfOk result (λ text. text.items ≡ answer (reply_by outcome)) }
 {
-    let mut out = Writer::new(Vec::new(alloc));
+    let mut out = Writer::new(Vec::with_capacity(alloc, USUAL_LENGTH)?);
     write_reply(alloc, &mut out, outcome)?;
     let mut text = out.into_inner();
     text.push(b'\n')?;
