@@ -1,31 +1,29 @@
--- Answers have no events yet, and no floats.
-use Rattle.std.proofs.Common.{◌≡◌, ℕ, ℤ, pos, negsuc, List, [], ◌∷◌, ◌++◌, map, Bool, true, false, ◌||◌, refl, sym, ap, ◌∙◌, Result, Ok, Err, IfOk}
-use Rattle.serde_json.specs.Data.{Data, number, string}
+-- The tokens of answers, one behind another, and the text that they come to. There are no events yet.
+use Rattle.std.proofs.Common.{◌≡◌, ◌∙◌, refl, sym, ap, subst, ℕ, ◌+◌, ◌<◌, ◌≤◌, ℤ, pos, negsuc, suc, List, [], ◌∷◌, ◌++◌, length, take, get_or, map, flat_map, Result, Ok, Err, OnOk, arith, append_assoc, append-nil, codes}
+use Rattle.std.proofs.Math.Seq.{take-suc}
+use Rattle.std.proofs.lemmas.Grind.{flat_map-append}
+use Rattle.std.proofs.lemmas.List.{map-append, take_all}
+use Rattle.std.specs.Fmt.{signed_decimal}
+use Rattle.json.specs.Print.{print}
+use Rattle.json.specs.Token.{Token}
+use Rattle.json.specs.Token as token
+use Rattle.json.specs.Tree.{items_tokens}
+use Rattle.json.specs.Written.{Written, Writes}
+use Rattle.serde_json.specs.Data.{Data, array, number}
 use Rattle.serde_json.specs.Find.{of_integer}
-use Rattle.serde_json.specs.View.{view}
-use Rattle.serde_json.specs.declared.value.Value.{Value}
-use Rattle.std.specs.declared.alloc.AllocError.{AllocError}
-use Rattle.serde_json.specs.Written.{compact_text, has_float, items_have_float}
-use Rattle.ink_model.specs.Answer.{Reply, Tells, Acts, Shows, Refuses, Breaks, reply_data, answer, items_of, texts_data, shown_data, passage_data, refusal_data}
-use Rattle.ink_model.specs.ValueJson.{value_data}
+use Rattle.serde_json.specs.Written.{items_outline}
+use Rattle.serde_json.proofs.OnLiterals.{serde_json_on_literals}
+use Rattle.serde_json.proofs.Texts.{print-outline}
+use Rattle.ink_model.specs.Answer.{Reply, Acts, Breaks, reply_data, passage_data, answer, items_of}
 use Rattle.ink_model.specs.declared.fault.Fault.{Fault}
-use Rattle.ink_model.specs.declared.fault.Refusal.{Refusal}
-use Rattle.ink_model.specs.declared.fault.Refusal.TheVariants as refusal
 use Rattle.ink_model.specs.declared.host.Event.{Event}
 use Rattle.ink_model.specs.declared.passage.Passage.{Passage}
-use Rattle.ink_model.specs.declared.passage.Shown.{Shown}
-use Rattle.ink_model.specs.declared.value.Value.{Value as InkValue}
-use Rattle.ink_model.specs.declared.value.Value.TheVariants as value
-use Rattle.ink_player.specs.Answers.{shown_list, passage_with}
+use Rattle.ink_player.specs.Answers.{Added, data_tokens}
 
 -- there is no event, so every list of events is empty
 no_events : (events : List Event) → events ≡ []
 no_events [] = refl
 no_events (e ∷ es) = elim e [ ]
-
-pub passage_parts : (p : Passage) (choices tags : Data) → choices ≡ shown_list p.choices → tags ≡ texts_data p.tags → passage_with p choices tags ≡ passage_data p
-passage_parts p choices tags e h =
-    ap (λ d. passage_with p d tags) e ∙ ap (passage_with p (shown_list p.choices)) h ∙ sym (ap (λ (es : List Event). passage_data (record p { events = es })) (no_events p.events))
 
 pub fault_parts : (fault : Fault) (events : List Event) → reply_data (Breaks fault []) ≡ reply_data (Breaks fault events)
 fault_parts fault events = ap (λ (es : List Event). reply_data (Breaks fault es)) (sym (no_events events))
@@ -33,66 +31,74 @@ fault_parts fault events = ap (λ (es : List Event). reply_data (Breaks fault es
 pub acts_parts : (events : List Event) → reply_data (Acts []) ≡ reply_data (Acts events)
 acts_parts events = ap (λ (es : List Event). reply_data (Acts es)) (sym (no_events events))
 
--- a value of one data is a value of an equal one
-pub viewed_as : (r : Result Value AllocError) (d e : Data) → d ≡ e → IfOk r (λ v. view v ≡ d) → IfOk r (λ v. view v ≡ e)
-viewed_as (Ok v) d e h k = k ∙ h
-viewed_as (Err x) d e h k = tt
+pub passage_parts : (p : Passage) → passage_data (record p { events = [] }) ≡ passage_data p
+passage_parts p = ap (λ (es : List Event). passage_data (record p { events = es })) (sym (no_events p.events))
 
--- ---- no floats
+-- what is written of one value is written of an equal one
+pub added_as : {E : Type 0} (r : Result (Unit {0}) E) (a b : Written) (d e : Data) → d ≡ e → OnOk r (Added a b (data_tokens d)) → OnOk r (Added a b (data_tokens e))
+added_as r a b d e same h = subst (λ x. OnOk r (Added a b (data_tokens x))) same h
 
-or_false : (a b : Bool) → a ≡ false → b ≡ false → (a || b) ≡ false
-or_false true b e h = e
-or_false false b e h = h
+-- ---- tokens
 
-none_in_texts : (ts : List (List ℕ)) → items_have_float (items_of (map string ts)) ≡ false
-none_in_texts [] = refl
-none_in_texts (t ∷ ts) = none_in_texts ts
+pub added_one : {E : Type 0} (r : Result (Unit {0}) E) (a b : Written) (t : Token) → Writes r a b t → OnOk r (Added a b (t ∷ []))
+added_one (Ok x) a b t w = record { tokens = w.ok; before = w.room.0 }
+added_one (Err e) a b t w = tt
 
-none_in_shown : (s : Shown) → has_float (shown_data s) ≡ false
-none_in_shown s = or_false _ _ (none_in_texts s.tags) refl
+pub added_integer : {E : Type 0} (r : Result (Unit {0}) E) (a b : Written) (z : ℤ) → Writes r a b (token.number (signed_decimal z)) → OnOk r (Added a b (data_tokens (number (of_integer z))))
+added_integer r a b (pos n) w = added_one r a b (token.number (signed_decimal (pos n))) w
+added_integer r a b (negsuc n) w = added_one r a b (token.number (signed_decimal (negsuc n))) w
 
-none_in_choices : (cs : List Shown) → items_have_float (items_of (map shown_data cs)) ≡ false
-none_in_choices [] = refl
-none_in_choices (c ∷ cs) = or_false _ _ (none_in_shown c) (none_in_choices cs)
+pub then : {a b c : Written} {xs ys : List Token} → Added a b xs → Added b c ys → Added a c (xs ++ ys)
+then {a = a} {xs = xs} {ys = ys} h k = record {
+  tokens = k.tokens ∙ ap (λ ts. ts ++ ys) h.tokens ∙ append_assoc a.tokens xs ys;
+  before = k.before ∙ h.before;
+}
 
-none_in_passage : (p : Passage) → has_float (passage_data p) ≡ false
-none_in_passage p =
-    sym (ap has_float (passage_parts p _ _ refl refl)) ∙ or_false _ _ (none_in_choices p.choices) (or_false _ _ (none_in_texts p.tags) refl)
+pub finally : {E : Type 0} (r : Result (Unit {0}) E) (a b c : Written) (xs ys : List Token) → Added a b xs → OnOk r (Added b c ys) → OnOk r (Added a c (xs ++ ys))
+finally (Ok x) a b c xs ys h k = then h k
+finally (Err e) a b c xs ys h k = tt
 
-none_in_refusal : (r : Refusal) → has_float (refusal_data r) ≡ false
-none_in_refusal refusal.CannotContinue = refl
-none_in_refusal refusal.NoSuchVariable = refl
-none_in_refusal refusal.BadValue = refl
-none_in_refusal refusal.BadCommand = refl
-none_in_refusal (refusal.Broken f) = refl
-none_in_refusal refusal.OutOfMemory = refl
+-- ---- lists
 
-none_in_integer : (z : ℤ) → has_float (number (of_integer z)) ≡ false
-none_in_integer (pos n) = refl
-none_in_integer (negsuc n) = refl
+items_are : (ds : List Data) → items_tokens (items_outline (items_of ds)) ≡ flat_map data_tokens ds ++ token.end_array ∷ []
+items_are [] = refl
+items_are (d ∷ ds) = ap (λ l. data_tokens d ++ l) (items_are ds) ∙ sym (append_assoc (data_tokens d) (flat_map data_tokens ds) (token.end_array ∷ []))
 
-none_in_value : (v : InkValue) → has_float (value_data v) ≡ false
-none_in_value (value.Int z) = none_in_integer z
-none_in_value (value.Bool b) = refl
-none_in_value (value.Text t) = refl
-none_in_value (value.Target p) = refl
-none_in_value (value.Pointer n i) = or_false _ _ (none_in_integer i) refl
-none_in_value value.Void = refl
-none_in_value (value.Tag t) = refl
+-- what a member with a list is written as, up to the first `i` of the list
+abbrev pub list_front : {A : Type 0} → List ℕ → (A → Data) → List A → List Token
+list_front name json items = token.key name ∷ token.begin_array ∷ flat_map data_tokens (map json items)
 
-none_in_shows : (v : InkValue) → has_float (reply_data (Shows v)) ≡ false
-none_in_shows v = or_false _ _ (none_in_value v) refl
+pub list_more : {A : Type 0} (json : A → Data) (name : List ℕ) (items : List A) (i : ℕ) (item : A) (a b c : Written) → i < length items → item ≡ get_or items i item
+    → Added a b (list_front name json (take i items)) → Added b c (data_tokens (json item)) → Added a c (list_front name json (take (i + 1) items))
+list_more json name items i item a b c h is before now =
+    let next : i + 1 ≡ suc i = omega arith in
+    let more : take (i + 1) items ≡ take i items ++ item ∷ [] = ap (λ n. take n items) next ∙ take-suc items i item h ∙ ap (λ x. take i items ++ x ∷ []) (sym is) in
+    let tokens : flat_map data_tokens (map json (take (i + 1) items)) ≡ flat_map data_tokens (map json (take i items)) ++ (data_tokens (json item) ++ []) =
+    ap (λ l. flat_map data_tokens (map json l)) more ∙ ap (flat_map data_tokens) (map-append json (take i items) (item ∷ []))
+    ∙ flat_map-append data_tokens (map json (take i items)) (json item ∷ []) in
+    subst (Added a c) (ap (λ l. token.key name ∷ token.begin_array ∷ (flat_map data_tokens (map json (take i items)) ++ l)) (sym (append-nil (data_tokens (json item))))
+    ∙ ap (λ l. token.key name ∷ token.begin_array ∷ l) (sym tokens)) (then before now)
 
-none_in_reply : (r : Reply) → has_float (reply_data r) ≡ false
-none_in_reply (Tells passage) = none_in_passage passage
-none_in_reply (Acts events) = sym (ap has_float (acts_parts events))
-none_in_reply (Shows v) = none_in_shows v
-none_in_reply (Refuses r) = none_in_refusal r
-none_in_reply (Breaks f events) = sym (ap has_float (fault_parts f events))
+pub list_ends : {A E : Type 0} (json : A → Data) (name : List ℕ) (items : List A) (i : ℕ) (r : Result (Unit {0}) E) (a b c : Written) → length items ≤ i
+    → Added a b (list_front name json (take i items)) → OnOk r (Added b c (token.end_array ∷ [])) → OnOk r (Added a c (token.key name ∷ data_tokens (array (items_of (map json items)))))
+list_ends json name items i r a b c h before now =
+    let all : take i items ≡ items = take_all i items h in
+    subst (λ ts. OnOk r (Added a c ts)) (ap (λ l. token.key name ∷ token.begin_array ∷ (flat_map data_tokens (map json l) ++ token.end_array ∷ [])) all
+    ∙ ap (λ l. token.key name ∷ token.begin_array ∷ l) (sym (items_are (map json items))))
+    (finally r a b c (list_front name json (take i items)) (token.end_array ∷ []) before now)
 
--- the compact text of a reply, and a newline, is its answer
-pub answer_from_text : (r : Reply) (d : Data) (text newline written : List ℕ) → d ≡ reply_data r → (has_float d ≡ false → text ≡ compact_text d)
-    → newline ≡ 10 ∷ [] → written ≡ text ++ newline → written ≡ answer r
+-- ---- the text
+
+-- what a writer that had nothing has written of a reply, and a newline, is its answer
+pub answer_from_tokens : (r : Reply) (start end : Written) (text line : List ℕ) → start.before ≡ [] → start.tokens ≡ [] → Added start end (data_tokens (reply_data r))
+    → text ≡ end.before ++ print end.tokens → line ≡ text ++ 10 ∷ [] → line ≡ answer r
 unfolding answer
-answer_from_text r d text newline written e h n k =
-    k ∙ ap (λ t. text ++ t) n ∙ ap (λ t. t ++ 10 ∷ []) (h (ap has_float e ∙ none_in_reply r) ∙ ap compact_text e)
+answer_from_tokens r start end text line none no_tokens added is ends =
+    let tokens : end.tokens ≡ data_tokens (reply_data r) = added.tokens ∙ ap (λ ts. ts ++ data_tokens (reply_data r)) no_tokens in
+    let before : end.before ≡ [] = added.before ∙ none in
+    ends ∙ ap (λ t. t ++ 10 ∷ []) (is ∙ ap (λ b. b ++ print end.tokens) before ∙ ap print tokens ∙ print-outline (reply_data r))
+
+-- the answer of what is done and tells nothing
+pub done_text : (events : List Event) → answer (Acts events) ≡ codes "{\"events\":[]}\n"
+unfolding answer serde_json_on_literals
+done_text events = ap (λ (es : List Event). answer (Acts es)) (no_events events)

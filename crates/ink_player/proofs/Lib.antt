@@ -14,3 +14,4 @@ pub mod Stacks
 pub mod Storing
 pub mod Opening
 pub mod Faults
+pub mod Spelling

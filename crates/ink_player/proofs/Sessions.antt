@@ -1,5 +1,5 @@
 -- How a session goes on by a line, and how it ends.
-use Rattle.std.proofs.Common.{◌≡◌, ℕ, ◌+◌, ◌<◌, ◌≤◌, List, [], ◌∷◌, ◌++◌, length, false, cond, ◌==◌, Option, Some, None, Result, Ok, Err, ap, ◌∙◌, sym, refl, subst, inl, inr, arith, append_assoc, append-nil, length-append}
+use Rattle.std.proofs.Common.{◌≡◌, ℕ, ◌+◌, ◌<◌, ◌≤◌, List, [], ◌∷◌, ◌++◌, length, false, cond, ◌==◌, Option, Result, Ok, Err, ap, ◌∙◌, sym, refl, subst, inl, inr, arith, append_assoc, append-nil, length-append}
 use Rattle.std.specs.List.{AllByRecursion}
 use Rattle.std.specs.Io.KnownBytes.{Appends, IsAtEnd}
 use Rattle.std.proofs.KnownBytes.{Appends-nil, Appends-trans, Consumes-trans}
@@ -17,7 +17,7 @@ use Rattle.ink_player.specs.Buffered.{Buffered}
 use Rattle.ink_player.specs.Ends.{Falls}
 use Rattle.ink_player.specs.Input.{Takes}
 use Rattle.ink_player.specs.Lines.{TakesLine, GivesLine}
-use Rattle.ink_player.specs.Serving.{IsLine, spelled, Splits, IsFirst, ServesFront, IsLongInput, HasRoom, RunEnds, Runs, Answered, Answers, ServesLine}
+use Rattle.ink_player.specs.Serving.{IsLine, spelled, Splits, IsFirst, ServesFront, IsLongInput, HasRoom, RunEnds, Runs, Answered, Answers, WritesText, ServesLine}
 use Rattle.ink_model.specs.declared.limits.TheConstants.{MAX_LINE}
 use Rattle.ink_player.specs.declared.end.RunFault.{RunFault}
 use Rattle.ink_player.specs.declared.end.RunFault.TheVariants as fault
@@ -268,8 +268,11 @@ pub serves_unread : (s : StoryTree) (host : Bound) (line : List ℕ) (st : State
 unfolding Serves
 serves_unread s host line st h = inr (refl, (h, (refl, refl)))
 
-pub written_as : (h i : Option (List ℕ)) (bytes text : List ℕ) → bytes ≡ text → Appends h i bytes → Appends h i text
-written_as h i bytes text e p = subst (Appends h i) e p
-
-pub cut_as : (h i : Option (List ℕ)) (bytes text : List ℕ) → bytes ≡ text → Falls h i bytes → Falls h i text
-cut_as h i bytes text e p = subst (Falls h i) e p
+-- the text of a reply's answer is written, or a front of it
+pub answered_by : (s : StoryTree) (host : Bound) (line : List ℕ) (h i : Option (List ℕ)) (old new : State) (r : Result (Unit {0}) RunFault) (reply : Reply) (text : List ℕ)
+    → Serves s host [] line old reply new → text ≡ answer reply → WritesText h i text r → Answers s host [] line h i old new r
+answered_by s host line h i old new (Ok x) reply text p e w = record { reply = reply; serves = p; appended = subst (Appends h i) e w }
+answered_by s host line h i old new (Err fault.Read) reply text p e w = absurd w
+answered_by s host line h i old new (Err fault.Write) reply text p e w = record { reply = reply; serves = p; falls = subst (Falls h i) e w }
+answered_by s host line h i old new (Err fault.TooLong) reply text p e w = absurd w
+answered_by s host line h i old new (Err fault.OutOfMemory) reply text p e w = absurd w

@@ -1,6 +1,6 @@
 -- The entries of a map as values by name.
-use Rattle.std.proofs.Common.{◌≡◌, ap, refl, ℕ, List, [], ◌∷◌, true, false, Some, String, Global, string_bytes, bytes_eq, if◌then◌else◌}
-use Rattle.std.specs.Map.{lookup}
+use Rattle.std.proofs.Common.{◌≡◌, ap, refl, ℕ, List, [], ◌∷◌, Bool, true, false, cond, is_some, Some, String, Global, string_bytes, bytes_eq, if◌then◌else◌}
+use Rattle.std.specs.Map.{lookup, set_value}
 use Rattle.std.specs.String.{string_eq}
 use Rattle.indexmap.specs.IndexMap.{insert_entry}
 use Rattle.ink_model.specs.Store.{stored, store}
@@ -20,3 +20,15 @@ kept_value key v (e ∷ es) =
       | true ↦ refl
       | false ↦ ap (λ vs. (string_bytes e.0, e.1) ∷ vs) (kept_value key v es)
     ]
+
+-- a value that is written over that of a name
+pub written_value : (name : List ℕ) (v : Value) (es : List (String Global × Value)) → is_some (stored name (values_of es)) ≡ true
+    → values_of (set_value (λ k. bytes_eq name (string_bytes k)) es v) ≡ store name v (values_of es)
+written_value name v [] h = absurd (cc)
+written_value name v (e ∷ es) h = by (bytes_eq name (string_bytes e.0)) (written_value name v es) h
+  where
+    by : (b : Bool) → (is_some (stored name (values_of es)) ≡ true → values_of (set_value (λ k. bytes_eq name (string_bytes k)) es v) ≡ store name v (values_of es))
+        → is_some (if b then Some e.1 else stored name (values_of es)) ≡ true
+        → values_of (cond b ((e.0, v) ∷ es) (e ∷ set_value (λ k. bytes_eq name (string_bytes k)) es v)) ≡ (if b then (string_bytes e.0, v) ∷ values_of es else (string_bytes e.0, e.1) ∷ store name v (values_of es))
+    by true more k = refl
+    by false more k = ap (λ vs. (string_bytes e.0, e.1) ∷ vs) (more k)

@@ -9,3 +9,4 @@ pub mod Lines
 pub mod Serving
 pub mod Playing
 pub mod Globals
+pub mod Commands

@@ -168,6 +168,14 @@ pub record HalfAnswered (s : StoryTree) (b : Bound) (made : List Made) (line : L
   pub serves : Serves s b made line old reply new
   pub falls : Falls held held' (answer reply)
 
+-- a text is written whole, or a front of it
+abbrev pub WritesText : Option (List ℕ) → Option (List ℕ) → List ℕ → Result (Unit {0}) RunFault → Type 0
+WritesText held held' text (Ok x) = Appends held held' text
+WritesText held held' text (Err fault.Read) = ⊥
+WritesText held held' text (Err fault.Write) = Falls held held' text
+WritesText held held' text (Err fault.TooLong) = ⊥
+WritesText held held' text (Err fault.OutOfMemory) = ⊥
+
 abbrev pub Answers : StoryTree → Bound → List Made → List ℕ → Option (List ℕ) → Option (List ℕ) → State → State → Result (Unit {0}) RunFault → Type 0
 Answers s b made line held held' old new (Ok x) = Answered s b made line held held' old new
 Answers s b made line held held' old new (Err fault.Read) = ⊥

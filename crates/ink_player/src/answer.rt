@@ -1,16 +1,19 @@
 //! Answers as they are written (docs/PROTOCOL.md, "Answers").
 
-ghost use Rattle.std.specs.Prelude.{◌≡◌, [], IfOk, map, string_bytes};
-ghost use Rattle.serde_json.specs.View.{view};
-ghost use Rattle.ink_model.specs.Answer.{answer, refusal_data, reply_data, reply_of_halt, Acts, Breaks, Shows, items_of, passage_data, shown_data};
+ghost use Rattle.std.specs.Prelude.{◌≡◌, [], ◌∷◌, OnOk, IfOk, IfSome, map, codes};
+ghost use Rattle.json.specs.Print.{IsPrintable};
+ghost use Rattle.json.specs.Reads.{token_of};
+ghost use Rattle.json.specs.Token as tokens;
+ghost use Rattle.serde_json.specs.Data.{Data, array, string, number};
+ghost use Rattle.serde_json.specs.Find.{of_integer};
+ghost use Rattle.ink_model.specs.Answer.{answer, refusal_data, reply_data, reply_of_events, reply_of_halt, Acts, Breaks, Shows, items_of, passage_data, shown_data};
 ghost use Rattle.ink_model.specs.ValueJson.{value_data};
-ghost use Rattle.serde_json.specs.Data.{Data, array, string};
-ghost use Rattle.ink_player.specs.Answers.{passage_with};
+ghost use Rattle.ink_player.specs.Answers.{Added, data_tokens};
 ghost use Rattle.ink_player.specs.Replies.{reply_by};
 
 use ink_model::{Event, Fault, Halt, Passage, Path, Refusal, Seq, Shown, Text, Value};
 use ink_tree::print_path;
-use serde_json::{Number, Value as Json, json};
+use json::{Token, Writer};
 use std::alloc::{AllocError, Global};
 
 /// What a command's call returned, or its refusal where none was made.
@@ -22,163 +25,230 @@ pub(crate) enum Outcome {
     Refused(Refusal),
 }
 
+/// Most answers are no longer.
+const USUAL_LENGTH: usize = 128;
+
+/// The line that is written where a command's call was done and tells nothing, its newline at the end. Takes no memory.
+pub(crate) fn fixed_answer(outcome: &Outcome) -> Option<&'static str>
+    ensures { IfSome result (λ text. text.now ≡ answer (reply_by outcome.now)) }
+{
+    match outcome {
+        Outcome::Events(events) => done_answer(events),
+        _ => None,
+    }
+}
+
+fn done_answer(events: &Result<Seq<Event>, Halt>) -> Option<&'static str>
+    ensures { IfSome result (λ text. text.now ≡ answer (reply_of_events events.now)) }
+{
+    match events {
+        Ok(_) => Some("{\"events\":[]}\n"),
+        Err(_) => None,
+    }
+}
+
 /// What a command's call returned, as the line that is written, its newline at the end. The one error is a refused request
 /// for memory.
-pub(crate) fn answer_text(alloc: Global, outcome: Outcome) -> Result<String, AllocError>
-    ensures { IfOk result (λ text. string_bytes text ≡ answer (reply_by outcome)) }
+pub(crate) fn answer_text(alloc: Global, outcome: Outcome) -> Result<Vec<u8>, AllocError>
+    ensures { IfOk result (λ text. text.items ≡ answer (reply_by outcome)) }
 {
-    let reply = reply_json(alloc, outcome)?;
-    let mut text = reply.to_string(alloc)?;
-    text.push('\n')?;
+    let mut out = Writer::new(Vec::with_capacity(alloc, USUAL_LENGTH)?);
+    write_reply(alloc, &mut out, outcome)?;
+    let mut text = out.into_inner();
+    text.push(b'\n')?;
     Ok(text)
 }
 
-fn reply_json(alloc: Global, outcome: Outcome) -> Result<Json, AllocError>
-    ensures { IfOk result (λ v. view v ≡ reply_data (reply_by outcome)) }
+fn write_reply(alloc: Global, out: &mut Writer, outcome: Outcome) -> Result<(), AllocError>
+    ensures { OnOk result (Added out.old out.new (data_tokens (reply_data (reply_by outcome)))) }
 {
     match outcome {
-        Outcome::Passage(Ok(passage)) => passage_json(alloc, &passage),
-        Outcome::Events(Ok(_)) => acts_json(alloc),
-        Outcome::Value(Ok(value)) => shows_json(alloc, &value),
-        Outcome::Passage(Err(halt)) | Outcome::Events(Err(halt)) => halt_json(alloc, halt),
-        Outcome::Value(Err(refusal)) | Outcome::Refused(refusal) => refusal_json(alloc, refusal),
+        Outcome::Passage(Ok(passage)) => write_passage(out, &passage),
+        Outcome::Events(Ok(_)) => write_done(out),
+        Outcome::Value(Ok(value)) => write_shown(alloc, out, &value),
+        Outcome::Passage(Err(halt)) | Outcome::Events(Err(halt)) => write_halt(out, halt),
+        Outcome::Value(Err(refusal)) | Outcome::Refused(refusal) => write_refusal(out, refusal),
     }
 }
 
-// There is no event yet.
-fn acts_json(alloc: Global) -> Result<Json, AllocError>
-    ensures { IfOk result (λ v. view v ≡ reply_data (Acts [])) }
+// ---- parts of answers
+
+// One token. A number's text is a number of JSON.
+fn put(out: &mut Writer, token: Token<'_>) -> Result<(), AllocError>
+    requires { IsPrintable (token_of token) }
+    ensures { OnOk result (Added out.old out.new (token_of token.entry ∷ [])) }
 {
-    json!(in alloc; { "events": [] })
+    out.token(token)
 }
 
-fn shows_json(alloc: Global, value: &Value) -> Result<Json, AllocError>
-    ensures { IfOk result (λ v. view v ≡ reply_data (Shows value.now)) }
+fn put_integer(out: &mut Writer, integer: i32) -> Result<(), AllocError>
+    ensures { OnOk result (Added out.old out.new (data_tokens (number (of_integer integer)))) }
 {
-    let value = value_json(alloc, value)?;
-    json!(in alloc; { "value": value })
+    out.i64(integer as i64)
 }
 
-fn value_json(alloc: Global, value: &Value) -> Result<Json, AllocError>
-    ensures { IfOk result (λ v. view v ≡ value_data value.now) }
+// A member with a text.
+fn put_text(out: &mut Writer, name: &str, text: &str) -> Result<(), AllocError>
+    ensures { OnOk result (Added out.old out.new (tokens.key name.now ∷ tokens.string text.now ∷ [])) }
 {
-    match value {
-        Value::Int(number) => Ok(Json::Number(Number::from(*number))),
-        Value::Bool(truth) => Ok(Json::Bool(*truth)),
-        Value::Text(text) => text.to_json(alloc),
-        Value::Target(path) => target_json(alloc, path),
-        Value::Pointer(name, frame) => pointer_json(alloc, name, *frame),
-        Value::Void => Ok(Json::Null),
-        Value::Tag(text) => tag_json(alloc, text),
-    }
+    put(out, Token::Key(name))?;
+    put(out, Token::String(text))
 }
 
-fn target_json(alloc: Global, path: &Path) -> Result<Json, AllocError>
-    ensures { IfOk result (λ v. view v ≡ value_data (Value.Target path.now)) }
+// A member with a truth value.
+fn put_flag(out: &mut Writer, name: &str, truth: bool) -> Result<(), AllocError>
+    ensures { OnOk result (Added out.old out.new (tokens.key name.now ∷ tokens.boolean truth ∷ [])) }
 {
-    let text = print_path(alloc, path)?;
-    json!(in alloc; { "->": text.as_str() })
+    put(out, Token::Key(name))?;
+    put(out, Token::Bool(truth))
 }
 
-fn pointer_json(alloc: Global, name: &Text, frame: i32) -> Result<Json, AllocError>
-    ensures { IfOk result (λ v. view v ≡ value_data (Value.Pointer name.now frame)) }
+// The events, of which there are none yet.
+fn put_events(out: &mut Writer) -> Result<(), AllocError>
+    ensures { OnOk result (Added out.old out.new (tokens.key (codes "events") ∷ tokens.begin_array ∷ tokens.end_array ∷ [])) }
 {
-    json!(in alloc; { "ci": frame, "var": name.as_str() })
-}
-
-fn tag_json(alloc: Global, text: &Text) -> Result<Json, AllocError>
-    ensures { IfOk result (λ v. view v ≡ value_data (Value.Tag text.now)) }
-{
-    json!(in alloc; { "tag": text.as_str() })
-}
-
-fn halt_json(alloc: Global, halt: Halt) -> Result<Json, AllocError>
-    ensures { IfOk result (λ v. view v ≡ reply_data (reply_of_halt halt)) }
-{
-    match halt {
-        Halt::Refused(refusal) => refusal_json(alloc, refusal),
-        Halt::Fault { fault, events: _ } => fault_json(alloc, fault),
-    }
-}
-
-fn passage_json(alloc: Global, passage: &Passage) -> Result<Json, AllocError>
-    ensures { IfOk result (λ v. view v ≡ passage_data passage.now) }
-{
-    let choices = list_json(alloc, passage.choices.as_slice())?;
-    let tags = list_json(alloc, passage.tags.as_slice())?;
-    passage_object(alloc, passage, choices, tags)
-}
-
-fn passage_object(
-    alloc: Global,
-    passage: &Passage,
-    choices: Json,
-    tags: Json,
-) -> Result<Json, AllocError>
-    ensures { IfOk result (λ v. view v ≡ passage_with passage.now (view choices) (view tags)) }
-{
-    json!(in alloc; {
-        "choices": choices,
-        "events": [],
-        "loose": passage.loose,
-        "more": passage.more,
-        "tags": tags,
-        "text": passage.text.as_str()
-    })
+    put(out, Token::Key("events"))?;
+    put(out, Token::BeginArray)?;
+    put(out, Token::EndArray)
 }
 
 // What stands in lists of answers.
 trait Listed {
     ghost json: { Self → Data };
 
-    fn to_json(&self, alloc: Global) -> Result<Json, AllocError>
-        ensures { IfOk result (λ v. view v ≡ json self.now) };
+    fn put(&self, out: &mut Writer) -> Result<(), AllocError>
+        ensures { OnOk result (Added out.old out.new (data_tokens (json self.now))) };
 }
 
 impl Listed for Text {
     ghost json = { λ t. string t };
 
-    fn to_json(&self, alloc: Global) -> Result<Json, AllocError> {
-        let text = String::from_str(alloc, self.as_str())?;
-        Ok(Json::String(text))
+    fn put(&self, out: &mut Writer) -> Result<(), AllocError> {
+        put(out, Token::String(self.as_str()))
     }
 }
 
 impl Listed for Shown {
     ghost json = { λ s. shown_data s };
 
-    fn to_json(&self, alloc: Global) -> Result<Json, AllocError> {
-        let tags = list_json(alloc, self.tags.as_slice())?;
-        json!(in alloc; { "tags": tags, "text": self.text.as_str() })
+    fn put(&self, out: &mut Writer) -> Result<(), AllocError> {
+        put(out, Token::BeginObject)?;
+        put_list(out, "tags", self.tags.as_slice())?;
+        put_text(out, "text", self.text.as_str())?;
+        put(out, Token::EndObject)
     }
 }
 
-fn list_json<T: Listed>(alloc: Global, items: &[T]) -> Result<Json, AllocError>
-    ensures { IfOk result (λ v. view v ≡ array (items_of (map T.json items.now))) }
+// A member with a list.
+fn put_list<T: Listed>(out: &mut Writer, name: &str, items: &[T]) -> Result<(), AllocError>
+    ensures { OnOk result (Added out.old out.new (tokens.key name.now ∷ data_tokens (array (items_of (map T.json items.now))))) }
 {
-    let mut values = Vec::new(alloc);
+    put(out, Token::Key(name))?;
+    put(out, Token::BeginArray)?;
     for item in items {
-        values.push(item.to_json(alloc)?)?;
+        item.put(out)?;
     }
-    Ok(Json::Array(values))
+    put(out, Token::EndArray)
 }
 
-fn refusal_json(alloc: Global, refusal: Refusal) -> Result<Json, AllocError>
-    ensures { IfOk result (λ v. view v ≡ refusal_data refusal) }
+// ---- answers
+
+fn write_done(out: &mut Writer) -> Result<(), AllocError>
+    ensures { OnOk result (Added out.old out.new (data_tokens (reply_data (Acts [])))) }
 {
-    let name = refusal.name();
-    match refusal {
-        Refusal::Broken(fault) => json!(in alloc; { "fault": fault.name(), "refused": name }),
-        Refusal::CannotContinue
-        | Refusal::NoSuchVariable
-        | Refusal::BadValue
-        | Refusal::BadCommand
-        | Refusal::OutOfMemory => json!(in alloc; { "refused": name }),
+    put(out, Token::BeginObject)?;
+    put_events(out)?;
+    put(out, Token::EndObject)
+}
+
+fn write_passage(out: &mut Writer, passage: &Passage) -> Result<(), AllocError>
+    ensures { OnOk result (Added out.old out.new (data_tokens (passage_data passage.now))) }
+{
+    put(out, Token::BeginObject)?;
+    put_list(out, "choices", passage.choices.as_slice())?;
+    put_events(out)?;
+    put_flag(out, "loose", passage.loose)?;
+    put_flag(out, "more", passage.more)?;
+    put_list(out, "tags", passage.tags.as_slice())?;
+    put_text(out, "text", passage.text.as_str())?;
+    put(out, Token::EndObject)
+}
+
+fn write_shown(alloc: Global, out: &mut Writer, value: &Value) -> Result<(), AllocError>
+    ensures { OnOk result (Added out.old out.new (data_tokens (reply_data (Shows value.now)))) }
+{
+    put(out, Token::BeginObject)?;
+    put(out, Token::Key("value"))?;
+    write_value(alloc, out, value)?;
+    put(out, Token::EndObject)
+}
+
+fn write_value(alloc: Global, out: &mut Writer, value: &Value) -> Result<(), AllocError>
+    ensures { OnOk result (Added out.old out.new (data_tokens (value_data value.now))) }
+{
+    match value {
+        Value::Int(number) => put_integer(out, *number),
+        Value::Bool(truth) => put(out, Token::Bool(*truth)),
+        Value::Text(text) => put(out, Token::String(text.as_str())),
+        Value::Target(path) => write_target(alloc, out, path),
+        Value::Pointer(name, frame) => write_pointer(out, name, *frame),
+        Value::Void => put(out, Token::Null),
+        Value::Tag(text) => write_tag(out, text),
     }
 }
 
-fn fault_json(alloc: Global, fault: Fault) -> Result<Json, AllocError>
-    ensures { IfOk result (λ v. view v ≡ reply_data (Breaks fault [])) }
+fn write_target(alloc: Global, out: &mut Writer, path: &Path) -> Result<(), AllocError>
+    ensures { OnOk result (Added out.old out.new (data_tokens (value_data (Value.Target path.now)))) }
 {
-    json!(in alloc; { "events": [], "fault": fault.name() })
+    let text = print_path(alloc, path)?;
+    put(out, Token::BeginObject)?;
+    put_text(out, "->", text.as_str())?;
+    put(out, Token::EndObject)
+}
+
+fn write_pointer(out: &mut Writer, name: &Text, frame: i32) -> Result<(), AllocError>
+    ensures { OnOk result (Added out.old out.new (data_tokens (value_data (Value.Pointer name.now frame)))) }
+{
+    put(out, Token::BeginObject)?;
+    put(out, Token::Key("ci"))?;
+    put_integer(out, frame)?;
+    put_text(out, "var", name.as_str())?;
+    put(out, Token::EndObject)
+}
+
+fn write_tag(out: &mut Writer, text: &Text) -> Result<(), AllocError>
+    ensures { OnOk result (Added out.old out.new (data_tokens (value_data (Value.Tag text.now)))) }
+{
+    put(out, Token::BeginObject)?;
+    put_text(out, "tag", text.as_str())?;
+    put(out, Token::EndObject)
+}
+
+fn write_halt(out: &mut Writer, halt: Halt) -> Result<(), AllocError>
+    ensures { OnOk result (Added out.old out.new (data_tokens (reply_data (reply_of_halt halt)))) }
+{
+    match halt {
+        Halt::Refused(refusal) => write_refusal(out, refusal),
+        Halt::Fault { fault, events: _ } => write_fault(out, fault),
+    }
+}
+
+fn write_refusal(out: &mut Writer, refusal: Refusal) -> Result<(), AllocError>
+    ensures { OnOk result (Added out.old out.new (data_tokens (refusal_data refusal))) }
+{
+    put(out, Token::BeginObject)?;
+    if let Refusal::Broken(fault) = refusal {
+        put_text(out, "fault", fault.name())?;
+    }
+    put_text(out, "refused", refusal.name())?;
+    put(out, Token::EndObject)
+}
+
+fn write_fault(out: &mut Writer, fault: Fault) -> Result<(), AllocError>
+    ensures { OnOk result (Added out.old out.new (data_tokens (reply_data (Breaks fault [])))) }
+{
+    put(out, Token::BeginObject)?;
+    put_events(out)?;
+    put_text(out, "fault", fault.name())?;
+    put(out, Token::EndObject)
 }

@@ -1,20 +1,31 @@
 //! The commands that lines spell (docs/PROTOCOL.md, "Command lines").
 
-ghost use Rattle.std.specs.Prelude.{◌≡◌, IfOk, OnErr, option_map, option_and_then, string_bytes};
-ghost use Rattle.serde_json.specs.Find.{as_integer};
-ghost use Rattle.serde_json.specs.View.{view, number_view};
+ghost use Rattle.std.specs.Prelude.{◌≡◌, IfOk, OnErr, option_map, option_and_then};
 ghost use Rattle.ink_model.specs.Command.{NeedsMemory, command_of, command_word, get_command as get_of, set_command as set_of};
 ghost use Rattle.ink_model.specs.Bytes.{after as after_word, at_space as parts_at_space};
-ghost use Rattle.ink_model.specs.ValueJson.{given_by as given_from, given_integer, given_of as given_in, given_text};
+ghost use Rattle.ink_player.specs.Commands.{command_by};
 
-use ink_model::{Command, Given, MAX_TEXT, Text};
-use serde_json::{Number, Value};
+use crate::given::given_of;
+use ink_model::Given;
 use std::alloc::{AllocError, Global};
+
+/// A command of a line, with the name where it stands in the line. The value of `Set` is none where the line has JSON of
+/// another kind than a value has, or no JSON.
+#[derive(Drop)]
+pub(crate) enum LineCommand<'a> {
+    Through,
+    Set { name: &'a str, value: Option<Given> },
+    Get { name: &'a str },
+    Restart,
+}
 
 /// The command of a line, without its newline (docs/PROTOCOL.md, "Command lines"). A line that is no text, or no
 /// command, has none. The one error is a refused request for memory, and only a line with a name makes one.
-pub(crate) fn read_command(alloc: Global, line: &[u8]) -> Result<Option<Command>, AllocError>
-    ensures command { IfOk result (λ command. command ≡ command_of line.now) }
+pub(crate) fn read_command(
+    alloc: Global,
+    line: &[u8],
+) -> Result<Option<LineCommand<'_>>, AllocError>
+    ensures command { IfOk result (λ command. option_map command_by command ≡ command_of line.now) }
     ensures memory { OnErr result (NeedsMemory (command_of line.now)) }
 {
     match str::from_utf8(line) {
@@ -23,18 +34,18 @@ pub(crate) fn read_command(alloc: Global, line: &[u8]) -> Result<Option<Command>
     }
 }
 
-fn command_in(alloc: Global, text: &str) -> Result<Option<Command>, AllocError>
-    ensures command { IfOk result (λ command. command ≡ command_word text.now) }
+fn command_in(alloc: Global, text: &str) -> Result<Option<LineCommand<'_>>, AllocError>
+    ensures command { IfOk result (λ command. option_map command_by command ≡ command_word text.now) }
     ensures memory { OnErr result (NeedsMemory (command_word text.now)) }
 {
     if text == "through" {
-        return Ok(Some(Command::Through));
+        return Ok(Some(LineCommand::Through));
     }
     if text == "restart" {
-        return Ok(Some(Command::Restart));
+        return Ok(Some(LineCommand::Restart));
     }
     if let Some(name) = after("get ", text) {
-        return get_command(alloc, name);
+        return Ok(get_command(name));
     }
     match after("set ", text) {
         Some(rest) => set_line(alloc, rest),
@@ -56,19 +67,17 @@ fn at_space(text: &str) -> Option<(&str, &str)>
     text.split_once(' ')
 }
 
-fn get_command(alloc: Global, name: &str) -> Result<Option<Command>, AllocError>
-    ensures command { IfOk result (λ command. command ≡ get_of name.now) }
-    ensures memory { OnErr result (NeedsMemory (get_of name.now)) }
+fn get_command(name: &str) -> Option<LineCommand<'_>>
+    ensures { option_map command_by result ≡ get_of name.now }
 {
     if name.is_empty() || at_space(name).is_some() {
-        return Ok(None);
+        return None;
     }
-    let name = Text::from_str(alloc, name)?;
-    Ok(Some(Command::Get { name }))
+    Some(LineCommand::Get { name })
 }
 
-fn set_line(alloc: Global, text: &str) -> Result<Option<Command>, AllocError>
-    ensures command { IfOk result (λ command. command ≡ option_and_then set_of (parts_at_space text.now)) }
+fn set_line(alloc: Global, text: &str) -> Result<Option<LineCommand<'_>>, AllocError>
+    ensures command { IfOk result (λ command. option_map command_by command ≡ option_and_then set_of (parts_at_space text.now)) }
     ensures memory { OnErr result (NeedsMemory (option_and_then set_of (parts_at_space text.now))) }
 {
     match at_space(text) {
@@ -77,60 +86,17 @@ fn set_line(alloc: Global, text: &str) -> Result<Option<Command>, AllocError>
     }
 }
 
-fn set_command(alloc: Global, name: &str, text: &str) -> Result<Option<Command>, AllocError>
-    ensures command { IfOk result (λ command. command ≡ set_of (name.now, text.now)) }
+fn set_command<'a>(
+    alloc: Global,
+    name: &'a str,
+    text: &str,
+) -> Result<Option<LineCommand<'a>>, AllocError>
+    ensures command { IfOk result (λ command. option_map command_by command ≡ set_of (name.now, text.now)) }
     ensures memory { OnErr result (NeedsMemory (set_of (name.now, text.now))) }
 {
     if name.is_empty() || text.is_empty() {
         return Ok(None);
     }
-    let name = Text::from_str(alloc, name)?;
     let value = given_of(alloc, text)?;
-    Ok(Some(Command::Set { name, value }))
-}
-
-// The value that a text spells, if it spells one.
-fn given_of(alloc: Global, text: &str) -> Result<Option<Given>, AllocError>
-    ensures { IfOk result (λ given. given ≡ given_in text.now) }
-{
-    match Value::from_str(alloc, text) {
-        Ok(value) => Ok(given_by(value)),
-        Err(error) => {
-            if error.is_memory() {
-                return Err(AllocError);
-            }
-            Ok(None)
-        }
-    }
-}
-
-// An integer of 32 bits, a boolean, or a text within its limit.
-fn given_by(value: Value) -> Option<Given>
-    ensures { result ≡ given_from (view value) }
-{
-    match value {
-        Value::Bool(truth) => Some(Given::Bool(truth)),
-        Value::Number(number) => small_integer(number),
-        Value::String(text) => short_text(text),
-        Value::Null | Value::Array(_) | Value::Object(_) => None,
-    }
-}
-
-fn small_integer(number: Number) -> Option<Given>
-    ensures { result ≡ given_integer (as_integer (number_view number)) }
-{
-    let integer = number.as_i128()?;
-    if integer < i32::MIN as i128 || integer > i32::MAX as i128 {
-        return None;
-    }
-    Some(Given::Int(integer as i32))
-}
-
-fn short_text(text: String) -> Option<Given>
-    ensures { result ≡ given_text (string_bytes text) }
-{
-    if text.len() > MAX_TEXT {
-        return None;
-    }
-    Some(Given::Text(Text::from_string(text)))
+    Ok(Some(LineCommand::Set { name, value }))
 }

@@ -1,6 +1,6 @@
 //! The globals of a running story.
 
-ghost use Rattle.std.specs.Prelude.{◌≡◌, [], is_some, option_map, OnOk, OnErr};
+ghost use Rattle.std.specs.Prelude.{◌≡◌, [], is_some, is_ok, option_map, IfErr, OnOk, OnErr};
 ghost use Rattle.ink_model.specs.Store.{stored, store};
 
 use indexmap::IndexMap;
@@ -49,9 +49,34 @@ impl Globals {
         self.values.contains_key(name)
     }
 
+    /// Gives a global that is there a value, without memory. Where there is none, the value is handed back.
+    pub fn replace(&mut self, name: &str, value: Value) -> Result<(), Value>
+        ensures found { is_ok result ≡ is_some (stored name.now self.old) }
+        ensures ok { OnOk result (self.new ≡ store name.now value self.old) }
+        ensures err { IfErr result (λ handed_back. handed_back ≡ value) }
+        ensures kept { OnErr result (self.new ≡ self.old) }
+    {
+        if let Some(place) = self.values.get_mut(name) {
+            *place = value;
+            return Ok(());
+        }
+        Err(value)
+    }
+
     /// Gives a global a value: one that is there keeps its place, and a new one comes last. The one error is a refused
     /// request for memory, and leaves the globals as they were.
     pub fn put(&mut self, name: &str, value: Value) -> Result<(), AllocError>
+        ensures ok { OnOk result (self.new ≡ store name.now value self.old) }
+        ensures err { OnErr result (self.new ≡ self.old) }
+    {
+        match self.replace(name, value) {
+            Ok(()) => Ok(()),
+            Err(value) => self.add(name, value),
+        }
+    }
+
+    // As `put`, with a copy of the name.
+    fn add(&mut self, name: &str, value: Value) -> Result<(), AllocError>
         ensures ok { OnOk result (self.new ≡ store name.now value self.old) }
         ensures err { OnErr result (self.new ≡ self.old) }
     {

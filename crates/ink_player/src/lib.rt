@@ -5,6 +5,7 @@ mod answer;
 mod command;
 mod desk;
 mod end;
+mod given;
 mod globals;
 mod input;
 mod lines;

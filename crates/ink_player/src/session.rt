@@ -1,24 +1,25 @@
 //! Sessions over command lines (docs/PROTOCOL.md, "Sessions").
 
-ghost use Rattle.std.specs.Prelude.{◌≡◌, ℕ, List, [], ◌||◌, ◌≤◌, ◌+◌, length};
+ghost use Rattle.std.specs.Prelude.{◌≡◌, ℕ, List, [], ◌||◌, ◌≤◌, ◌+◌, length, option_map};
 ghost use Rattle.ink_model.specs.Answer.{Refuses};
 ghost use Rattle.ink_model.specs.Session.{Does, Serves, Set};
 ghost use Rattle.ink_model.specs.Step.{nothing_bound};
+ghost use Rattle.ink_player.specs.Commands.{command_by};
 ghost use Rattle.ink_player.specs.Replies.{reply_by};
 ghost use Rattle.ink_player.specs.Words.{state_of, story_of};
 ghost use Rattle.ink_player.specs.Ends.{Reports, reads_fail, writes_fail};
-ghost use Rattle.ink_player.specs.Serving.{Answers, Runs, SamePlay, ServesNext};
+ghost use Rattle.ink_player.specs.Serving.{Answers, Runs, SamePlay, ServesNext, WritesText};
 ghost use Rattle.ink_model.specs.declared.limits.TheConstants.{MAX_INPUT};
 
-use crate::answer::{Outcome, answer_text};
-use crate::command::read_command;
+use crate::answer::{Outcome, answer_text, fixed_answer};
+use crate::command::{LineCommand, read_command};
 use crate::end::RunFault;
 use crate::input::{Ahead, Source};
 use crate::lines::{Line, next_line};
 use crate::output::{Sink, WriteFailed, write_whole};
 use crate::player::Player;
 use crate::watched::Watched;
-use ink_model::{Command, Given, MAX_INPUT, MAX_LINE, Refusal};
+use ink_model::{Given, MAX_INPUT, MAX_LINE, Refusal};
 use std::alloc::{AllocError, Global};
 use std::io::{Read, Write};
 
@@ -141,10 +142,20 @@ fn answer_line<T: Sink>(
     ensures sink { Reports (writes_fail result) (T.has_failed sink.old) (T.has_failed sink.new) (T.name sink.old) (T.name sink.new) }
 {
     let outcome = outcome_of(alloc, player, line);
+    if let Some(text) = fixed_answer(&outcome) {
+        return write_answer(sink, text.as_bytes());
+    }
     let Ok(text) = answer_text(alloc, outcome) else {
         return Err(RunFault::OutOfMemory);
     };
-    match write_whole(sink, text.as_bytes()) {
+    write_answer(sink, &text)
+}
+
+fn write_answer<T: Sink>(sink: &mut T, text: &[u8]) -> Result<(), RunFault>
+    ensures written { WritesText (T.contents sink.old) (T.contents sink.new) text.now result }
+    ensures sink { Reports (writes_fail result) (T.has_failed sink.old) (T.has_failed sink.new) (T.name sink.old) (T.name sink.new) }
+{
+    match write_whole(sink, text) {
         Ok(()) => Ok(()),
         Err(WriteFailed) => Err(RunFault::Write),
     }
@@ -161,15 +172,15 @@ fn outcome_of(alloc: Global, player: &mut Player, line: &[u8]) -> Outcome
     }
 }
 
-fn perform(player: &mut Player, command: Option<Command>) -> Outcome
-    ensures does { Does (story_of player.old) nothing_bound [] command (state_of player.old) (reply_by result) (state_of player.new) }
+fn perform(player: &mut Player, command: Option<LineCommand<'_>>) -> Outcome
+    ensures does { Does (story_of player.old) nothing_bound [] (option_map command_by command.entry) (state_of player.old) (reply_by result) (state_of player.new) }
     ensures same { SamePlay player.old player.new }
 {
     match command {
-        Some(Command::Through) => Outcome::Passage(player.through()),
-        Some(Command::Set { name, value }) => set(player, name.as_str(), value),
-        Some(Command::Get { name }) => Outcome::Value(player.get(name.as_str())),
-        Some(Command::Restart) => Outcome::Events(player.restart()),
+        Some(LineCommand::Through) => Outcome::Passage(player.through()),
+        Some(LineCommand::Set { name, value }) => set(player, name, value),
+        Some(LineCommand::Get { name }) => Outcome::Value(player.get(name)),
+        Some(LineCommand::Restart) => Outcome::Events(player.restart()),
         None => Outcome::Refused(Refusal::BadCommand),
     }
 }

@@ -75,12 +75,4 @@ impl Machine {
             None => Ok(Value::Int(0)),
         }
     }
-
-    /// Gives a global that is there a value. The one error is a refused request for memory, and leaves it as it was.
-    pub(crate) fn set(&mut self, name: &str, value: Value) -> Result<(), AllocError>
-        ensures ok { (s : StoryTree) → OnOk result (config_of s self.new ≡ with_globals (store name.now value self.old.globals) (config_of s self.old)) }
-        ensures err { (s : StoryTree) → OnErr result (config_of s self.new ≡ config_of s self.old) }
-    {
-        self.globals.put(name, value)
-    }
 }

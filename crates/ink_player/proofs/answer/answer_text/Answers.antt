@@ -1,6 +1,7 @@
-use Rattle.std.proofs.Common.{lit<}
-use Rattle.ink_player.proofs.Answering.{answer_from_text}
+use Rattle.std.proofs.Common.{◌∙◌}
+use Rattle.ink_player.proofs.Answering.{answer_from_tokens}
 use Rattle.ink_player.proofs.answer.answer_text.Goals as goal
 
 pub returns : goal.returns
-returns c = answer_from_text _ _ _ _ _ c.in_ok-reply.ensures c.in_ok-text.ensures.text (c.push.ensures.ascii (lit< tt)) c.in_ok-push.ensures.bytes
+returns c =
+    answer_from_tokens _ _ _ _ _ (c.new-out.ensures.before ∙ c.in_ok-with_capacity.ensures.items) c.new-out.ensures.tokens c.in_ok-write_reply.ensures c.into_inner-text.ensures.items c.in_ok-push.ensures.items

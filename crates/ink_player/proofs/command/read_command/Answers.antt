@@ -1,11 +1,12 @@
-use Rattle.std.proofs.Common.{◌≡◌, IfOk, OnErr, subst, sym, ap, ◌∙◌}
+use Rattle.std.proofs.Common.{◌≡◌, IfOk, OnErr, subst, sym, ap, ◌∙◌, option_map}
 use Rattle.ink_model.specs.Command.{NeedsMemory, command_word}
+use Rattle.ink_player.specs.Commands.{command_by}
 use Rattle.ink_player.proofs.Commands.{command_of_text, command_of_no_text}
 use Rattle.ink_player.proofs.command.read_command.Goals as goal
 
 pub returns-in-Ok-clause-command : goal.returns-in-Ok-clause-command
 returns-in-Ok-clause-command c =
-    subst (λ k. IfOk c.command_in.result (λ command. command ≡ k)) (ap command_word c.in-Ok.ensures.cases.0 ∙ sym (command_of_text _ c.in-Ok.ensures.cases.1))
+    subst (λ k. IfOk c.command_in.result (λ command. option_map command_by command ≡ k)) (ap command_word c.in-Ok.ensures.cases.0 ∙ sym (command_of_text _ c.in-Ok.ensures.cases.1))
     c.command_in.ensures.command
 
 pub returns-in-Ok-clause-memory : goal.returns-in-Ok-clause-memory

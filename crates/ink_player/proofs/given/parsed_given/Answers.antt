@@ -1,6 +1,6 @@
 use Rattle.std.proofs.Common.{sym, ◌∙◌}
 use Rattle.ink_player.proofs.Commands.{given_read, given_unread, fails_test}
-use Rattle.ink_player.proofs.command.given_of.Goals as goal
+use Rattle.ink_player.proofs.given.parsed_given.Goals as goal
 
 pub returns-in-Ok : goal.returns-in-Ok
 returns-in-Ok c = c.given_by.ensures ∙ sym (given_read _ _ c.in-Ok.ensures.ok)

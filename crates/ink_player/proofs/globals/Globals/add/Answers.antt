@@ -2,7 +2,7 @@ use Rattle.std.proofs.Common.{◌∙◌, ap}
 use Rattle.ink_model.specs.Store.{store}
 use Rattle.ink_player.specs.Globals.{values_of}
 use Rattle.ink_player.proofs.Storing.{kept_value}
-use Rattle.ink_player.proofs.globals.Globals.put.Goals as goal
+use Rattle.ink_player.proofs.globals.Globals.add.Goals as goal
 
 pub returns-clause-ok : goal.returns-clause-ok
 returns-clause-ok c =

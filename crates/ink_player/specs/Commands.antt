@@ -1,0 +1,12 @@
+-- Commands as lines spell them.
+use Rattle.ink_model.specs.declared.command.Command.{Command}
+use Rattle.ink_model.specs.declared.command.Command.TheVariants as command
+use Rattle.ink_player.specs.declared.command.LineCommand.{LineCommand}
+use Rattle.ink_player.specs.declared.command.LineCommand.TheVariants as line
+
+-- the command, with its name
+abbrev pub command_by : LineCommand → Command
+command_by line.Through = command.Through
+command_by (line.Set name value) = command.Set name.now value
+command_by (line.Get name) = command.Get name.now
+command_by line.Restart = command.Restart
