@@ -24,6 +24,12 @@ use std::alloc::{AllocError, Global};
 /// The longest input that is also played by `open_story` and `run`, and by few bytes at a time.
 const SHORT: usize = 65_536;
 
+/// What is answered where a command found no memory, but for `through`.
+const REFUSED: &str = r#"{"refused":"OutOfMemory"}"#;
+
+/// What is answered where `through` found no memory.
+const FAULT: &str = r#"{"events":[],"fault":"OutOfMemory"}"#;
+
 /// A session: what is read, what has to be written, and how the play has to end, which is nothing where it is served to its
 /// end. `is_cut` asks for every cut of the input and of the output as well.
 #[derive(Drop)]
@@ -289,6 +295,7 @@ fn first_other<'b>(came: &'b [u8], wanted: &[u8]) -> &'b str {
     ""
 }
 
+/// Whether a line says that memory was refused, or is the beginning of one that does, which a writer has cut.
 fn is_want(line: &str) -> bool {
-    line == r#"{"refused":"OutOfMemory"}"# || line == r#"{"events":[],"fault":"OutOfMemory"}"#
+    !line.is_empty() && (REFUSED.starts_with(line) || FAULT.starts_with(line))
 }
