@@ -39,8 +39,22 @@ impl Model for Opened {
 }
 
 impl Opened {
+    /// With no marks, which takes no memory; one that was closed is used again.
+    pub(crate) fn again(closed: Option<Opened>, alloc: Global, kind: Kind) -> Opened
+        ensures { result ≡ record { kind = section_kind kind; marks = [] } }
+    {
+        match closed {
+            Some(mut opened) => {
+                opened.kind = kind;
+                opened.marks.clear();
+                opened
+            }
+            None => Opened::new(alloc, kind),
+        }
+    }
+
     /// With no marks, which takes no memory.
-    pub(crate) fn new(alloc: Global, kind: Kind) -> Opened
+    fn new(alloc: Global, kind: Kind) -> Opened
         ensures { result ≡ record { kind = section_kind kind; marks = [] } }
     {
         Opened {

@@ -29,6 +29,8 @@ pub struct Output {
     line: Section,
     sections: Vec<Opened>,
     next_enter: u64,
+    /// One that was closed, to be opened again without a request for memory.
+    spare: Option<Opened>,
     alloc: Global,
 }
 
@@ -53,6 +55,7 @@ impl Output {
             line: Section::new(alloc),
             sections: Vec::new(alloc),
             next_enter: 0,
+            spare: None,
             alloc,
         }
     }
@@ -67,6 +70,7 @@ impl Output {
             line,
             sections,
             next_enter: self.next_enter,
+            spare: None,
             alloc,
         })
     }
@@ -205,7 +209,9 @@ impl Output {
         if self.depth() >= MAX_SECTIONS {
             return Err(Fault::TooDeep);
         }
-        self.sections.push(Opened::new(self.alloc, kind))?;
+        self.sections.reserve(1)?;
+        let opened = Opened::again(self.spare.take(), self.alloc, kind);
+        self.sections.push(opened).unwrap();
         Ok(())
     }
 
@@ -219,7 +225,7 @@ impl Output {
             return Err(Fault::BadMode);
         }
         let text = within(opened.raw_text(self.alloc)?)?;
-        self.sections.pop();
+        self.spare = self.sections.pop();
         Ok(text)
     }
 
@@ -236,7 +242,7 @@ impl Output {
         let text = within(opened.text(self.alloc)?)?;
         let below = self.depth() - 1;
         if has_string(&self.sections[..below]) {
-            self.sections.pop();
+            self.spare = self.sections.pop();
             return Ok(Some(text));
         }
         self.close_with(Mark::Tag(text))?;
@@ -250,7 +256,7 @@ impl Output {
         ensures { Leaves (writes_marks (mark ∷ []) (closed self.old.page)) self.old.page self.new.page result }
     {
         note_below(&mut self.line, &mut self.sections, mark)?;
-        self.sections.pop();
+        self.spare = self.sections.pop();
         Ok(())
     }
 
