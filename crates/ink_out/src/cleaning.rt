@@ -63,6 +63,7 @@ impl Shown {
 
 /// Adds a piece with one space between any two words of a line, and answers what stands on its last line. The one error is
 /// a refused request for memory.
+#[inline(always)]
 fn push_cleaned(text: &mut String, mut before: Before, piece: &str) -> Result<Before, AllocError>
     ensures { IfOk result (λ after. (more : List ℕ) → string_bytes text.new ++ cleaned_on after more ≡ string_bytes text.old ++ cleaned_on before (piece.now ++ more)) }
 {

@@ -96,6 +96,7 @@ impl Output {
         }
     }
 
+    #[inline(always)]
     fn write_text(&mut self, text: &str, fresh: bool) -> Result<bool, Fault>
         ensures page { Leaves (writes_text fresh text.now self.old.page) self.old.page self.new.page result }
         ensures text { IfOk result (λ has_text. has_text ≡ list_any is_text (cut text.now)) }
@@ -113,6 +114,7 @@ impl Output {
     }
 
     // Writes the pieces of a text.
+    #[inline(never)]
     fn write_cut(&mut self, text: &str, fresh: bool) -> Result<bool, Fault>
         ensures page { Leaves (writes_text fresh text.now self.old.page) self.old.page self.new.page result }
         ensures text { IfOk result (λ has_text. has_text ≡ list_any is_text (cut text.now)) }
@@ -125,6 +127,7 @@ impl Output {
     }
 
     // Writes a text of one piece.
+    #[inline(always)]
     fn write_piece(&mut self, text: &str) -> Result<bool, Fault>
         requires { text.now ≢ [] }
         ensures page { Leaves (writes_marks (piece text.now) self.old.page) self.old.page self.new.page result }
