@@ -63,13 +63,13 @@ fn shows_texts(rt: HostRuntime) -> Result<(), Fail> {
 #[test]
 fn answers_at_once(rt: HostRuntime) -> Result<(), Fail> {
     let alloc = rt.alloc();
-    let mut section = drawn(alloc, "a|b| #")?;
+    let section = drawn(alloc, "a|b| #")?;
     assert_eq!(rt; section.len(), 6);
     assert_eq!(rt; section.tags(alloc)?.as_slice().len(), 1);
     assert_eq!(rt; section.open(), None);
     assert!(rt; section.is_shown(1) && section.is_shown(3) && !section.is_shown(2));
     assert!(rt; section.more_from(5) && !section.more_from(6));
-    section.truncate(5);
+    let mut section = drawn(alloc, "a|b| ")?;
     assert_eq!(rt; section.open(), Some(3));
     section.add(Mark::Glue)?;
     assert!(rt; section.is_shown(1) && !section.is_shown(3));
