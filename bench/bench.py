@@ -135,12 +135,17 @@ def steps(program, _worker):
 
 
 def passages(_program, worker):
-    """Marks, written and shown."""
+    """Marks, written and shown; strings and tags, opened, written and closed."""
     print("%-34s %9s %9s %9s" % ("a passage, written and shown", "marks", "ns a mark", "asked"))
     start = best_work(worker, ["marks", 0, 0])
     for marks, rounds in ((25000, 80), (100000, 20)):
         plain, asked = (best_work(worker, [what, marks, rounds]) - start for what in ("marks", "asked"))
         print("%-34s %9d %9.0f %9.2f" % ("", marks, plain * 1e6 / (marks * rounds), asked / plain))
+    print("%-34s %9s %9s" % ("strings and tags, closed", "of each", "ns each"))
+    for what in ("strings", "tags"):
+        for count, rounds in ((1000, 1000), (50000, 20)):
+            took = best_work(worker, [what, count, rounds]) - start
+            print("%-34s %9d %9.0f" % ("  " + what, count, took * 1e6 / (count * rounds)))
 
 
 BENCHES = {"reading": reading, "arithmetic": steps, "passages": passages}

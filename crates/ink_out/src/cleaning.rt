@@ -63,6 +63,7 @@ impl Shown {
 
 /// Adds a piece with one space between any two words of a line, and answers what stands on its last line. The one error is
 /// a refused request for memory.
+#[inline(always)]
 fn push_cleaned(text: &mut String, mut before: Before, piece: &str) -> Result<Before, AllocError>
     ensures { IfOk result (λ after. (more : List ℕ) → string_bytes text.new ++ cleaned_on after more ≡ string_bytes text.old ++ cleaned_on before (piece.now ++ more)) }
 {
@@ -83,6 +84,7 @@ fn push_cleaned(text: &mut String, mut before: Before, piece: &str) -> Result<Be
 }
 
 /// Adds a word's bytes, and in front of them the space that a gap leaves. The one error is a refused request for memory.
+#[inline(always)]
 fn push_word(text: &mut String, before: Before, word: &str) -> Result<(), AllocError>
     ensures { OnOk result (string_bytes text.new ≡ string_bytes text.old ++ space before ++ word.now) }
 {
@@ -93,6 +95,7 @@ fn push_word(text: &mut String, before: Before, word: &str) -> Result<(), AllocE
 }
 
 /// Goes past a blank or a newline, which is added. The one error is a refused request for memory.
+#[inline(always)]
 fn push_white(text: &mut String, before: Before, byte: u8) -> Result<Before, AllocError>
     requires { IsTrue (is_white byte) }
     ensures { IfOk result (λ after. (more : List ℕ) → string_bytes text.new ++ cleaned_on after more ≡ string_bytes text.old ++ cleaned_on before (byte ∷ more)) }
@@ -109,6 +112,7 @@ fn push_white(text: &mut String, before: Before, byte: u8) -> Result<Before, All
 }
 
 /// How many bytes a text begins with that are no blank and no newline.
+#[inline(always)]
 fn word_len(text: &str) -> usize
     ensures { result ≡ prefix_len (λ byte. not (is_white byte)) text.now }
 {
@@ -118,8 +122,9 @@ fn word_len(text: &str) -> usize
         .count()
 }
 
+#[inline(always)]
 fn is_white(byte: u8) -> bool
     ensures { result ≡ is_white byte }
 {
-    byte == b' ' || byte == b'\t' || byte == b'\n'
+    byte <= b' ' && (byte == b' ' || byte == b'\t' || byte == b'\n')
 }

@@ -1,6 +1,6 @@
 //! Cutting a written text into marks (docs/TEXT.md, "Cutting").
 
-ghost use Rattle.std.specs.Prelude.{◌≡◌, ◌≢◌, [], ◌∷◌, ◌++◌, ◌||◌, map, not, IfOk, OnOk, IfSome, is_some, slice_index};
+ghost use Rattle.std.specs.Prelude.{◌≡◌, ◌≢◌, ◌<◌, [], ◌∷◌, ◌++◌, ◌||◌, length, map, not, IfOk, OnOk, IfSome, is_some, slice_index};
 ghost use Rattle.std.specs.List.{list_any, prefix_len, suffix_len};
 ghost use Rattle.ink_model.specs.Mark.{cut, cut_end, piece};
 ghost use Rattle.ink_model.specs.Output.{is_text};
@@ -19,6 +19,7 @@ enum Space {
 }
 
 impl Space {
+    #[inline(always)]
     fn has(self, byte: u8) -> bool
         ensures { result ≡ is_space self byte }
     {
@@ -40,6 +41,7 @@ pub(crate) enum Piece {
 impl Piece {
     /// The piece of bytes without newlines at their ends, of which there are some. The one error is a refused request for
     /// memory.
+    #[inline(always)]
     pub(crate) fn from_str(alloc: Global, text: &str) -> Result<Piece, AllocError>
         ensures { text.now ≢ [] → IfOk result (λ one. piece_mark one ∷ [] ≡ piece text.now) }
     {
@@ -52,6 +54,7 @@ impl Piece {
     }
 
     /// A text, and no blanks or newline.
+    #[inline(always)]
     pub(crate) fn is_text(&self) -> bool
         ensures { result ≡ is_text (piece_mark self.now) }
     {
@@ -59,6 +62,7 @@ impl Piece {
     }
 
     /// The mark that it leaves.
+    #[inline(always)]
     pub(crate) fn into_mark(self) -> Mark
         ensures { result ≡ piece_mark self }
     {
@@ -71,9 +75,17 @@ impl Piece {
 }
 
 /// The white at one of a text's ends holds a newline, so that the text is more than one piece.
+#[inline(always)]
 pub(crate) fn is_cut(text: &str) -> bool
+    requires { 0 < length text.now }
     ensures { result ≡ (has_newline (leading is_white text.now) || has_newline (trailing is_white text.now)) }
 {
+    let bytes = text.as_bytes();
+    let first = bytes[0];
+    let last = bytes[bytes.len() - 1];
+    if !Space::White.has(first) && !Space::White.has(last) {
+        return false;
+    }
     split_start(text).is_some() || split_end(text).is_some()
 }
 
@@ -182,6 +194,7 @@ fn trailing(text: &str, space: Space) -> usize
 }
 
 /// Some byte of a text is no blank.
+#[inline(always)]
 fn has_words(text: &str) -> bool
     ensures { result ≡ list_any (λ byte. not (is_blank byte)) text.now }
 {
@@ -196,6 +209,7 @@ fn is_newline_at(text: &str, at: usize) -> bool
 }
 
 /// A space or a tab.
+#[inline(always)]
 fn is_blank(byte: u8) -> bool
     ensures { result ≡ is_blank byte }
 {

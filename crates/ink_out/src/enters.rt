@@ -2,6 +2,7 @@
 
 ghost use Rattle.std.specs.Prelude.{◌≡◌, List, [], ◌∷◌, length, OnOk, OnErr};
 ghost use Rattle.ink_model.specs.declared.mark.Mark.{Mark};
+ghost use Rattle.ink_model.specs.declared.mark.Mark.TheVariants as kinds;
 ghost use Rattle.ink_out.specs.Stands.{Knows};
 ghost use Rattle.ink_out.specs.Tracks.{reach_of};
 
@@ -39,17 +40,24 @@ impl Enters {
         ensures err { OnErr result ((before : List Mark) → Knows self.old before → Knows self.new before) }
     {
         match mark {
-            Mark::Enter(number) => {
-                self.at.insert(*number, at)?;
-                Ok(())
-            }
+            Mark::Enter(number) => self.start(*number, at),
             _ => Ok(()),
         }
     }
 
+    // Notes that a number starts at an index. Few marks are starts, so that the map's code stands apart.
+    #[inline(never)]
+    fn start(&mut self, number: u64, at: usize) -> Result<(), AllocError>
+        ensures ok { OnOk result ((before : List Mark) → at ≡ length before → Knows self.old before → Knows self.new (kinds.Enter number ∷ before)) }
+        ensures err { OnErr result ((before : List Mark) → Knows self.old before → Knows self.new before) }
+    {
+        self.at.insert(number, at)?;
+        Ok(())
+    }
+
     /// How far back the end of a function's text reaches: to the start of its number, and past all marks where there is
     /// none.
-    #[inline(always)]
+    #[inline(never)]
     pub(crate) fn reach(&self, number: Option<u64>) -> Option<usize>
         ensures { (before : List Mark) → Knows self.now before → result ≡ reach_of number before }
     {

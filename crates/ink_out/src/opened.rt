@@ -39,8 +39,22 @@ impl Model for Opened {
 }
 
 impl Opened {
+    /// With no marks, which takes no memory; one that was closed is used again.
+    pub(crate) fn again(closed: Option<Opened>, alloc: Global, kind: Kind) -> Opened
+        ensures { result ≡ record { kind = section_kind kind; marks = [] } }
+    {
+        match closed {
+            Some(mut opened) => {
+                opened.kind = kind;
+                opened.marks.clear();
+                opened
+            }
+            None => Opened::new(alloc, kind),
+        }
+    }
+
     /// With no marks, which takes no memory.
-    pub(crate) fn new(alloc: Global, kind: Kind) -> Opened
+    fn new(alloc: Global, kind: Kind) -> Opened
         ensures { result ≡ record { kind = section_kind kind; marks = [] } }
     {
         Opened {
@@ -60,6 +74,7 @@ impl Opened {
         })
     }
 
+    #[inline(always)]
     pub(crate) fn is_string(&self) -> bool
         ensures { result ≡ is_string self.now }
     {
@@ -67,6 +82,7 @@ impl Opened {
     }
 
     /// Adds a mark. The one error is a refused request for memory, and leaves all as it was.
+    #[inline(always)]
     fn add(&mut self, mark: Mark) -> Result<(), AllocError>
         ensures ok { OnOk result (self.new ≡ record self.old { marks = self.old.marks ++ mark ∷ [] }) }
         ensures err { OnErr result (self.new ≡ self.old) }
@@ -112,6 +128,7 @@ pub(crate) fn copied_sections(alloc: Global, sections: &[Opened]) -> Result<Vec<
 /// Adds a mark to the last of these sections, or to the line where there is none. `TooDeep` for more than 100,000 marks in
 /// the line, which is found before memory is asked for, `OutOfMemory` for a refused request for memory; nothing has
 /// changed then.
+#[inline(always)]
 pub(crate) fn note(line: &mut Section, sections: &mut [Opened], mark: Mark) -> Result<(), Fault>
     ensures page { Notes (mark ∷ []) line.old sections.old line.new sections.new result }
     ensures limit { (n : ℕ) → IfErr (writes_marks (mark ∷ []) (page_of line.old sections.old n)) (λ f. result ≡ Err f) }

@@ -29,6 +29,8 @@ pub struct Output {
     line: Section,
     sections: Vec<Opened>,
     next_enter: u64,
+    /// One that was closed, to be opened again without a request for memory.
+    spare: Option<Opened>,
     alloc: Global,
 }
 
@@ -53,6 +55,7 @@ impl Output {
             line: Section::new(alloc),
             sections: Vec::new(alloc),
             next_enter: 0,
+            spare: None,
             alloc,
         }
     }
@@ -67,6 +70,7 @@ impl Output {
             line,
             sections,
             next_enter: self.next_enter,
+            spare: None,
             alloc,
         })
     }
@@ -92,6 +96,7 @@ impl Output {
         }
     }
 
+    #[inline(always)]
     fn write_text(&mut self, text: &str, fresh: bool) -> Result<bool, Fault>
         ensures page { Leaves (writes_text fresh text.now self.old.page) self.old.page self.new.page result }
         ensures text { IfOk result (λ has_text. has_text ≡ list_any is_text (cut text.now)) }
@@ -109,6 +114,7 @@ impl Output {
     }
 
     // Writes the pieces of a text.
+    #[inline(never)]
     fn write_cut(&mut self, text: &str, fresh: bool) -> Result<bool, Fault>
         ensures page { Leaves (writes_text fresh text.now self.old.page) self.old.page self.new.page result }
         ensures text { IfOk result (λ has_text. has_text ≡ list_any is_text (cut text.now)) }
@@ -121,6 +127,7 @@ impl Output {
     }
 
     // Writes a text of one piece.
+    #[inline(always)]
     fn write_piece(&mut self, text: &str) -> Result<bool, Fault>
         requires { text.now ≢ [] }
         ensures page { Leaves (writes_marks (piece text.now) self.old.page) self.old.page self.new.page result }
@@ -205,7 +212,9 @@ impl Output {
         if self.depth() >= MAX_SECTIONS {
             return Err(Fault::TooDeep);
         }
-        self.sections.push(Opened::new(self.alloc, kind))?;
+        self.sections.reserve(1)?;
+        let opened = Opened::again(self.spare.take(), self.alloc, kind);
+        self.sections.push(opened).unwrap();
         Ok(())
     }
 
@@ -219,7 +228,7 @@ impl Output {
             return Err(Fault::BadMode);
         }
         let text = within(opened.raw_text(self.alloc)?)?;
-        self.sections.pop();
+        self.spare = self.sections.pop();
         Ok(text)
     }
 
@@ -236,7 +245,7 @@ impl Output {
         let text = within(opened.text(self.alloc)?)?;
         let below = self.depth() - 1;
         if has_string(&self.sections[..below]) {
-            self.sections.pop();
+            self.spare = self.sections.pop();
             return Ok(Some(text));
         }
         self.close_with(Mark::Tag(text))?;
@@ -250,7 +259,7 @@ impl Output {
         ensures { Leaves (writes_marks (mark ∷ []) (closed self.old.page)) self.old.page self.new.page result }
     {
         note_below(&mut self.line, &mut self.sections, mark)?;
-        self.sections.pop();
+        self.spare = self.sections.pop();
         Ok(())
     }
 
