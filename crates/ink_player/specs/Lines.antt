@@ -39,11 +39,3 @@ GivesLine left left' old new limit (Err fault.Read) = TakesPart left left' old n
 GivesLine left left' old new limit (Err fault.Write) = ⊥
 GivesLine left left' old new limit (Err fault.TooLong) = (p : TakesPart left left' old new (limit + 1)) × IsTooLong limit new p.part
 GivesLine left left' old new limit (Err fault.OutOfMemory) = LacksMemory left left' old new limit
-
--- a byte at a line's end; or none where the line is as long as it may be, and else where memory was refused
-abbrev pub Pushes : List ℕ → ℕ → ℕ → List ℕ → Result (Unit {0}) RunFault → Type 0
-Pushes old byte limit new (Ok x) = (new ≡ old ++ byte ∷ []) × (length old < limit)
-Pushes old byte limit new (Err fault.Read) = ⊥
-Pushes old byte limit new (Err fault.Write) = ⊥
-Pushes old byte limit new (Err fault.TooLong) = limit ≤ length old
-Pushes old byte limit new (Err fault.OutOfMemory) = length old < limit

@@ -1,10 +1,14 @@
 //! Where lines are read from.
 
-ghost use Rattle.std.specs.Prelude.{◌≡◌, ◌<◌, ◌≤◌, ◌+◌, ◌-◌, ℕ, max, min, List, [], ◌∷◌, Bool, true, false, ◌||◌, ◌++◌, Option, length, take, drop, is_err, IfOk, OnOk, OnErr, MatchResult};
+ghost use Rattle.std.specs.Prelude.{◌≡◌, ◌<◌, ◌≤◌, ◌+◌, ◌-◌, ℕ, max, min, List, [], ◌∷◌, Bool, true, false, ◌||◌, ◌++◌, Option, length, take, drop, is_err, IfOk, OnOk, OnErr, MatchOption, MatchResult};
+ghost use Rattle.ink_model.specs.Bytes.{has_newline};
+ghost use Rattle.ink_player.specs.Input.{Extends, IsNewlineAt};
 ghost use Rattle.std.specs.Io.{ReadsAtMost};
 ghost use Rattle.std.specs.Io.KnownBytes.{Consumes, Keeps, IsAtEnd, ReadConsumes};
 
+use crate::end::RunFault;
 use crate::watched::Watched;
+use memchr::memchr;
 use std::io::Read;
 use std::marker::Model;
 
@@ -54,11 +58,17 @@ impl<R: Read> Source for Watched<'_, R> {
 /// How many bytes are read at a time, at most.
 const CHUNK: usize = 4096;
 
-/// What `Ahead::next` gives: a byte, or the source's end, or that one byte more stands there than may be taken.
+/// What stands next: bytes that may be taken, or the source's end, or one byte more than may be taken.
 pub(crate) enum Next {
-    Byte(u8),
+    Bytes,
     End,
     TooMany,
+}
+
+/// What `Ahead::cut` gave to a line: all up to a newline, which was taken too, or all that was read.
+pub(crate) enum Cut {
+    Newline,
+    More,
 }
 
 /// Bytes that were read and not yet taken, and how many may still be taken.
@@ -82,9 +92,9 @@ impl Model for Ahead {
 }
 
 impl Ahead {
-    ghost use Rattle.std.specs.Prelude.{◌≡◌, ◌<◌, ◌≤◌, ◌+◌, max, [], ◌∷◌, ◌||◌, length, is_err, IfOk, OnOk, OnErr};
+    ghost use Rattle.std.specs.Prelude.{◌≡◌, ◌<◌, ◌≤◌, ◌+◌, max, [], ◌||◌, length, take, drop, is_err, OnOk, OnErr};
     ghost use Rattle.std.specs.Io.KnownBytes.{IsAtEnd};
-    ghost use Rattle.ink_player.specs.Input.{GivesByte, Takes, count_taken};
+    ghost use Rattle.ink_player.specs.Input.{Cuts, Extends, GivesNext, Takes};
 
     /// Nothing was read, and this many bytes may be taken.
     pub(crate) fn new(most: usize) -> Ahead
@@ -105,19 +115,18 @@ impl Ahead {
         let _ = &self.chunk;
     }
 
-    /// The next byte. Where none is left of what was read, reads no more than `room` bytes and than may be taken, but one in
-    /// any case, which tells whether there is any.
+    /// What stands next. Where nothing is left of what was read, reads no more than `room` bytes and than may be taken, but
+    /// one in any case, which tells whether there is any.
     pub(crate) fn next<S: Source>(
         &mut self,
         source: &mut S,
         room: usize,
     ) -> Result<Next, ReadFailed>
-        ensures gives { GivesByte (S.remaining source.old) (S.remaining source.new) self.old self.new result }
+        ensures gives { GivesNext (S.remaining source.old) (S.remaining source.new) self.old self.new result }
         ensures cause { S.has_failed source.new ≡ (is_err result || S.has_failed source.old) }
         ensures name { S.name source.new ≡ S.name source.old }
-        ensures bound { length self.new.unread ≤ self.new.spare + 1 }
-        ensures within { IfOk result (λ n. count_taken n + length self.new.unread ≤ max (count_taken n + self.new.spare) 1) }
-        ensures room { IfOk result (λ n. count_taken n + length self.new.unread ≤ max (length self.old.unread) (max room 1)) }
+        ensures bound { length self.new.unread ≤ max self.new.spare 1 }
+        ensures room { length self.new.unread ≤ max (length self.old.unread) (max room 1) }
     {
         self.fill(source, room)?;
         if self.at == self.end {
@@ -126,7 +135,7 @@ impl Ahead {
         if self.spare == 0 {
             return Ok(Next::TooMany);
         }
-        Ok(Next::Byte(self.pop()))
+        Ok(Next::Bytes)
     }
 
     // Reads where none is left of what was read. At `Ok` there is then a byte, unless the source is at its end.
@@ -149,17 +158,78 @@ impl Ahead {
         Ok(())
     }
 
-    fn pop(&mut self) -> u8
+    /// Moves what was read onto the end of a line of at most so many bytes, up to the first newline, which is taken too.
+    /// Errors: `TooLong`, where the line would be longer; `OutOfMemory`, where memory was refused for it. The line is as it
+    /// was then.
+    pub(crate) fn cut(&mut self, line: &mut Vec<u8>, limit: usize) -> Result<Cut, RunFault>
+        requires some { 0 < length self.old.unread }
+        requires spare { length self.old.unread ≤ self.old.spare }
+        ensures { Cuts line.old.items limit self.old self.new line.new.items result }
+    {
+        match first_newline(&self.chunk[self.at..self.end]) {
+            Some(count) => {
+                if let Err(fault) = self.give(count, line, limit) {
+                    return Err(fault);
+                }
+                self.skip();
+                Ok(Cut::Newline)
+            }
+            None => {
+                if let Err(fault) = self.give(self.end - self.at, line, limit) {
+                    return Err(fault);
+                }
+                Ok(Cut::More)
+            }
+        }
+    }
+
+    // Takes one byte.
+    fn skip(&mut self)
         requires some { 0 < length self.old.unread }
         requires spare { 0 < self.old.spare }
-        ensures bytes { self.old.unread ≡ result ∷ self.new.unread }
+        ensures bytes { self.new.unread ≡ drop 1 self.old.unread }
         ensures count { self.new.spare + 1 ≡ self.old.spare }
     {
-        let byte = self.chunk[self.at];
         self.at += 1;
         self.spare -= 1;
-        byte
     }
+
+    // Moves so many bytes onto the end of a line. At an error they are taken too, and the line is as it was.
+    fn give(&mut self, count: usize, line: &mut Vec<u8>, limit: usize) -> Result<(), RunFault>
+        requires some { count ≤ length self.old.unread }
+        requires spare { length self.old.unread ≤ self.old.spare }
+        ensures line { Extends line.old.items (take count self.old.unread) limit line.new.items result }
+        ensures bytes { self.new.unread ≡ drop count self.old.unread }
+        ensures count { self.new.spare + count ≡ self.old.spare }
+    {
+        let from = self.at;
+        self.at += count;
+        self.spare -= count;
+        extend(line, &self.chunk[from..self.at], limit)
+    }
+}
+
+// The place of the first newline.
+fn first_newline(bytes: &[u8]) -> Option<usize>
+    ensures { MatchOption result (has_newline bytes.now ≡ false) (IsNewlineAt bytes.now) }
+{
+    memchr(b'\n', bytes)
+}
+
+// Appends a piece to a line, unless the line would be longer than its limit.
+fn extend(line: &mut Vec<u8>, piece: &[u8], limit: usize) -> Result<(), RunFault>
+    ensures { Extends line.old.items piece.now limit line.new.items result }
+{
+    if piece.is_empty() {
+        return Ok(());
+    }
+    if line.len() > limit || piece.len() > limit - line.len() {
+        return Err(RunFault::TooLong);
+    }
+    if line.extend_from_slice(piece).is_err() {
+        return Err(RunFault::OutOfMemory);
+    }
+    Ok(())
 }
 
 fn read_some<S: Source>(source: &mut S, chunk: &mut [u8], room: usize) -> Result<usize, ReadFailed>

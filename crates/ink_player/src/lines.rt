@@ -2,10 +2,10 @@
 
 ghost use Rattle.std.specs.Prelude.{◌≡◌, ◌≤◌, ◌+◌, ◌||◌, length};
 ghost use Rattle.ink_player.specs.Ends.{reads_fail};
-ghost use Rattle.ink_player.specs.Lines.{GivesLine, Pushes};
+ghost use Rattle.ink_player.specs.Lines.{GivesLine};
 
 use crate::end::RunFault;
-use crate::input::{Ahead, Next, Source};
+use crate::input::{Ahead, Cut, Next, Source};
 use std::alloc::Global;
 
 /// A line: one that ended at its newline, without it, or what stands before the source's end.
@@ -30,31 +30,19 @@ pub(crate) fn next_line<S: Source>(
     ensures name { S.name source.new ≡ S.name source.old }
 {
     let mut line = Vec::new(alloc);
-    'bytes: loop {
+    'pieces: loop {
         let Ok(next) = ahead.next(source, limit - line.len()) else {
             return Err(RunFault::Read);
         };
         match next {
-            Next::Byte(b'\n') => return Ok(Line::Whole(line)),
-            Next::Byte(byte) => {
-                if let Err(fault) = push_byte(&mut line, byte, limit) {
-                    return Err(fault);
-                }
-            }
+            Next::Bytes => {}
             Next::End => return Ok(Line::Last(line)),
             Next::TooMany => return Err(RunFault::TooLong),
         }
+        match ahead.cut(&mut line, limit) {
+            Ok(Cut::Newline) => return Ok(Line::Whole(line)),
+            Ok(Cut::More) => {}
+            Err(fault) => return Err(fault),
+        }
     }
-}
-
-fn push_byte(line: &mut Vec<u8>, byte: u8, limit: usize) -> Result<(), RunFault>
-    ensures { Pushes line.old.items byte limit line.new.items result }
-{
-    if line.len() >= limit {
-        return Err(RunFault::TooLong);
-    }
-    if line.push(byte).is_err() {
-        return Err(RunFault::OutOfMemory);
-    }
-    Ok(())
 }
