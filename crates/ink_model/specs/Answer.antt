@@ -1,10 +1,8 @@
 -- Answers (docs/PROTOCOL.md, "Answers").
-use Rattle.std.specs.Prelude.{ℕ, List, [], ◌∷◌, ◌++◌, map, codes, decimal, if◌then◌else◌, Result, Ok, Err}
+use Rattle.std.specs.Prelude.{ℕ, List, [], ◌∷◌, ◌++◌, map, codes, Result, Ok, Err}
 use Rattle.ink_model.specs.ValueJson.{value_data}
-use Rattle.serde_json.specs.Data.{Data, null, boolean, number, string, array, object, Items, no_items, item, no_members, member}
-use Rattle.serde_json.specs.Find.{of_integer}
+use Rattle.serde_json.specs.Data.{Data, boolean, string, array, object, Items, no_items, item, no_members, member}
 use Rattle.serde_json.specs.Written.{compact_text}
-use Rattle.ink_model.specs.Bytes.{joined}
 use Rattle.ink_model.specs.declared.fault.Fault.{Fault}
 use Rattle.ink_model.specs.declared.fault.Fault.TheVariants as fault
 use Rattle.ink_model.specs.declared.fault.Refusal.{Refusal}
@@ -13,11 +11,7 @@ use Rattle.ink_model.specs.declared.fault.Halt.{Halt}
 use Rattle.ink_model.specs.declared.fault.Halt.TheVariants as halt
 use Rattle.ink_model.specs.declared.host.Event.{Event}
 use Rattle.ink_model.specs.declared.passage.Passage.{Passage}
-use Rattle.ink_model.specs.declared.place.Part.{Part}
-use Rattle.ink_model.specs.declared.place.Part.TheVariants.{Index, Name}
-use Rattle.ink_model.specs.declared.place.Path.{Path}
 use Rattle.ink_model.specs.declared.value.Value.{Value}
-use Rattle.ink_model.specs.declared.value.Value.TheVariants as value
 use Rattle.ink_model.specs.declared.passage.Shown.{Shown}
 
 -- what a command answers: a passage, what happened, a value, a refusal, or a fault with what happened before it

@@ -1,5 +1,5 @@
 -- Cleaned text (docs/TEXT.md, "Cleaning").
-use Rattle.std.specs.Prelude.{ℕ, List, [], ◌∷◌, ◌++◌, map, filter, Bool, true, false, if◌then◌else◌}
+use Rattle.std.specs.Prelude.{ℕ, List, map, filter}
 use Rattle.ink_model.specs.Bytes.{is_blank, is_newline, joined, pieces, is_filled}
 
 -- a line's words, one space between any two

@@ -1,18 +1,11 @@
 -- Command lines (docs/PROTOCOL.md, "Command lines").
-use Rattle.std.specs.Prelude.{ℕ, List, [], ◌∷◌, ◌==◌, bytes_eq, codes, length, ℤ, ◌&&◌, nat_lt, is_none, option_and_then, Option, Some, None, if◌then◌else◌}
-use Rattle.std.specs.Option.{option_map, option_or}
+use Rattle.std.specs.Prelude.{ℕ, List, [], ◌∷◌, ◌==◌, bytes_eq, codes, ◌&&◌, is_none, option_and_then, Option, Some, None, if◌then◌else◌}
+use Rattle.std.specs.Option.{option_or}
 use Rattle.std.specs.Str.{is_utf8}
 use Rattle.ink_model.specs.ValueJson.{given_of}
-use Rattle.serde_json.specs.Data.{Data, null, boolean, number, string, array, object}
-use Rattle.serde_json.specs.Find.{as_integer}
-use Rattle.serde_json.specs.Read.{read}
-use Rattle.ink_model.specs.Leaves.{is_small}
-use Rattle.ink_model.specs.declared.limits.TheConstants.{MAX_TEXT}
 use Rattle.ink_model.specs.Bytes.{is_filled, onto, at_space, after}
 use Rattle.ink_model.specs.declared.command.Command.{Command}
 use Rattle.ink_model.specs.declared.command.Command.TheVariants as command
-use Rattle.ink_model.specs.declared.host.Given.{Given}
-use Rattle.ink_model.specs.declared.host.Given.TheVariants as given
 
 -- the lines of an input: each ends at a newline, or at the input's end; an empty last line is none
 abbrev pub lines_of : List ℕ → List (List ℕ)

@@ -1,5 +1,5 @@
 -- Which marks a written text leaves, and the tags among marks (docs/TEXT.md).
-use Rattle.std.specs.Prelude.{ℕ, List, [], ◌∷◌, ◌++◌, reverse, Bool, not, ◌||◌, ◌==◌, if◌then◌else◌}
+use Rattle.std.specs.Prelude.{ℕ, List, [], ◌∷◌, ◌++◌, not, if◌then◌else◌}
 use Rattle.std.specs.List.{list_any}
 use Rattle.ink_model.specs.Bytes.{is_blank, is_white, has_newline, leading, without, trailing, trimmed}
 use Rattle.ink_model.specs.declared.mark.Mark.{Mark}

@@ -1,10 +1,10 @@
 -- Operators (docs/VALUES.md, "Operators").
-use Rattle.std.specs.Prelude.{ℕ, ℤ, pos, negsuc, List, [], ◌∷◌, ◌++◌, length, Bool, true, false, not, ◌&&◌, ◌||◌, ◌==◌, bytes_eq, nat_lt, int_lt, int_le, int_div, int_rem, if◌then◌else◌, Result, Ok, Err}
+use Rattle.std.specs.Prelude.{ℕ, ℤ, pos, negsuc, List, [], ◌∷◌, ◌++◌, Bool, true, false, not, ◌&&◌, ◌||◌, bytes_eq, int_lt, int_le, int_div, int_rem, if◌then◌else◌, Result, Ok, Err}
 use Rattle.std.specs.Fmt.{signed_decimal}
 use Rattle.std.specs.Int.{w32, int_wrapping_add, int_wrapping_sub, int_wrapping_mul, int_wrapping_neg, int_min, int_max}
 use Rattle.std.specs.Ordering.{int_eq}
 use Rattle.ink_model.specs.Value.{truth_text, same_path}
-use Rattle.ink_model.specs.Bytes.{is_filled, fits_text, has}
+use Rattle.ink_model.specs.Bytes.{fits_text, has}
 use Rattle.ink_model.specs.declared.fault.Fault.{Fault}
 use Rattle.ink_model.specs.declared.fault.Fault.TheVariants.{BadOperands, Divide, TooDeep}
 use Rattle.ink_model.specs.declared.operator.Op.{Op}

@@ -1,5 +1,5 @@
 -- Paths: their spelling, and where they lead (docs/STORY_FORMAT.md, "Paths").
-use Rattle.std.specs.Prelude.{map, ℕ, ◌+◌, ◌-◌, ◌*◌, ◌^◌, List, [], ◌∷◌, ◌++◌, reverse, Bool, true, false, not, ◌&&◌, ◌==◌, bytes_eq, codes, ◌||◌, nat_eq, nat_lt, nat_le, is_some, if◌then◌else◌, Option, Some, None, option_and_then, decimal}
+use Rattle.std.specs.Prelude.{map, ℕ, ◌^◌, List, [], ◌∷◌, ◌++◌, reverse, Bool, true, false, not, ◌&&◌, bytes_eq, codes, ◌||◌, nat_eq, nat_lt, nat_le, is_some, if◌then◌else◌, Option, Some, None, option_and_then, decimal}
 use Rattle.std.specs.List.{list_all}
 use Rattle.std.specs.Option.{option_map}
 use Rattle.ink_model.specs.Tree.{StoryTree, leaf, container, at, width}

@@ -1,12 +1,12 @@
 -- What a player answers to command lines (docs/PROTOCOL.md, "Sessions").
-use Rattle.std.specs.Prelude.{length, nat_lt, is_some, Result, Ok, Err, ◌≡◌, ℕ, List, [], ◌∷◌, ◌++◌, Bool, true, false, not, ◌&&◌, ◌⊎◌, Option, Some, None, if◌then◌else◌, MatchBool}
+use Rattle.std.specs.Prelude.{is_some, Result, Ok, Err, ◌≡◌, ℕ, List, [], ◌∷◌, ◌++◌, Bool, true, false, not, ◌&&◌, ◌⊎◌, Option, Some, None, if◌then◌else◌, MatchBool}
 use Rattle.ink_model.specs.Bytes.{fits_text}
 use Rattle.ink_model.specs.Tree.{StoryTree}
 use Rattle.ink_model.specs.Mark.{tags}
 use Rattle.ink_model.specs.Shown.{shown_text}
 use Rattle.ink_model.specs.Clean.{clean}
 use Rattle.ink_model.specs.Configuration.{Configuration, ChoiceOf, can_go_on, settled, with_globals}
-use Rattle.ink_model.specs.Step.{Bound}
+use Rattle.ink_model.specs.Step.Host.{Bound}
 use Rattle.ink_model.specs.Run.{value_given, Made, answers_of, Moment, Stopped, Faulted, through}
 use Rattle.ink_model.specs.Memory.{FallsShort, OpensShort, holds_memory}
 use Rattle.ink_model.specs.Command.{command_of, NeedsMemory}
@@ -17,7 +17,6 @@ use Rattle.ink_model.specs.Opening.{opening, Unopened}
 use Rattle.ink_model.specs.declared.command.Command.{Command}
 use Rattle.ink_model.specs.declared.command.Command.TheVariants as command
 use Rattle.ink_model.specs.declared.fault.Refusal.TheVariants as refusal
-use Rattle.ink_model.specs.declared.fault.Fault.{Fault}
 use Rattle.ink_model.specs.declared.host.Given.{Given}
 use Rattle.ink_model.specs.declared.host.Given.TheVariants as given
 use Rattle.ink_model.specs.declared.value.Value.{Value}

@@ -1,5 +1,5 @@
 -- The JSON of values, both ways (docs/PROTOCOL.md).
-use Rattle.std.specs.Prelude.{ℕ, ℤ, List, codes, length, nat_lt, if◌then◌else◌, Option, Some, None, option_and_then}
+use Rattle.std.specs.Prelude.{ℕ, ℤ, List, codes, if◌then◌else◌, Option, Some, None, option_and_then}
 use Rattle.serde_json.specs.Data.{Data, null, boolean, number, string, array, object, no_members, member}
 use Rattle.serde_json.specs.Find.{of_integer, as_integer}
 use Rattle.serde_json.specs.Read.{read}

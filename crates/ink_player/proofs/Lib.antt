@@ -1,7 +1,3 @@
-pub mod Stepping
-pub mod Diverting
-pub mod Telling
-pub mod Running
 pub mod Commands
 pub mod Answering
 pub mod Writing
@@ -10,7 +6,4 @@ pub mod Sessions
 pub mod Refusing
 pub mod Playings
 pub mod Supporting
-pub mod Stacks
-pub mod Storing
-pub mod Opening
-pub mod Faults
+pub mod Restarts
