@@ -13,8 +13,10 @@ use Rattle.ink_model.specs.Leaves.{string_leaf}
 use Rattle.ink_model.specs.Word.{word, operator_word}
 use Rattle.ink_model.specs.Mark.{cut}
 use Rattle.ink_model.specs.Clean.{clean}
-use Rattle.ink_model.specs.Configuration.{Configuration, with_mode, with_stack, with_globals, start, fresh_at, ended, with_safe, put_at, moved, settled, begun, can_go_on}
-use Rattle.ink_model.specs.Step.{Bound, Faults, push, step, go_on, nothing_bound, Next, Stop, with_page}
+use Rattle.ink_model.specs.Configuration.{Configuration, with_globals, start, fresh_at, ended, with_safe, put_at, moved, settled, begun, can_go_on}
+use Rattle.ink_model.specs.Effect.{with_mode, with_page, with_stack}
+use Rattle.ink_model.specs.Stack.{pushed}
+use Rattle.ink_model.specs.Step.{Bound, Faults, step, nothing_bound, Next, Stop}
 use Rattle.ink_model.specs.Run.{Made, Moment, moment, next, run, through, cut_off, answered_at, At, Stopped}
 use Rattle.ink_model.specs.Command.{lines_of, command_of}
 use Rattle.ink_model.specs.Answer.{answer, Tells, Acts, Shows, Refuses, Breaks}
@@ -86,7 +88,7 @@ stays_in_name = refl
 -- a text is written, and flow moves on
 a_step : step small nothing_bound (start small [])
     ≡ Next (with_page (record { line = Text (codes "Hi") ∷ []; sections = []; next_enter = 0 }) (moved (Index 0 ∷ []) (Some (Index 1 ∷ [])) (start small [])))
-unfolding step start fresh_at entered go_on next_place cut
+unfolding step start fresh_at entered next_place cut
 a_step = refl
 
 -- `done` stops flow safely, and the previous place stays
@@ -100,7 +102,7 @@ an_end = refl
 
 -- off the story's end flow stops, and has moved
 off_the_end : step (list (tree (list no_trees) no_trees)) nothing_bound (start small []) ≡ Stop (moved (Index 0 ∷ []) None (start small []))
-unfolding step start fresh_at entered go_on next_place
+unfolding step start fresh_at entered next_place
 off_the_end = refl
 
 -- ---- a run and its passage
@@ -108,7 +110,7 @@ off_the_end = refl
 a_run : moment small nothing_bound (start small []) [] 3
     ≡ Stopped (with_safe true (put_at None (with_page (record { line = Text (codes "Hi") ∷ Newline ∷ []; sections = []; next_enter = 0 })
     (moved (Index 1 ∷ []) (Some (Index 2 ∷ [])) (start small []))))) [] []
-unfolding run step start fresh_at entered go_on next_place cut
+unfolding run step start fresh_at entered next_place cut
 a_run = refl
 
 a_passage : (passage (with_safe true (put_at None (with_page (record { line = Text (codes "Hi") ∷ Newline ∷ []; sections = []; next_enter = 0 }) (start small [])))))
@@ -343,13 +345,13 @@ at_first vs = with_stack vs (fresh_at (Index 0 ∷ []))
 -- in evaluation mode a text is pushed and not written
 a_text_pushed : step (story_of (tree (text (codes "x")) (tree newline no_trees))) nothing_bound (evaluating (at_first []))
     ≡ Next (with_stack (value.Text (codes "x") ∷ []) (moved (Index 0 ∷ []) (Some (Index 1 ∷ [])) (evaluating (at_first []))))
-unfolding step fresh_at entered push go_on next_place cut
+unfolding step fresh_at entered pushed next_place cut
 a_text_pushed = refl
 
 -- outside it an integer does nothing
 a_number_passed : step (story_of (tree (number_content (pos 5)) (tree newline no_trees))) nothing_bound (at_first [])
     ≡ Next (moved (Index 0 ∷ []) (Some (Index 1 ∷ [])) (at_first []))
-unfolding step fresh_at entered go_on next_place
+unfolding step fresh_at entered next_place
 a_number_passed = refl
 
 -- `ev` in evaluation mode, and `/ev` outside it
@@ -364,12 +366,12 @@ ended_twice = refl
 -- `out` writes what it pops, and on an empty stack does nothing; `pop` faults there
 an_out : step (story_of (tree (control_content control.Out) (tree newline no_trees))) nothing_bound (at_first (value.Bool true ∷ []))
     ≡ Next (with_page (record { line = Text (codes "true") ∷ []; sections = []; next_enter = 0 }) (moved (Index 0 ∷ []) (Some (Index 1 ∷ [])) (at_first [])))
-unfolding step fresh_at entered printed go_on next_place cut
+unfolding step fresh_at entered printed next_place cut
 an_out = refl
 
 an_empty_out : step (story_of (tree (control_content control.Out) (tree newline no_trees))) nothing_bound (at_first [])
     ≡ Next (moved (Index 0 ∷ []) (Some (Index 1 ∷ [])) (at_first []))
-unfolding step fresh_at entered go_on next_place
+unfolding step fresh_at entered next_place
 an_empty_out = refl
 
 an_empty_pop : step (story_of (tree (control_content control.Pop) no_trees)) nothing_bound (at_first []) ≡ Faults fault.StackEmpty
@@ -383,7 +385,7 @@ lacking_an_operand = refl
 
 a_quotient : step (story_of (tree (leaf (leaves.Op op.Divide)) (tree newline no_trees))) nothing_bound (at_first (value.Int (negsuc 6) ∷ value.Int (pos 2) ∷ []))
     ≡ Next (with_stack (value.Int (negsuc 2) ∷ []) (moved (Index 0 ∷ []) (Some (Index 1 ∷ [])) (at_first [])))
-unfolding step fresh_at entered apply push go_on next_place
+unfolding step fresh_at entered apply pushed next_place
 a_quotient = refl
 
 -- a global is declared; one that is there keeps its place when it is declared again
@@ -400,7 +402,7 @@ assigned_absent = refl
 
 read_absent : step (story_of (tree (leaf (leaves.Variable (codes "x"))) (tree newline no_trees))) nothing_bound (at_first [])
     ≡ Next (with_stack (value.Int (pos 0) ∷ []) (moved (Index 0 ∷ []) (Some (Index 1 ∷ [])) (at_first [])))
-unfolding step fresh_at entered push go_on next_place
+unfolding step fresh_at entered pushed next_place
 read_absent = refl
 
 -- ["ev",1,{"VAR=":"x"},"end",null] as the knot `global decl`
@@ -425,7 +427,7 @@ abbrev declared_end : Configuration
 declared_end = ended (with_globals ((codes "x", value.Int (pos 1)) ∷ []) (fresh_at (Name (codes "global decl") ∷ Index 0 ∷ [])))
 
 declarations_run : moment declaring nothing_bound (fresh_at (Name (codes "global decl") ∷ Index 0 ∷ [])) [] 4 ≡ Stopped declared_end [] []
-unfolding run step fresh_at entered push go_on next_place
+unfolding run step fresh_at entered pushed next_place
 declarations_run = refl
 
 -- a story is opened with the globals that it declares
@@ -448,7 +450,7 @@ an_absent_variable = (refl, refl)
 -- an answer of the host is pushed within the stack's limit, and no text over its limit is
 a_full_stack : (s : StoryTree) (p : List Part) (c : Configuration) → nat_lt (length c.flow.stack) MAX_STACK ≡ false
     → answered_at s (value.Int (pos 1)) (Some p) c ≡ Faults fault.TooDeep
-unfolding push
+unfolding pushed
 a_full_stack s p c full = rw full refl
 
 a_long_answer : (s : StoryTree) (p : List Part) (c : Configuration) (t : List ℕ) → fits_text t ≡ false
@@ -469,7 +471,7 @@ half_moment = moment declaring_half nothing_bound half_start [] 4
 
 half_fault : opened_by declaring_half half_moment
     ≡ Err (record { fault = fault.StackEmpty; globals = (codes "x", value.Int (pos 1)) ∷ [] })
-unfolding run step fresh_at entered push go_on next_place
+unfolding run step fresh_at entered pushed next_place
 half_fault = refl
 
 -- a broken player still shows its globals, and begins anew

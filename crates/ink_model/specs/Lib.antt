@@ -20,9 +20,14 @@ pub mod Supported
 pub mod Operator
 pub mod Store
 pub mod Stack
+pub mod Page
+pub mod Frames
+pub mod Rows
 pub mod OperatorExamples
 pub mod Configuration
 pub mod Output
+pub mod Effect
+pub mod Move
 pub mod Step
 pub mod Run
 pub mod Opening
@@ -34,5 +39,6 @@ pub mod Memory
 pub mod Session
 pub mod PathExamples
 pub mod StoryExamples
+pub mod FrameExamples
 pub mod OutputExamples
 pub mod Examples

@@ -2,11 +2,12 @@
 use Rattle.std.specs.Prelude.{◌≡◌, ◌<◌, ◌≤◌, ◌⊎◌, ℕ, List, [], Bool, true, false, not, ◌||◌, Option, Some, None, Result, Ok, Err, OnErr}
 use Rattle.ink_model.specs.Tree.{StoryTree, leaf, container, at}
 use Rattle.ink_model.specs.Place.{entered}
-use Rattle.ink_model.specs.Configuration.{Configuration, current_place, is_evaluating, begun}
+use Rattle.ink_model.specs.Configuration.{Configuration, current_place, begun}
+use Rattle.ink_model.specs.Effect.{Fields, fields_of, is_fresh}
 use Rattle.ink_model.specs.Operator.{takes, apply}
 use Rattle.ink_model.specs.Output.{closes_string, closes_tag}
 use Rattle.ink_model.specs.Stack.{popped, taken}
-use Rattle.ink_model.specs.Step.{Bound, is_fresh, nothing_bound}
+use Rattle.ink_model.specs.Step.Host.{Bound, nothing_bound}
 use Rattle.ink_model.specs.Store.{stored}
 use Rattle.ink_model.specs.Value.{printed}
 use Rattle.ink_model.specs.Run.{At, Stopped, Made, answers_of, moment}
@@ -87,38 +88,38 @@ abbrev pub stores_value : Option Value → Option (Value × List Value) → Bool
 stores_value None top = false
 stores_value (Some v) top = has_top top
 
-abbrev pub control_asks : Control → Configuration → Bool
-control_asks control.Out c = output_asks (popped c.flow.stack)
-control_asks control.Duplicate c = has_top (popped c.flow.stack)
-control_asks control.BeginString c = is_evaluating c
-control_asks control.EndString c = asks_for (closes_string c.page)
-control_asks control.BeginTag c = true
-control_asks control.EndTag c = asks_for (closes_tag c.page)
-control_asks o c = false
+abbrev pub control_asks : Control → Fields → Bool
+control_asks control.Out f = output_asks (popped f.stack)
+control_asks control.Duplicate f = has_top (popped f.stack)
+control_asks control.BeginString f = f.evaluating
+control_asks control.EndString f = asks_for (closes_string f.page)
+control_asks control.BeginTag f = true
+control_asks control.EndTag f = asks_for (closes_tag f.page)
+control_asks o f = false
 
-abbrev pub leaf_asks : Leaf → Configuration → Bool
-leaf_asks (leaves.Text t) c = true
-leaf_asks leaves.Newline c = is_evaluating c || not (is_fresh c)
-leaf_asks leaves.Glue c = not (is_evaluating c)
-leaf_asks (leaves.Int z) c = is_evaluating c
-leaf_asks (leaves.Bool b) c = is_evaluating c
-leaf_asks leaves.Void c = is_evaluating c
-leaf_asks (leaves.Target text) c = is_evaluating c
-leaf_asks (leaves.Control o) c = control_asks o c
-leaf_asks (leaves.Op o) c = operator_asks o (taken (takes o) c.flow.stack [])
-leaf_asks (leaves.Declare name) c = has_top (popped c.flow.stack)
-leaf_asks (leaves.Assign name) c = stores_value (stored name c.shared.globals) (popped c.flow.stack)
-leaf_asks (leaves.Variable name) c = true
-leaf_asks l c = false
+abbrev pub leaf_asks : Leaf → Fields → Bool
+leaf_asks (leaves.Text t) f = true
+leaf_asks leaves.Newline f = f.evaluating || not (is_fresh f)
+leaf_asks leaves.Glue f = not f.evaluating
+leaf_asks (leaves.Int z) f = f.evaluating
+leaf_asks (leaves.Bool b) f = f.evaluating
+leaf_asks leaves.Void f = f.evaluating
+leaf_asks (leaves.Target text) f = f.evaluating
+leaf_asks (leaves.Control o) f = control_asks o f
+leaf_asks (leaves.Op o) f = operator_asks o (taken (takes o) f.stack [])
+leaf_asks (leaves.Declare name) f = has_top (popped f.stack)
+leaf_asks (leaves.Assign name) f = stores_value (stored name f.globals) (popped f.stack)
+leaf_asks (leaves.Variable name) f = true
+leaf_asks l f = false
 
-abbrev pub content_asks : Option StoryTree → Configuration → Bool
-content_asks None c = false
-content_asks (Some (container name flags content named)) c = false
-content_asks (Some (leaf l)) c = leaf_asks l c
+abbrev pub content_asks : Option StoryTree → Fields → Bool
+content_asks None f = false
+content_asks (Some (container name flags content named)) f = false
+content_asks (Some (leaf l)) f = leaf_asks l f
 
 abbrev pub asks_at : StoryTree → Option (List Part) → Configuration → Bool
 asks_at s None c = false
-asks_at s (Some p) c = content_asks (at s (entered s p)) c
+asks_at s (Some p) c = content_asks (at s (entered s p)) (fields_of c)
 
 -- the step at a configuration asks for memory
 unfoldable pub asks : StoryTree → Configuration → Bool

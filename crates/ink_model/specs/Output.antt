@@ -4,7 +4,7 @@ use Rattle.std.specs.List.{list_any}
 use Rattle.ink_model.specs.declared.limits.TheConstants.{MAX_MARKS, MAX_SECTIONS}
 use Rattle.ink_model.specs.Bytes.{fits_text}
 use Rattle.ink_model.specs.Clean.{clean}
-use Rattle.ink_model.specs.Configuration.{Page, Section, SectionKind, string_section, tag_section}
+use Rattle.ink_model.specs.Page.{Page, Section, SectionKind, string_section, tag_section}
 use Rattle.ink_model.specs.Mark.{cut}
 use Rattle.ink_model.specs.Shown.{shown_text, open_newline}
 use Rattle.ink_model.specs.Value.{printed}

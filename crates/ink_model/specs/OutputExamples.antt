@@ -4,9 +4,12 @@ use Rattle.ink_model.specs.Tree.{StoryTree, leaf, container, no_trees, tree, no_
 use Rattle.ink_model.specs.Place.{entered, next_place}
 use Rattle.ink_model.specs.Mark.{cut}
 use Rattle.ink_model.specs.Clean.{clean}
-use Rattle.ink_model.specs.Configuration.{Configuration, Page, string_section, tag_section, with_mode, with_stack, with_safe, put_at, fresh_at, moved}
+use Rattle.ink_model.specs.Configuration.{Configuration, with_safe, put_at, fresh_at, moved}
+use Rattle.ink_model.specs.Effect.{with_mode, with_page, with_stack}
+use Rattle.ink_model.specs.Page.{Page, string_section, tag_section}
+use Rattle.ink_model.specs.Stack.{pushed}
 use Rattle.ink_model.specs.Output.{let_through, writes_text, writes_newline, begins_function, ends_function, closes_string, closes_tag, ends_line, empty_page}
-use Rattle.ink_model.specs.Step.{step, nothing_bound, Next, Stop, Faults, push, go_on, with_page}
+use Rattle.ink_model.specs.Step.{step, nothing_bound, Next, Stop, Faults}
 use Rattle.ink_model.specs.Value.{printed}
 use Rattle.ink_model.specs.declared.content.Control.{Control}
 use Rattle.ink_model.specs.declared.content.Control.TheVariants as control
@@ -100,7 +103,7 @@ unfolding step fresh_at entered
 glue_is_no_value = refl
 
 a_string_begins : step (story control.BeginString) nothing_bound (with_mode true (at_first empty_page [])) ≡ Next (at_second (with_mode false (at_first (in_string [] []) [])))
-unfolding step fresh_at entered go_on next_place
+unfolding step fresh_at entered next_place
 a_string_begins = refl
 
 not_in_evaluation : step (story control.BeginString) nothing_bound (at_first empty_page []) ≡ Faults fault.BadMode
@@ -108,20 +111,20 @@ unfolding step fresh_at entered
 not_in_evaluation = refl
 
 a_string_ends : step (story control.EndString) nothing_bound (at_first (in_string [] (a ∷ [])) []) ≡ Next (at_second (with_mode true (at_first empty_page (value.Text (codes "a") ∷ []))))
-unfolding step fresh_at entered go_on next_place push
+unfolding step fresh_at entered next_place pushed
 a_string_ends = refl
 
 a_tag_begins : step (story control.BeginTag) nothing_bound (at_first (line_of (a ∷ [])) []) ≡ Next (at_second (at_first (in_tag (a ∷ []) []) []))
-unfolding step fresh_at entered go_on next_place
+unfolding step fresh_at entered next_place
 a_tag_begins = refl
 
 -- and closes one that is on top
 another_tag_begins : step (story control.BeginTag) nothing_bound (at_first (in_tag [] (a ∷ [])) []) ≡ Next (at_second (at_first (in_tag (Tag (codes "a") ∷ []) []) []))
-unfolding step fresh_at entered go_on next_place clean
+unfolding step fresh_at entered next_place clean
 another_tag_begins = refl
 
 a_tag_ends_in_a_string : step (story control.EndTag) nothing_bound (at_first (tag_in_string [] (a ∷ [])) []) ≡ Next (at_second (at_first (in_string [] []) (value.Tag (codes "a") ∷ [])))
-unfolding step fresh_at entered go_on next_place clean
+unfolding step fresh_at entered next_place clean pushed
 a_tag_ends_in_a_string = refl
 
 stopped_in_a_string : step (story control.Done) nothing_bound (at_first (in_string [] []) []) ≡ Faults fault.StopInString

@@ -4,8 +4,10 @@ use Rattle.ink_model.specs.declared.limits.TheConstants.{MAX_STEPS}
 use Rattle.ink_model.specs.Bytes.{fits_text}
 use Rattle.ink_model.specs.Tree.{StoryTree}
 use Rattle.ink_model.specs.Place.{entered}
-use Rattle.ink_model.specs.Configuration.{Configuration, current_place, begun}
-use Rattle.ink_model.specs.Step.{Bound, Outcome, Next, Stop, Wants, Faults, step, push}
+use Rattle.ink_model.specs.Configuration.{Configuration, current_place, begun, put_at}
+use Rattle.ink_model.specs.Effect.{Fields, Effect, Fails, fields_of, pushing}
+use Rattle.ink_model.specs.Move.{Outcome, Next, Stop, Wants, Faults, move}
+use Rattle.ink_model.specs.Step.{Bound, step}
 use Rattle.ink_model.specs.declared.fault.Fault.{Fault}
 use Rattle.ink_model.specs.declared.fault.Fault.TheVariants.{HostRefused, OutOfSteps, TooDeep}
 use Rattle.ink_model.specs.declared.host.Given.{Given}
@@ -28,12 +30,12 @@ fits_value (value.Text t) = fits_text t
 fits_value v = true
 
 -- an answer is pushed as any other value is: within the limits of a text and of the stack
-abbrev pub push_answer : StoryTree → List Part → Value → Configuration → Outcome
-push_answer s p v c = if fits_value v then push s p v c else Faults TooDeep
+abbrev pub push_answer : Value → Fields → Effect
+push_answer v f = if fits_value v then pushing v f else Fails TooDeep
 
 abbrev pub answered_at : StoryTree → Value → Option (List Part) → Configuration → Outcome
 answered_at s v None c = Stop c
-answered_at s v (Some p) c = push_answer s (entered s p) v c
+answered_at s v (Some p) c = move s (push_answer v (fields_of c)) (put_at (Some (entered s p)) c)
 
 -- a wanted call was answered, or refused: the answer is pushed, and flow goes on
 abbrev pub answered : StoryTree → Configuration → Option Given → Outcome

@@ -6,7 +6,7 @@ use Rattle.ink_model.specs.Mark.{tags}
 use Rattle.ink_model.specs.Shown.{shown_text}
 use Rattle.ink_model.specs.Clean.{clean}
 use Rattle.ink_model.specs.Configuration.{Configuration, ChoiceOf, can_go_on, settled, with_globals}
-use Rattle.ink_model.specs.Step.{Bound}
+use Rattle.ink_model.specs.Step.Host.{Bound}
 use Rattle.ink_model.specs.Run.{value_given, Made, answers_of, Moment, Stopped, Faulted, through}
 use Rattle.ink_model.specs.Memory.{FallsShort, OpensShort, holds_memory}
 use Rattle.ink_model.specs.Command.{command_of, NeedsMemory}

@@ -9,8 +9,9 @@ use Rattle.ink_model.specs.Path.{read_path, target, is_place}
 use Rattle.ink_model.specs.Place.{entered, landed, next_place}
 use Rattle.ink_model.specs.Places.{places}
 use Rattle.ink_model.specs.Supported.{unsupported}
-use Rattle.ink_model.specs.Configuration.{Configuration, with_stack, with_globals, fresh_at, moved}
-use Rattle.ink_model.specs.Step.{step, nothing_bound, Next, Faults, go_on}
+use Rattle.ink_model.specs.Configuration.{Configuration, with_globals, fresh_at, moved}
+use Rattle.ink_model.specs.Effect.{with_stack}
+use Rattle.ink_model.specs.Step.{step, nothing_bound, Next, Faults}
 use Rattle.ink_model.specs.Value.{is_true}
 use Rattle.ink_model.specs.declared.content.Destination.{Destination}
 use Rattle.ink_model.specs.declared.content.Destination.TheVariants as destination
@@ -198,7 +199,7 @@ where_true = refl
 
 where_false : step if_k nothing_bound (here_with (value.Int (pos 0) ∷ []) [])
     ≡ Next (moved (Index 1 ∷ Index 0 ∷ []) (Some (Index 1 ∷ Index 1 ∷ [])) (here_with [] []))
-unfolding step fresh_at entered go_on next_place is_true
+unfolding step fresh_at entered next_place is_true
 where_false = refl
 
 without_a_condition : step if_k nothing_bound (here_with [] []) ≡ Faults fault.StackEmpty

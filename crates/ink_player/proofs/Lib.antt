@@ -1,7 +1,3 @@
-pub mod Stepping
-pub mod Diverting
-pub mod Telling
-pub mod Running
 pub mod Commands
 pub mod Answering
 pub mod Writing
@@ -10,8 +6,5 @@ pub mod Sessions
 pub mod Refusing
 pub mod Playings
 pub mod Supporting
-pub mod Stacks
-pub mod Storing
-pub mod Opening
-pub mod Faults
 pub mod Spelling
+pub mod Restarts

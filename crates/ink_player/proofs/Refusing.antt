@@ -1,5 +1,5 @@
 -- What a story is refused for, by the steps of reading it.
-use Rattle.std.proofs.Common.{◌≡◌, ◌∙◌, ◌⊎◌, ap, sym, refl, inl, inr, ℕ, ◌<◌, List, [], ◌∷◌, length, nat_lt, map, slice_get, Bool, true, false, not, ◌&&◌, cond, Option, Some, None, Ok, Err}
+use Rattle.std.proofs.Common.{◌≡◌, ◌∙◌, ◌⊎◌, ap, sym, refl, inl, inr, ℕ, List, [], ◌∷◌, length, nat_lt, map, slice_get, Bool, true, false, not, ◌&&◌, cond, Some, None, Ok, Err}
 use Rattle.std.specs.Str.{is_utf8}
 use Rattle.serde_json.proofs.OnLiterals.{serde_json_on_literals}
 use Rattle.serde_json.specs.Read.{read}

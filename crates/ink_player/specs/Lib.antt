@@ -1,5 +1,4 @@
 pub mod Words
-pub mod Steps
 pub mod Answers
 pub mod Replies
 pub mod Ends
@@ -8,5 +7,4 @@ pub mod Input
 pub mod Lines
 pub mod Serving
 pub mod Playing
-pub mod Globals
 pub mod Commands

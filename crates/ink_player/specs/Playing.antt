@@ -1,5 +1,5 @@
 -- What playing a story over bytes does, and how it may end (docs/PROTOCOL.md, "Playing").
-use Rattle.std.specs.Prelude.{◌≡◌, ◌<◌, ◌≤◌, ◌+◌, ◌-◌, ℕ, List, [], ◌∷◌, ◌++◌, length, Bool, true, false, ◌⊎◌, Option, Result, Ok, Err}
+use Rattle.std.specs.Prelude.{◌≡◌, ◌<◌, ◌≤◌, ◌+◌, ◌-◌, ℕ, List, [], ◌∷◌, ◌++◌, length, true, false, ◌⊎◌, Option, Result, Ok, Err}
 use Rattle.std.specs.Io.KnownBytes.{Appends, Consumes, IsAtEnd}
 use Rattle.ink_json.specs.Reading.{is_parsed}
 use Rattle.ink_model.specs.Bytes.{has_newline}
@@ -16,7 +16,7 @@ use Rattle.ink_model.specs.declared.fault.Cause.TheVariants as cause
 use Rattle.ink_model.specs.declared.fault.Fault.{Fault}
 use Rattle.ink_model.specs.declared.fault.ReadRefusal.{ReadRefusal}
 use Rattle.ink_player.specs.Serving.{HasRoom, RunEnds}
-use Rattle.ink_player.specs.Steps.{FailsToOpen}
+use Rattle.ink_step.specs.Steps.{FailsToOpen}
 use Rattle.ink_player.specs.Words.{desk_of, state_of, story_of}
 use Rattle.ink_player.specs.declared.desk.Desk.{Desk}
 use Rattle.ink_player.specs.declared.end.PlayEnd.{PlayEnd}

@@ -11,9 +11,9 @@ ghost use Rattle.ink_model.specs.State.{is_running, fault_in};
 ghost use Rattle.ink_model.specs.Step.{nothing_bound};
 
 use crate::desk::Desk;
-use crate::machine::{Machine, Unopened};
 use ink_check::Story;
 use ink_model::{Event, Fault, Given, Halt, MAX_TEXT, Passage, Refusal, Seq, Value};
+use ink_step::{Machine, Unopened};
 use std::alloc::Global;
 
 /// A story that runs: where it stands, and the desk of the host's objects.
@@ -36,7 +36,7 @@ pub struct OpenFault {
 impl Player {
     ghost use Rattle.ink_check.specs.Words.{story_tree};
     ghost use Rattle.ink_model.specs.Store.{Values};
-    ghost use Rattle.ink_player.specs.Steps.{FailsToOpen};
+    ghost use Rattle.ink_step.specs.Steps.{FailsToOpen};
     ghost use Rattle.ink_player.specs.Words.{desk_of, state_of, story_of};
 
     /// Opens a story at its start, with the globals that it declares (docs/RUNNING.md, "Opening"). All of its content is
@@ -117,12 +117,7 @@ impl Player {
         if !is_settable(&value) {
             return Err(Halt::Refused(Refusal::BadValue));
         }
-        if self
-            .machine
-            .globals
-            .replace(name, value_given(value))
-            .is_err()
-        {
+        if self.machine.set(name, value_given(value)).is_err() {
             return Err(Halt::Refused(Refusal::NoSuchVariable));
         }
         Ok(Seq::new(self.alloc))
@@ -133,7 +128,7 @@ impl Player {
     pub fn get(&self, name: &str) -> Result<Value, Refusal>
         ensures { Get name.now (state_of self.now) (reply_of_value result) (state_of self.now) }
     {
-        let Some(value) = self.machine.globals.get(name) else {
+        let Some(value) = self.machine.globals().get(name) else {
             return Err(Refusal::NoSuchVariable);
         };
         match value.clone_in(self.alloc) {

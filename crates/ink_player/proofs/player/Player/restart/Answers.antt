@@ -1,4 +1,4 @@
-use Rattle.ink_player.proofs.Opening.{restart_refused}
+use Rattle.ink_player.proofs.Restarts.{restart_refused}
 use Rattle.ink_player.proofs.player.Player.restart.Goals as goal
 
 pub returns-in-OutOfMemory-clause-does : goal.returns-in-OutOfMemory-clause-does

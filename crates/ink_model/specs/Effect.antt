@@ -1,0 +1,84 @@
+-- What a content does: to the fields that it touches, and how flow goes from there (docs/RUNNING.md, "Steps").
+use Rattle.std.specs.Prelude.{ℕ, List, [], length, Bool, false, nat_eq, Option, Some, None, Result, Ok, Err}
+use Rattle.ink_model.specs.Configuration.{ConfigurationOf, with_globals, with_threads}
+use Rattle.ink_model.specs.Frames.{fresh_depth, mode_in, on_top}
+use Rattle.ink_model.specs.Page.{Page}
+use Rattle.ink_model.specs.Stack.{popped, pushed, taken}
+use Rattle.ink_model.specs.Store.{Values}
+use Rattle.ink_model.specs.declared.fault.Fault.{Fault}
+use Rattle.ink_model.specs.declared.fault.Fault.TheVariants.{StackEmpty}
+use Rattle.ink_model.specs.declared.place.Part.{Part}
+use Rattle.ink_model.specs.declared.value.Value.{Value}
+
+-- What content may look at and change: the top frame's mode and freshness, the stack, the page and the globals. fresh: the
+-- section in which the top frame is a fresh function, which no content ends yet.
+pub record Fields : Type 0 where
+  pub evaluating : Bool
+  pub fresh : Option ℕ
+  pub stack : List Value
+  pub page : Page
+  pub globals : Values
+
+module _ {P : Type 0} where
+  abbrev pub fields_of : ConfigurationOf P → Fields
+  fields_of c = record {
+    evaluating = c.flow.threads.thread.frame.evaluating;
+    fresh = fresh_depth c.flow.threads.thread.frame;
+    stack = c.flow.stack;
+    page = c.page;
+    globals = c.shared.globals;
+  }
+
+  abbrev pub with_stack : List Value → ConfigurationOf P → ConfigurationOf P
+  with_stack vs c = record c { flow = record c.flow { stack = vs } }
+
+  abbrev pub with_mode : Bool → ConfigurationOf P → ConfigurationOf P
+  with_mode b c = with_threads (on_top (mode_in b) c.flow.threads) c
+
+  abbrev pub with_page : Page → ConfigurationOf P → ConfigurationOf P
+  with_page page c = record c { page = page }
+
+  abbrev pub with_fields : Fields → ConfigurationOf P → ConfigurationOf P
+  with_fields f c = with_page f.page (with_globals f.globals (with_stack f.stack (with_mode f.evaluating c)))
+
+-- the top frame is a function that is fresh in the open section
+abbrev pub is_fresh_at : Option ℕ → ℕ → Bool
+is_fresh_at None n = false
+is_fresh_at (Some depth) n = nat_eq depth n
+
+abbrev pub is_fresh : Fields → Bool
+is_fresh f = is_fresh_at f.fresh (length f.page.sections)
+
+-- Flow moves on after its place, or lands at another; it is done with its thread, or ends; or a fault comes.
+pub data Effect : Type 0 where
+  Moves : (after : Fields) → Effect
+  Lands : (place : List Part) → (after : Fields) → Effect
+  Done : (after : Fields) → Effect
+  Ends : (after : Fields) → Effect
+  Fails : (fault : Fault) → Effect
+
+-- ---- parts of effects
+
+-- what comes of a result, or its fault
+abbrev pub or_fault : {A : Type 0} → Result A Fault → (A → Effect) → Effect
+or_fault (Ok a) so = so a
+or_fault (Err f) so = Fails f
+
+-- the same of what was found, where nothing is a fault
+abbrev pub or_else : {A : Type 0} → Fault → Option A → (A → Effect) → Effect
+or_else f None so = Fails f
+or_else f (Some a) so = so a
+
+abbrev pub popping : Fields → (Value → Fields → Effect) → Effect
+popping f so = or_else StackEmpty (popped f.stack) (λ r. so r.0 (record f { stack = r.1 }))
+
+-- as many values as are asked for, in the order in which they were pushed
+abbrev pub taking : ℕ → Fields → (List Value → Fields → Effect) → Effect
+taking n f so = or_else StackEmpty (taken n f.stack []) (λ r. so r.0 (record f { stack = r.1 }))
+
+abbrev pub pushing : Value → Fields → Effect
+pushing v f = or_fault (pushed v f.stack) (λ vs. Moves (record f { stack = vs }))
+
+-- the page as it is after a call that writes
+abbrev pub writing : Result Page Fault → Fields → Effect
+writing r f = or_fault r (λ page. Moves (record f { page = page }))

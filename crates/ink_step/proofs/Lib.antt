@@ -1,0 +1,11 @@
+pub mod Entries
+pub mod Tops
+pub mod Limits
+pub mod Effects
+pub mod Landings
+pub mod Follows
+pub mod Moments
+pub mod Passages
+pub mod Openings
+pub mod NoMemory
+pub mod Unnumbered

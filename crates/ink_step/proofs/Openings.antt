@@ -1,0 +1,62 @@
+-- Opening a story, from the run of its declarations.
+use Rattle.std.proofs.Common.{◌≡◌, ◌∙◌, ap, sym, refl, subst, inl, inr, List, [], Option, Some, None, option_map, Ok, Err}
+use Rattle.ink_model.specs.Tree.{StoryTree}
+use Rattle.ink_model.specs.Place.{landed}
+use Rattle.ink_model.specs.Configuration.{Configuration, fresh_at, start, begun, with_globals}
+use Rattle.ink_model.specs.Step.{nothing_bound}
+use Rattle.ink_model.specs.Store.{Values}
+use Rattle.ink_model.specs.Memory.{GetsTo}
+use Rattle.ink_model.specs.Run.{Moment, Stopped, moment, cut_off}
+use Rattle.ink_model.specs.declared.limits.TheConstants.{MAX_STEPS}
+use Rattle.ink_model.specs.Opening.{declarations, declaring, opening, opened_by, opened_from}
+use Rattle.ink_model.specs.declared.fault.Fault.{Fault}
+use Rattle.ink_model.specs.declared.place.Part.{Part}
+use Rattle.ink_step.specs.Steps.{FailsToOpen, RunFalls}
+
+-- a machine at a place where nothing has happened yet, without globals
+pub first_of : (q : List Part) (c : Configuration) (globals : Values) → c ≡ with_globals globals (fresh_at q) → globals ≡ [] → c ≡ begun (fresh_at q)
+unfolding fresh_at
+first_of q c globals e empty = e ∙ ap (λ vs. with_globals vs (fresh_at q)) empty
+
+-- where the declarations' run begins, by where flow lands
+landing_at : (s : StoryTree) (o : Option (List Part)) → option_map (λ p. fresh_at (landed s p)) o ≡ option_map fresh_at (option_map (landed s) o)
+landing_at s None = refl
+landing_at s (Some p) = refl
+
+module _ (s : StoryTree) (found : Option (List Part)) (is : found ≡ option_map (landed s) (declarations s)) where
+  begins_at : declaring s ≡ option_map fresh_at found
+  begins_at = landing_at s (declarations s) ∙ ap (option_map fresh_at) (sym is)
+
+  pub opens_plainly : (c : Configuration) (globals : Values) → found ≡ None → c ≡ start s globals → globals ≡ [] → opening s ≡ Ok c
+  unfolding opening
+  opens_plainly c globals none starts empty =
+      ap (opened_from s) (begins_at ∙ ap (option_map fresh_at) none) ∙ ap Ok (sym (starts ∙ ap (start s) empty))
+
+  module _ (q : List Part) (begin : Configuration) (some : found ≡ Some q) (begins : begin ≡ begun (fresh_at q)) where
+    first : declaring s ≡ Some (fresh_at q)
+    first = begins_at ∙ ap (option_map fresh_at) some
+
+    -- the run of the declarations
+    by_run : (m : Moment) → cut_off (moment s nothing_bound begin [] MAX_STEPS) ≡ m → opened_from s (declaring s) ≡ opened_by s m
+    by_run m runs =
+        ap (opened_from s) first ∙ ap (λ d. opened_by s (cut_off (moment s nothing_bound d [] MAX_STEPS))) (sym begins) ∙ ap (opened_by s) runs
+
+    pub opens : (stop c : Configuration) → moment s nothing_bound begin [] MAX_STEPS ≡ Stopped stop [] [] → c ≡ start s stop.shared.globals → opening s ≡ Ok c
+    unfolding opening
+    opens stop c stops starts = by_run _ (ap cut_off stops) ∙ ap Ok (sym starts)
+
+    pub fails : (globals : Values) (f : Fault) → RunFalls s begin globals f → FailsToOpen s f globals
+    unfolding opening
+    fails globals f h = elim h.why [
+      | inl faults ↦ inl (by_run _ faults ∙ ap (λ vs. Err (record { fault = f; globals = vs })) (sym h.kept))
+      | inr short ↦
+          inr (
+            short.0,
+            record {
+              first = fresh_at q;
+              declares = first;
+              reached = h.before;
+              got_there = subst (λ d. GetsTo s nothing_bound d [] h.before) begins short.1;
+            },
+          )
+    ]

@@ -1,0 +1,61 @@
+-- How moves, steps and runs end, beside the definitions.
+use Rattle.std.specs.Prelude.{◌≡◌, [], ◌⊎◌, Bool, true, Result, Ok, Err}
+use Rattle.ink_model.specs.Answer as answer
+use Rattle.ink_model.specs.Answer.{Reply, Tells}
+use Rattle.ink_model.specs.Configuration.{Configuration}
+use Rattle.ink_model.specs.Frames.{ThreadsOf}
+use Rattle.ink_model.specs.Memory.{GetsTo, OpensShort}
+use Rattle.ink_model.specs.Move.{Moved, Went, Stopped, Breaks, Outcome, Next, Stop, Faults}
+use Rattle.ink_model.specs.Opening.{opening}
+use Rattle.ink_model.specs.Run as run
+use Rattle.ink_model.specs.Run.{Faulted, moment, cut_off}
+use Rattle.ink_model.specs.State.{Condition, Ready, Broken}
+use Rattle.ink_model.specs.Step.Host.{nothing_bound}
+use Rattle.ink_model.specs.Store.{Values}
+use Rattle.ink_model.specs.Tree.{StoryTree}
+use Rattle.ink_model.specs.declared.fault.Fault.{Fault}
+use Rattle.ink_model.specs.declared.fault.Fault.TheVariants.{OutOfMemory}
+use Rattle.ink_model.specs.declared.limits.TheConstants.{MAX_STEPS}
+use Rattle.ink_model.specs.declared.passage.Passage.{Passage}
+use Rattle.ink_step.specs.declared.flow.StepEnd.{StepEnd}
+use Rattle.ink_step.specs.declared.flow.StepEnd.TheVariants as ends
+
+-- threads moved as the definition says
+abbrev pub MovesAs : {P : Type 0} → Moved P → ThreadsOf P → Result StepEnd Fault → Type 0
+MovesAs (Went ts) threads (Ok ends.Went) = threads ≡ ts
+MovesAs (Stopped ts) threads (Ok ends.Stopped) = threads ≡ ts
+MovesAs (Breaks g) threads (Err f) = f ≡ g
+MovesAs m threads result = ⊥
+
+-- A step ends as its outcome says; where it asks for memory, it may end with OutOfMemory instead. A fault leaves the globals
+-- as they were.
+abbrev pub StepEnds : Bool → Outcome → Values → Configuration → Result StepEnd Fault → Type 0
+StepEnds asks (Next c) globals new (Ok ends.Went) = new ≡ c
+StepEnds asks (Stop c) globals new (Ok ends.Stopped) = new ≡ c
+StepEnds asks (Faults g) globals new (Err f) = ((f ≡ g) ⊎ ((f ≡ OutOfMemory) × (asks ≡ true))) × (new.shared.globals ≡ globals)
+StepEnds asks outcome globals new (Err f) = ((f ≡ OutOfMemory) × (asks ≡ true)) × (new.shared.globals ≡ globals)
+StepEnds asks outcome globals new result = ⊥
+
+-- A run ended with a fault, or with OutOfMemory at a step that asks for memory, at a configuration with these globals.
+pub record RunFalls (s : StoryTree) (start : Configuration) (globals : Values) (f : Fault) : Type 0 where
+  pub before : Configuration
+  pub kept : globals ≡ before.shared.globals
+  pub why : (cut_off (moment s nothing_bound start [] MAX_STEPS) ≡ Faulted f before [] []) ⊎ ((f ≡ OutOfMemory) × GetsTo s nothing_bound start [] before)
+
+-- A run to its stop, with what it leaves, or to a fault, with the globals that it leaves.
+abbrev pub RunsToStop : StoryTree → Configuration → Configuration → Result (Unit {0}) Fault → Type 0
+RunsToStop s old new (Ok u) = moment s nothing_bound old [] MAX_STEPS ≡ run.Stopped new [] []
+RunsToStop s old new (Err f) = RunFalls s old new.shared.globals f
+
+-- A story does not open: its declarations fault, with these globals, or a step of theirs asks for memory and gets none.
+abbrev pub FailsToOpen : StoryTree → Fault → Values → Type 0
+FailsToOpen s f globals = (opening s ≡ Err (record { fault = f; globals = globals })) ⊎ ((f ≡ OutOfMemory) × OpensShort s)
+
+-- what a running command returned, as a reply, and the condition that it leaves
+abbrev pub reply_of_run : Result Passage Fault → Reply
+reply_of_run (Ok passage) = Tells passage
+reply_of_run (Err f) = answer.Breaks f []
+
+abbrev pub left_by : Result Passage Fault → Configuration → Condition
+left_by (Ok passage) c = Ready c
+left_by (Err f) c = Broken f c.shared.globals

@@ -1,0 +1,115 @@
+//! Values, operators and evaluation mode (docs/RUNNING.md, "Evaluation").
+
+ghost use Rattle.std.specs.Prelude.{ℕ, List, [], ◌∷◌, Bool, true, false, Option, IfOk, ◌≡◌};
+ghost use Rattle.ink_model.specs.Effect.{pushing};
+ghost use Rattle.ink_model.specs.Memory.{has_top, operator_asks};
+ghost use Rattle.ink_model.specs.Operator.{takes};
+ghost use Rattle.ink_model.specs.Page.{Page};
+ghost use Rattle.ink_model.specs.Stack.{popped, taken};
+ghost use Rattle.ink_model.specs.Step.Diverts as rules;
+ghost use Rattle.ink_model.specs.Step.Evaluation.{push_value, begin_eval, end_eval, pop, duplicate, operate};
+ghost use Rattle.ink_model.specs.Store.{Values};
+ghost use Rattle.ink_model.specs.declared.value.Value.{Value as Data};
+ghost use Rattle.ink_model.specs.declared.value.Value.TheVariants as value;
+ghost use Rattle.ink_step.specs.Performs.{Changes, fields};
+
+use crate::operands::{applied, push, top, top_copy};
+use ink_model::{Cause, Fault, Op, Path, Seq, Text, Value};
+use ink_tree::read_path;
+use ink_value::EvalStack;
+use std::alloc::{AllocError, Global};
+
+/// A value is pushed in evaluation mode, and does nothing outside it.
+pub(crate) fn push_value(stack: &mut EvalStack, evaluating: bool, value: Value) -> Result<(), Fault>
+    ensures { (fresh : Option ℕ) (page : Page) (globals : Values)
+        → Changes evaluating (push_value value (fields evaluating fresh stack.old.items page globals)) (fields evaluating fresh stack.new.items page globals) result }
+{
+    if !evaluating {
+        return Ok(());
+    }
+    push(stack, value)
+}
+
+/// The path that a text spells is pushed in evaluation mode. Outside it nothing is done.
+pub(crate) fn push_target(
+    alloc: Global,
+    stack: &mut EvalStack,
+    evaluating: bool,
+    text: &Text,
+) -> Result<(), Fault>
+    ensures { (fresh : Option ℕ) (page : Page) (globals : Values)
+        → Changes evaluating (push_value (value.Target (rules.path_of text.now)) (fields evaluating fresh stack.old.items page globals)) (fields evaluating fresh stack.new.items page globals) result }
+{
+    if !evaluating {
+        return Ok(());
+    }
+    let path = path_of(alloc, text.as_str())?;
+    push(stack, Value::Target(path))
+}
+
+/// Evaluation mode begins. `BadMode` where it has begun.
+pub(crate) fn begin_eval(evaluating: &mut bool) -> Result<(), Fault>
+    ensures { (fresh : Option ℕ) (stack : List Data) (page : Page) (globals : Values)
+        → Changes false (begin_eval (fields evaluating.old fresh stack page globals)) (fields evaluating.new fresh stack page globals) result }
+{
+    if *evaluating {
+        return Err(Fault::BadMode);
+    }
+    *evaluating = true;
+    Ok(())
+}
+
+/// Evaluation mode ends. `BadMode` where it has not begun.
+pub(crate) fn end_eval(evaluating: &mut bool) -> Result<(), Fault>
+    ensures { (fresh : Option ℕ) (stack : List Data) (page : Page) (globals : Values)
+        → Changes false (end_eval (fields evaluating.old fresh stack page globals)) (fields evaluating.new fresh stack page globals) result }
+{
+    if !*evaluating {
+        return Err(Fault::BadMode);
+    }
+    *evaluating = false;
+    Ok(())
+}
+
+/// The value on top goes. `StackEmpty` where there is none.
+pub(crate) fn pop(stack: &mut EvalStack) -> Result<(), Fault>
+    ensures { (evaluating : Bool) (fresh : Option ℕ) (page : Page) (globals : Values)
+        → Changes false (pop (fields evaluating fresh stack.old.items page globals)) (fields evaluating fresh stack.new.items page globals) result }
+{
+    top(stack).ok_or(Fault::StackEmpty)?;
+    Ok(())
+}
+
+/// The value on top is pushed again.
+pub(crate) fn duplicate(alloc: Global, stack: &mut EvalStack) -> Result<(), Fault>
+    ensures { (evaluating : Bool) (fresh : Option ℕ) (page : Page) (globals : Values)
+        → Changes (has_top (popped stack.old.items)) (duplicate (fields evaluating fresh stack.old.items page globals)) (fields evaluating fresh stack.new.items page globals) result }
+{
+    let value = top_copy(alloc, stack)?;
+    push(stack, value)
+}
+
+/// What an operator makes of the values on top is pushed in their place.
+pub(crate) fn operate(alloc: Global, stack: &mut EvalStack, operator: Op) -> Result<(), Fault>
+    ensures { (evaluating : Bool) (fresh : Option ℕ) (page : Page) (globals : Values)
+        → Changes (operator_asks operator (taken (takes operator) stack.old.items [])) (operate operator (fields evaluating fresh stack.old.items page globals)) (fields evaluating fresh stack.new.items page globals) result }
+{
+    match applied(alloc, stack, operator) {
+        Ok(value) => push(stack, value),
+        Err(fault) => Err(fault),
+    }
+}
+
+/// The path that a text spells; in an accepted story it spells one. The one error is a refused request for memory.
+fn path_of(alloc: Global, text: &str) -> Result<Path, AllocError>
+    ensures { IfOk result (λ path. path ≡ rules.path_of text.now) }
+{
+    match read_path(alloc, text) {
+        Ok(path) => Ok(path),
+        Err(refusal) if refusal.cause == Cause::OutOfMemory => Err(AllocError),
+        Err(_) => Ok(Path {
+            relative: false,
+            parts: Seq::new(alloc),
+        }),
+    }
+}

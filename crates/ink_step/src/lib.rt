@@ -1,0 +1,22 @@
+//! The machine that runs a story forward.
+#![tactic(auto)]
+
+mod diverting;
+mod evaluating;
+mod flow;
+mod globals;
+mod machine;
+mod opening;
+mod operands;
+mod running;
+mod sections;
+mod step;
+mod storing;
+mod threads;
+mod transfer;
+mod writing;
+
+pub use flow::StepEnd;
+pub use globals::Globals;
+pub use machine::Machine;
+pub use opening::Unopened;

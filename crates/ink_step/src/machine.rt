@@ -1,0 +1,76 @@
+//! The machine that runs a story forward.
+
+ghost use Rattle.std.specs.Prelude.{◌≡◌, OnOk, OnErr, is_ok, is_some};
+ghost use Rattle.ink_model.specs.Configuration.{begun, settled, can_go_on, with_globals};
+ghost use Rattle.ink_model.specs.Session.{is_loose};
+ghost use Rattle.ink_model.specs.Store.{store, stored};
+ghost use Rattle.ink_model.specs.Tree.{StoryTree};
+
+use crate::globals::Globals;
+use crate::threads::Threads;
+use ink_model::Value;
+use ink_out::Output;
+use ink_value::EvalStack;
+use std::alloc::Global;
+
+/// What changes while a story runs. Of a configuration's fields those that no content writes yet are not kept.
+#[derive(Drop)]
+pub struct Machine {
+    pub(crate) threads: Threads,
+    pub(crate) stack: EvalStack,
+    pub(crate) safe: bool,
+    pub(crate) output: Output,
+    pub(crate) globals: Globals,
+    pub(crate) alloc: Global,
+}
+
+impl Machine {
+    ghost use Rattle.ink_step.specs.Words.{config_of, globals_of};
+
+    /// Whether flow has not stopped. Takes no memory.
+    pub fn can_go_on(&self) -> bool
+        ensures { (s : StoryTree) → result ≡ can_go_on (config_of s self.now) }
+    {
+        self.threads.place().is_some()
+    }
+
+    /// The globals. Takes no memory.
+    pub fn globals(&self) -> &Globals
+        ensures { result.now ≡ globals_of self.now }
+    {
+        &self.globals
+    }
+
+    /// Gives a global that is there a value, without memory. Where there is none nothing has changed, and the value is handed
+    /// back.
+    pub fn set(&mut self, name: &str, value: Value) -> Result<(), Value>
+        ensures found { is_ok result ≡ is_some (stored name.now (globals_of self.old)) }
+        ensures ok { (s : StoryTree) → OnOk result (config_of s self.new ≡ with_globals (store name.now value (globals_of self.old)) (config_of s self.old)) }
+        ensures err { (s : StoryTree) → OnErr result (config_of s self.new ≡ config_of s self.old) }
+    {
+        self.globals.replace(name, value)
+    }
+
+    /// As a running command begins.
+    pub(crate) fn begin(&mut self)
+        ensures { (s : StoryTree) → config_of s self.new ≡ begun (config_of s self.old) }
+    {
+        self.safe = false;
+    }
+
+    /// As a running command ends: the text was taken.
+    #[tactic(auto, unfolding(ink_model::specs::Configuration::settled))]
+    pub(crate) fn settle(&mut self)
+        ensures { (s : StoryTree) → config_of s self.new ≡ settled (config_of s self.old) }
+    {
+        self.threads.clear_numbers();
+        self.output.clear();
+    }
+
+    /// Whether flow has stopped at a loose end.
+    pub(crate) fn is_loose(&self) -> bool
+        ensures { (s : StoryTree) → result ≡ is_loose (config_of s self.now) }
+    {
+        !self.can_go_on() && !self.safe
+    }
+}

@@ -1,0 +1,86 @@
+//! Opening a story: running its declarations, and keeping the globals (docs/RUNNING.md, "Opening").
+
+ghost use Rattle.std.specs.Prelude.{◌≡◌, Ok, IfOk, IfErr, option_map};
+ghost use Rattle.ink_model.specs.Configuration.{fresh_at, start, with_globals};
+ghost use Rattle.ink_model.specs.Opening.{declarations, opening};
+ghost use Rattle.ink_model.specs.Place.{landed};
+ghost use Rattle.ink_model.specs.Tree.{StoryTree};
+ghost use Rattle.ink_check.specs.Words.{story_tree};
+ghost use Rattle.ink_tree.specs.Nodes.{place_of};
+
+use crate::globals::Globals;
+use crate::machine::Machine;
+use crate::threads::Threads;
+use ink_check::Story;
+use ink_model::Fault;
+use ink_out::Output;
+use ink_tree::Spot;
+use ink_value::EvalStack;
+use std::alloc::Global;
+
+/// Declarations that could not be run: why, and the globals as they stood before the step that faulted.
+#[derive(Drop)]
+pub struct Unopened {
+    pub fault: Fault,
+    pub globals: Globals,
+}
+
+impl Machine {
+    ghost use Rattle.ink_step.specs.Steps.{FailsToOpen};
+    ghost use Rattle.ink_step.specs.Words.{config_of, globals_of};
+
+    /// A machine at the story's start, with the globals that the story declares. The fault is that of the declarations, or
+    /// `OutOfMemory`. A story without declarations needs no memory.
+    pub fn open(alloc: Global, story: &Story) -> Result<Machine, Unopened>
+        ensures ok { let s = story_tree story.now in IfOk result (λ m. opening s ≡ Ok (config_of s m)) }
+        ensures err { IfErr result (λ e. FailsToOpen (story_tree story.now) e.fault e.globals) }
+    {
+        let Some(place) = first_declaration(story) else {
+            return Ok(Machine::at_start(alloc, story, Globals::new(alloc)));
+        };
+        let mut machine = Machine::fresh(alloc, place, Globals::new(alloc));
+        let outcome = machine.run(story);
+        let Machine { globals, .. } = machine;
+        match outcome {
+            Ok(()) => Ok(Machine::at_start(alloc, story, globals)),
+            Err(fault) => Err(Unopened { fault, globals }),
+        }
+    }
+
+    /// A machine at the story's start with these globals. Takes no memory.
+    #[tactic(auto, unfolding(ink_model::specs::Configuration::start, ink_model::specs::Configuration::fresh_at))]
+    pub fn at_start(alloc: Global, story: &Story, globals: Globals) -> Machine
+        ensures at_start { let s = story_tree story.now in config_of s result ≡ start s globals }
+        ensures globals { globals_of result ≡ globals }
+    {
+        Machine::fresh(alloc, story.tree().start(), globals)
+    }
+
+    /// A machine at a place with these globals, where nothing has happened yet. Takes no memory.
+    #[tactic(auto, unfolding(ink_model::specs::Configuration::fresh_at))]
+    fn fresh(alloc: Global, place: Spot, globals: Globals) -> Machine
+        ensures fresh { (s : StoryTree) → config_of s result ≡ with_globals globals (fresh_at (place_of s place)) }
+        ensures globals { globals_of result ≡ globals }
+    {
+        Machine {
+            threads: Threads::new(Some(place)),
+            stack: EvalStack::new(alloc),
+            safe: false,
+            output: Output::new(alloc),
+            globals,
+            alloc,
+        }
+    }
+}
+
+/// Where flow lands to declare the globals, none where the story declares none.
+fn first_declaration(story: &Story) -> Option<Spot>
+    ensures { let s = story_tree story.now in option_map (place_of s) result ≡ option_map (landed s) (declarations s) }
+{
+    let tree = story.tree();
+    let holder = tree.knot("global decl")?;
+    Some(tree.land(Spot {
+        holder,
+        index: None,
+    }))
+}

@@ -1,0 +1,80 @@
+//! Strings and tags begin and end (docs/TEXT.md, "Sections").
+
+ghost use Rattle.std.specs.Prelude.{◌≡◌, ℕ, List, Bool, true, Option, Ok, IfErr, if◌then◌else◌};
+ghost use Rattle.ink_model.specs.Memory.{Gives, asks_for, leaving};
+ghost use Rattle.ink_model.specs.Output.{closes_string, closes_tag};
+ghost use Rattle.ink_model.specs.Step.Text.{begin_string, begin_tag, closed_tag, end_string, end_tag, in_tag};
+ghost use Rattle.ink_model.specs.Store.{Values};
+ghost use Rattle.ink_model.specs.declared.value.Value.{Value as Data};
+ghost use Rattle.ink_step.specs.Performs.{Changes, fields};
+
+use crate::operands::push;
+use ink_model::{Fault, Value};
+use ink_out::Output;
+use ink_value::EvalStack;
+
+/// A string begins in evaluation mode, and its content is written as text.
+pub(crate) fn begin_string(output: &mut Output, evaluating: &mut bool) -> Result<(), Fault>
+    ensures { (fresh : Option ℕ) (stack : List Data) (globals : Values)
+        → Changes evaluating.old (begin_string (fields evaluating.old fresh stack output.old.page globals)) (fields evaluating.new fresh stack output.new.page globals) result }
+{
+    if !*evaluating {
+        return Err(Fault::BadMode);
+    }
+    output.open_string()?;
+    *evaluating = false;
+    Ok(())
+}
+
+/// The text of a string that ends is pushed, and evaluation goes on.
+pub(crate) fn end_string(
+    stack: &mut EvalStack,
+    output: &mut Output,
+    evaluating: &mut bool,
+) -> Result<(), Fault>
+    ensures { (fresh : Option ℕ) (globals : Values)
+        → Changes (asks_for (closes_string output.old.page)) (end_string (fields evaluating.old fresh stack.old.items output.old.page globals)) (fields evaluating.new fresh stack.new.items output.new.page globals) result }
+{
+    let text = output.close_string()?;
+    *evaluating = true;
+    push(stack, Value::Text(text))
+}
+
+/// A tag begins; one that is on top is closed first.
+pub(crate) fn begin_tag(stack: &mut EvalStack, output: &mut Output) -> Result<(), Fault>
+    ensures { (evaluating : Bool) (fresh : Option ℕ) (globals : Values)
+        → Changes true (begin_tag (fields evaluating fresh stack.old.items output.old.page globals)) (fields evaluating fresh stack.new.items output.new.page globals) result }
+{
+    close_tag_on_top(stack, output)?;
+    output.open_tag()
+}
+
+/// The tag on top ends; in a string its text is pushed.
+pub(crate) fn end_tag(stack: &mut EvalStack, output: &mut Output) -> Result<(), Fault>
+    ensures { (evaluating : Bool) (fresh : Option ℕ) (globals : Values)
+        → Changes (asks_for (closes_tag output.old.page)) (end_tag (fields evaluating fresh stack.old.items output.old.page globals)) (fields evaluating fresh stack.new.items output.new.page globals) result }
+{
+    close_tag(stack, output)
+}
+
+/// Closes a tag where one is on top, and else does nothing.
+fn close_tag_on_top(stack: &mut EvalStack, output: &mut Output) -> Result<(), Fault>
+    ensures { Gives (leaving (stack.new.items, output.new.page) result) (if in_tag output.old.page.sections then closed_tag stack.old.items output.old.page else Ok (stack.old.items, output.old.page)) }
+{
+    match close_tag(stack, output) {
+        Err(Fault::BadMode) => Ok(()),
+        outcome => outcome,
+    }
+}
+
+/// Closes the tag on top; in a string its text is pushed. After `BadMode`, where none is on top, nothing has changed.
+fn close_tag(stack: &mut EvalStack, output: &mut Output) -> Result<(), Fault>
+    ensures closed { Gives (leaving (stack.new.items, output.new.page) result) (closed_tag stack.old.items output.old.page) }
+    ensures none { IfErr result (λ fault. fault ≡ Fault.BadMode → (stack.new.items ≡ stack.old.items) × (output.new.page ≡ output.old.page)) }
+{
+    match output.close_tag() {
+        Ok(Some(text)) => push(stack, Value::Tag(text)),
+        Ok(None) => Ok(()),
+        Err(fault) => Err(fault),
+    }
+}

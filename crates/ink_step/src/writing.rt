@@ -1,0 +1,90 @@
+//! Text, newlines and glue are written, or pushed in evaluation mode (docs/TEXT.md).
+
+ghost use Rattle.std.specs.Prelude.{◌≡◌, ℕ, List, Bool, true, false, not, ◌||◌, Option, length};
+ghost use Rattle.ink_model.specs.Effect.{is_fresh_at};
+ghost use Rattle.ink_model.specs.Memory.{output_asks};
+ghost use Rattle.ink_model.specs.Stack.{popped};
+ghost use Rattle.ink_model.specs.Step.Evaluation.{output_value};
+ghost use Rattle.ink_model.specs.Step.Text.{write_text, write_newline, write_glue};
+ghost use Rattle.ink_model.specs.Store.{Values};
+ghost use Rattle.ink_model.specs.declared.value.Value.{Value as Data};
+ghost use Rattle.ink_step.specs.Performs.{Changes, fields};
+
+use crate::operands::{push, top};
+use ink_model::{Fault, Text, Value};
+use ink_out::Output;
+use ink_value::EvalStack;
+use std::alloc::Global;
+
+/// A text is pushed in evaluation mode, and written outside it.
+#[tactic(auto, unfolding(ink_model::specs::Value::printed))]
+pub(crate) fn write_text(
+    alloc: Global,
+    stack: &mut EvalStack,
+    output: &mut Output,
+    evaluating: bool,
+    fresh: Option<usize>,
+    text: &Text,
+) -> Result<(), Fault>
+    ensures { (globals : Values) → Changes true (write_text text.now (fields evaluating fresh stack.old.items output.old.page globals)) (fields evaluating fresh stack.new.items output.new.page globals) result }
+{
+    let value = Value::Text(text.clone_in(alloc)?);
+    if evaluating {
+        return push(stack, value);
+    }
+    output.write(&value, is_fresh(output, fresh))?;
+    Ok(())
+}
+
+/// A newline is pushed in evaluation mode, and written outside it.
+pub(crate) fn write_newline(
+    alloc: Global,
+    stack: &mut EvalStack,
+    output: &mut Output,
+    evaluating: bool,
+    fresh: Option<usize>,
+) -> Result<(), Fault>
+    ensures { (globals : Values) → Changes (evaluating || not (is_fresh_at fresh (length output.old.page.sections))) (write_newline (fields evaluating fresh stack.old.items output.old.page globals)) (fields evaluating fresh stack.new.items output.new.page globals) result }
+{
+    if evaluating {
+        return push(stack, Value::Text(Text::from_str(alloc, "\n")?));
+    }
+    output.newline(is_fresh(output, fresh))
+}
+
+/// Glue is written. It is no value: `BadMode` in evaluation mode.
+pub(crate) fn write_glue(output: &mut Output, evaluating: bool) -> Result<(), Fault>
+    ensures { (fresh : Option ℕ) (stack : List Data) (globals : Values)
+        → Changes (not evaluating) (write_glue (fields evaluating fresh stack output.old.page globals)) (fields evaluating fresh stack output.new.page globals) result }
+{
+    if evaluating {
+        return Err(Fault::BadMode);
+    }
+    output.glue()
+}
+
+/// The value on top is popped and its printed text written. On an empty stack nothing is done.
+pub(crate) fn output_top(
+    stack: &mut EvalStack,
+    output: &mut Output,
+    fresh: Option<usize>,
+) -> Result<(), Fault>
+    ensures { (evaluating : Bool) (globals : Values)
+        → Changes (output_asks (popped stack.old.items)) (output_value (fields evaluating fresh stack.old.items output.old.page globals)) (fields evaluating fresh stack.new.items output.new.page globals) result }
+{
+    let Some(value) = top(stack) else {
+        return Ok(());
+    };
+    output.write(&value, is_fresh(output, fresh))?;
+    Ok(())
+}
+
+/// Whether the top frame is a function that is fresh in the open section.
+fn is_fresh(output: &Output, fresh: Option<usize>) -> bool
+    ensures { result ≡ is_fresh_at fresh (length output.now.page.sections) }
+{
+    match fresh {
+        Some(depth) => depth == output.depth(),
+        None => false,
+    }
+}
