@@ -12,7 +12,7 @@ ghost use Rattle.ink_model.specs.Shown.{shown_text, is_shown, open_newline, more
 ghost use Rattle.ink_model.specs.Value.{printed};
 ghost use Rattle.ink_out.specs.Cutting.{piece_mark};
 ghost use Rattle.ink_out.specs.Opened.{section_kind};
-ghost use Rattle.ink_out.specs.Writing.{closed, prints_nothing};
+ghost use Rattle.ink_out.specs.Writing.{Notes, closed, prints_nothing};
 
 use crate::cutting::{Piece, cut_text, is_cut};
 use crate::opened::{Kind, Opened, copied_sections, note, note_all, note_below};
@@ -102,41 +102,15 @@ impl Output {
         ensures text { IfOk result (λ has_text. has_text ≡ list_any is_text (cut text.now)) }
         ensures nothing { text.now ≡ [] → IsOk result }
     {
-        let _line = &self.line;
+        let line = &mut self.line;
         if text.is_empty() {
             return Ok(false);
         }
         if is_cut(text) {
-            self.write_cut(text, fresh)
+            note_cut(self.alloc, line, &mut self.sections, text, fresh)
         } else {
-            self.write_piece(text)
+            note_piece(self.alloc, line, &mut self.sections, text)
         }
-    }
-
-    // Writes the pieces of a text.
-    #[inline(never)]
-    fn write_cut(&mut self, text: &str, fresh: bool) -> Result<bool, Fault>
-        ensures page { Leaves (writes_text fresh text.now self.old.page) self.old.page self.new.page result }
-        ensures text { IfOk result (λ has_text. has_text ≡ list_any is_text (cut text.now)) }
-    {
-        let pieces = cut_text(self.alloc, text)?;
-        let has_text = has_text(&pieces);
-        let pieces = let_through(self.alloc, pieces, fresh)?;
-        note_all(&mut self.line, &mut self.sections, pieces)?;
-        Ok(has_text)
-    }
-
-    // Writes a text of one piece.
-    #[inline(always)]
-    fn write_piece(&mut self, text: &str) -> Result<bool, Fault>
-        requires { text.now ≢ [] }
-        ensures page { Leaves (writes_marks (piece text.now) self.old.page) self.old.page self.new.page result }
-        ensures text { IfOk result (λ has_text. has_text ≡ list_any is_text (piece text.now)) }
-    {
-        let piece = Piece::from_str(self.alloc, text)?;
-        let has_text = piece.is_text();
-        note(&mut self.line, &mut self.sections, piece.into_mark())?;
-        Ok(has_text)
     }
 
     /// Writes a newline, unless the top frame is a function that is `fresh` in the open section. `TooDeep` for more than
@@ -347,6 +321,45 @@ fn has_string(sections: &[Opened]) -> bool
     ensures { result ≡ list_any is_string (reverse sections.now) }
 {
     sections.iter().rev().any(|opened| opened.is_string())
+}
+
+// Writes the pieces of a text into what is open.
+#[inline(never)]
+fn note_cut(
+    alloc: Global,
+    line: &mut Section,
+    sections: &mut [Opened],
+    text: &str,
+    fresh: bool,
+) -> Result<bool, Fault>
+    ensures page { Notes (let_through fresh (cut text.now)) line.old sections.old line.new sections.new result }
+    ensures text { IfOk result (λ has_text. has_text ≡ list_any is_text (cut text.now)) }
+    ensures within { length line.old ≤ MAX_MARKS → length line.new ≤ MAX_MARKS }
+{
+    let pieces = cut_text(alloc, text)?;
+    let has_text = has_text(&pieces);
+    let pieces = let_through(alloc, pieces, fresh)?;
+    note_all(line, sections, pieces)?;
+    Ok(has_text)
+}
+
+// Writes a text of one piece into what is open.
+#[inline(always)]
+fn note_piece(
+    alloc: Global,
+    line: &mut Section,
+    sections: &mut [Opened],
+    text: &str,
+) -> Result<bool, Fault>
+    requires { text.now ≢ [] }
+    ensures page { Notes (piece text.now) line.old sections.old line.new sections.new result }
+    ensures text { IfOk result (λ has_text. has_text ≡ list_any is_text (piece text.now)) }
+    ensures within { length line.old ≤ MAX_MARKS → length line.new ≤ MAX_MARKS }
+{
+    let piece = Piece::from_str(alloc, text)?;
+    let has_text = piece.is_text();
+    note(line, sections, piece.into_mark())?;
+    Ok(has_text)
 }
 
 fn has_text(pieces: &[Piece]) -> bool

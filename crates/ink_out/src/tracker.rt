@@ -186,9 +186,7 @@ impl Tracker {
     #[inline(always)]
     pub(crate) fn enter(&mut self)
         ensures { (before : List Mark) (n : ℕ) (settled : List ℕ) → Tracks before self.old settled → Tracks (mark.Enter n ∷ before) self.new settled }
-    {
-        let _unchanged = &self;
-    }
+    {}
 
     /// Goes past the end of a function's text, which reaches back to an index, or to the start.
     #[inline(always)]

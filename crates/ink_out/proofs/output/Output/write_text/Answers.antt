@@ -1,6 +1,8 @@
-use Rattle.std.proofs.Common.{◌≡◌, length, refl, arith, rules}
+use Rattle.std.proofs.Common.{◌≡◌, List, length, refl, sym, ap, ◌∙◌, arith, rules}
 use Rattle.std.proofs.lemmas.List.{nil_from_length}
 use Rattle.ink_model.specs.Mark.{cut}
+use Rattle.ink_model.specs.Configuration.{Section}
+use Rattle.ink_out.proofs.Closing.{refilled}
 use Rattle.ink_out.proofs.Noting.{empty_text, whole_cut, let_through-piece}
 use Rattle.ink_out.proofs.output.Output.write_text.Goals as goal
 
@@ -18,8 +20,11 @@ returns-then-is_empty-clause-text c =
 
 pub returns-else-is_cut-clause-page : goal.returns-else-is_cut-clause-page
 returns-else-is_cut-clause-page c =
-    let whole = whole_cut c.args.text.now (search rules) in
-    rw (whole, let_through-piece c.args.fresh c.args.text.now) c.write_piece.ensures.page
+    let s = c.self.inside in
+    let lent : c.deref_mut-else-is_cut.result.now ≡ s.sections.items = c.deref_mut-else-is_cut.ensures.value in
+    let kept = refilled s.sections.items c.note_piece.new.sections s.sections.len (sym s.sections.ok.0) (c.note_piece.auto.sections ∙ ap (λ (sections : List Section). length sections) lent) in
+    let page = rw lent at (c.note_piece.ensures.page s.next_enter) in
+    rw (← c.self.view_is, whole_cut c.args.text.now (search rules), let_through-piece c.args.fresh c.args.text.now, kept) page
 
 pub returns-else-is_cut-clause-text : goal.returns-else-is_cut-clause-text
-returns-else-is_cut-clause-text c = rw (whole_cut c.args.text.now (search rules)) c.write_piece.ensures.text
+returns-else-is_cut-clause-text c = rw (whole_cut c.args.text.now (search rules)) c.note_piece.ensures.text
