@@ -1,5 +1,5 @@
 -- What a call of a source or a sink counts as a failure, and whose failure ended a session.
-use Rattle.std.specs.Prelude.{◌≡◌, ◌<◌, ℕ, List, [], ◌∷◌, ◌++◌, length, Bool, true, false, ◌==◌, ◌&&◌, ◌||◌, Option, Result, Ok, Err}
+use Rattle.std.specs.Prelude.{◌≡◌, ◌<◌, ℕ, List, ◌++◌, length, Bool, true, false, ◌==◌, ◌&&◌, ◌||◌, Option, Result, Ok, Err}
 use Rattle.std.specs.Io.KnownBytes.{Appends}
 use Rattle.ink_model.specs.Bytes.{is_filled}
 use Rattle.ink_player.specs.declared.desk.Desk.{Desk}
