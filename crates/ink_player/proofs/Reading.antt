@@ -1,5 +1,5 @@
 -- Taking bytes of what was read ahead.
-use Rattle.std.proofs.Common.{◌≡◌, ◌≢◌, ℕ, ◌+◌, ◌-◌, ◌<◌, ◌≤◌, max, List, [], ◌∷◌, ◌++◌, length, take, drop, get_or, suc, Bool, true, false, ◌||◌, ◌==◌, Option, Some, None, MatchOption, Ok, Err, ap, ◌∙◌, sym, refl, subst, inl, arith, append_assoc, append-nil, length-append, length-drop, length-take, take-append-drop}
+use Rattle.std.proofs.Common.{◌≡◌, ℕ, ◌+◌, ◌-◌, ◌<◌, ◌≤◌, max, List, [], ◌∷◌, ◌++◌, length, take, drop, get_or, suc, Bool, true, false, ◌||◌, ◌==◌, Option, Some, None, MatchOption, Ok, Err, ap, ◌∙◌, sym, refl, subst, inl, arith, append_assoc, append-nil, length-append, length-drop, length-take, take-append-drop}
 use Rattle.std.proofs.Math.Seq.{drop-cons}
 use Rattle.std.proofs.lemmas.Bool.{eqb-true}
 use Rattle.std.proofs.lemmas.List.{drop-take, get_or-take, take_all}

@@ -25,9 +25,6 @@ pub(crate) enum Outcome {
     Refused(Refusal),
 }
 
-/// Most answers are no longer.
-const USUAL_LENGTH: usize = 128;
-
 /// The line that is written where a command's call was done and tells nothing, its newline at the end. Takes no memory.
 pub(crate) fn fixed_answer(outcome: &Outcome) -> Option<&'static str>
     ensures { IfSome result (λ text. text.now ≡ answer (reply_by outcome.now)) }
@@ -47,12 +44,18 @@ fn done_answer(events: &Result<Seq<Event>, Halt>) -> Option<&'static str>
     }
 }
 
-/// What a command's call returned, as the line that is written, its newline at the end. The one error is a refused request
-/// for memory.
-pub(crate) fn answer_text(alloc: Global, outcome: Outcome) -> Result<Vec<u8>, AllocError>
+/// What a command's call returned, as the line that is written, its newline at the end, in the memory of a buffer whose
+/// bytes go. The one error is a refused request for memory.
+pub(crate) fn answer_text(
+    alloc: Global,
+    buffer: Vec<u8>,
+    outcome: Outcome,
+) -> Result<Vec<u8>, AllocError>
     ensures { IfOk result (λ text. text.items ≡ answer (reply_by outcome)) }
 {
-    let mut out = Writer::new(Vec::with_capacity(alloc, USUAL_LENGTH)?);
+    let mut empty = buffer;
+    empty.clear();
+    let mut out = Writer::new(empty);
     write_reply(alloc, &mut out, outcome)?;
     let mut text = out.into_inner();
     text.push(b'\n')?;

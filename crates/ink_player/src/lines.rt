@@ -6,7 +6,6 @@ ghost use Rattle.ink_player.specs.Lines.{GivesLine};
 
 use crate::end::RunFault;
 use crate::input::{Ahead, Cut, Next, Source};
-use std::alloc::Global;
 
 /// A line: one that ended at its newline, without it, or what stands before the source's end.
 #[derive(Drop)]
@@ -15,11 +14,11 @@ pub(crate) enum Line {
     Last(Vec<u8>),
 }
 
-/// The next line, of at most so many bytes. No more is read than tells that it is longer. Errors: `Read`, where the
+/// The next line, of at most so many bytes, in the memory of a buffer whose bytes go. No more is read than tells that it is longer. Errors: `Read`, where the
 /// source failed; `TooLong`, where the line is longer, or all bytes were taken that may be and more are there, whatever
 /// memory there is; `OutOfMemory`, where memory was refused for a byte that the line may have.
 pub(crate) fn next_line<S: Source>(
-    alloc: Global,
+    buffer: Vec<u8>,
     ahead: &mut Ahead,
     source: &mut S,
     limit: usize,
@@ -29,7 +28,8 @@ pub(crate) fn next_line<S: Source>(
     ensures cause { S.has_failed source.new ≡ (reads_fail result || S.has_failed source.old) }
     ensures name { S.name source.new ≡ S.name source.old }
 {
-    let mut line = Vec::new(alloc);
+    let mut line = buffer;
+    line.clear();
     'pieces: loop {
         let Ok(next) = ahead.next(source, limit - line.len()) else {
             return Err(RunFault::Read);

@@ -57,7 +57,7 @@ pub fn serve_story<S: Source, T: Sink>(
     ensures sink { Reports (play_writes_fail result) (T.has_failed sink.old) (T.has_failed sink.new) (T.name sink.old) (T.name sink.new) }
 {
     let mut ahead = Ahead::new(MAX_INPUT);
-    let line = match next_line(alloc, &mut ahead, source, MAX_STORY) {
+    let line = match next_line(Vec::new(alloc), &mut ahead, source, MAX_STORY) {
         Ok(line) => line,
         Err(fault) => {
             let fault = fault_of(alloc, fault);

@@ -22,6 +22,24 @@ use crate::watched::Watched;
 use ink_model::{Given, MAX_INPUT, MAX_LINE, Refusal};
 use std::alloc::{AllocError, Global};
 use std::io::{Read, Write};
+use std::mem;
+
+/// Memory that a session uses again for each line and each answer.
+#[derive(Drop)]
+struct Buffers {
+    line: Vec<u8>,
+    answer: Vec<u8>,
+}
+
+impl Buffers {
+    // None of it is taken yet.
+    fn new(alloc: Global) -> Buffers {
+        Buffers {
+            line: Vec::new(alloc),
+            answer: Vec::new(alloc),
+        }
+    }
+}
 
 /// Whether a session goes on after a line.
 pub(crate) enum Served {
@@ -83,8 +101,9 @@ pub(crate) fn serve_lines<S: Source, T: Sink>(
     ensures source { Reports (reads_fail result) (S.has_failed source.old) (S.has_failed source.new) (S.name source.old) (S.name source.new) }
     ensures sink { Reports (writes_fail result) (T.has_failed sink.old) (T.has_failed sink.new) (T.name sink.old) (T.name sink.new) }
 {
+    let mut buffers = Buffers::new(alloc);
     'lines: loop {
-        match serve_line(alloc, ahead, source, sink, player) {
+        match serve_line(alloc, &mut buffers, ahead, source, sink, player) {
             Ok(Served::More) => {}
             Ok(Served::Done) => return Ok(()),
             Err(fault) => return Err(fault),
@@ -95,6 +114,7 @@ pub(crate) fn serve_lines<S: Source, T: Sink>(
 // Serves the next line, if there is one.
 fn serve_line<S: Source, T: Sink>(
     alloc: Global,
+    buffers: &mut Buffers,
     ahead: &mut Ahead,
     source: &mut S,
     sink: &mut T,
@@ -107,22 +127,24 @@ fn serve_line<S: Source, T: Sink>(
     ensures sink { Reports (writes_fail result) (T.has_failed sink.old) (T.has_failed sink.new) (T.name sink.old) (T.name sink.new) }
 {
     ahead.bounds();
-    let line = match next_line(alloc, ahead, source, MAX_LINE) {
+    let buffer = mem::replace(&mut buffers.line, Vec::new(alloc));
+    let line = match next_line(buffer, ahead, source, MAX_LINE) {
         Ok(line) => line,
         Err(fault) => return Err(fault),
     };
     match line {
         Line::Whole(line) => {
-            if let Err(fault) = answer_line(alloc, sink, player, &line) {
+            if let Err(fault) = answer_line(alloc, &mut buffers.answer, sink, player, &line) {
                 return Err(fault);
             }
+            buffers.line = line;
             Ok(Served::More)
         }
         Line::Last(line) => {
             if line.is_empty() {
                 return Ok(Served::Done);
             }
-            if let Err(fault) = answer_line(alloc, sink, player, &line) {
+            if let Err(fault) = answer_line(alloc, &mut buffers.answer, sink, player, &line) {
                 return Err(fault);
             }
             Ok(Served::Done)
@@ -133,6 +155,7 @@ fn serve_line<S: Source, T: Sink>(
 // Performs the command of a line, and writes the answer.
 fn answer_line<T: Sink>(
     alloc: Global,
+    buffer: &mut Vec<u8>,
     sink: &mut T,
     player: &mut Player,
     line: &[u8],
@@ -145,10 +168,12 @@ fn answer_line<T: Sink>(
     if let Some(text) = fixed_answer(&outcome) {
         return write_answer(sink, text.as_bytes());
     }
-    let Ok(text) = answer_text(alloc, outcome) else {
+    let memory = mem::replace(buffer, Vec::new(alloc));
+    let Ok(text) = answer_text(alloc, memory, outcome) else {
         return Err(RunFault::OutOfMemory);
     };
-    write_answer(sink, &text)
+    *buffer = text;
+    write_answer(sink, buffer.as_slice())
 }
 
 fn write_answer<T: Sink>(sink: &mut T, text: &[u8]) -> Result<(), RunFault>
