@@ -117,10 +117,10 @@ impl Player {
         if !is_settable(&value) {
             return Err(Halt::Refused(Refusal::BadValue));
         }
-        if self.machine.set(name, value_given(value)).is_err() {
-            return Err(Halt::Refused(Refusal::NoSuchVariable));
+        match self.machine.set(name, value_given(value)) {
+            Ok(()) => Ok(Seq::new(self.alloc)),
+            Err(_) => Err(Halt::Refused(Refusal::NoSuchVariable)),
         }
-        Ok(Seq::new(self.alloc))
     }
 
     /// A global's value; of a broken player as it stood before the step that faulted. Refused with `NoSuchVariable` where
