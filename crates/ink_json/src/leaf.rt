@@ -15,7 +15,7 @@ use crate::error::{ReadFailure, refused};
 use crate::limits::{LEAST, MOST};
 use crate::object::read_object_leaf;
 use crate::word::word_leaf;
-use ink_model::{Cause, Content, Leaf, MAX_TEXT, Text};
+use ink_model::{Cause, Content, Leaf, MAX_TEXT, Shared, Text};
 use serde_json::{Number, Value};
 use std::alloc::Global;
 
@@ -63,7 +63,10 @@ fn read_written(alloc: Global, written: &str) -> Result<Leaf, ReadFailure>
     if written.len() > MAX_TEXT {
         return Err(refused(alloc, Cause::Limit));
     }
-    Ok(Leaf::Text(Text::from_str(alloc, written)?))
+    Ok(Leaf::Text(Shared::new(
+        alloc,
+        Text::from_str(alloc, written)?,
+    )?))
 }
 
 fn read_word(alloc: Global, text: &str) -> Result<Leaf, ReadFailure>

@@ -3,7 +3,7 @@ use Rattle.std.specs.Prelude.{ℕ, List, [], length, Bool, false, nat_eq, Option
 use Rattle.ink_model.specs.Configuration.{ConfigurationOf, with_globals, with_threads}
 use Rattle.ink_model.specs.Frames.{fresh_depth, mode_in, on_top}
 use Rattle.ink_model.specs.Page.{Page}
-use Rattle.ink_model.specs.Stack.{popped, pushed, taken}
+use Rattle.ink_model.specs.Stack.{popped, pushed}
 use Rattle.ink_model.specs.Store.{Values}
 use Rattle.ink_model.specs.declared.fault.Fault.{Fault}
 use Rattle.ink_model.specs.declared.fault.Fault.TheVariants.{StackEmpty}
@@ -71,10 +71,6 @@ or_else f (Some a) so = so a
 
 abbrev pub popping : Fields → (Value → Fields → Effect) → Effect
 popping f so = or_else StackEmpty (popped f.stack) (λ r. so r.0 (record f { stack = r.1 }))
-
--- as many values as are asked for, in the order in which they were pushed
-abbrev pub taking : ℕ → Fields → (List Value → Fields → Effect) → Effect
-taking n f so = or_else StackEmpty (taken n f.stack []) (λ r. so r.0 (record f { stack = r.1 }))
 
 abbrev pub pushing : Value → Fields → Effect
 pushing v f = or_fault (pushed v f.stack) (λ vs. Moves (record f { stack = vs }))

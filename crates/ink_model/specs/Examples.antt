@@ -345,7 +345,7 @@ at_first vs = with_stack vs (fresh_at (Index 0 ∷ []))
 -- in evaluation mode a text is pushed and not written
 a_text_pushed : step (story_of (tree (text (codes "x")) (tree newline no_trees))) nothing_bound (evaluating (at_first []))
     ≡ Next (with_stack (value.Text (codes "x") ∷ []) (moved (Index 0 ∷ []) (Some (Index 1 ∷ [])) (evaluating (at_first []))))
-unfolding step fresh_at entered pushed next_place cut
+unfolding step fresh_at entered next_place cut
 a_text_pushed = refl
 
 -- outside it an integer does nothing
@@ -385,7 +385,7 @@ lacking_an_operand = refl
 
 a_quotient : step (story_of (tree (leaf (leaves.Op op.Divide)) (tree newline no_trees))) nothing_bound (at_first (value.Int (negsuc 6) ∷ value.Int (pos 2) ∷ []))
     ≡ Next (with_stack (value.Int (negsuc 2) ∷ []) (moved (Index 0 ∷ []) (Some (Index 1 ∷ [])) (at_first [])))
-unfolding step fresh_at entered apply pushed next_place
+unfolding step fresh_at entered apply next_place
 a_quotient = refl
 
 -- a global is declared; one that is there keeps its place when it is declared again
@@ -402,7 +402,7 @@ assigned_absent = refl
 
 read_absent : step (story_of (tree (leaf (leaves.Variable (codes "x"))) (tree newline no_trees))) nothing_bound (at_first [])
     ≡ Next (with_stack (value.Int (pos 0) ∷ []) (moved (Index 0 ∷ []) (Some (Index 1 ∷ [])) (at_first [])))
-unfolding step fresh_at entered pushed next_place
+unfolding step fresh_at entered next_place
 read_absent = refl
 
 -- ["ev",1,{"VAR=":"x"},"end",null] as the knot `global decl`
@@ -427,7 +427,7 @@ abbrev declared_end : Configuration
 declared_end = ended (with_globals ((codes "x", value.Int (pos 1)) ∷ []) (fresh_at (Name (codes "global decl") ∷ Index 0 ∷ [])))
 
 declarations_run : moment declaring nothing_bound (fresh_at (Name (codes "global decl") ∷ Index 0 ∷ [])) [] 4 ≡ Stopped declared_end [] []
-unfolding run step fresh_at entered pushed next_place
+unfolding run step fresh_at entered next_place
 declarations_run = refl
 
 -- a story is opened with the globals that it declares
@@ -450,7 +450,6 @@ an_absent_variable = (refl, refl)
 -- an answer of the host is pushed within the stack's limit, and no text over its limit is
 a_full_stack : (s : StoryTree) (p : List Part) (c : Configuration) → nat_lt (length c.flow.stack) MAX_STACK ≡ false
     → answered_at s (value.Int (pos 1)) (Some p) c ≡ Faults fault.TooDeep
-unfolding pushed
 a_full_stack s p c full = rw full refl
 
 a_long_answer : (s : StoryTree) (p : List Part) (c : Configuration) (t : List ℕ) → fits_text t ≡ false
@@ -471,7 +470,7 @@ half_moment = moment declaring_half nothing_bound half_start [] 4
 
 half_fault : opened_by declaring_half half_moment
     ≡ Err (record { fault = fault.StackEmpty; globals = (codes "x", value.Int (pos 1)) ∷ [] })
-unfolding run step fresh_at entered pushed next_place
+unfolding run step fresh_at entered next_place
 half_fault = refl
 
 -- a broken player still shows its globals, and begins anew

@@ -18,6 +18,7 @@ pub mod Entered
 pub mod Acceptance
 pub mod Supported
 pub mod Operator
+pub mod Joining
 pub mod Store
 pub mod Stack
 pub mod Page
@@ -35,6 +36,7 @@ pub mod ValueJson
 pub mod Command
 pub mod Answer
 pub mod State
+pub mod Asks
 pub mod Memory
 pub mod Session
 pub mod PathExamples

@@ -1,10 +1,10 @@
 -- Where memory may be refused, and what is answered then (docs/RUNNING.md, "Out of memory").
 use Rattle.std.specs.Prelude.{◌≡◌, ◌<◌, ◌≤◌, ◌⊎◌, ℕ, List, [], Bool, true, false, not, ◌||◌, Option, Some, None, Result, Ok, Err, OnErr}
+unfoldable pub use Rattle.ink_model.specs.Asks.{asks, asks_at, asks_for, content_asks, control_asks, has_top, is_found_late, leaf_asks, operator_asks, output_asks}
 use Rattle.ink_model.specs.Tree.{StoryTree, leaf, container, at}
 use Rattle.ink_model.specs.Place.{entered}
 use Rattle.ink_model.specs.Configuration.{Configuration, current_place, begun}
 use Rattle.ink_model.specs.Effect.{Fields, fields_of, is_fresh}
-use Rattle.ink_model.specs.Operator.{takes, apply}
 use Rattle.ink_model.specs.Output.{closes_string, closes_tag}
 use Rattle.ink_model.specs.Stack.{popped, taken}
 use Rattle.ink_model.specs.Step.Host.{Bound, nothing_bound}
@@ -14,25 +14,14 @@ use Rattle.ink_model.specs.Run.{At, Stopped, Made, answers_of, moment}
 use Rattle.ink_model.specs.Opening.{declaring}
 use Rattle.ink_model.specs.Answer.{Reply, Breaks}
 use Rattle.ink_model.specs.State.{Condition, Broken}
-use Rattle.ink_model.specs.declared.content.Control.{Control}
-use Rattle.ink_model.specs.declared.content.Control.TheVariants as control
-use Rattle.ink_model.specs.declared.content.Leaf.{Leaf}
-use Rattle.ink_model.specs.declared.content.Leaf.TheVariants as leaves
 use Rattle.ink_model.specs.declared.fault.Fault.{Fault}
 use Rattle.ink_model.specs.declared.fault.Fault.TheVariants.{OutOfMemory, TooDeep}
 use Rattle.ink_model.specs.declared.limits.TheConstants.{MAX_STEPS}
-use Rattle.ink_model.specs.declared.operator.Op.{Op}
 use Rattle.ink_model.specs.declared.place.Part.{Part}
 use Rattle.ink_model.specs.declared.value.Value.{Value}
 use Rattle.ink_model.specs.declared.value.Value.TheVariants as value
 
 -- ---- calls
-
--- The rule's answer is made in memory, and a limit is looked at once it is made. Every other fault is found without.
-abbrev pub asks_for : {A : Type 0} → Result A Fault → Bool
-asks_for (Ok a) = true
-asks_for (Err TooDeep) = true
-asks_for (Err f) = false
 
 -- A call's result is that of the rule; or it is refused memory, where the rule asks for it.
 abbrev pub Gives : {A : Type 0} → Result A Fault → Result A Fault → Type 0
@@ -65,65 +54,9 @@ holds_memory (value.Int z) = false
 holds_memory (value.Bool b) = false
 holds_memory (value.Text t) = true
 holds_memory (value.Target p) = true
-holds_memory (value.Pointer n i) = true
+holds_memory (value.Pointer i n) = true
 holds_memory value.Void = false
 holds_memory (value.Tag t) = true
-
--- ---- steps: whether performing content asks for memory
-
--- there is something on the stack
-abbrev pub has_top : Option (Value × List Value) → Bool
-has_top None = false
-has_top (Some r) = true
-
-abbrev pub output_asks : Option (Value × List Value) → Bool
-output_asks None = false
-output_asks (Some r) = asks_for (printed r.0)
-
-abbrev pub operator_asks : Op → Option (List Value × List Value) → Bool
-operator_asks o None = false
-operator_asks o (Some r) = asks_for (apply o r.0)
-
-abbrev pub stores_value : Option Value → Option (Value × List Value) → Bool
-stores_value None top = false
-stores_value (Some v) top = has_top top
-
-abbrev pub control_asks : Control → Fields → Bool
-control_asks control.Out f = output_asks (popped f.stack)
-control_asks control.Duplicate f = has_top (popped f.stack)
-control_asks control.BeginString f = f.evaluating
-control_asks control.EndString f = asks_for (closes_string f.page)
-control_asks control.BeginTag f = true
-control_asks control.EndTag f = asks_for (closes_tag f.page)
-control_asks o f = false
-
-abbrev pub leaf_asks : Leaf → Fields → Bool
-leaf_asks (leaves.Text t) f = true
-leaf_asks leaves.Newline f = f.evaluating || not (is_fresh f)
-leaf_asks leaves.Glue f = not f.evaluating
-leaf_asks (leaves.Int z) f = f.evaluating
-leaf_asks (leaves.Bool b) f = f.evaluating
-leaf_asks leaves.Void f = f.evaluating
-leaf_asks (leaves.Target text) f = f.evaluating
-leaf_asks (leaves.Control o) f = control_asks o f
-leaf_asks (leaves.Op o) f = operator_asks o (taken (takes o) f.stack [])
-leaf_asks (leaves.Declare name) f = has_top (popped f.stack)
-leaf_asks (leaves.Assign name) f = stores_value (stored name f.globals) (popped f.stack)
-leaf_asks (leaves.Variable name) f = true
-leaf_asks l f = false
-
-abbrev pub content_asks : Option StoryTree → Fields → Bool
-content_asks None f = false
-content_asks (Some (container name flags content named)) f = false
-content_asks (Some (leaf l)) f = leaf_asks l f
-
-abbrev pub asks_at : StoryTree → Option (List Part) → Configuration → Bool
-asks_at s None c = false
-asks_at s (Some p) c = content_asks (at s (entered s p)) (fields_of c)
-
--- the step at a configuration asks for memory
-unfoldable pub asks : StoryTree → Configuration → Bool
-asks s c = asks_at s (current_place c) c
 
 -- ---- runs
 

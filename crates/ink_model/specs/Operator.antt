@@ -31,7 +31,7 @@ operand (Int z) = number z (signed_decimal z)
 operand (Truth b) = number (truth_number b) (truth_text b)
 operand (Text t) = words t
 operand (Target p) = target p
-operand (Pointer n i) = other
+operand (Pointer i n) = other
 operand Void = other
 operand (Tag t) = other
 

@@ -197,7 +197,7 @@ printed_void : printed Void ≡ Ok []
 unfolding printed
 printed_void = refl
 
-no_printed_pointer : printed (Pointer (codes "x") (pos 0)) ≡ Err BadOperands
+no_printed_pointer : printed (Pointer (pos 0) (codes "x")) ≡ Err BadOperands
 unfolding printed
 no_printed_pointer = refl
 

@@ -111,7 +111,7 @@ unfolding step fresh_at entered
 not_in_evaluation = refl
 
 a_string_ends : step (story control.EndString) nothing_bound (at_first (in_string [] (a ∷ [])) []) ≡ Next (at_second (with_mode true (at_first empty_page (value.Text (codes "a") ∷ []))))
-unfolding step fresh_at entered next_place pushed
+unfolding step fresh_at entered next_place
 a_string_ends = refl
 
 a_tag_begins : step (story control.BeginTag) nothing_bound (at_first (line_of (a ∷ [])) []) ≡ Next (at_second (at_first (in_tag (a ∷ []) []) []))
@@ -124,7 +124,7 @@ unfolding step fresh_at entered next_place clean
 another_tag_begins = refl
 
 a_tag_ends_in_a_string : step (story control.EndTag) nothing_bound (at_first (tag_in_string [] (a ∷ [])) []) ≡ Next (at_second (at_first (in_string [] []) (value.Tag (codes "a") ∷ [])))
-unfolding step fresh_at entered next_place clean pushed
+unfolding step fresh_at entered next_place clean
 a_tag_ends_in_a_string = refl
 
 stopped_in_a_string : step (story control.Done) nothing_bound (at_first (in_string [] []) []) ≡ Faults fault.StopInString

@@ -109,12 +109,11 @@ settable (given.Bool b) = true
 settable (given.Text t) = fits_text t
 settable given.Void = false
 
--- `set` of a value: a bad value comes before an absent variable; only storing it takes memory
+-- `set` of a value, without memory: a bad value comes before an absent variable
 abbrev pub SetsIn : List ℕ → Given → Configuration → State → Reply → State → Type 0
 SetsIn name g c old reply new = MatchBool (settable g)
     (MatchBool (is_some (stored name c.shared.globals))
-    (((reply ≡ Acts []) × (new ≡ with_condition (Ready (with_globals (store name (value_given g) c.shared.globals) c)) old))
-    ⊎ FailsAllocation old reply new)
+    ((reply ≡ Acts []) × (new ≡ with_condition (Ready (with_globals (store name (value_given g) c.shared.globals) c)) old))
     (Keeps (Refuses refusal.NoSuchVariable) old reply new))
     (Keeps (Refuses refusal.BadValue) old reply new)
 

@@ -25,7 +25,14 @@ supports_control control.BeginTag = true
 supports_control control.EndTag = true
 supports_control control.Done = true
 supports_control control.End = true
-supports_control o = false
+supports_control control.Return = false
+supports_control control.ReturnTunnel = false
+supports_control control.Thread = false
+supports_control control.ChoiceCount = false
+supports_control control.Turn = false
+supports_control control.Turns = false
+supports_control control.ReadCount = false
+supports_control control.Visit = false
 
 abbrev pub supports : Leaf → Bool
 supports (leaves.Pointer name frame) = false
@@ -37,7 +44,18 @@ supports (leaves.AssignTemp name) = false
 supports (leaves.Count text) = false
 supports (leaves.Choice text flags) = false
 supports (leaves.Control o) = supports_control o
-supports l = true
+supports (leaves.Text t) = true
+supports leaves.Newline = true
+supports leaves.Glue = true
+supports (leaves.Int z) = true
+supports (leaves.Bool b) = true
+supports leaves.Void = true
+supports (leaves.Target text) = true
+supports (leaves.Op o) = true
+supports (leaves.Divert to conditional) = true
+supports (leaves.Declare name) = true
+supports (leaves.Assign name) = true
+supports (leaves.Variable name) = true
 
 abbrev pub is_supported : Option StoryTree → Bool
 is_supported None = true

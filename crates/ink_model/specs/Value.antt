@@ -24,7 +24,7 @@ printed (Truth b) = Ok (truth_text b)
 printed (Text t) = Ok t
 printed Void = Ok []
 printed (Target p) = Err BadOperands
-printed (Pointer n i) = Err BadOperands
+printed (Pointer i n) = Err BadOperands
 printed (Tag t) = Err BadOperands
 
 -- ---- truth
@@ -36,7 +36,7 @@ is_true (Truth b) = Ok b
 is_true (Text t) = Ok (is_filled t)
 is_true Void = Ok false
 is_true (Target p) = Err BadOperands
-is_true (Pointer n i) = Err BadOperands
+is_true (Pointer i n) = Err BadOperands
 is_true (Tag t) = Err BadOperands
 
 -- ---- divert targets, which are equal where all their components are

@@ -16,7 +16,7 @@ value_data (value.Int z) = number (of_integer z)
 value_data (value.Bool b) = boolean b
 value_data (value.Text t) = string t
 value_data (value.Target p) = object (member (codes "->") (string (path_text p)) no_members)
-value_data (value.Pointer n i) = object (member (codes "ci") (number (of_integer i)) (member (codes "var") (string n) no_members))
+value_data (value.Pointer i n) = object (member (codes "ci") (number (of_integer i)) (member (codes "var") (string n) no_members))
 value_data value.Void = null
 value_data (value.Tag t) = object (member (codes "tag") (string t) no_members)
 

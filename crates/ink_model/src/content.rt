@@ -1,6 +1,7 @@
 //! Raw content, as it was read.
 
 use crate::operator::Op;
+use crate::shared::Shared;
 use crate::text::Text;
 use std::collections::BTreeMap;
 
@@ -42,7 +43,7 @@ pub enum Destination {
 /// `Variable` pushes what a variable holds, and `Count` the visits of a container.
 #[derive(Drop)]
 pub enum Leaf {
-    Text(Text),
+    Text(Shared<Text>),
     Newline,
     Glue,
     Int(i32),

@@ -1,5 +1,6 @@
 //! What a host gives, and what happened between it and a player.
 
+use crate::shared::Shared;
 use crate::text::Text;
 
 /// What a host object answers.
@@ -7,7 +8,7 @@ use crate::text::Text;
 pub enum Given {
     Int(i32),
     Bool(bool),
-    Text(Text),
+    Text(Shared<Text>),
     Void,
 }
 

@@ -13,6 +13,7 @@ mod operator;
 mod passage;
 mod place;
 mod seq;
+mod shared;
 mod text;
 mod value;
 
@@ -30,5 +31,6 @@ pub use operator::Op;
 pub use passage::{Passage, Shown};
 pub use place::{Part, Path, Place};
 pub use seq::Seq;
+pub use shared::Shared;
 pub use text::Text;
 pub use value::Value;

@@ -3,37 +3,39 @@
 ghost use Rattle.std.specs.Prelude.{◌≡◌, true, IfOk, OnErr};
 
 use crate::place::Path;
+use crate::shared::Shared;
 use crate::text::Text;
 use std::alloc::{AllocError, Global};
 
-/// A value of a running story.
+/// A value of a running story. It takes 16 bytes: what does not fit into them is shared, and the number of a pointer stands
+/// before its name.
 #[derive(Drop)]
 pub enum Value {
     Int(i32),
     Bool(bool),
-    Text(Text),
-    Target(Path),
-    Pointer(Text, i32),
+    Text(Shared<Text>),
+    Target(Shared<Path>),
+    Pointer(i32, Shared<Text>),
     Void,
-    Tag(Text),
+    Tag(Shared<Text>),
 }
 
 impl Value {
     ghost use Rattle.ink_model.specs.Memory.{holds_memory};
 
-    /// A copy. The one error is a refused request for memory, which a number, a truth value and void never make.
-    pub fn clone_in(&self, alloc: Global) -> Result<Value, AllocError>
+    /// A copy, which shares what it can: it asks for no memory. The one error is a count of owners that is full.
+    pub fn clone_in(&self, _alloc: Global) -> Result<Value, AllocError>
         ensures copy { IfOk result (λ copy. copy ≡ self.now) }
         ensures memory { OnErr result (holds_memory self.now ≡ true) }
     {
         match self {
             Value::Int(number) => Ok(Value::Int(*number)),
             Value::Bool(truth) => Ok(Value::Bool(*truth)),
-            Value::Text(text) => Ok(Value::Text(text.clone_in(alloc)?)),
-            Value::Target(path) => Ok(Value::Target(path.clone_in(alloc)?)),
-            Value::Pointer(name, frame) => Ok(Value::Pointer(name.clone_in(alloc)?, *frame)),
+            Value::Text(text) => Ok(Value::Text(text.share()?)),
+            Value::Target(path) => Ok(Value::Target(path.share()?)),
+            Value::Pointer(frame, name) => Ok(Value::Pointer(*frame, name.share()?)),
             Value::Void => Ok(Value::Void),
-            Value::Tag(text) => Ok(Value::Tag(text.clone_in(alloc)?)),
+            Value::Tag(text) => Ok(Value::Tag(text.share()?)),
         }
     }
 }

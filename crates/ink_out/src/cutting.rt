@@ -8,7 +8,7 @@ ghost use Rattle.ink_model.specs.Bytes.{has_newline, is_blank, is_newline, is_wh
 ghost use Rattle.ink_model.specs.declared.mark.Mark.{Mark};
 ghost use Rattle.ink_out.specs.Cutting.{is_space, piece_mark};
 
-use ink_model::{Mark, Text};
+use ink_model::{Mark, Shared, Text};
 use std::alloc::{AllocError, Global};
 
 /// Spaces and tabs, or these and newlines.
@@ -33,23 +33,22 @@ impl Space {
 /// What a written text is cut into: pieces, and newlines at its ends.
 #[derive(Drop)]
 pub(crate) enum Piece {
-    Text(Text),
-    Blank(Text),
+    Text(Shared<Text>),
+    Blank(Shared<Text>),
     Newline,
 }
 
 impl Piece {
-    /// The piece of bytes without newlines at their ends, of which there are some. The one error is a refused request for
-    /// memory.
+    /// The piece of a text that has bytes, and no newlines at their ends. The one error is a count of owners that is full.
     #[inline(always)]
-    pub(crate) fn from_str(alloc: Global, text: &str) -> Result<Piece, AllocError>
+    pub(crate) fn whole(text: &Shared<Text>) -> Result<Piece, AllocError>
         ensures { text.now ≢ [] → IfOk result (λ one. piece_mark one ∷ [] ≡ piece text.now) }
     {
-        let copy = Text::from_str(alloc, text)?;
-        if has_words(text) {
-            Ok(Piece::Text(copy))
+        let shared = text.share()?;
+        if has_words(text.get().as_str()) {
+            Ok(Piece::Text(shared))
         } else {
-            Ok(Piece::Blank(copy))
+            Ok(Piece::Blank(shared))
         }
     }
 
@@ -137,7 +136,8 @@ fn push_piece(alloc: Global, pieces: &mut Vec<Piece>, text: &str) -> Result<(), 
     if text.is_empty() {
         return Ok(());
     }
-    pieces.push(Piece::from_str(alloc, text)?)?;
+    let part = Shared::new(alloc, Text::from_str(alloc, text)?)?;
+    pieces.push(Piece::whole(&part)?)?;
     Ok(())
 }
 

@@ -5,7 +5,7 @@ ghost use Rattle.std.specs.List.{list_any};
 ghost use Rattle.ink_model.specs.Clean.{clean};
 ghost use Rattle.ink_model.specs.Configuration.{string_section, tag_section};
 ghost use Rattle.ink_model.specs.Mark.{cut, piece, tags};
-ghost use Rattle.ink_model.specs.Memory.{Hands, Leaves};
+ghost use Rattle.ink_model.specs.Memory.{Gives, Hands, Leaves};
 ghost use Rattle.ink_model.specs.Output.{writes_marks, writes_value, writes_text, writes_newline, writes_glue, begins_function, ends_function, opens, closes_string, closes_tag, prints_text, ends_line, empty_page, is_string, is_text, kept_text, let_through};
 ghost use Rattle.ink_model.specs.declared.limits.TheConstants.{MAX_MARKS};
 ghost use Rattle.ink_model.specs.Shown.{shown_text, is_shown, open_newline, more_from};
@@ -17,7 +17,7 @@ ghost use Rattle.ink_out.specs.Writing.{Notes, closed, prints_nothing};
 use crate::cutting::{Piece, cut_text, is_cut};
 use crate::opened::{Kind, Opened, copied_sections, note, note_all, note_below};
 use crate::section::Section;
-use ink_model::{Fault, MAX_SECTIONS, MAX_TEXT, Mark, Seq, Text, Value};
+use ink_model::{Fault, MAX_SECTIONS, MAX_TEXT, Mark, Seq, Shared, Text, Value};
 use ink_value::printed;
 use std::alloc::{AllocError, Global};
 use std::marker::Model;
@@ -86,30 +86,32 @@ impl Output {
         ensures text { IfOk result (λ has_text. has_text ≡ prints_text (printed value.now)) }
         ensures nothing { IsTrue (prints_nothing value.now) → IsOk result }
     {
+        let alloc = self.alloc;
         match value {
-            Value::Text(text) => self.write_text(text.as_str(), fresh),
-            Value::Void => self.write_text("", fresh),
+            Value::Text(text) => self.write_text(text, fresh),
+            Value::Void => Ok(false),
             _ => {
-                let text = printed(self.alloc, value)?;
-                self.write_text(text.as_str(), fresh)
+                let text = Shared::new(alloc, printed(alloc, value)?)?;
+                self.write_text(&text, fresh)
             }
         }
     }
 
     #[inline(always)]
-    fn write_text(&mut self, text: &str, fresh: bool) -> Result<bool, Fault>
+    fn write_text(&mut self, text: &Shared<Text>, fresh: bool) -> Result<bool, Fault>
         ensures page { Leaves (writes_text fresh text.now self.old.page) self.old.page self.new.page result }
         ensures text { IfOk result (λ has_text. has_text ≡ list_any is_text (cut text.now)) }
         ensures nothing { text.now ≡ [] → IsOk result }
     {
         let line = &mut self.line;
-        if text.is_empty() {
+        let written = text.get().as_str();
+        if written.is_empty() {
             return Ok(false);
         }
-        if is_cut(text) {
-            note_cut(self.alloc, line, &mut self.sections, text, fresh)
+        if is_cut(written) {
+            note_cut(self.alloc, line, &mut self.sections, written, fresh)
         } else {
-            note_piece(self.alloc, line, &mut self.sections, text)
+            note_piece(line, &mut self.sections, text)
         }
     }
 
@@ -194,14 +196,14 @@ impl Output {
 
     /// Closes the open string and hands its text out as it is shown, uncleaned. `BadMode` where no string is open on top,
     /// `TooDeep` for a text over 1 MiB, `OutOfMemory` for a refused request for memory; nothing has changed then.
-    pub fn close_string(&mut self) -> Result<Text, Fault>
+    pub fn close_string(&mut self) -> Result<Shared<Text>, Fault>
         ensures { Hands (closes_string self.old.page) self.old.page self.new.page result }
     {
         let opened = self.sections.last().ok_or(Fault::BadMode)?;
         if !opened.is_string() {
             return Err(Fault::BadMode);
         }
-        let text = within(opened.raw_text(self.alloc)?)?;
+        let text = within(self.alloc, opened.raw_text(self.alloc)?)?;
         self.spare = self.sections.pop();
         Ok(text)
     }
@@ -209,14 +211,14 @@ impl Output {
     /// Closes the open tag. Its cleaned text is handed out where a string is open, and else is a mark. `BadMode` where no
     /// tag is open on top, `TooDeep` for a text over 1 MiB or more than 100,000 marks in the line, `OutOfMemory` for a
     /// refused request for memory; nothing has changed then.
-    pub fn close_tag(&mut self) -> Result<Option<Text>, Fault>
+    pub fn close_tag(&mut self) -> Result<Option<Shared<Text>>, Fault>
         ensures { Hands (closes_tag self.old.page) self.old.page self.new.page result }
     {
         let opened = self.sections.last().ok_or(Fault::BadMode)?;
         if opened.is_string() {
             return Err(Fault::BadMode);
         }
-        let text = within(opened.text(self.alloc)?)?;
+        let text = within(self.alloc, opened.text(self.alloc)?)?;
         let below = self.depth() - 1;
         if has_string(&self.sections[..below]) {
             self.spare = self.sections.pop();
@@ -290,7 +292,7 @@ impl Output {
     }
 
     /// The line's tags, in order. The one error is a refused request for memory, which is never made where there are none.
-    pub fn tags(&self) -> Result<Seq<Text>, AllocError>
+    pub fn tags(&self) -> Result<Seq<Shared<Text>>, AllocError>
         ensures tags { IfOk result (λ texts. texts ≡ tags self.now.page.line) }
         ensures none { tags self.now.page.line ≡ [] → IsOk result }
     {
@@ -307,14 +309,14 @@ impl Output {
     }
 }
 
-/// A text within the limit. `TooDeep` for one over 1 MiB.
-fn within(text: Text) -> Result<Text, Fault>
-    ensures { result ≡ kept_text text text }
+/// A text within the limit, to be shared. `TooDeep` for one over 1 MiB, `OutOfMemory` for a refused request for memory.
+fn within(alloc: Global, text: Text) -> Result<Shared<Text>, Fault>
+    ensures { Gives result (kept_text text text) }
 {
     if text.as_str().len() > MAX_TEXT {
         return Err(Fault::TooDeep);
     }
-    Ok(text)
+    Ok(Shared::new(alloc, text)?)
 }
 
 fn has_string(sections: &[Opened]) -> bool
@@ -346,17 +348,16 @@ fn note_cut(
 // Writes a text of one piece into what is open.
 #[inline(always)]
 fn note_piece(
-    alloc: Global,
     line: &mut Section,
     sections: &mut [Opened],
-    text: &str,
+    text: &Shared<Text>,
 ) -> Result<bool, Fault>
     requires { text.now ≢ [] }
     ensures page { Notes (piece text.now) line.old sections.old line.new sections.new result }
     ensures text { IfOk result (λ has_text. has_text ≡ list_any is_text (piece text.now)) }
     ensures within { length line.old ≤ MAX_MARKS → length line.new ≤ MAX_MARKS }
 {
-    let piece = Piece::from_str(alloc, text)?;
+    let piece = Piece::whole(text)?;
     let has_text = piece.is_text();
     note(line, sections, piece.into_mark())?;
     Ok(has_text)

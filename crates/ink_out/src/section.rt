@@ -13,7 +13,7 @@ use crate::enters::Enters;
 use crate::state::{State, is_settled, make_room, settle};
 use crate::tags::tag_texts;
 use crate::walk::shown_text;
-use ink_model::{Mark, Seq, Text};
+use ink_model::{Mark, Seq, Shared, Text};
 use std::alloc::{AllocError, Global};
 use std::marker::Model;
 
@@ -148,7 +148,7 @@ impl Section {
     }
 
     /// The tags, in order. The one error is a refused request for memory, which is never made where there are none.
-    pub(crate) fn tags(&self, alloc: Global) -> Result<Seq<Text>, AllocError>
+    pub(crate) fn tags(&self, alloc: Global) -> Result<Seq<Shared<Text>>, AllocError>
         ensures tags { IfOk result (λ texts. texts ≡ tags self.now) }
         ensures none { tags self.now ≡ [] → IsOk result }
     {
@@ -172,7 +172,7 @@ fn section_of(alloc: Global, marks: &[Mark]) -> Result<Section, AllocError>
 {
     let mut copy = Section::new(alloc);
     for mark in marks {
-        copy.add(copied_mark(alloc, mark)?)?;
+        copy.add(copied_mark(mark)?)?;
     }
     Ok(copy)
 }

@@ -55,8 +55,8 @@ impl<'m> Walk<'m> {
         ensures { OnOk result ((cleans : Bool) (before : List Mark) → at ≡ length before → Walks cleans before self.old → Walks cleans (mark.now ∷ before) self.new) }
     {
         match mark {
-            Mark::Text(text) => self.text(text),
-            Mark::Blank(text) => self.blank(text, at),
+            Mark::Text(text) => self.text(text.get()),
+            Mark::Blank(text) => self.blank(text.get(), at),
             Mark::Newline => self.newline(at),
             Mark::Glue => {
                 self.glue(at);

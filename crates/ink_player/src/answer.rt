@@ -11,7 +11,7 @@ ghost use Rattle.ink_model.specs.ValueJson.{value_data};
 ghost use Rattle.ink_player.specs.Answers.{Added, data_tokens};
 ghost use Rattle.ink_player.specs.Replies.{reply_by};
 
-use ink_model::{Event, Fault, Halt, Passage, Path, Refusal, Seq, Shown, Text, Value};
+use ink_model::{Event, Fault, Halt, Passage, Path, Refusal, Seq, Shared, Shown, Text, Value};
 use ink_tree::print_path;
 use json::{Token, Writer};
 use std::alloc::{AllocError, Global};
@@ -123,11 +123,11 @@ trait Listed {
         ensures { OnOk result (Added out.old out.new (data_tokens (json self.now))) };
 }
 
-impl Listed for Text {
+impl Listed for Shared<Text> {
     ghost json = { λ t. string t };
 
     fn put(&self, out: &mut Writer) -> Result<(), AllocError> {
-        put(out, Token::String(self.as_str()))
+        put(out, Token::String(self.get().as_str()))
     }
 }
 
@@ -192,11 +192,11 @@ fn write_value(alloc: Global, out: &mut Writer, value: &Value) -> Result<(), All
     match value {
         Value::Int(number) => put_integer(out, *number),
         Value::Bool(truth) => put(out, Token::Bool(*truth)),
-        Value::Text(text) => put(out, Token::String(text.as_str())),
-        Value::Target(path) => write_target(alloc, out, path),
-        Value::Pointer(name, frame) => write_pointer(out, name, *frame),
+        Value::Text(text) => put(out, Token::String(text.get().as_str())),
+        Value::Target(path) => write_target(alloc, out, path.get()),
+        Value::Pointer(frame, name) => write_pointer(out, *frame, name.get()),
         Value::Void => put(out, Token::Null),
-        Value::Tag(text) => write_tag(out, text),
+        Value::Tag(text) => write_tag(out, text.get()),
     }
 }
 
@@ -209,8 +209,8 @@ fn write_target(alloc: Global, out: &mut Writer, path: &Path) -> Result<(), Allo
     put(out, Token::EndObject)
 }
 
-fn write_pointer(out: &mut Writer, name: &Text, frame: i32) -> Result<(), AllocError>
-    ensures { OnOk result (Added out.old out.new (data_tokens (value_data (Value.Pointer name.now frame)))) }
+fn write_pointer(out: &mut Writer, frame: i32, name: &Text) -> Result<(), AllocError>
+    ensures { OnOk result (Added out.old out.new (data_tokens (value_data (Value.Pointer frame name.now)))) }
 {
     put(out, Token::BeginObject)?;
     put(out, Token::Key("ci"))?;

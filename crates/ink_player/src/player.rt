@@ -104,8 +104,7 @@ impl Player {
     }
 
     /// Gives a global a value. Refused with `Broken` after a fault, with `BadValue` for void and for a text over its limit,
-    /// with `NoSuchVariable` where there is no such global, and else with `OutOfMemory` where memory was refused for storing it;
-    /// nothing has changed then.
+    /// and with `NoSuchVariable` where there is no such global; nothing has changed then. Takes no memory.
     pub fn set(&mut self, name: &str, value: Given) -> Result<Seq<Event>, Halt>
         ensures does { Set name.now (Some value) (state_of self.old) (reply_of_events result) (state_of self.new) }
         ensures story { story_of self.new ≡ story_of self.old }
@@ -190,7 +189,7 @@ fn is_settable(value: &Given) -> bool
 {
     match value {
         Given::Int(_) | Given::Bool(_) => true,
-        Given::Text(text) => text.as_str().len() <= MAX_TEXT,
+        Given::Text(text) => text.get().as_str().len() <= MAX_TEXT,
         Given::Void => false,
     }
 }

@@ -70,7 +70,14 @@ fn supports(leaf: &Leaf) -> bool
         | Leaf::Assign(_)
         | Leaf::Variable(_) => true,
         Leaf::Control(control) => supports_control(*control),
-        _ => false,
+        Leaf::Pointer(..)
+        | Leaf::Call { .. }
+        | Leaf::Tunnel { .. }
+        | Leaf::External { .. }
+        | Leaf::DeclareTemp(_)
+        | Leaf::AssignTemp(_)
+        | Leaf::Count(_)
+        | Leaf::Choice { .. } => false,
     }
 }
 
@@ -90,6 +97,13 @@ fn supports_control(control: Control) -> bool
         | Control::EndTag
         | Control::Done
         | Control::End => true,
-        _ => false,
+        Control::Return
+        | Control::ReturnTunnel
+        | Control::Thread
+        | Control::ChoiceCount
+        | Control::Turn
+        | Control::Turns
+        | Control::ReadCount
+        | Control::Visit => false,
     }
 }

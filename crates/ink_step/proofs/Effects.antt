@@ -1,15 +1,13 @@
 -- What performing does where a call of it fails.
-use Rattle.std.proofs.Common.{◌≡◌, sym, refl, subst, inl, inr, List, Option, Some, None, Result, Err, Bool, true}
-use Rattle.ink_model.specs.Effect.{Fields, Effect, Moves, Lands, Done, Ends, Fails, or_else, or_fault}
-use Rattle.ink_model.specs.Memory.{Gives, asks_for, operator_asks}
-use Rattle.ink_model.specs.Operator.{apply}
+use Rattle.std.proofs.Common.{◌≡◌, ap, sym, refl, subst, inl, inr, List, Result, Ok, Err, Bool, true}
+use Rattle.ink_model.specs.Effect.{Fields, Effect, Moves, Lands, Done, Ends, Fails, or_fault}
+use Rattle.ink_model.specs.Memory.{Gives, Leaves, asks_for}
 use Rattle.ink_model.specs.Tree.{StoryTree}
 use Rattle.ink_model.specs.declared.fault.Fault.{Fault}
-use Rattle.ink_model.specs.declared.fault.Fault.TheVariants.{OutOfMemory, StackEmpty}
-use Rattle.ink_model.specs.declared.operator.Op.{Op}
+use Rattle.ink_model.specs.declared.fault.Fault.TheVariants.{OutOfMemory}
 use Rattle.ink_model.specs.declared.value.Value.{Value}
-use Rattle.ink_step.specs.Performs.{Performs}
-use Rattle.ink_step.specs.Stacks.{Applies}
+use Rattle.ink_step.specs.Performs.{Changes, Performs}
+use Rattle.ink_step.specs.declared.transfer.Transfer.TheVariants as transfer
 
 module _ (s : StoryTree) (asks : Bool) (new : Fields) where
   -- where memory was refused
@@ -28,9 +26,11 @@ module _ (s : StoryTree) (asks : Bool) (new : Fields) where
     | inr is ↦ subst (λ r. Performs s asks (or_fault r so) new (Err f)) (sym is) (inl refl)
   ]
 
--- an operator has no result
-pub no_result : (s : StoryTree) (o : Op) (operands : Option (List Value × List Value)) (new : Fields) (so : List Value → Value → Effect) (left : List Value) (f : Fault)
-    → Applies o operands left (Err f)
-    → Performs s (operator_asks o operands) (or_else StackEmpty operands (λ r. or_fault (apply o r.0) (so r.1))) new (Err f)
-no_result s o None new so left f h = let empty : f ≡ StackEmpty = cc in inl empty
-no_result s o (Some r) new so left f h = refused s (asks_for (apply o r.0)) new (apply o r.0) (so r.1) f h.0 (λ a. a)
+-- an operator on the stack
+pub operated : (asks : Bool) (rule : Result (List Value) Fault) (with : List Value → Fields) (old new : List Value) (result : Result (Unit {0}) Fault)
+    → Leaves rule old new result → (result ≡ Err OutOfMemory → asks ≡ true) → Changes asks (or_fault rule (λ vs. Moves (with vs))) (with new) result
+operated asks rule with old new (Ok u) h a s = subst (λ r. Performs s asks (or_fault r (λ vs. Moves (with vs))) (with new) (Ok transfer.Next)) (sym h.0) refl
+operated asks rule with old new (Err f) h a s = elim h.0 [
+  | inl oom ↦ subst (λ g. Performs s asks (or_fault rule (λ vs. Moves (with vs))) (with new) (Err g)) (sym oom.0) (short s asks (with new) _ (a (ap Err oom.0)))
+  | inr is ↦ subst (λ r. Performs s asks (or_fault r (λ vs. Moves (with vs))) (with new) (Err f)) (sym is) (inl refl)
+]

@@ -2,7 +2,7 @@
 use Rattle.std.proofs.Common.{◌≡◌, ◌∙◌, ap, sym, refl, subst, inr, List, Bool, true, Option, Some, None, Result, Ok, Err}
 use Rattle.ink_model.specs.Configuration.{Configuration, current_place, put_at, with_threads}
 use Rattle.ink_model.specs.Effect.{Fields, Effect, Moves, Lands, Done, Ends, Fails, fields_of, with_fields}
-use Rattle.ink_model.specs.Frames.{ThreadsOf, gone, mode_in, on_top, put_in}
+use Rattle.ink_model.specs.Frames.{ThreadsOf, gone, mode_in, on_top}
 use Rattle.ink_model.specs.Memory.{asks, asks_at, content_asks}
 use Rattle.ink_model.specs.Move.{Went, Outcome, Next, Stop, Wants, Faults, land_at, move}
 use Rattle.ink_model.specs.Place.{entered}
@@ -14,7 +14,7 @@ use Rattle.ink_model.specs.declared.fault.Fault.TheVariants.{OutOfMemory}
 use Rattle.ink_model.specs.declared.place.Part.{Part}
 use Rattle.ink_step.specs.Performs.{Performs}
 use Rattle.ink_step.specs.Steps.{MovesAs, StepEnds}
-use Rattle.ink_step.specs.Words.{config_of, numbered}
+use Rattle.ink_step.specs.Words.{config_of}
 use Rattle.ink_step.specs.declared.flow.StepEnd.{StepEnd}
 use Rattle.ink_step.specs.declared.flow.StepEnd.TheVariants as ends
 use Rattle.ink_step.specs.declared.machine.Machine.{Machine}
@@ -58,29 +58,19 @@ ends_unperformed s asks (Ends g) new c d globals f h same = ends_short asks (mov
 ends_unperformed s asks (Fails g) new c d globals f h same = (h, same)
 
 -- performing changes the fields alone, which a move takes from the effect
-module _ (s : StoryTree) (here : Spot) (old mid : Machine) (at_first : ThreadsOf Spot)
-    (enters : at_first ≡ on_top (put_in (Some here)) old.threads)
-    (changes : mid.threads ≡ on_top (mode_in mid.threads.thread.frame.evaluating) at_first) (safely : mid.safe ≡ old.safe) where
-  pub goes_as : (e : Effect) → move s e (config_of s mid) ≡ move s e (put_at (Some (place_of s here)) (config_of s old))
-  goes_as e =
-      ap (λ ts. move s e (config_of s (record mid { threads = ts }))) (changes ∙ ap (on_top (mode_in mid.threads.thread.frame.evaluating)) enters)
-      ∙ ap (λ b. move s e (config_of s (record mid { threads = changed; safe = b }))) safely ∙ by e
-    where
-      changed : ThreadsOf Spot
-      changed = on_top (mode_in mid.threads.thread.frame.evaluating) (on_top (put_in (Some here)) old.threads)
+module _ (s : StoryTree) (old mid : Machine) (changes : mid.threads ≡ on_top (mode_in mid.threads.thread.frame.evaluating) old.threads) (safely : mid.safe ≡ old.safe) where
+  abbrev changed : Bool → Machine
+  changed b = record mid { threads = on_top (mode_in mid.threads.thread.frame.evaluating) old.threads; safe = b }
 
-      by : (e : Effect) → move s e (config_of s (record mid { threads = on_top (mode_in mid.threads.thread.frame.evaluating) (on_top (put_in (Some here)) old.threads); safe = old.safe }))
-          ≡ move s e (put_at (Some (place_of s here)) (config_of s old))
-      by (Moves f) = refl
-      by (Lands p f) = refl
-      by (Done f) = refl
-      by (Ends f) = refl
-      by (Fails f) = refl
+  goes_alike : (e : Effect) → move s e (config_of s (changed old.safe)) ≡ move s e (config_of s old)
+  goes_alike (Moves f) = refl
+  goes_alike (Lands p f) = refl
+  goes_alike (Done f) = refl
+  goes_alike (Ends f) = refl
+  goes_alike (Fails f) = refl
 
--- entering changes no field
-pub fields_stay : (here : Spot) (old : Machine) (at_first : ThreadsOf Spot) → at_first ≡ on_top (put_in (Some here)) old.threads
-    → fields_of (numbered (record old { threads = at_first })) ≡ fields_of (numbered old)
-fields_stay here old at_first enters = ap (λ ts. fields_of (numbered (record old { threads = ts }))) enters
+  pub goes_as : (e : Effect) → move s e (config_of s mid) ≡ move s e (config_of s old)
+  goes_as e = ap (λ ts. move s e (config_of s (record mid { threads = ts }))) changes ∙ ap (λ b. move s e (config_of s (changed b))) safely ∙ goes_alike e
 
 -- a step goes down to the first content, performs what stands there and moves
 pub ends_performed : (s : StoryTree) (p here : List Part) (found : Option StoryTree) (old new : Configuration) (r : Result StepEnd Fault)

@@ -12,7 +12,7 @@ use Rattle.ink_model.specs.Page.{Page, Section, SectionKind, string_section, tag
 use Rattle.ink_model.specs.Place.{entered, next_place}
 use Rattle.ink_model.specs.Run as running
 use Rattle.ink_model.specs.Run.{Moment, At, Faulted, Waits, Made, answered, answered_at, came, cut_off, moment, moment_after, next, push_answer, run, value_given, fits_value}
-use Rattle.ink_model.specs.Stack.{popped, taken}
+use Rattle.ink_model.specs.Stack.{applied_to, on_top, popped, taken}
 use Rattle.ink_model.specs.Step.{Bound, control_effect, effect, leaf_effect, nothing_bound, step, step_at}
 use Rattle.ink_model.specs.Step.Diverts.{divert_if, divert_to, led_to}
 use Rattle.ink_model.specs.Step.Evaluation.{output_popped, push_value}
@@ -115,6 +115,14 @@ apply_sound o (v ∷ []) = one_sound o (operand v)
 apply_sound o (v ∷ w ∷ []) = two_sound o (both (operand v) (operand w))
 apply_sound o (v ∷ w ∷ x ∷ vs) = λ h. absurd (cc)
 
+on_top_sound : (below : List Value) (r : Result Value Fault) → Sound r → Sound (on_top below r)
+on_top_sound below (Ok v) sound = λ h. absurd (cc)
+on_top_sound below (Err f) sound = λ h. sound (cc)
+
+applied_sound : (o : Op) (operands : Option (List Value × List Value)) → Sound (applied_to o operands)
+applied_sound o None = λ h. absurd (cc)
+applied_sound o (Some r) = on_top_sound r.1 (apply o r.0) (apply_sound o r.0)
+
 -- ---- the page
 
 printed_sound : (fresh : Bool) (v : Value) (page : Page) → Sound (writes_value fresh v page)
@@ -201,7 +209,7 @@ leaf_acts s p (leaves.Bool t) f = value_acts _ f
 leaf_acts s p leaves.Void f = value_acts _ f
 leaf_acts s p (leaves.Target text) f = value_acts _ f
 leaf_acts s p (leaves.Control o) f = control_acts o f
-leaf_acts s p (leaves.Op o) f = acts_else StackEmpty (taken (takes o) f.stack []) _ (λ h. absurd (cc)) (λ r. acts_or _ _ (apply_sound o r.0) (λ v. push_acts v _))
+leaf_acts s p (leaves.Op o) f = acts_or _ _ (applied_sound o (taken (takes o) f.stack [])) (λ vs. moves_act _)
 leaf_acts s p (leaves.Divert to conditional) f = effect_if conditional _ _ (where_acts s p to f) (divert_acts s p to f)
 leaf_acts s p (leaves.Declare name) f = acts_else StackEmpty (popped f.stack) _ (λ h. absurd (cc)) (λ r. moves_act _)
 leaf_acts s p (leaves.Assign name) f = acts_else StackEmpty (popped f.stack) _ (λ h. absurd (cc))

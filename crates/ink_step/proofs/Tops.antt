@@ -1,13 +1,9 @@
 -- The top of a stack, and operators on it.
-use Rattle.std.proofs.Common.{◌≡◌, ◌∙◌, ap, sym, subst, refl, inl, inr, ◌≤◌, ◌⊎◌, ◌↔◌, ◌+◌, List, [], ◌∷◌, ◌++◌, length, reverse, slice_get, Bool, true, false, if◌then◌else◌, nat_lt, length-append, Some, option_map, Result, Ok, Err, IfErr, OnOk, OnErr, arith}
-use Rattle.std.proofs.lemmas.Bool.Decides.{nat_tests}
+use Rattle.std.proofs.Common.{◌≡◌, ◌∙◌, ap, sym, subst, refl, inl, List, [], ◌∷◌, ◌++◌, reverse, slice_get, Some, option_map, Ok, Err}
 use Rattle.std.proofs.lemmas.List.{reverse-reverse}
 use Rattle.std.proofs.lemmas.Grind.{reverse_onto}
-use Rattle.ink_model.specs.Memory.{Gives, Leaves, asks_for}
-use Rattle.ink_model.specs.Stack.{popped, pushed}
-use Rattle.ink_model.specs.declared.fault.Fault.{Fault}
-use Rattle.ink_model.specs.declared.fault.Fault.TheVariants.{OutOfMemory, TooDeep}
-use Rattle.ink_model.specs.declared.limits.TheConstants.{MAX_STACK}
+use Rattle.ink_model.specs.Stack.{popped}
+use Rattle.ink_model.specs.declared.fault.Fault.TheVariants.{OutOfMemory}
 use Rattle.ink_model.specs.declared.value.Value.{Value}
 use Rattle.ink_step.specs.Stacks.{CopiesTop}
 
@@ -37,30 +33,3 @@ module _ (vs : List Value) (v : Value) (seen : slice_get (reverse vs) 0 ≡ Some
 
   pub not_copied : CopiesTop (popped vs) (Err OutOfMemory)
   not_copied = subst (λ o. CopiesTop o (Err OutOfMemory)) (sym (top_seen vs v seen).1) (inl (refl, refl))
-
--- ---- a value is pushed, or not
-
-module _ (v : Value) (old : List Value) where
-  pub pushes : (new : List Value) → new ≡ old ++ v ∷ [] → length new ≤ MAX_STACK → pushed v old ≡ Ok new
-  unfolding pushed
-  pushes new is within =
-      let more : length new ≡ length old + 1 = grind (arith, length-append) in
-      let room : nat_lt (length old) MAX_STACK ≡ true = grind (arith, nat_tests) in
-      rw room (ap Ok (sym is))
-
-  -- a push that is refused memory, or finds no room
-  pub pushes_not : (f : Fault) → (f ≡ TooDeep → length old ≡ MAX_STACK) → (f ≡ TooDeep) ⊎ (f ≡ OutOfMemory) → Gives {A = List Value} (Err f) (pushed v old)
-  unfolding pushed
-  pushes_not f full why = elim why [
-    | inl deep ↦ let e : length old ≡ MAX_STACK = full deep in let most : nat_lt (length old) MAX_STACK ≡ false = grind (arith, nat_tests) in rw most (inr (ap Err (sym deep)))
-    | inr short ↦ inl (short, asking (nat_lt (length old) MAX_STACK))
-  ]
-    where
-      asking : (b : Bool) → asks_for {A = List Value} (if b then Ok (old ++ v ∷ []) else Err TooDeep) ≡ true
-      asking true = refl
-      asking false = refl
-
-  pub push_leaves : (new : List Value) (r : Result (Unit {0}) Fault) → OnOk r (new ≡ old ++ v ∷ []) → OnErr r (new ≡ old) → ((r ≡ Err TooDeep) ↔ (length old ≡ MAX_STACK))
-      → IfErr r (λ f. (f ≡ TooDeep) ⊎ (f ≡ OutOfMemory)) → length new ≤ MAX_STACK → Leaves (pushed v old) old new r
-  push_leaves new (Ok u) is kept full why within = (pushes new is within, tt)
-  push_leaves new (Err f) is kept full why within = (pushes_not f (λ deep. full.0 (ap Err deep)) why, kept)

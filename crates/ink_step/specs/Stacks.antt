@@ -1,11 +1,9 @@
 -- The top of a stack, beside the definitions.
 use Rattle.std.specs.Prelude.{◌≡◌, List, Option, Some, None, Result, Ok, Err}
 use Rattle.ink_model.specs.Memory.{Gives}
-use Rattle.ink_model.specs.Operator.{apply}
 use Rattle.ink_model.specs.Stack.{popped}
 use Rattle.ink_model.specs.declared.fault.Fault.{Fault}
 use Rattle.ink_model.specs.declared.fault.Fault.TheVariants.{StackEmpty}
-use Rattle.ink_model.specs.declared.operator.Op.{Op}
 use Rattle.ink_model.specs.declared.value.Value.{Value}
 
 -- what is taken off a stack
@@ -17,8 +15,3 @@ Pops old new (Some v) = popped old ≡ Some (v, new)
 abbrev pub CopiesTop : Option (Value × List Value) → Result Value Fault → Type 0
 CopiesTop None result = result ≡ Err StackEmpty
 CopiesTop (Some r) result = Gives result (Ok r.0)
-
--- what an operator makes of the values at the top of a stack, which are taken off before it looks at them
-abbrev pub Applies : Op → Option (List Value × List Value) → List Value → Result Value Fault → Type 0
-Applies operator None new result = result ≡ Err StackEmpty
-Applies operator (Some r) new result = Gives result (apply operator r.0) × (new ≡ r.1)

@@ -67,7 +67,7 @@ fn target_in(story: &Story, globals: &Globals, name: &Text) -> Option<Spot>
     ensures { let s = story_tree story.now in option_map (place_of s) result ≡ led_by s (read_global name.now globals.now) }
 {
     match globals.get(name.as_str()) {
-        Some(Value::Target(path)) => story.tree().resolve(ROOT, path),
+        Some(Value::Target(path)) => story.tree().resolve(ROOT, path.get()),
         _ => None,
     }
 }

@@ -13,8 +13,8 @@ ghost use Rattle.ink_model.specs.declared.value.Value.{Value as Data};
 ghost use Rattle.ink_model.specs.declared.value.Value.TheVariants as value;
 ghost use Rattle.ink_step.specs.Performs.{Changes, fields};
 
-use crate::operands::{applied, push, top, top_copy};
-use ink_model::{Cause, Fault, Op, Path, Seq, Text, Value};
+use crate::operands::{push, top, top_copy};
+use ink_model::{Cause, Fault, Op, Path, Seq, Shared, Text, Value};
 use ink_tree::read_path;
 use ink_value::EvalStack;
 use std::alloc::{AllocError, Global};
@@ -44,7 +44,7 @@ pub(crate) fn push_target(
         return Ok(());
     }
     let path = path_of(alloc, text.as_str())?;
-    push(stack, Value::Target(path))
+    push(stack, Value::Target(Shared::new(alloc, path)?))
 }
 
 /// Evaluation mode begins. `BadMode` where it has begun.
@@ -94,10 +94,7 @@ pub(crate) fn operate(alloc: Global, stack: &mut EvalStack, operator: Op) -> Res
     ensures { (evaluating : Bool) (fresh : Option ℕ) (page : Page) (globals : Values)
         → Changes (operator_asks operator (taken (takes operator) stack.old.items [])) (operate operator (fields evaluating fresh stack.old.items page globals)) (fields evaluating fresh stack.new.items page globals) result }
 {
-    match applied(alloc, stack, operator) {
-        Ok(value) => push(stack, value),
-        Err(fault) => Err(fault),
-    }
+    stack.apply_top(alloc, operator)
 }
 
 /// The path that a text spells; in an accepted story it spells one. The one error is a refused request for memory.

@@ -1,6 +1,6 @@
 //! The globals of a running story.
 
-ghost use Rattle.std.specs.Prelude.{◌≡◌, [], is_some, is_ok, option_map, IfErr, OnOk, OnErr};
+ghost use Rattle.std.specs.Prelude.{◌≡◌, [], false, is_some, is_ok, option_map, IfErr, OnOk, OnErr};
 ghost use Rattle.ink_model.specs.Store.{stored, store};
 
 use indexmap::IndexMap;
@@ -64,10 +64,11 @@ impl Globals {
     }
 
     /// Gives a global a value: one that is there keeps its place, and a new one comes last. The one error is a refused
-    /// request for memory, and leaves the globals as they were.
+    /// request for memory, which is made only for a new one, and leaves the globals as they were.
     pub fn put(&mut self, name: &str, value: Value) -> Result<(), AllocError>
         ensures ok { OnOk result (self.new ≡ store name.now value self.old) }
         ensures err { OnErr result (self.new ≡ self.old) }
+        ensures memory { OnErr result (is_some (stored name.now self.old) ≡ false) }
     {
         match self.replace(name, value) {
             Ok(()) => Ok(()),

@@ -1,6 +1,6 @@
 //! The machine that runs a story forward.
 
-ghost use Rattle.std.specs.Prelude.{◌≡◌, OnOk, OnErr, is_ok, is_some};
+ghost use Rattle.std.specs.Prelude.{◌≡◌, IfErr, OnOk, OnErr, is_ok, is_some};
 ghost use Rattle.ink_model.specs.Configuration.{begun, settled, can_go_on, with_globals};
 ghost use Rattle.ink_model.specs.Session.{is_loose};
 ghost use Rattle.ink_model.specs.Store.{store, stored};
@@ -13,7 +13,7 @@ use ink_out::Output;
 use ink_value::EvalStack;
 use std::alloc::Global;
 
-/// What changes while a story runs. Of a configuration's fields those that no content writes yet are not kept.
+/// What changes while a story runs: a configuration, but for choices, counts and the turn, which no content writes yet.
 #[derive(Drop)]
 pub struct Machine {
     pub(crate) threads: Threads,
@@ -47,6 +47,7 @@ impl Machine {
         ensures found { is_ok result ≡ is_some (stored name.now (globals_of self.old)) }
         ensures ok { (s : StoryTree) → OnOk result (config_of s self.new ≡ with_globals (store name.now value (globals_of self.old)) (config_of s self.old)) }
         ensures err { (s : StoryTree) → OnErr result (config_of s self.new ≡ config_of s self.old) }
+        ensures handed_back { IfErr result (λ handed_back. handed_back ≡ value) }
     {
         self.globals.replace(name, value)
     }

@@ -38,6 +38,15 @@ impl Machine {
         };
         let (here, found) = story.tree().first_content(place);
         self.threads.put(Some(here));
+        self.act(story, here, found)
+    }
+
+    /// What stands where flow is has its effect, and flow moves.
+    fn act(&mut self, story: &Story, here: Spot, found: Option<&Content>) -> Result<StepEnd, Fault>
+        requires { let s = story_tree story.now in option_map (λ c. view c.now) found ≡ at s (place_of s here) }
+        ensures { let s = story_tree story.now in StepEnds (content_asks (option_map (λ c. view c.now) found.entry) (fields_of (numbered self.old)))
+            (moved s (effect s (place_of s here) (option_map (λ c. view c.now) found.entry) (fields_of (numbered self.old))) (config_of s self.old)) self.old.globals (config_of s self.new) result }
+    {
         let transfer = self.perform(story, here, found)?;
         self.follow(story, transfer)
     }
@@ -81,7 +90,6 @@ impl Machine {
         let fresh = self.threads.fresh_depth();
         match content {
             Leaf::Text(text) => moving(write_text(
-                self.alloc,
                 &mut self.stack,
                 &mut self.output,
                 evaluating,

@@ -1,11 +1,11 @@
 //! Globals are read and changed (docs/RUNNING.md, "Globals").
 
-ghost use Rattle.std.specs.Prelude.{◌≡◌, ℕ, Bool, true, Option, IfOk};
-ghost use Rattle.ink_model.specs.Memory.{has_top, stores_value};
+ghost use Rattle.std.specs.Prelude.{◌≡◌, ℕ, Bool, true, false, Option, IfOk};
+ghost use Rattle.ink_model.specs.Memory.{has_top};
 ghost use Rattle.ink_model.specs.Page.{Page};
 ghost use Rattle.ink_model.specs.Stack.{popped};
 ghost use Rattle.ink_model.specs.Step.Variables.{assign, declare, push_global, read_global};
-ghost use Rattle.ink_model.specs.Store.{Values, stored};
+ghost use Rattle.ink_model.specs.Store.{Values};
 ghost use Rattle.ink_model.specs.Tree.{StoryTree};
 ghost use Rattle.ink_step.specs.Performs.{Changes, Performs, fields};
 
@@ -32,7 +32,7 @@ pub(crate) fn assign<'a>(
     name: &'a Text,
 ) -> Result<Transfer<'a>, Fault>
     ensures { (s : StoryTree) (evaluating : Bool) (fresh : Option ℕ) (page : Page)
-        → Performs s (stores_value (stored name.now globals.now) (popped stack.old.items)) (assign name.now (fields evaluating fresh stack.old.items page globals.now)) (fields evaluating fresh stack.new.items page globals.now) result }
+        → Performs s false (assign name.now (fields evaluating fresh stack.old.items page globals.now)) (fields evaluating fresh stack.new.items page globals.now) result }
 {
     let value = top(stack).ok_or(Fault::StackEmpty)?;
     if !globals.contains(name.as_str()) {

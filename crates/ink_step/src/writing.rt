@@ -11,7 +11,7 @@ ghost use Rattle.ink_model.specs.declared.value.Value.{Value as Data};
 ghost use Rattle.ink_step.specs.Performs.{Changes, fields};
 
 use crate::operands::{push, top};
-use ink_model::{Fault, Text, Value};
+use ink_model::{Fault, Shared, Text, Value};
 use ink_out::Output;
 use ink_value::EvalStack;
 use std::alloc::Global;
@@ -19,16 +19,15 @@ use std::alloc::Global;
 /// A text is pushed in evaluation mode, and written outside it.
 #[tactic(auto, unfolding(ink_model::specs::Value::printed))]
 pub(crate) fn write_text(
-    alloc: Global,
     stack: &mut EvalStack,
     output: &mut Output,
     evaluating: bool,
     fresh: Option<usize>,
-    text: &Text,
+    text: &Shared<Text>,
 ) -> Result<(), Fault>
     ensures { (globals : Values) → Changes true (write_text text.now (fields evaluating fresh stack.old.items output.old.page globals)) (fields evaluating fresh stack.new.items output.new.page globals) result }
 {
-    let value = Value::Text(text.clone_in(alloc)?);
+    let value = Value::Text(text.share()?);
     if evaluating {
         return push(stack, value);
     }
@@ -47,7 +46,8 @@ pub(crate) fn write_newline(
     ensures { (globals : Values) → Changes (evaluating || not (is_fresh_at fresh (length output.old.page.sections))) (write_newline (fields evaluating fresh stack.old.items output.old.page globals)) (fields evaluating fresh stack.new.items output.new.page globals) result }
 {
     if evaluating {
-        return push(stack, Value::Text(Text::from_str(alloc, "\n")?));
+        let text = Text::from_str(alloc, "\n")?;
+        return push(stack, Value::Text(Shared::new(alloc, text)?));
     }
     output.newline(is_fresh(output, fresh))
 }

@@ -1,3 +1,4 @@
 pub mod Operands
 pub mod Lengths
 pub mod Standing
+pub mod Tops

@@ -15,7 +15,7 @@ as_number (Int x) z h = (cc, refl)
 as_number (Truth b) z h = (cc, refl)
 as_number (Text t) z h = absurd cc
 as_number (Target p) z h = absurd cc
-as_number (Pointer n i) z h = absurd cc
+as_number (Pointer i n) z h = absurd cc
 as_number Void z h = absurd cc
 as_number (Tag t) z h = absurd cc
 

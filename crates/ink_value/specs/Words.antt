@@ -1,13 +1,11 @@
--- What values stand for, and which operators make a text of them.
-use Rattle.std.specs.Prelude.{ℕ, ℤ, List, [], ◌∷◌, Bool, true, false, ◌++◌, ◌&&◌, ◌||◌, Option, Some, None, is_ok}
+-- What values stand for, and which operators are for texts.
+use Rattle.std.specs.Prelude.{ℕ, ℤ, List, [], Bool, Option, Some, None, is_ok}
 use Rattle.std.specs.Fmt.{signed_decimal}
-use Rattle.ink_model.specs.Bytes.{fits_text}
 use Rattle.ink_model.specs.Operator.{truth_number, of_texts}
 use Rattle.ink_model.specs.Value.{truth_text}
 use Rattle.ink_model.specs.declared.operator.Op.{Op}
-use Rattle.ink_model.specs.declared.operator.Op.TheVariants as op
 use Rattle.ink_model.specs.declared.value.Value.{Value}
-use Rattle.ink_model.specs.declared.value.Value.TheVariants.{Int, Bool as Truth, Text}
+use Rattle.ink_model.specs.declared.value.Value.TheVariants.{Int, Bool as Truth}
 
 -- the number that a value stands for, of an integer and a boolean
 abbrev pub number_of : Value → Option ℤ
@@ -15,37 +13,9 @@ number_of (Int z) = Some z
 number_of (Truth b) = Some (truth_number b)
 number_of v = None
 
-abbrev pub is_text : Value → Bool
-is_text (Text t) = true
-is_text v = false
-
--- one of the values is a text
-abbrev pub has_text : List Value → Bool
-has_text [] = false
-has_text (v ∷ vs) = is_text v || has_text vs
-
-abbrev pub is_number : Value → Bool
-is_number (Int z) = true
-is_number (Truth b) = true
-is_number v = false
-
--- one of the values stands for a number
-abbrev pub has_number : List Value → Bool
-has_number [] = false
-has_number (v ∷ vs) = is_number v || has_number vs
-
--- these are two texts, which the operator joins to one within the limit
-abbrev pub joins : Op → List Value → Bool
-joins op.Add (Text s ∷ Text t ∷ []) = fits_text (s ++ t)
-joins operator vs = false
-
 -- the operator is one on texts: it has a result for two that are empty
 abbrev pub is_for_texts : Op → Bool
 is_for_texts operator = is_ok (of_texts operator [] [])
-
--- An operator makes a text of these values: it joins two, or prints the number beside one.
-abbrev pub makes_text : Op → List Value → Bool
-makes_text operator vs = joins operator vs || (has_text vs && has_number vs)
 
 -- the text of a number
 abbrev pub number_text : Value → List ℕ

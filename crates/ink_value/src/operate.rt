@@ -1,11 +1,11 @@
 //! Operators on values.
 
 ghost use Rattle.std.specs.Prelude.{◌≡◌, ◌≢◌, ◌||◌, false, [], ◌∷◌, List, ℕ};
+ghost use Rattle.ink_model.specs.Joining.{is_number, is_text, joins, makes_text};
 ghost use Rattle.ink_model.specs.Memory.{Gives};
 ghost use Rattle.ink_model.specs.Operator as rules;
 ghost use Rattle.ink_model.specs.Operator.{operand, both};
 ghost use Rattle.ink_value.specs.Words as words;
-ghost use Rattle.ink_value.specs.Words.{is_number, is_text, makes_text};
 
 use crate::numbers::of_numbers;
 use crate::printing::printed;
@@ -62,8 +62,8 @@ fn of_two(alloc: Global, operator: Op, left: &Value, right: &Value) -> Result<Va
         return after_number(alloc, operator, left, number, right);
     }
     match left {
-        Value::Text(text) => after_text(alloc, operator, text.as_str(), right),
-        Value::Target(path) => after_target(operator, path, right),
+        Value::Text(text) => after_text(alloc, operator, text.get().as_str(), right),
+        Value::Target(path) => after_target(operator, path.get(), right),
         _ => Err(Fault::BadOperands),
     }
 }
@@ -97,7 +97,7 @@ fn after_number(
     match right {
         Value::Text(text) if is_for_texts(operator) => {
             let left = printed(alloc, left)?;
-            of_texts(alloc, operator, left.as_str(), text.as_str())
+            of_texts(alloc, operator, left.as_str(), text.get().as_str())
         }
         _ => Err(Fault::BadOperands),
     }
@@ -107,10 +107,10 @@ fn after_number(
 #[tactic(auto, unfolding(ink_model::specs::Value::printed))]
 fn after_text(alloc: Global, operator: Op, left: &str, right: &Value) -> Result<Value, Fault>
     ensures result { Gives result (rules.of_two operator (both (rules.words left.now) (operand right.now))) }
-    ensures memory { words.joins operator (Value.Text left.now ∷ right.now ∷ []) || is_number right.now ≡ false → result ≢ Err Fault.OutOfMemory }
+    ensures memory { joins operator (Value.Text left.now ∷ right.now ∷ []) || is_number right.now ≡ false → result ≢ Err Fault.OutOfMemory }
 {
     match right {
-        Value::Text(text) => of_texts(alloc, operator, left, text.as_str()),
+        Value::Text(text) => of_texts(alloc, operator, left, text.get().as_str()),
         Value::Int(_) | Value::Bool(_) if is_for_texts(operator) => {
             let text = printed(alloc, right)?;
             of_texts(alloc, operator, left, text.as_str())
@@ -124,7 +124,7 @@ fn after_target(operator: Op, left: &Path, right: &Value) -> Result<Value, Fault
     ensures { result ≡ rules.of_two operator (both (rules.target left.now) (operand right.now)) }
 {
     match right {
-        Value::Target(path) => of_targets(operator, left, path),
+        Value::Target(path) => of_targets(operator, left, path.get()),
         _ => Err(Fault::BadOperands),
     }
 }

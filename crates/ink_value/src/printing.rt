@@ -19,7 +19,7 @@ pub fn printed(alloc: Global, value: &Value) -> Result<Text, Fault>
     match value {
         Value::Int(number) => Ok(Text::from_string(number.to_string(alloc)?)),
         Value::Bool(truth) => Ok(Text::from_str(alloc, truth_text(*truth))?),
-        Value::Text(text) => Ok(text.clone_in(alloc)?),
+        Value::Text(text) => Ok(text.get().clone_in(alloc)?),
         Value::Void => Ok(Text::from_string(String::new(alloc))),
         Value::Target(_) | Value::Pointer(..) | Value::Tag(_) => Err(Fault::BadOperands),
     }

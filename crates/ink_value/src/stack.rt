@@ -1,8 +1,13 @@
 //! The evaluation stack.
 
-ghost use Rattle.std.specs.Prelude.{◌≡◌, ◌≢◌, ◌≤◌, ◌↔◌, ◌⊎◌, [], ◌∷◌, ◌++◌, length, reverse, slice_get, OnOk, OnErr, IfOk, IfErr, MatchResult};
+ghost use Rattle.std.specs.Prelude.{◌≡◌, ◌≢◌, ◌≤◌, ◌↔◌, ◌⊎◌, [], ◌∷◌, ◌++◌, true, length, reverse, slice_get, OnOk, OnErr, IfOk, IfErr, MatchResult};
+ghost use Rattle.ink_model.specs.Asks.{operator_asks};
+ghost use Rattle.ink_model.specs.Memory.{Leaves};
+ghost use Rattle.ink_model.specs.Operator as rules;
+ghost use Rattle.ink_model.specs.Stack.{applied, taken};
 
-use ink_model::{Fault, MAX_STACK, Value};
+use crate::operate::apply;
+use ink_model::{Fault, MAX_STACK, Op, Value};
 use std::alloc::{AllocError, Global};
 use std::marker::Model;
 
@@ -84,10 +89,40 @@ impl EvalStack {
         Ok(&self.items[self.items.len() - 1 - depth])
     }
 
+    /// Puts what an operator makes of the values on top in their place (docs/VALUES.md, "Operators"). `StackEmpty` where there
+    /// are not as many as it takes, else the faults of `apply`: `OutOfMemory` only where it makes a text of them. On an error
+    /// nothing has changed.
+    pub fn apply_top(&mut self, alloc: Global, operator: Op) -> Result<(), Fault>
+        ensures stack { Leaves (applied operator self.old.items) self.old.items self.new.items result }
+        ensures memory { result ≡ Err Fault.OutOfMemory → operator_asks operator (taken (rules.takes operator) self.old.items []) ≡ true }
+    {
+        let Some(below) = self.items.len().checked_sub(takes(operator)) else {
+            return Err(Fault::StackEmpty);
+        };
+        match apply(alloc, operator, &self.items[below..]) {
+            Ok(value) => {
+                self.items.truncate(below);
+                self.items.push(value).unwrap();
+                Ok(())
+            }
+            Err(fault) => Err(fault),
+        }
+    }
+
     /// How many values there are.
     pub fn len(&self) -> usize
         ensures { result ≡ length self.now.items }
     {
         self.items.len()
+    }
+}
+
+/// How many values an operator takes.
+fn takes(operator: Op) -> usize
+    ensures { result ≡ rules.takes operator }
+{
+    match operator {
+        Op::Negate | Op::Not | Op::Floor | Op::Ceiling | Op::Int => 1,
+        _ => 2,
     }
 }

@@ -2,11 +2,12 @@
 
 ghost use Rattle.std.specs.Prelude.{◌≡◌, ◌≢◌, [], ◌∷◌, ◌++◌, false};
 ghost use Rattle.ink_model.specs.Bytes as bytes;
+ghost use Rattle.ink_model.specs.Joining.{joins};
 ghost use Rattle.ink_model.specs.Memory.{Gives};
 ghost use Rattle.ink_model.specs.Operator as rules;
 ghost use Rattle.ink_value.specs.Words as words;
 
-use ink_model::{Fault, MAX_TEXT, Op, Text, Value};
+use ink_model::{Fault, MAX_TEXT, Op, Shared, Text, Value};
 use std::alloc::Global;
 
 // Does the operator have a result for two texts?
@@ -21,7 +22,7 @@ pub(crate) fn is_for_texts(operator: Op) -> bool
 
 pub(crate) fn of_texts(alloc: Global, operator: Op, left: &str, right: &str) -> Result<Value, Fault>
     ensures result { Gives result (rules.of_texts operator left.now right.now) }
-    ensures memory { words.joins operator (Value.Text left.now ∷ Value.Text right.now ∷ []) ≡ false → result ≢ Err Fault.OutOfMemory }
+    ensures memory { joins operator (Value.Text left.now ∷ Value.Text right.now ∷ []) ≡ false → result ≢ Err Fault.OutOfMemory }
 {
     match operator {
         Op::Add => joined(alloc, left, right),
@@ -43,7 +44,7 @@ fn joined(alloc: Global, left: &str, right: &str) -> Result<Value, Fault>
     let mut text = String::with_capacity(alloc, left.len() + right.len())?;
     text.push_str(left)?;
     text.push_str(right)?;
-    Ok(Value::Text(Text::from_string(text)))
+    Ok(Value::Text(Shared::new(alloc, Text::from_string(text))?))
 }
 
 // Does a text stand in another?

@@ -15,7 +15,7 @@ pub fn is_true(value: &Value) -> Result<bool, Fault>
     match value {
         Value::Int(number) => Ok(*number != 0),
         Value::Bool(truth) => Ok(*truth),
-        Value::Text(text) => Ok(!text.as_str().is_empty()),
+        Value::Text(text) => Ok(!text.get().as_str().is_empty()),
         Value::Void => Ok(false),
         Value::Target(_) | Value::Pointer(..) | Value::Tag(_) => Err(Fault::BadOperands),
     }

@@ -5,9 +5,9 @@
 
 use ink_check::check;
 use ink_json::read_story;
-use ink_model::{Fault, Text, Value};
+use ink_model::{Fault, Shared, Text, Value};
 use ink_out::Output;
-use std::alloc::Global;
+use std::alloc::{AllocError, Global};
 use std::io::Read;
 use std::process::ExitCode;
 use std::rt::Env;
@@ -105,7 +105,7 @@ fn repeats(alloc: Global, words: &Vec<String>, work: Work) -> bool {
 /// Writes texts, newlines and glue, and shows them. Answers the bytes of the text, and how often the line ended.
 fn writes(alloc: Global, count: u32, asks: bool) -> Result<usize, Fault> {
     let mut output = Output::new(alloc);
-    let value = Value::Text(Text::from_str(alloc, "word")?);
+    let value = Value::Text(shared(alloc, "word")?);
     let mut ends: usize = 0;
     for mark in 0..count {
         match mark % 4 {
@@ -126,12 +126,12 @@ fn writes(alloc: Global, count: u32, asks: bool) -> Result<usize, Fault> {
 /// Writes strings, and closes each. Answers the bytes of their texts.
 fn writes_strings(alloc: Global, count: u32) -> Result<usize, Fault> {
     let mut output = Output::new(alloc);
-    let value = Value::Text(Text::from_str(alloc, "a word or two")?);
+    let value = Value::Text(shared(alloc, "a word or two")?);
     let mut bytes: usize = 0;
     for _string in 0..count {
         output.open_string()?;
         output.write(&value, false)?;
-        bytes = bytes.wrapping_add(output.close_string()?.as_str().len());
+        bytes = bytes.wrapping_add(output.close_string()?.get().as_str().len());
     }
     Ok(bytes)
 }
@@ -139,11 +139,15 @@ fn writes_strings(alloc: Global, count: u32) -> Result<usize, Fault> {
 /// Writes tags, and closes each. Answers how many the line has.
 fn writes_tags(alloc: Global, count: u32) -> Result<usize, Fault> {
     let mut output = Output::new(alloc);
-    let value = Value::Text(Text::from_str(alloc, "a word or two")?);
+    let value = Value::Text(shared(alloc, "a word or two")?);
     for _tag in 0..count {
         output.open_tag()?;
         output.write(&value, false)?;
         let _ = output.close_tag()?;
     }
     Ok(output.tags()?.as_slice().len())
+}
+
+fn shared(alloc: Global, text: &str) -> Result<Shared<Text>, AllocError> {
+    Shared::new(alloc, Text::from_str(alloc, text)?)
 }

@@ -45,7 +45,7 @@ fn show_keys(text: &mut String, named: &BTreeMap<String, Content>) -> Result<(),
 
 fn show_leaf(text: &mut String, leaf: &Leaf) -> Result<(), AllocError> {
     match leaf {
-        Leaf::Text(written) => write!(text, "text \"{}\"", written.as_str()),
+        Leaf::Text(written) => write!(text, "text \"{}\"", written.get().as_str()),
         Leaf::Newline => text.push_str("newline"),
         Leaf::Glue => text.push_str("glue"),
         Leaf::Void => text.push_str("void"),

@@ -2,7 +2,7 @@
 
 use crate::answer::{Answer, NoAnswer, append, counted, first_word, text, told};
 use crate::words::{number, shown_value, value_of};
-use ink_model::{Op, Value};
+use ink_model::{Op, Shared, Value};
 use ink_value::{EvalStack, apply, is_true, printed};
 use std::alloc::Global;
 
@@ -31,7 +31,7 @@ fn result_of(alloc: Global, word: &str, values: &[Value]) -> Result<Value, NoAns
 fn made_of(alloc: Global, word: &str, value: &Value) -> Result<Value, NoAnswer> {
     match word {
         "truth" => Ok(Value::Bool(is_true(value)?)),
-        "printed" => Ok(Value::Text(printed(alloc, value)?)),
+        "printed" => Ok(Value::Text(Shared::new(alloc, printed(alloc, value)?)?)),
         "copied" => Ok(value.clone_in(alloc)?),
         _ => Err(NoAnswer::NoQuestion),
     }
@@ -74,7 +74,8 @@ fn operator_of(word: &str) -> Option<Op> {
 
 // ---- the evaluation stack
 
-/// The answers of calls: `push:VALUE`, `pop`, `peek:DEPTH`, `len`, and `copy`, after which the copy is called.
+/// The answers of calls: `push:VALUE`, `pop`, `peek:DEPTH`, `apply:OPERATOR`, `len`, and `copy`, after which the copy is
+/// called.
 fn stack_answers(alloc: Global, calls: &str) -> Answer {
     let mut stack = EvalStack::new(alloc);
     let mut answers = String::new(alloc);
@@ -89,6 +90,7 @@ fn stack_answer(alloc: Global, stack: &mut EvalStack, call: &str) -> Answer {
     match call.split_once(':').unwrap_or((call, "")) {
         ("push", value) => pushed(alloc, stack, value),
         ("copy", _) => copied(alloc, stack),
+        ("apply", word) => applied(alloc, stack, word),
         ("peek", depth) => shown_value(alloc, stack.peek(number(depth)?)?),
         ("pop", _) => shown_value(alloc, &stack.pop()?),
         ("len", _) => counted(alloc, stack.len()),
@@ -98,6 +100,12 @@ fn stack_answer(alloc: Global, stack: &mut EvalStack, call: &str) -> Answer {
 
 fn pushed(alloc: Global, stack: &mut EvalStack, value: &str) -> Answer {
     stack.push(value_of(alloc, value)?)?;
+    text(alloc, "ok")
+}
+
+fn applied(alloc: Global, stack: &mut EvalStack, word: &str) -> Answer {
+    let operator = operator_of(word).ok_or(NoAnswer::NoQuestion)?;
+    stack.apply_top(alloc, operator)?;
     text(alloc, "ok")
 }
 

@@ -1,8 +1,8 @@
 //! Calls of the output, and what they leave.
 
 use crate::answer::{Answer, NoAnswer, counted, text, told};
-use crate::words::{decoded, encode, encoded, number, value_of};
-use ink_model::{Fault, Text, Value};
+use crate::words::{encode, encoded, number, text_of, value_of};
+use ink_model::{Fault, Value};
 use ink_out::Output;
 use std::alloc::{AllocError, Global};
 
@@ -33,17 +33,13 @@ pub(crate) fn answer(alloc: Global, row: &str) -> Answer {
 
 fn called(alloc: Global, output: &mut Output, call: &str) -> Answer {
     match call.split_once(':') {
-        Some(("t", word)) => written(alloc, output, &text_of(alloc, word)?, false),
-        Some(("f", word)) => written(alloc, output, &text_of(alloc, word)?, true),
+        Some(("t", word)) => written(alloc, output, &Value::Text(text_of(alloc, word)?), false),
+        Some(("f", word)) => written(alloc, output, &Value::Text(text_of(alloc, word)?), true),
         Some(("v", word)) => written(alloc, output, &value_of(alloc, word)?, false),
         Some(("w", word)) => written(alloc, output, &value_of(alloc, word)?, true),
         Some((call, word)) => called_with(alloc, output, call, number(word)?),
         None => plainly_called(alloc, output, call),
     }
-}
-
-fn text_of(alloc: Global, word: &str) -> Result<Value, AllocError> {
-    Ok(Value::Text(Text::from_string(decoded(alloc, word)?)))
 }
 
 fn written(alloc: Global, output: &mut Output, value: &Value, fresh: bool) -> Answer {
@@ -92,12 +88,12 @@ fn entered(alloc: Global, output: &mut Output) -> Answer {
 
 fn closed_string(alloc: Global, output: &mut Output) -> Answer {
     let text = output.close_string()?;
-    Ok(encoded(alloc, text.as_str())?)
+    Ok(encoded(alloc, text.get().as_str())?)
 }
 
 fn closed_tag(alloc: Global, output: &mut Output) -> Answer {
     match output.close_tag()? {
-        Some(text) => Ok(encoded(alloc, text.as_str())?),
+        Some(text) => Ok(encoded(alloc, text.get().as_str())?),
         None => text(alloc, "none"),
     }
 }
@@ -153,7 +149,7 @@ fn show_text(left: &mut String, output: &Output) -> Result<(), AllocError> {
 fn show_tags(left: &mut String, output: &Output) -> Result<(), AllocError> {
     for tag in output.tags()?.as_slice() {
         left.push('#')?;
-        encode(left, tag.as_str())?;
+        encode(left, tag.get().as_str())?;
     }
     Ok(())
 }

@@ -169,7 +169,7 @@ fn show_passage(said: &mut String, passage: &Passage) -> Result<(), AllocError> 
     encode(said, passage.text.as_str())?;
     for tag in passage.tags.as_slice() {
         said.push_str(" #")?;
-        encode(said, tag.as_str())?;
+        encode(said, tag.get().as_str())?;
     }
     if passage.more {
         said.push_str(" more")?;

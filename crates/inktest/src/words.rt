@@ -3,7 +3,7 @@
 //! `root`.
 
 use crate::answer::{Answer, NoAnswer};
-use ink_model::{Part, Text, Value};
+use ink_model::{Part, Shared, Text, Value};
 use ink_tree::{print_path, read_path};
 use std::alloc::{AllocError, Global};
 use std::str::FromStr;
@@ -51,7 +51,7 @@ pub(crate) fn value_of(alloc: Global, word: &str) -> Result<Value, NoAnswer> {
         return Ok(Value::Tag(text_of(alloc, text)?));
     }
     if let Some(path) = word.strip_prefix("->") {
-        return Ok(Value::Target(read_path(alloc, path)?));
+        return Ok(Value::Target(Shared::new(alloc, read_path(alloc, path)?)?));
     }
     if let Some(pointer) = word.strip_prefix('&') {
         return pointer_of(alloc, pointer);
@@ -59,14 +59,19 @@ pub(crate) fn value_of(alloc: Global, word: &str) -> Result<Value, NoAnswer> {
     plain_value(word)
 }
 
-fn text_of(alloc: Global, text: &str) -> Result<Text, AllocError> {
-    Ok(Text::from_string(decoded(alloc, text)?))
+/// The text that a word spells.
+pub(crate) fn text_of(alloc: Global, word: &str) -> Result<Shared<Text>, AllocError> {
+    Ok(Shared::new(
+        alloc,
+        Text::from_string(decoded(alloc, word)?),
+    )?)
 }
 
 fn pointer_of(alloc: Global, pointer: &str) -> Result<Value, NoAnswer> {
     let (name, frame) = pointer.split_once(':').unwrap_or((pointer, ""));
     let frame = number(frame)?;
-    Ok(Value::Pointer(Text::from_str(alloc, name)?, frame))
+    let name = Shared::new(alloc, Text::from_str(alloc, name)?)?;
+    Ok(Value::Pointer(frame, name))
 }
 
 fn plain_value(word: &str) -> Result<Value, NoAnswer> {
@@ -101,10 +106,10 @@ fn show_value(alloc: Global, word: &mut String, value: &Value) -> Result<(), All
         Value::Int(number) => write!(word, "{number}"),
         Value::Bool(truth) => write!(word, "{truth}"),
         Value::Void => word.push_str("void"),
-        Value::Text(text) => show_text(word, '^', text),
-        Value::Tag(text) => show_text(word, '#', text),
-        Value::Pointer(name, frame) => write!(word, "&{}:{frame}", name.as_str()),
-        Value::Target(path) => write!(word, "->{}", print_path(alloc, path)?.as_str()),
+        Value::Text(text) => show_text(word, '^', text.get()),
+        Value::Tag(text) => show_text(word, '#', text.get()),
+        Value::Pointer(frame, name) => write!(word, "&{}:{frame}", name.get().as_str()),
+        Value::Target(path) => write!(word, "->{}", print_path(alloc, path.get())?.as_str()),
     }
 }
 

@@ -1,9 +1,8 @@
 -- The effects of values, operators and evaluation mode (docs/RUNNING.md, "Steps" and "Evaluation").
 use Rattle.std.specs.Prelude.{List, true, false, if◌then◌else◌, Option, Some, None}
-use Rattle.ink_model.specs.Effect.{Fields, Effect, Moves, Fails, is_fresh, or_fault, popping, pushing, taking, writing}
-use Rattle.ink_model.specs.Operator.{takes, apply}
+use Rattle.ink_model.specs.Effect.{Fields, Effect, Moves, Fails, is_fresh, or_fault, popping, pushing, writing}
 use Rattle.ink_model.specs.Output.{writes_value}
-use Rattle.ink_model.specs.Stack.{popped}
+use Rattle.ink_model.specs.Stack.{applied, popped}
 use Rattle.ink_model.specs.declared.fault.Fault.TheVariants.{BadMode}
 use Rattle.ink_model.specs.declared.operator.Op.{Op}
 use Rattle.ink_model.specs.declared.value.Value.{Value}
@@ -33,6 +32,6 @@ pop f = popping f (λ v left. Moves left)
 abbrev pub duplicate : Fields → Effect
 duplicate f = popping f (λ v left. pushing v f)
 
--- an operator pops all its operands before their kinds are looked at
+-- what an operator makes of its operands is in their place
 abbrev pub operate : Op → Fields → Effect
-operate o f = taking (takes o) f (λ vs left. or_fault (apply o vs) (λ v. pushing v left))
+operate o f = or_fault (applied o f.stack) (λ vs. Moves (record f { stack = vs }))

@@ -1,8 +1,7 @@
-use Rattle.ink_model.specs.Effect.{pushing}
 use Rattle.ink_step.specs.Performs.{fields}
-use Rattle.ink_step.proofs.Effects.{no_result}
+use Rattle.ink_step.proofs.Effects.{operated}
 use Rattle.ink_step.proofs.evaluating.operate.Goals as goal
 
-pub returns-in-Err : goal.returns-in-Err
-returns-in-Err c evaluating fresh page globals s =
-    no_result s _ _ _ (λ left v. pushing v (fields evaluating fresh left page globals)) _ _ c.in-Err.ensures
+pub returns : goal.returns
+returns c evaluating fresh page globals =
+    operated _ _ (λ vs. fields evaluating fresh vs page globals) _ _ _ c.apply_top.ensures.stack c.apply_top.ensures.memory

@@ -5,16 +5,8 @@ use Rattle.ink_model.specs.Step.Host.{nothing_bound}
 use Rattle.ink_model.specs.declared.fault.Fault.TheVariants.{OutOfMemory}
 use Rattle.ink_step.specs.Steps.{left_by, reply_of_run}
 use Rattle.ink_step.specs.Words.{config_of}
-use Rattle.ink_step.proofs.Passages.{tells, breaks, breaks_after}
+use Rattle.ink_step.proofs.Passages.{tells, breaks_after}
 use Rattle.ink_step.proofs.machine.Machine.through.Goals as goal
-
-pub returns-in_err-run : goal.returns-in_err-run
-returns-in_err-run c =
-    let s = story_tree c.args.story.now in
-    let new = config_of s c.run.new.self in
-    let is : c.from_residual.result ≡ Err c.in_err-run.field-0.0 = search rules in
-    subst (λ r. RunsThrough s nothing_bound (config_of s c.args.self.now) [] (reply_of_run r) (left_by r new)) (sym is)
-    (breaks _ _ _ (c.begin.ensures s) new _ c.in_err-run.ensures)
 
 pub returns-in_err-passage : goal.returns-in_err-passage
 returns-in_err-passage c =

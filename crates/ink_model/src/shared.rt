@@ -1,0 +1,46 @@
+//! What several owners share.
+
+ghost use Rattle.std.specs.Prelude.{◌≡◌, IfOk};
+
+use std::alloc::{AllocError, Global};
+use std::marker::Model;
+use std::rc::Rc;
+
+/// Something that several owners share, so that a copy copies nothing of it. A contract sees the thing itself.
+#[derive(Drop)]
+pub struct Shared<T> {
+    value: Rc<T>,
+}
+
+impl<T> Model for Shared<T> {
+    ghost Value = { T };
+
+    ghost view = { λ s. s.value.value };
+}
+
+impl<T: Drop> Shared<T> {
+    /// Takes a thing, to be shared. The one error is a refused request for memory.
+    pub fn new(alloc: Global, value: T) -> Result<Shared<T>, AllocError>
+        ensures { IfOk result (λ shared. shared ≡ value) }
+    {
+        match Rc::new(alloc, value) {
+            Ok(value) => Ok(Shared { value }),
+            Err(_) => Err(AllocError),
+        }
+    }
+
+    /// The thing itself.
+    pub fn get(&self) -> &T
+        ensures { result.now ≡ self.now }
+    {
+        self.value.as_ref()
+    }
+
+    /// One more owner. It asks for no memory; the one error is a count of owners that is full.
+    pub fn share(&self) -> Result<Shared<T>, AllocError>
+        ensures { IfOk result (λ copy. copy ≡ self.now) }
+    {
+        let value = self.value.clone()?;
+        Ok(Shared { value })
+    }
+}

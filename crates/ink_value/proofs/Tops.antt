@@ -1,0 +1,88 @@
+-- The values at the top of a stack.
+use Rattle.std.proofs.Common.{◌≡◌, ◌≢◌, ◌∙◌, ℕ, zero, suc, ◌+◌, ◌-◌, ◌<◌, ◌≤◌, Bool, true, false, ap, sym, subst, refl, inl, inr, List, [], ◌∷◌, ◌++◌, length, take, drop, Option, Some, None, option_map, option_and_then, Result, Ok, Err, arith}
+use Rattle.std.proofs.Math.Seq.{append_snoc, drop-length, take-length}
+use Rattle.std.proofs.lemmas.List.{append-nil, drop-append-le, length-drop, take-append-le}
+use Rattle.ink_model.specs.Asks.{operator_asks}
+use Rattle.ink_model.specs.Joining.{makes_text}
+use Rattle.ink_model.specs.Memory.{Gives}
+use Rattle.ink_model.specs.Operator.{apply, takes}
+use Rattle.ink_model.specs.Stack.{applied, applied_to, on_top, popped, taken}
+use Rattle.ink_model.specs.declared.fault.Fault.{Fault}
+use Rattle.ink_model.specs.declared.fault.Fault.TheVariants.{StackEmpty}
+use Rattle.ink_model.specs.declared.operator.Op.{Op}
+use Rattle.ink_model.specs.declared.value.Value.{Value}
+
+top_of : (vs : List Value) (v : Value) → popped (vs ++ v ∷ []) ≡ Some (v, vs)
+top_of [] v = refl
+top_of (w ∷ []) v = refl
+top_of (w ∷ x ∷ vs) v = ap (option_map (λ r. (r.0, w ∷ r.1))) (top_of (x ∷ vs) v)
+
+-- some values have one on top
+top_in : (vs : List Value) (n : ℕ) → length vs ≡ suc n → (us : List Value) × (v : Value) × (vs ≡ us ++ v ∷ []) × (length us ≡ n)
+top_in [] n h = absurd (cc)
+top_in (v ∷ []) n h = ([], v, refl, omega arith)
+top_in (v ∷ w ∷ vs) n h =
+    let r = top_in (w ∷ vs) (length vs) refl in
+    (v ∷ r.0, r.1, ap (λ xs. v ∷ xs) r.2, omega (arith, r.3))
+
+pub taken_at : (n : ℕ) (vs above : List Value) (below : ℕ) → length vs ≡ below + n → taken n vs above ≡ Some (drop below vs ++ above, take below vs)
+taken_at zero vs above below h =
+    let e : below ≡ length vs = omega arith in
+    rw (e, drop-length vs, take-length vs) refl
+taken_at (suc n) vs above below h =
+    let r = top_in vs (below + n) (omega arith) in
+    let us = r.0 in
+    let v = r.1 in
+    let within : below ≤ length us = omega (arith, r.3) in
+    let seam : Some (drop below us ++ v ∷ above, take below us) ≡ Some (drop below (us ++ v ∷ []) ++ above, take below (us ++ v ∷ [])) =
+        rw (drop-append-le below us (v ∷ []) within, take-append-le below us (v ∷ []) within, append_snoc (drop below us) v above) refl in
+    subst (λ xs. taken (suc n) xs above ≡ Some (drop below xs ++ above, take below xs)) (sym r.2)
+    (ap (option_and_then (λ t. taken n t.1 (t.0 ∷ above))) (top_of us v) ∙ taken_at n us (v ∷ above) below r.3 ∙ seam)
+
+pub taken_short : (n : ℕ) (vs above : List Value) → length vs < n → taken n vs above ≡ None
+taken_short zero vs above h = absurd (omega arith)
+taken_short (suc n) [] above h = refl
+taken_short (suc n) (w ∷ ws) above h =
+    let r = top_in (w ∷ ws) (length ws) refl in
+    let few : length r.0 < n = omega (arith, r.3) in
+    subst (λ xs. taken (suc n) xs above ≡ None) (sym r.2)
+    (ap (option_and_then (λ t. taken n t.1 (t.0 ∷ above))) (top_of r.0 r.1) ∙ taken_short n r.0 (r.1 ∷ above) few)
+
+-- ---- an operator on the values on top
+
+on_top_fails : (below : List Value) (r : Result Value Fault) (f : Fault) → Gives {A = Value} (Err f) r → Gives {A = List Value} (Err f) (on_top below r)
+on_top_fails below (Ok v) f h = elim h [
+  | inl short ↦ inl (short.0, refl)
+  | inr same ↦ absurd (cc)
+]
+on_top_fails below (Err g) f h = elim h [
+  | inl short ↦ inl short
+  | inr same ↦ inr (let e : g ≡ f = cc in ap Err e)
+]
+
+pub too_few : (o : Op) (vs : List Value) → length vs < takes o → applied o vs ≡ Err StackEmpty
+too_few o vs few = ap (applied_to o) (taken_short (takes o) vs [] few)
+
+module _ (o : Op) (vs : List Value) (below : ℕ) (enough : length vs ≡ below + takes o) (xs : List Value) (same : xs ≡ vs) where
+  -- the operands, as a slice of the stack
+  slice : take (length xs - below) (drop below xs) ≡ drop below vs
+  slice = rw (← length-drop below xs, take-length (drop below xs), same) refl
+
+  operands : taken (takes o) vs [] ≡ Some (take (length xs - below) (drop below xs), take below vs)
+  operands = taken_at (takes o) vs [] below enough ∙ ap (λ ys. Some (ys, take below vs)) (append-nil (drop below vs) ∙ sym slice)
+
+  applied_at : applied o vs ≡ on_top (take below vs) (apply o (take (length xs - below) (drop below xs)))
+  applied_at = ap (applied_to o) operands
+
+  pub makes : (v : Value) → apply o (take (length xs - below) (drop below xs)) ≡ Ok v → applied o vs ≡ Ok (take below vs ++ v ∷ [])
+  makes v h = applied_at ∙ ap (on_top (take below vs)) h
+
+  pub makes_none : (f : Fault) → Gives (Err f) (apply o (take (length xs - below) (drop below xs))) → Gives {A = List Value} (Err f) (applied o vs)
+  makes_none f h = subst (λ r. Gives {A = List Value} (Err f) r) (sym applied_at) (on_top_fails (take below vs) _ f h)
+
+  pub asks : makes_text o (take (length xs - below) (drop below xs)) ≢ false → operator_asks o (taken (takes o) vs []) ≡ true
+  asks h = ap (operator_asks o) operands ∙ set _ h
+    where
+      set : (b : Bool) → b ≢ false → b ≡ true
+      set true k = refl
+      set false k = absurd (k refl)

@@ -1,0 +1,34 @@
+use Rattle.std.proofs.Common.{◌≡◌, ◌∙◌, ◌+◌, ◌<◌, ◌∷◌, [], ◌++◌, Ok, Err, ap, inr, length, refl, rules, arith, sym, take}
+use Rattle.ink_model.specs.Operator.{takes}
+use Rattle.ink_model.specs.declared.fault.Fault.TheVariants.{OutOfMemory}
+use Rattle.ink_value.proofs.Tops.{asks, makes, makes_none, too_few}
+use Rattle.ink_value.proofs.stack.EvalStack.apply_top.Goals as goal
+
+pub returns-in_default-clause-stack : goal.returns-in_default-clause-stack
+returns-in_default-clause-stack c =
+    let few : length c.args.self.now.items < takes c.args.operator = search (rules, arith) in
+    (inr (too_few c.args.operator c.args.self.now.items few), refl)
+
+pub returns-in-Ok-clause-stack : goal.returns-in-Ok-clause-stack
+returns-in-Ok-clause-stack c =
+    let vs = c.args.self.now.items in
+    let below = c.in-Some.below in
+    let enough : length vs ≡ below + takes c.args.operator = search (rules, arith) in
+    let same : c.deref.result.now ≡ vs = search rules in
+    let left : c.push.new.self.items ≡ take below vs ++ c.in-Ok.value ∷ [] = search rules in
+    (makes c.args.operator vs below enough c.deref.result.now same c.in-Ok.value c.in-Ok.ensures.result ∙ ap Ok (sym left), tt)
+
+pub returns-in-Err-clause-stack : goal.returns-in-Err-clause-stack
+returns-in-Err-clause-stack c =
+    let vs = c.args.self.now.items in
+    let enough : length vs ≡ c.in-Some.below + takes c.args.operator = search (rules, arith) in
+    let same : c.deref.result.now ≡ vs = search rules in
+    (makes_none c.args.operator vs c.in-Some.below enough c.deref.result.now same c.in-Err.fault c.in-Err.ensures.result, refl)
+
+pub returns-in-Err-clause-memory : goal.returns-in-Err-clause-memory
+returns-in-Err-clause-memory c h =
+    let vs = c.args.self.now.items in
+    let enough : length vs ≡ c.in-Some.below + takes c.args.operator = search (rules, arith) in
+    let same : c.deref.result.now ≡ vs = search rules in
+    let short : c.in-Err.fault ≡ OutOfMemory = cc in
+    asks c.args.operator vs c.in-Some.below enough c.deref.result.now same (λ none. c.in-Err.ensures.memory none (ap Err short))
