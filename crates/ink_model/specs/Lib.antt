@@ -23,6 +23,7 @@ pub mod Stack
 pub mod Page
 pub mod Frames
 pub mod Rows
+pub mod Threads
 pub mod OperatorExamples
 pub mod Configuration
 pub mod Output
