@@ -27,6 +27,7 @@ pub mod Threads
 pub mod OperatorExamples
 pub mod Configuration
 pub mod Output
+pub mod Flow
 pub mod Effect
 pub mod Move
 pub mod Step
