@@ -153,7 +153,7 @@ impl<P: Copy> Thread<P> {
     pub(crate) fn push(&mut self, kind: FrameKind, depth: usize) -> Result<(), Fault>
         ensures { Grows (pushed kind depth self.old) self.old self.new result }
     {
-        if self.below.len() + 1 >= MAX_FRAMES {
+        if self.frames() >= MAX_FRAMES {
             return Err(Fault::TooDeep);
         }
         if self.below.reserve(1).is_err() {

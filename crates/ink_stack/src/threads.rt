@@ -9,7 +9,6 @@ use crate::thread::Thread;
 use ink_model::{Fault, FrameKind, MAX_THREADS};
 use std::alloc::Global;
 use std::marker::Model;
-use std::mem;
 
 /// Where flow is: threads, of which there is always one on top. A contract sees those below it with the nearest first.
 #[derive(Drop)]
@@ -154,10 +153,10 @@ impl<P: Copy> Threads<P> {
         ensures dropped { result ≡ is_some (dropped self.old) }
         ensures new { self.new ≡ unwrap_or (dropped self.old) self.old }
     {
-        let Some(thread) = self.below.pop() else {
+        let Some(next) = self.below.pop() else {
             return false;
         };
-        self.thread = thread;
+        self.thread = next;
         true
     }
 
@@ -184,8 +183,7 @@ impl<P: Copy> Threads<P> {
     pub fn reset(&mut self)
         ensures { self.new ≡ base_threads None }
     {
-        self.thread = Thread::new(self.alloc, None);
-        self.below.clear();
+        self.replace(Thread::new(self.alloc, None));
     }
 }
 
