@@ -24,9 +24,11 @@ pub mod Stack
 pub mod Page
 pub mod Frames
 pub mod Rows
+pub mod Threads
 pub mod OperatorExamples
 pub mod Configuration
 pub mod Output
+pub mod Flow
 pub mod Effect
 pub mod Move
 pub mod Step

@@ -45,6 +45,8 @@ pub enum Fault {
     Divide,
     #[error("BadMode")]
     BadMode,
+    #[error("BadPop")]
+    BadPop,
     #[error("BadTarget")]
     BadTarget,
     #[error("NoTemp")]
@@ -97,6 +99,7 @@ impl Fault {
             Fault::BadOperands => "BadOperands",
             Fault::Divide => "Divide",
             Fault::BadMode => "BadMode",
+            Fault::BadPop => "BadPop",
             Fault::BadTarget => "BadTarget",
             Fault::NoTemp => "NoTemp",
             Fault::HostRefused => "HostRefused",

@@ -18,6 +18,12 @@ pub const MAX_MARKS: usize = 100_000;
 /// Strings and tags that are open on a line.
 pub const MAX_SECTIONS: usize = 1_000;
 
+/// Frames of a thread.
+pub const MAX_FRAMES: usize = 1_000;
+
+/// Threads.
+pub const MAX_THREADS: usize = 100;
+
 /// Steps of a command.
 pub const MAX_STEPS: u32 = 1_000_000;
 

@@ -1,0 +1,3 @@
+pub mod Mapping
+pub mod Reversing
+pub mod Runs

@@ -1,0 +1,148 @@
+//! Frames.
+
+ghost use Rattle.std.specs.Prelude.{◌≡◌, ◌≢◌, [], IfOk, OnErr};
+ghost use Rattle.ink_model.specs.Frames.{base_frame, fresh_depth, is_function, unnumbered_frame};
+ghost use Rattle.ink_model.specs.Threads.{new_frame, same_kind, stale};
+
+use crate::temps::Temps;
+use ink_model::FrameKind;
+use std::alloc::{AllocError, Global};
+use std::marker::Model;
+
+/// A frame: what it was pushed for, where it is, its temporaries, whether it evaluates, whether it is a fresh function, how
+/// many sections were open at its push, and the number of its mark on this line.
+#[derive(Drop)]
+pub(crate) struct Frame<P> {
+    kind: FrameKind,
+    evaluating: bool,
+    fresh: bool,
+    depth: usize,
+    place: Option<P>,
+    enter: Option<u64>,
+    temps: Temps,
+}
+
+impl<P> Model for Frame<P> {
+    ghost use Rattle.ink_model.specs.Frames.{FrameOf};
+
+    ghost Value = { FrameOf P };
+
+    ghost view = { λ f. record { kind = f.kind; place = f.place; temps = f.temps; evaluating = f.evaluating; fresh = f.fresh; depth = f.depth; enter = f.enter } };
+}
+
+impl<P: Copy> Frame<P> {
+    /// A frame as it is pushed, which takes no memory.
+    pub(crate) fn new(alloc: Global, kind: FrameKind, place: Option<P>, depth: usize) -> Frame<P>
+        ensures { result ≡ new_frame kind place depth }
+    {
+        let fresh = matches!(kind, FrameKind::Function);
+        Frame {
+            kind,
+            evaluating: false,
+            fresh,
+            depth,
+            place,
+            enter: None,
+            temps: Temps::new(alloc),
+        }
+    }
+
+    /// A copy. The one error is a refused request for memory, which a frame without temporaries never makes.
+    pub(crate) fn clone_in(&self, alloc: Global) -> Result<Frame<P>, AllocError>
+        ensures copy { IfOk result (λ copy. copy ≡ self.now) }
+        ensures memory { OnErr result (self.now.temps ≢ []) }
+    {
+        let temps = self.temps.clone_in(alloc)?;
+        Ok(Frame {
+            kind: self.kind,
+            evaluating: self.evaluating,
+            fresh: self.fresh,
+            depth: self.depth,
+            place: self.place,
+            enter: self.enter,
+            temps,
+        })
+    }
+
+    pub(crate) fn kind(&self) -> FrameKind
+        ensures { result ≡ self.now.kind }
+    {
+        self.kind
+    }
+
+    pub(crate) fn place(&self) -> Option<P>
+        ensures { result ≡ self.now.place }
+    {
+        self.place
+    }
+
+    pub(crate) fn is_evaluating(&self) -> bool
+        ensures { result ≡ self.now.evaluating }
+    {
+        self.evaluating
+    }
+
+    pub(crate) fn number(&self) -> Option<u64>
+        ensures { result ≡ self.now.enter }
+    {
+        self.enter
+    }
+
+    pub(crate) fn depth(&self) -> usize
+        ensures { result ≡ self.now.depth }
+    {
+        self.depth
+    }
+
+    pub(crate) fn fresh_depth(&self) -> Option<usize>
+        ensures { result ≡ fresh_depth self.now }
+    {
+        match self.kind {
+            FrameKind::Function if self.fresh => Some(self.depth),
+            _ => None,
+        }
+    }
+
+    pub(crate) fn is(&self, kind: FrameKind) -> bool
+        ensures { result ≡ same_kind self.now.kind kind }
+    {
+        match (self.kind, kind) {
+            (FrameKind::Base, FrameKind::Base) => true,
+            (FrameKind::Function, FrameKind::Function) => true,
+            (FrameKind::Tunnel, FrameKind::Tunnel) => true,
+            _ => false,
+        }
+    }
+
+    pub(crate) fn is_function(&self) -> bool
+        ensures { result ≡ is_function self.now.kind }
+    {
+        matches!(self.kind, FrameKind::Function)
+    }
+
+    pub(crate) fn put(&mut self, place: Option<P>)
+        ensures { self.new ≡ record self.old { place = place } }
+    {
+        self.place = place;
+    }
+
+    pub(crate) fn set_mode(&mut self, evaluating: bool)
+        ensures { self.new ≡ record self.old { evaluating = evaluating } }
+    {
+        self.evaluating = evaluating;
+    }
+
+    pub(crate) fn set_number(&mut self, number: Option<u64>)
+        ensures { self.new ≡ record self.old { enter = number } }
+    {
+        self.enter = number;
+    }
+
+    pub(crate) fn end_freshness(&mut self, depth: usize)
+        ensures { self.new ≡ stale depth self.old }
+    {
+        if self.depth == depth {
+            self.fresh = false;
+        }
+    }
+}
