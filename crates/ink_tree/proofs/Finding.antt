@@ -1,21 +1,21 @@
 -- What a search over a story's places finds, and that nothing stands where it finds nothing.
-use Rattle.std.proofs.Common.{◌≡◌, inl, inr, Bool, true, false, ◌&&◌, is_some, ◌≢◌, ℕ, zero, suc, ◌+◌, ◌<◌, List, [], ◌∷◌, ◌++◌, map, length, get_or, Option, Some, None, option_and_then, Ordering, Less, Equal, Greater, nat_cmp, Ok, Err, refl, sym, ap, subst, ◌∙◌, arith}
+use Rattle.std.proofs.Common.{◌≡◌, inl, inr, true, is_some, ◌≢◌, ℕ, zero, suc, ◌+◌, ◌<◌, List, [], ◌∷◌, ◌++◌, map, length, Option, Some, None, option_and_then, Ordering, Less, Equal, Greater, nat_cmp, Ok, Err, refl, ap, subst, ◌∙◌, arith}
 use Rattle.std.proofs.lemmas.Bool.{cases_lt}
 use Rattle.std.proofs.lemmas.List.Elements.{recursion_from_All}
 use Rattle.std.proofs.lemmas.Option.{unwrap_or-slice_get}
 use Rattle.std.specs.Cmp.Lexicographic.{slice_cmp}
 use Rattle.std.specs.List.{AllByRecursion, All, HoldsAt}
 use Rattle.std.specs.List.Sorted.{IsPartitionPoint, IsBinarySearchResult}
-use Rattle.std.specs.Ordering.{match_ordering, is_lt}
+use Rattle.std.specs.Ordering.{match_ordering}
 use Rattle.ink_model.specs.Places.{places, places_from, places_by_key}
 use Rattle.ink_model.specs.Tree.{StoryTree, leaf, container, Trees, no_trees, tree, Keyed, no_keys, key, nth, by_key, down, at}
 use Rattle.ink_model.specs.declared.place.Part.{Part}
 use Rattle.ink_model.specs.declared.place.Part.TheVariants.{Index, Name}
 use Rattle.ink_tree.specs.Nodes.{Finds, IsNode, node_place}
-use Rattle.ink_tree.specs.Order.{place_cmp, keys_rise, keys_rise_in, keys_rise_by_key, is_below}
+use Rattle.ink_tree.specs.Order.{place_cmp, keys_rise}
 use Rattle.ink_tree.specs.declared.spot.NodeId.{NodeId}
 use Rattle.ink_tree.proofs.Nodes.{node_stands}
-use Rattle.ink_tree.proofs.Rising.{name_same, nat_list_tied, place_same, place_tied, searchable}
+use Rattle.ink_tree.proofs.Rising.{name_same, place_same, place_tied, searchable}
 
 -- ---- a place that is not listed
 

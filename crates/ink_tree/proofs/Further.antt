@@ -21,36 +21,8 @@ inside s p i o is = ap (option_and_then (down (Index i))) is ∙ (sym (one_down 
 
 -- ---- down to the first content
 
--- the way goes to the first content inside, where there is one
-pub way_down : (t u : StoryTree) → Some u ≡ down (Index 0) t → first_content t ≡ Index 0 ∷ first_content u
-way_down (leaf l) u h = absurd (cc)
-way_down (container name flags no_trees named) u h = absurd (cc)
-way_down (container name flags (tree t ts) named) u h = let same : u ≡ t = cc in ap (λ v. Index 0 ∷ first_content v) (sym same)
-
-no_way : (t : StoryTree) → None ≡ down (Index 0) t → first_content t ≡ []
-no_way (leaf l) h = refl
-no_way (container name flags no_trees named) h = refl
-no_way (container name flags (tree t ts) named) h = absurd (cc)
-
-module _ (s : StoryTree) (p whole : List Part) (t : StoryTree) (goes : (p ++ first_content t ≡ whole) × (at s p ≡ Some t)) where
-  -- one content further in
-  pub goes_in : (q : List Part) (u : StoryTree) → q ≡ p → Some u ≡ down (Index 0) t
-      → ((q ++ Index 0 ∷ []) ++ first_content u ≡ whole) × (at s (q ++ Index 0 ∷ []) ≡ Some u)
-  goes_in q u same h = (
-    append_assoc q (Index 0 ∷ []) (first_content u) ∙ ap (λ r. r ++ Index 0 ∷ first_content u) same ∙ ap (λ way. p ++ way) (sym (way_down t u h)) ∙ goes.0,
-    sym (inside s q 0 (Some t) (sym goes.1 ∙ ap (at s) (sym same))) ∙ sym h,
-  )
-
-  -- there is nothing further in
-  pub is_in : None ≡ down (Index 0) t → p ≡ whole
-  is_in h = sym (append-nil p) ∙ ap (λ way. p ++ way) (sym (no_way t h)) ∙ goes.0
-
--- where a step performs, by what was found at its place
+-- where a step performs, where nothing stands
 module _ (s : StoryTree) (p : List Part) where
-  pub enters_in : (t : StoryTree) (here : List Part) → at s p ≡ Some t → here ≡ p ++ first_content t → here ≡ entered s p
-  unfolding entered
-  enters_in t here stands h = h ∙ ap (λ o. p ++ first_content_at o) (sym stands)
-
   pub enters_nothing : at s p ≡ None → p ≡ entered s p
   unfolding entered
   enters_nothing none = sym (append-nil p) ∙ ap (λ o. p ++ first_content_at o) (sym none)

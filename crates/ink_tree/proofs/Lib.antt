@@ -14,3 +14,4 @@ pub mod Finding
 pub mod Spots
 pub mod Knots
 pub mod Further
+pub mod Kept

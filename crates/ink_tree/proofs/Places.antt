@@ -1,5 +1,5 @@
 -- Listing the places of content one element and one key at a time.
-use Rattle.std.proofs.Common.{◌≡◌, ℕ, zero, suc, ◌+◌, ◌-◌, ◌^◌, ◌<◌, ◌≤◌, List, [], ◌∷◌, ◌++◌, map, length, get_or, drop, take, Bool, true, false, ◌&&◌, Option, String, Global, Vec, BTreeMap, nat_lt, Less, string_bytes, string_cmp, refl, sym, ap, ◌∙◌, append_assoc, arith, rules}
+use Rattle.std.proofs.Common.{◌≡◌, ℕ, zero, suc, ◌+◌, ◌-◌, ◌^◌, ◌<◌, ◌≤◌, List, [], ◌∷◌, ◌++◌, map, length, get_or, drop, take, true, ◌&&◌, Option, String, Global, Vec, BTreeMap, nat_lt, Less, string_bytes, string_cmp, refl, sym, ap, ◌∙◌, append_assoc, arith, rules}
 use Rattle.std.proofs.lemmas.Bool.Decides.{nat_tests}
 use Rattle.std.proofs.lemmas.List.{drop_more, drop_all, append-nil, map-append, map-id, length-append, length-map, take_at}
 use Rattle.std.specs.List.{AllByRecursion}

@@ -1,12 +1,12 @@
 -- What nodes and spots of a story stand for.
-use Rattle.std.specs.Prelude.{◌≡◌, ◌<◌, ⊤, ℕ, List, [], ◌∷◌, ◌++◌, length, Option, Some, None, unwrap_or}
-use Rattle.std.specs.Prelude.{slice_get}
+use Rattle.std.specs.Prelude.{◌≡◌, ◌<◌, ⊤, ℕ, List, [], ◌∷◌, ◌++◌, length, Option, Some, None}
 use Rattle.std.specs.Borrow.{Bor}
 use Rattle.ink_json.specs.Story.{tree}
 use Rattle.ink_model.specs.Places.{places}
 use Rattle.ink_model.specs.Tree.{StoryTree, at}
 use Rattle.ink_model.specs.declared.place.Part.{Part}
 use Rattle.ink_model.specs.declared.place.Part.TheVariants.{Index}
+pub use Rattle.ink_tree.specs.Numbers.{node_place}
 use Rattle.ink_tree.specs.declared.spot.NodeId.{NodeId}
 use Rattle.ink_tree.specs.declared.spot.Spot.{Spot}
 use Rattle.ink_tree.specs.declared.tree.Tree.{Tree}
@@ -14,10 +14,6 @@ use Rattle.ink_tree.specs.declared.tree.Tree.{Tree}
 -- the tree of a story
 abbrev pub story_tree : Tree → StoryTree
 story_tree t = tree t.raw
-
--- the place of a node, by its number in reading order; a number beyond the story's content stands for the root
-abbrev pub node_place : StoryTree → NodeId → List Part
-node_place s n = unwrap_or (slice_get (places s) n.number) []
 
 abbrev pub index_part : Option ℕ → List Part
 index_part None = []

@@ -1,16 +1,17 @@
 //! The first content from a place on (docs/RUNNING.md, "Places").
 
-ghost use Rattle.std.specs.Prelude.{◌≡◌, ◌++◌, Some, option_map};
-ghost use Rattle.ink_model.specs.Place.{entered, first_content};
+ghost use Rattle.std.specs.Prelude.{◌≡◌, option_map};
+ghost use Rattle.ink_model.specs.Place.{entered};
 ghost use Rattle.ink_model.specs.Tree.{at};
 ghost use Rattle.ink_model.specs.View.{view};
+ghost use Rattle.ink_tree.specs.Kept.{first_inside};
 
-use crate::spot::Spot;
-use crate::tree::{Tree, by_index};
+use crate::spot::{NodeId, Spot};
+use crate::tree::Tree;
 use ink_model::Content;
 
 impl Tree {
-    ghost use Rattle.ink_tree.specs.Nodes.{story_tree, place_of};
+    ghost use Rattle.ink_tree.specs.Nodes.{story_tree, node_place, place_of};
 
     /// Where a step at a place performs: down from what stands there to its first content that holds no other by index. And
     /// that content, none where nothing stands there. Takes no memory.
@@ -18,33 +19,33 @@ impl Tree {
         ensures spot { place_of (story_tree self.now) result.0 ≡ entered (story_tree self.now) (place_of (story_tree self.now) spot) }
         ensures content { option_map (λ c. view c.now) result.1 ≡ at (story_tree self.now) (place_of (story_tree self.now) result.0) }
     {
-        match self.content(spot) {
+        match self.node(spot) {
             None => (spot, None),
-            Some(content) => {
-                let (first, inside) = self.go_in(spot, content);
-                (first, Some(inside))
+            Some(node) => {
+                let first = self.first_in(node);
+                (Spot::of(first), self.content_of(first))
             }
         }
     }
 
-    // The same from the content that stands there.
-    fn go_in<'c>(&self, spot: Spot, from: &'c Content) -> (Spot, &'c Content)
-        requires { at (story_tree self.now) (place_of (story_tree self.now) spot) ≡ Some (view from.now) }
-        ensures spot { place_of (story_tree self.now) result.0 ≡ place_of (story_tree self.now) spot ++ first_content (view from.now) }
-        ensures content { at (story_tree self.now) (place_of (story_tree self.now) result.0) ≡ Some (view result.1.now) }
+    // The first content in a node that holds no other by index.
+    fn first_in(&self, node: NodeId) -> NodeId
+        ensures { node_place (story_tree self.now) result ≡ entered (story_tree self.now) (node_place (story_tree self.now) node) }
     {
-        let mut here = spot;
-        let mut content = from;
-        while let Some(first) = by_index(content, 0) {
-            let Some(holder) = self.node(here) else {
-                break;
-            };
-            here = Spot {
-                holder,
-                index: Some(0),
-            };
-            content = first;
+        let mut here = node;
+        while let Some(first) = self.first(here) {
+            here = first;
         }
-        (here, content)
+        here
+    }
+
+    /// The first content by index in a node.
+    pub(crate) fn first(&self, node: NodeId) -> Option<NodeId>
+        ensures { option_map (node_place (story_tree self.now)) result ≡ first_inside (story_tree self.now) (node_place (story_tree self.now) node) }
+    {
+        match self.kept(node) {
+            Some(kept) => kept.first,
+            None => self.first_child(node, self.inside(node)),
+        }
     }
 }

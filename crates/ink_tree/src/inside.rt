@@ -1,6 +1,7 @@
 //! What containers hold.
 
 ghost use Rattle.std.specs.Prelude.{◌≡◌, ◌<◌, ◌^◌, option_map};
+ghost use Rattle.ink_model.specs.Entered.{flags_at};
 ghost use Rattle.ink_model.specs.Tree.{at, count, width};
 ghost use Rattle.ink_model.specs.View.{view, trees_view};
 
@@ -27,6 +28,16 @@ pub(crate) fn width_of(found: Option<&Content>) -> usize
     match found {
         None | Some(Content::Leaf(_)) => 0,
         Some(Content::Container { content, .. }) => width_in(content),
+    }
+}
+
+/// The flags of the container that was found, 0 of other content.
+pub(crate) fn flags_of(found: Option<&Content>) -> u8
+    ensures { result ≡ flags_at (option_map (λ c. view c.now) found.entry) }
+{
+    match found {
+        Some(Content::Container { flags, .. }) => *flags,
+        _ => 0,
     }
 }
 

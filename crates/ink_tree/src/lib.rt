@@ -2,10 +2,13 @@
 #![tactic(auto)]
 
 mod around;
+mod copying;
 mod entry;
 mod inside;
+mod keeping;
 mod listing;
 mod moving;
+mod node;
 mod order;
 mod path;
 mod resolving;

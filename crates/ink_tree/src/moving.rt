@@ -1,10 +1,12 @@
 //! Where flow starts, lands, goes on, and what it enters (docs/RUNNING.md, "Places" and "Visits").
 
-ghost use Rattle.std.specs.Prelude.{◌≡◌, ◌≤◌, IfOk, IsOk, length, map, option_map};
+ghost use Rattle.std.specs.Prelude.{◌≡◌, ◌≤◌, ◌++◌, ◌∷◌, [], IfOk, IsOk, length, map, option_map};
 ghost use Rattle.ink_model.specs.Entered.{entered_places, is_first, starts_only};
 ghost use Rattle.ink_model.specs.Place.{landed, next_place, start_place};
+ghost use Rattle.ink_model.specs.declared.place.Part.TheVariants.{Index};
 
 use crate::inside::width_of;
+use crate::order::Key;
 use crate::spot::{NodeId, Spot};
 use crate::tree::Tree;
 use ink_model::Part;
@@ -35,13 +37,9 @@ impl Tree {
         let Some(node) = self.node(spot) else {
             return spot;
         };
-        if width_of(self.inside(node)) > 0 {
-            Spot {
-                holder: node,
-                index: Some(0),
-            }
-        } else {
-            spot
+        match self.first(node) {
+            Some(first) => Spot::of(first),
+            None => spot,
         }
     }
 
@@ -49,15 +47,36 @@ impl Tree {
     pub fn next(&self, spot: Spot) -> Option<Spot>
         ensures { option_map (place_of (story_tree self.now)) result ≡ next_place (story_tree self.now) (place_of (story_tree self.now) spot) }
     {
-        if let Some(index) = spot.index {
-            if (index as usize) + 1 < width_of(self.inside(spot.holder)) {
-                return Some(Spot {
-                    holder: spot.holder,
-                    index: Some(index + 1),
-                });
-            }
+        let next = match spot.index {
+            None => self.next_node(spot.holder),
+            Some(index) => self.next_at(spot.holder, index),
+        };
+        match next {
+            Some(node) => Some(Spot::of(node)),
+            None => None,
         }
-        self.next_above(self.parts(spot.holder))
+    }
+
+    // The content after a content.
+    fn next_node(&self, node: NodeId) -> Option<NodeId>
+        ensures { option_map (node_place (story_tree self.now)) result ≡ next_place (story_tree self.now) (node_place (story_tree self.now) node) }
+    {
+        match self.kept(node) {
+            Some(kept) => kept.next,
+            None => self.next_above(self.parts(node)),
+        }
+    }
+
+    // The content after an index in a content.
+    fn next_at(&self, holder: NodeId, index: u32) -> Option<NodeId>
+        ensures { option_map (node_place (story_tree self.now)) result
+            ≡ next_place (story_tree self.now) (node_place (story_tree self.now) holder ++ Index index ∷ []) }
+    {
+        if (index as usize) + 1 < width_of(self.inside(holder)) {
+            self.search(self.parts(holder), Some(Key::Index(index + 1)))
+        } else {
+            self.next_node(holder)
+        }
     }
 
     /// The containers around a landing place that a landing there enters, the nearest first; `previous` is the place from
@@ -97,8 +116,8 @@ impl Tree {
 
     // The place after content, to which these parts lead.
     #[tactic(auto, using(crate::proofs::Next::after_name), unfolding(ink_model::specs::Place::next_place))]
-    fn next_above(&self, parts: &[Part]) -> Option<Spot>
-        ensures { option_map (place_of (story_tree self.now)) result ≡ next_place (story_tree self.now) parts.now }
+    pub(crate) fn next_above(&self, parts: &[Part]) -> Option<NodeId>
+        ensures { option_map (node_place (story_tree self.now)) result ≡ next_place (story_tree self.now) parts.now }
     {
         let mut rest = parts;
         while let Some((last, up)) = rest.split_last() {
@@ -106,11 +125,7 @@ impl Tree {
                 return None;
             };
             if (*index as usize) + 1 < width_of(self.raw.at(up)) {
-                let holder = self.find(up, None)?;
-                return Some(Spot {
-                    holder,
-                    index: Some(*index + 1),
-                });
+                return self.search(up, Some(Key::Index(*index + 1)));
             }
             rest = up;
         }

@@ -103,12 +103,22 @@ impl Tree {
             ≡ stepped_last (story_tree self.now) (node_place (story_tree self.now) here) (Index index) }
     {
         if reaches(self.inside(here)?, index) {
-            Some(Spot {
+            Some(self.by_node(Spot {
                 holder: here,
                 index: Some(index),
-            })
+            }))
         } else {
             None
+        }
+    }
+
+    // The same place, by the number of the content there, where content stands there.
+    fn by_node(&self, spot: Spot) -> Spot
+        ensures { place_of (story_tree self.now) result ≡ place_of (story_tree self.now) spot }
+    {
+        match self.node(spot) {
+            Some(node) => Spot::of(node),
+            None => spot,
         }
     }
 }

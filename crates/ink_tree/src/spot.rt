@@ -1,5 +1,7 @@
 //! Nodes and spots: places of a story by number.
 
+ghost use Rattle.std.specs.Prelude.{◌≡◌, None};
+
 /// Content of a story, by its number in reading order, the root's being 0 (docs/STORY_FORMAT.md, "Places"). Every call takes
 /// a number beyond the story's content for the root.
 #[derive(Clone, Copy, Debug, Default, PartialEq, Eq)]
@@ -12,4 +14,17 @@ pub struct NodeId {
 pub struct Spot {
     pub holder: NodeId,
     pub index: Option<u32>,
+}
+
+impl Spot {
+    /// The place of a content itself.
+    pub(crate) fn of(node: NodeId) -> Spot
+        ensures holder { result.holder ≡ node }
+        ensures index { result.index ≡ None }
+    {
+        Spot {
+            holder: node,
+            index: None,
+        }
+    }
 }

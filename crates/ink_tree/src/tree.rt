@@ -14,24 +14,29 @@ ghost use Rattle.ink_model.specs.View.{view, trees_view};
 ghost use Rattle.ink_model.specs.declared.fault.Cause.TheVariants.{OutOfMemory};
 ghost use Rattle.ink_model.specs.declared.place.Part.TheVariants.{Index};
 ghost use Rattle.ink_tree.specs.Contents.{reaches, has_name};
+ghost use Rattle.ink_tree.specs.Kept.{KeepsAll, MayKeep};
 ghost use Rattle.ink_tree.specs.Order.{keys_rise, key_parts};
 
+use crate::inside::flags_of;
 use crate::listing::list_story;
+use crate::node::Node;
 use crate::order::{Key, compare, key_of};
 use crate::spot::{NodeId, Spot};
 use ink_json::RawStory;
 use ink_model::{Cause, Content, Part, Place, ReadRefusal};
 use std::alloc::{AllocError, Global};
 
-/// A story's content, with the places of all content in reading order. It never changes.
+/// A story's content, with the places of all content in reading order and what a step asks of each. It never changes.
 #[derive(Drop)]
 pub struct Tree {
     pub(crate) alloc: Global,
     pub(crate) raw: RawStory,
-    listed: Vec<Place>,
+    pub(crate) listed: Vec<Place>,
+    nodes: Vec<Node>,
     ghost complete: { listed.items ≡ places (tree raw) },
     ghost rising: { keys_rise (tree raw) ≡ true },
     ghost spelled: { IsSpelled (tree raw) },
+    ghost kept: { KeepsAll (tree raw) nodes.items },
 }
 
 impl Tree {
@@ -43,10 +48,37 @@ impl Tree {
         ensures spelled { IfOk result (λ t. IsSpelled (story_tree t)) }
         ensures err { IfErr result (λ r. r ≡ here OutOfMemory) }
     {
-        match list_story(alloc, &raw) {
-            Ok(listed) => Ok(Tree { alloc, raw, listed }),
+        match Tree::number(alloc, raw) {
+            Ok(tree) => Ok(tree),
             Err(_) => Err(ReadRefusal::at_root(alloc, Cause::OutOfMemory)),
         }
+    }
+
+    // The same. The one error is a refused request for memory.
+    fn number(alloc: Global, raw: RawStory) -> Result<Tree, AllocError>
+        ensures ok { IfOk result (λ t. story_tree t ≡ tree raw) }
+        ensures spelled { IfOk result (λ t. IsSpelled (story_tree t)) }
+    {
+        let listed = list_story(alloc, &raw)?;
+        let bare = Tree {
+            alloc,
+            raw,
+            listed,
+            nodes: Vec::new(alloc),
+        };
+        let nodes = bare.kept_nodes()?;
+        let Tree {
+            alloc,
+            raw,
+            listed,
+            ..
+        } = bare;
+        Ok(Tree {
+            alloc,
+            raw,
+            listed,
+            nodes,
+        })
     }
 
     /// How many contents the story has. Their numbers are those below it. Takes no memory.
@@ -62,8 +94,27 @@ impl Tree {
     {
         match spot.index {
             Some(index) => self.content_in(spot.holder, index),
-            None => self.raw.at(self.parts(spot.holder)),
+            None => self.content_of(spot.holder),
         }
+    }
+
+    /// The content of a node.
+    pub(crate) fn content_of(&self, node: NodeId) -> Option<&Content>
+        ensures { option_map (λ c. view c.now) result ≡ at (story_tree self.now) (node_place (story_tree self.now) node) }
+    {
+        if let Some(kept) = self.kept(node) {
+            if let Some(content) = kept.content() {
+                return Some(content);
+            }
+        }
+        self.raw.at(self.parts(node))
+    }
+
+    /// What is kept of a node.
+    pub(crate) fn kept(&self, node: NodeId) -> Option<&Node>
+        ensures { MayKeep (story_tree self.now) (node_place (story_tree self.now) node) result }
+    {
+        self.nodes.get(node.number)
     }
 
     fn content_in(&self, holder: NodeId, index: u32) -> Option<&Content>
@@ -134,20 +185,30 @@ impl Tree {
     pub fn node(&self, spot: Spot) -> Option<NodeId>
         ensures { Finds (story_tree self.now) (place_of (story_tree self.now) spot) result }
     {
-        let last = match spot.index {
-            Some(index) => Some(Key::Index(index)),
-            None => None,
-        };
-        self.search(self.parts(spot.holder), last)
+        match spot.index {
+            Some(index) => self.search(self.parts(spot.holder), Some(Key::Index(index))),
+            None => Some(self.own(spot.holder)),
+        }
+    }
+
+    // A node of the story: the root in place of a number beyond the story's content.
+    fn own(&self, node: NodeId) -> NodeId
+        ensures { Finds (story_tree self.now) (node_place (story_tree self.now) node) (Some result) }
+    {
+        if node.number < self.listed.len() {
+            node
+        } else {
+            NodeId { number: 0 }
+        }
     }
 
     /// The flags of a container, 0 of other content. Takes no memory.
     pub fn flags(&self, node: NodeId) -> u8
         ensures { result ≡ flags_at (at (story_tree self.now) (node_place (story_tree self.now) node)) }
     {
-        match self.raw.at(self.parts(node)) {
-            Some(Content::Container { flags, .. }) => *flags,
-            _ => 0,
+        match self.kept(node) {
+            Some(kept) => kept.flags,
+            None => flags_of(self.inside(node)),
         }
     }
 
@@ -182,7 +243,7 @@ impl Tree {
     }
 
     /// The same for a part that is lent.
-    fn search(&self, up: &[Part], last: Option<Key<'_>>) -> Option<NodeId>
+    pub(crate) fn search(&self, up: &[Part], last: Option<Key<'_>>) -> Option<NodeId>
         ensures finds { Finds (story_tree self.now) (up.now ++ key_parts last.entry) result }
         ensures stands { IsSome result → is_some (at (story_tree self.now) (up.now ++ key_parts last.entry)) ≡ true }
     {
@@ -192,6 +253,16 @@ impl Tree {
         {
             Ok(number) => Some(NodeId { number }),
             Err(_) => None,
+        }
+    }
+
+    /// Whether the node of this number is the one at a place, which is some parts and perhaps one part more.
+    pub(crate) fn is_at(&self, number: usize, up: &[Part], last: Option<Key<'_>>) -> bool
+        ensures { result ≡ true → Finds (story_tree self.now) (up.now ++ key_parts last.entry) (Some (record { number = number })) }
+    {
+        match self.listed.get(number) {
+            Some(place) => compare(place.parts(), up, last).is_eq(),
+            None => false,
         }
     }
 }

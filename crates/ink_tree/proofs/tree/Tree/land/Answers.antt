@@ -1,8 +1,9 @@
-use Rattle.std.proofs.Common.{◌<◌, ◌∙◌, ap, [], ◌∷◌, ◌++◌, arith}
-use Rattle.ink_model.specs.Tree.{at, width}
-use Rattle.ink_model.specs.declared.place.Part.TheVariants.{Index}
-use Rattle.ink_tree.specs.Nodes.{story_tree, place_of}
-use Rattle.ink_tree.proofs.Next.{landed_in, landed_on}
+use Rattle.std.proofs.Common.{◌∙◌, ap, sym, arith}
+use Rattle.ink_model.specs.Place.{landed}
+use Rattle.ink_model.specs.Tree.{width}
+use Rattle.ink_tree.specs.Nodes.{story_tree, node_place, place_of}
+use Rattle.ink_tree.proofs.Kept.{lands_first, lands_there, on_node}
+use Rattle.ink_tree.proofs.Next.{landed_on}
 use Rattle.ink_tree.proofs.tree.Tree.land.Goals as goal
 
 pub returns-in_default : goal.returns-in_default
@@ -10,15 +11,14 @@ returns-in_default c =
     let s = story_tree c.args.self.now in
     landed_on s (place_of s c.args.spot) (omega (arith, ap width c.in_default.ensures))
 
-pub returns-then-width_of-gt0 : goal.returns-then-width_of-gt0
-returns-then-width_of-gt0 c =
+pub returns-in-Some-first : goal.returns-in-Some-first
+returns-in-Some-first c =
     let s = story_tree c.args.self.now in
-    let p = place_of s c.args.spot in
-    let some : 0 < width (at s p) = omega (arith, c.width_of.ensures, ap width c.inside.ensures.found, ap (λ q. width (at s q)) c.in-Some.ensures.1) in
-    ap (λ q. q ++ Index 0 ∷ []) c.in-Some.ensures.1 ∙ landed_in s p some
+    on_node s c.of.result c.in-Some-first.first c.of.ensures.holder c.of.ensures.index
+    ∙ lands_first s (node_place s c.in-Some.node) (node_place s c.in-Some-first.first) c.in-Some-first.ensures
+    ∙ ap (landed s) c.in-Some.ensures.1
 
-pub returns-else-width_of-gt0 : goal.returns-else-width_of-gt0
-returns-else-width_of-gt0 c =
+pub returns-in-None : goal.returns-in-None
+returns-in-None c =
     let s = story_tree c.args.self.now in
-    let p = place_of s c.args.spot in
-    landed_on s p (omega (arith, c.width_of.ensures, ap width c.inside.ensures.found, ap (λ q. width (at s q)) c.in-Some.ensures.1))
+    sym c.in-Some.ensures.1 ∙ lands_there s (node_place s c.in-Some.node) c.in-None.ensures ∙ ap (landed s) c.in-Some.ensures.1
