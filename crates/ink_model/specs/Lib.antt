@@ -44,5 +44,6 @@ pub mod Session
 pub mod PathExamples
 pub mod StoryExamples
 pub mod FrameExamples
+pub mod PushExamples
 pub mod OutputExamples
 pub mod Examples

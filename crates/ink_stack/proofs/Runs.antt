@@ -1,6 +1,6 @@
 -- The function frames that come first, seen from the end of a list.
-use Rattle.std.proofs.Common.{◌≡◌, ◌∙◌, ℕ, ◌+◌, ◌<◌, List, [], ◌∷◌, ◌++◌, true, false, ap, append_assoc, drop, get_or, length, refl, reverse, set, sym, take}
-use Rattle.std.proofs.lemmas.List.{append-nil, drop-set, reverse-append, take-append-drop, take-set, take_more}
+use Rattle.std.proofs.Common.{◌≡◌, ◌∙◌, ℕ, ◌+◌, ◌<◌, List, [], ◌∷◌, ◌++◌, true, false, ap, append_assoc, arith, drop, get_or, length, refl, reverse, set, sym, take}
+use Rattle.std.proofs.lemmas.List.{append-nil, drop-set, drop_all, reverse-append, take-append-drop, take-set, take_all, take_more}
 use Rattle.ink_model.specs.Frames.{FrameOf, is_function}
 use Rattle.ink_model.specs.Threads.{stale, stale_run}
 
@@ -9,10 +9,10 @@ module _ {P : Type 0} (depth : ℕ) where
   abbrev pub run_at : ℕ → List (FrameOf P) → List (FrameOf P)
   run_at n fs = reverse (drop n fs) ++ stale_run depth (reverse (take n fs))
 
-  first_stale : (f : FrameOf P) (fs : List (FrameOf P)) → is_function f.kind ≡ true → stale_run depth (f ∷ fs) ≡ stale depth f ∷ stale_run depth fs
+  pub first_stale : (f : FrameOf P) (fs : List (FrameOf P)) → is_function f.kind ≡ true → stale_run depth (f ∷ fs) ≡ stale depth f ∷ stale_run depth fs
   first_stale f fs h = rw h refl
 
-  first_stays : (f : FrameOf P) (fs : List (FrameOf P)) → is_function f.kind ≡ false → stale_run depth (f ∷ fs) ≡ f ∷ fs
+  pub first_stays : (f : FrameOf P) (fs : List (FrameOf P)) → is_function f.kind ≡ false → stale_run depth (f ∷ fs) ≡ f ∷ fs
   first_stays f fs h = rw h refl
 
   last_first : (fs : List (FrameOf P)) (i : ℕ) (d : FrameOf P) → i < length fs → reverse (take (i + 1) fs) ≡ get_or fs i d ∷ reverse (take i fs)
@@ -43,3 +43,9 @@ module _ {P : Type 0} (depth : ℕ) where
 
   pub run_end : (fs : List (FrameOf P)) → reverse fs ≡ run_at 0 fs
   run_end fs = sym (append-nil (reverse fs))
+
+  -- all of a list is left to walk over at first
+  pub run_start : (fs : List (FrameOf P)) → run_at (length fs) fs ≡ stale_run depth (reverse fs)
+  run_start fs =
+      ap (λ gs. reverse gs ++ stale_run depth (reverse (take (length fs) fs))) (drop_all (length fs) fs (omega arith))
+      ∙ ap (λ gs. stale_run depth (reverse gs)) (take_all (length fs) fs (omega arith))

@@ -103,6 +103,12 @@ impl<P: Copy> Frame<P> {
         }
     }
 
+    pub(crate) fn is_fresh(&self) -> bool
+        ensures { result ≡ self.now.fresh }
+    {
+        self.fresh
+    }
+
     pub(crate) fn is(&self, kind: FrameKind) -> bool
         ensures { result ≡ same_kind self.now.kind kind }
     {

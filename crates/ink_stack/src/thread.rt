@@ -3,6 +3,7 @@
 ghost use Rattle.std.specs.Prelude.{◌≡◌, ◌≢◌, ◌⊎◌, [], ◌∷◌, None, map, option_map, reverse, IfOk, OnErr};
 ghost use Rattle.ink_model.specs.Frames.{base_frame, fresh_depth, frame_numbered, gone, mode_in, put_in, unnumbered_frame, unnumbered_thread};
 ghost use Rattle.ink_model.specs.Threads.{frame_count, number_in, popped, pushed, stale_run, staled, temp_in};
+ghost use Rattle.ink_stack.specs.Quiet.{is_quiet};
 ghost use Rattle.ink_stack.specs.Words.{Changes, Grows};
 
 use crate::frame::Frame;
@@ -13,24 +14,29 @@ use std::mem;
 
 /// A thread: frames, of which there is always one on top, and the place from which flow last moved in it. A contract sees
 /// the frames below the top one with the nearest first.
+///
+/// `quiet` says that of the function frames that are nearest below the top one none is fresh, so that a text need not look at
+/// them.
 #[derive(Drop)]
 pub struct Thread<P> {
     frame: Frame<P>,
     below: Vec<Frame<P>>,
     previous: Option<P>,
+    quiet: bool,
     alloc: Global,
 }
 
 impl<P> Model for Thread<P> {
-    ghost use Rattle.std.specs.Prelude.{ℕ, reverse, ◌<◌, length};
+    ghost use Rattle.std.specs.Prelude.{◌≡◌, ℕ, reverse, ◌<◌, length, true};
     ghost use Rattle.ink_model.specs.Frames.{ThreadOf};
     ghost use Rattle.ink_model.specs.declared.limits.TheConstants.{MAX_FRAMES};
+    ghost use Rattle.ink_stack.specs.Quiet.{is_quiet};
 
     ghost Value = { ThreadOf P };
 
     ghost view = { λ t. record { frame = t.frame; below = reverse t.below.items; previous = t.previous } };
 
-    ghost invariant = { λ t. length t.below.items < MAX_FRAMES };
+    ghost invariant = { λ t. (length t.below.items < MAX_FRAMES) × (t.quiet ≡ true → is_quiet (reverse t.below.items) ≡ true) };
 }
 
 impl<P: Copy> Thread<P> {
@@ -42,6 +48,7 @@ impl<P: Copy> Thread<P> {
             frame: Frame::new(alloc, FrameKind::Base, place, 0),
             below: Vec::new(alloc),
             previous: None,
+            quiet: true,
             alloc,
         }
     }
@@ -107,6 +114,7 @@ impl<P: Copy> Thread<P> {
             frame,
             below,
             previous: self.previous,
+            quiet: self.quiet,
             alloc,
         })
     }
@@ -147,7 +155,9 @@ impl<P: Copy> Thread<P> {
         ensures { self.new ≡ staled depth self.old }
     {
         self.frame.end_freshness(depth);
-        end_freshness_of(self.below.as_mut_slice(), depth);
+        if !self.quiet {
+            self.quiet = end_freshness_of(self.below.as_mut_slice(), depth);
+        }
     }
 
     pub(crate) fn push(&mut self, kind: FrameKind, depth: usize) -> Result<(), Fault>
@@ -161,6 +171,7 @@ impl<P: Copy> Thread<P> {
         }
         let frame = Frame::new(self.alloc, kind, self.frame.place(), depth);
         let caller = mem::replace(&mut self.frame, frame);
+        self.quiet = !caller.is_function() || !caller.is_fresh() && self.quiet;
         self.below.push(caller).unwrap();
         Ok(())
     }
@@ -176,6 +187,7 @@ impl<P: Copy> Thread<P> {
         }
         match self.below.pop() {
             Some(caller) => {
+                self.quiet = caller.is_function() && self.quiet;
                 self.frame = caller;
                 Ok(())
             }
@@ -197,19 +209,23 @@ fn copied_frames<P: Copy>(alloc: Global, frames: &[Frame<P>]) -> Result<Vec<Fram
 }
 
 /// A text is written where so many sections are open: of the function frames that come last here, those that were pushed
-/// there are fresh no more.
-fn end_freshness_of<P: Copy>(frames: &mut [Frame<P>], depth: usize)
-    ensures { reverse frames.new ≡ stale_run depth (reverse frames.old) }
+/// there are fresh no more. Whether none of them is fresh then.
+fn end_freshness_of<P: Copy>(frames: &mut [Frame<P>], depth: usize) -> bool
+    ensures run { reverse frames.new ≡ stale_run depth (reverse frames.old) }
+    ensures quiet { result ≡ is_quiet (reverse frames.new) }
 {
+    let mut quiet = true;
     let mut count = frames.len();
     while count > 0 {
         count -= 1;
         let frame = &mut frames[count];
         if !frame.is_function() {
-            return;
+            return quiet;
         }
         frame.end_freshness(depth);
+        quiet &= !frame.is_fresh();
     }
+    quiet
 }
 
 /// No frame has the number of its mark any more.

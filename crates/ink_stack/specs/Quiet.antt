@@ -1,0 +1,8 @@
+-- What a thread keeps in mind of the frames below its top one.
+use Rattle.std.specs.Prelude.{List, [], ◌∷◌, Bool, true, not, ◌&&◌, if◌then◌else◌}
+use Rattle.ink_model.specs.Frames.{FrameOf, is_function}
+
+-- of the function frames that come first none is fresh
+abbrev pub is_quiet : {P : Type 0} → List (FrameOf P) → Bool
+is_quiet [] = true
+is_quiet (f ∷ fs) = if is_function f.kind then not f.fresh && is_quiet fs else true
