@@ -10,7 +10,7 @@ pub(crate) fn copy_leaf(alloc: Global, leaf: &Leaf) -> Result<Leaf, AllocError>
     ensures { IfOk result (λ copy. copy ≡ leaf.now) }
 {
     let copy = match leaf {
-        Leaf::Text(text) => Leaf::Text(text.clone_in(alloc)?),
+        Leaf::Text(text) => Leaf::Text(text.share()?),
         Leaf::Newline => Leaf::Newline,
         Leaf::Glue => Leaf::Glue,
         Leaf::Int(number) => Leaf::Int(*number),
