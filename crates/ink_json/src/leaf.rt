@@ -63,10 +63,7 @@ fn read_written(alloc: Global, written: &str) -> Result<Leaf, ReadFailure>
     if written.len() > MAX_TEXT {
         return Err(refused(alloc, Cause::Limit));
     }
-    Ok(Leaf::Text(Shared::new(
-        alloc,
-        Text::from_str(alloc, written)?,
-    )?))
+    Ok(Leaf::Text(Shared::new(alloc, Text::from_str(alloc, written)?)?))
 }
 
 fn read_word(alloc: Global, text: &str) -> Result<Leaf, ReadFailure>

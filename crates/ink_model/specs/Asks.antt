@@ -1,5 +1,5 @@
 -- Whether a step asks for memory (docs/RUNNING.md, "Out of memory").
-use Rattle.std.specs.Prelude.{ℕ, List, [], ◌∷◌, Bool, true, false, not, ◌||◌, Option, Some, None, Result, Ok, Err}
+use Rattle.std.specs.Prelude.{List, [], Bool, true, false, not, ◌||◌, Option, Some, None, Result, Ok, Err}
 use Rattle.ink_model.specs.Configuration.{Configuration, current_place}
 use Rattle.ink_model.specs.Effect.{Fields, fields_of, is_fresh}
 use Rattle.ink_model.specs.Joining.{makes_text}

@@ -1,5 +1,5 @@
 -- What a content does: to the fields that it touches, and how flow goes from there (docs/RUNNING.md, "Steps").
-use Rattle.std.specs.Prelude.{ℕ, List, [], length, Bool, false, nat_eq, Option, Some, None, Result, Ok, Err}
+use Rattle.std.specs.Prelude.{ℕ, List, length, Bool, false, nat_eq, Option, Some, None, Result, Ok, Err}
 use Rattle.ink_model.specs.Configuration.{ConfigurationOf, with_globals, with_threads}
 use Rattle.ink_model.specs.Frames.{fresh_depth, mode_in, on_top}
 use Rattle.ink_model.specs.Page.{Page}

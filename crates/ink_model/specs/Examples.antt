@@ -15,7 +15,6 @@ use Rattle.ink_model.specs.Mark.{cut}
 use Rattle.ink_model.specs.Clean.{clean}
 use Rattle.ink_model.specs.Configuration.{Configuration, with_globals, start, fresh_at, ended, with_safe, put_at, moved, settled, begun, can_go_on}
 use Rattle.ink_model.specs.Effect.{with_mode, with_page, with_stack}
-use Rattle.ink_model.specs.Stack.{pushed}
 use Rattle.ink_model.specs.Step.{Bound, Faults, step, nothing_bound, Next, Stop}
 use Rattle.ink_model.specs.Run.{Made, Moment, moment, next, run, through, cut_off, answered_at, At, Stopped}
 use Rattle.ink_model.specs.Command.{lines_of, command_of}

@@ -1,23 +1,16 @@
 -- Where memory may be refused, and what is answered then (docs/RUNNING.md, "Out of memory").
-use Rattle.std.specs.Prelude.{◌≡◌, ◌<◌, ◌≤◌, ◌⊎◌, ℕ, List, [], Bool, true, false, not, ◌||◌, Option, Some, None, Result, Ok, Err, OnErr}
+use Rattle.std.specs.Prelude.{◌≡◌, ◌<◌, ◌≤◌, ◌⊎◌, ℕ, List, [], Bool, true, false, Some, Result, Ok, Err, OnErr}
 unfoldable pub use Rattle.ink_model.specs.Asks.{asks, asks_at, asks_for, content_asks, control_asks, has_top, is_found_late, leaf_asks, operator_asks, output_asks}
-use Rattle.ink_model.specs.Tree.{StoryTree, leaf, container, at}
-use Rattle.ink_model.specs.Place.{entered}
-use Rattle.ink_model.specs.Configuration.{Configuration, current_place, begun}
-use Rattle.ink_model.specs.Effect.{Fields, fields_of, is_fresh}
-use Rattle.ink_model.specs.Output.{closes_string, closes_tag}
-use Rattle.ink_model.specs.Stack.{popped, taken}
+use Rattle.ink_model.specs.Tree.{StoryTree}
+use Rattle.ink_model.specs.Configuration.{Configuration, begun}
 use Rattle.ink_model.specs.Step.Host.{Bound, nothing_bound}
-use Rattle.ink_model.specs.Store.{stored}
-use Rattle.ink_model.specs.Value.{printed}
 use Rattle.ink_model.specs.Run.{At, Stopped, Made, answers_of, moment}
 use Rattle.ink_model.specs.Opening.{declaring}
 use Rattle.ink_model.specs.Answer.{Reply, Breaks}
 use Rattle.ink_model.specs.State.{Condition, Broken}
 use Rattle.ink_model.specs.declared.fault.Fault.{Fault}
-use Rattle.ink_model.specs.declared.fault.Fault.TheVariants.{OutOfMemory, TooDeep}
+use Rattle.ink_model.specs.declared.fault.Fault.TheVariants.{OutOfMemory}
 use Rattle.ink_model.specs.declared.limits.TheConstants.{MAX_STEPS}
-use Rattle.ink_model.specs.declared.place.Part.{Part}
 use Rattle.ink_model.specs.declared.value.Value.{Value}
 use Rattle.ink_model.specs.declared.value.Value.TheVariants as value
 

@@ -7,7 +7,6 @@ use Rattle.ink_model.specs.Clean.{clean}
 use Rattle.ink_model.specs.Configuration.{Configuration, with_safe, put_at, fresh_at, moved}
 use Rattle.ink_model.specs.Effect.{with_mode, with_page, with_stack}
 use Rattle.ink_model.specs.Page.{Page, string_section, tag_section}
-use Rattle.ink_model.specs.Stack.{pushed}
 use Rattle.ink_model.specs.Output.{let_through, writes_text, writes_newline, begins_function, ends_function, closes_string, closes_tag, ends_line, empty_page}
 use Rattle.ink_model.specs.Step.{step, nothing_bound, Next, Stop, Faults}
 use Rattle.ink_model.specs.Value.{printed}

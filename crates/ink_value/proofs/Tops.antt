@@ -35,7 +35,7 @@ taken_at (suc n) vs above below h =
     let v = r.1 in
     let within : below ≤ length us = omega (arith, r.3) in
     let seam : Some (drop below us ++ v ∷ above, take below us) ≡ Some (drop below (us ++ v ∷ []) ++ above, take below (us ++ v ∷ [])) =
-        rw (drop-append-le below us (v ∷ []) within, take-append-le below us (v ∷ []) within, append_snoc (drop below us) v above) refl in
+    rw (drop-append-le below us (v ∷ []) within, take-append-le below us (v ∷ []) within, append_snoc (drop below us) v above) refl in
     subst (λ xs. taken (suc n) xs above ≡ Some (drop below xs ++ above, take below xs)) (sym r.2)
     (ap (option_and_then (λ t. taken n t.1 (t.0 ∷ above))) (top_of us v) ∙ taken_at n us (v ∷ above) below r.3 ∙ seam)
 

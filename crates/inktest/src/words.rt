@@ -61,10 +61,7 @@ pub(crate) fn value_of(alloc: Global, word: &str) -> Result<Value, NoAnswer> {
 
 /// The text that a word spells.
 pub(crate) fn text_of(alloc: Global, word: &str) -> Result<Shared<Text>, AllocError> {
-    Ok(Shared::new(
-        alloc,
-        Text::from_string(decoded(alloc, word)?),
-    )?)
+    Ok(Shared::new(alloc, Text::from_string(decoded(alloc, word)?))?)
 }
 
 fn pointer_of(alloc: Global, pointer: &str) -> Result<Value, NoAnswer> {
