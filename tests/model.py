@@ -343,11 +343,12 @@ class Machine:
                 self.close_tag()
             self.sections.append(("tag", []))
 
-    def store(self, head):
+    def to_store(self, head):
+        """What a content stores, which is stored once flow has moved: a fault on the way leaves the globals."""
         value = self.pop()
         if head.get("re") and head["VAR="] not in self.globals:
             raise Fault("NoTemp")
-        self.globals[head["VAR="]] = value
+        return {head["VAR="]: value}
 
     def word(self, word):
         if word.startswith("^"):
@@ -399,7 +400,7 @@ class Machine:
     def step(self):
         while width(found(self.root, self.place)):
             self.place = self.place + [0]
-        content = found(self.root, self.place)
+        content, stored = found(self.root, self.place), {}
         if content in ("done", "end"):
             self.safe = True
             self.evaluating = self.evaluating and content == "done"
@@ -415,13 +416,15 @@ class Machine:
             if self.evaluating:
                 self.push(Target(path_of(content["^->"])[1]))
         elif isinstance(content, dict) and "VAR=" in content:
-            self.store(content)
+            stored = self.to_store(content)
         elif isinstance(content, dict):
             self.push(self.globals.get(content["VAR?"], 0))
         elif isinstance(content, int) and self.evaluating:
             self.push(content)
         self.place = after(self.root, self.place)
-        return self.stop() if self.place is None else None
+        passage = self.stop() if self.place is None else None
+        self.globals.update(stored)
+        return passage
 
     def run(self):
         for _ in range(5000):
