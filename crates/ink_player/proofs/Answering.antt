@@ -14,10 +14,11 @@ use Rattle.serde_json.specs.Find.{of_integer}
 use Rattle.serde_json.specs.Written.{items_outline}
 use Rattle.serde_json.proofs.OnLiterals.{serde_json_on_literals}
 use Rattle.serde_json.proofs.Texts.{print-outline}
-use Rattle.ink_model.specs.Answer.{Reply, Acts, Breaks, reply_data, passage_data, answer, items_of}
+use Rattle.ink_model.specs.Answer.{Reply, Acts, Breaks, Shows, reply_data, passage_data, answer, items_of}
 use Rattle.ink_model.specs.declared.fault.Fault.{Fault}
 use Rattle.ink_model.specs.declared.host.Event.{Event}
 use Rattle.ink_model.specs.declared.passage.Passage.{Passage}
+use Rattle.ink_model.specs.declared.value.Value.TheVariants as value
 use Rattle.ink_player.specs.Answers.{Added, data_tokens}
 
 -- there is no event, so every list of events is empty
@@ -102,3 +103,9 @@ answer_from_tokens r start end text line none no_tokens added is ends =
 pub done_text : (events : List Event) → answer (Acts events) ≡ codes "{\"events\":[]}\n"
 unfolding answer serde_json_on_literals
 done_text events = ap (λ (es : List Event). answer (Acts es)) (no_events events)
+
+-- the answer that shows a number
+pub number_answer : (z : ℤ) → answer (Shows (value.Int z)) ≡ codes "{\"value\":" ++ (signed_decimal z ++ codes "}\n")
+unfolding answer serde_json_on_literals
+number_answer (pos n) = ap (λ t. codes "{\"value\":" ++ t) (append_assoc (signed_decimal (pos n)) (125 ∷ []) (10 ∷ []))
+number_answer (negsuc n) = ap (λ t. codes "{\"value\":" ++ t) (append_assoc (signed_decimal (negsuc n)) (125 ∷ []) (10 ∷ []))

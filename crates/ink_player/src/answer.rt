@@ -55,6 +55,39 @@ pub(crate) fn answer_text(
 {
     let mut empty = buffer;
     empty.clear();
+    match shown_number(&outcome) {
+        Some(number) => number_text(empty, number),
+        None => written_text(alloc, empty, outcome),
+    }
+}
+
+// The number that a command's call returned, if it returned one.
+fn shown_number(outcome: &Outcome) -> Option<i32>
+    ensures { IfSome result (λ number. reply_by outcome.now ≡ Shows (Value.Int number)) }
+{
+    match outcome {
+        Outcome::Value(Ok(Value::Int(number))) => Some(*number),
+        _ => None,
+    }
+}
+
+// The answer that shows a number, without the writer of JSON.
+fn number_text(empty: Vec<u8>, number: i32) -> Result<Vec<u8>, AllocError>
+    requires { empty.items ≡ [] }
+    ensures { IfOk result (λ text. text.items ≡ answer (Shows (Value.Int number))) }
+{
+    let mut digits = itoa::Buffer::new();
+    let mut text = empty;
+    text.extend_from_slice(b"{\"value\":")?;
+    text.extend_from_slice(digits.format(number).as_bytes())?;
+    text.extend_from_slice(b"}\n")?;
+    Ok(text)
+}
+
+fn written_text(alloc: Global, empty: Vec<u8>, outcome: Outcome) -> Result<Vec<u8>, AllocError>
+    requires { empty.items ≡ [] }
+    ensures { IfOk result (λ text. text.items ≡ answer (reply_by outcome)) }
+{
     let mut out = Writer::new(empty);
     write_reply(alloc, &mut out, outcome)?;
     let mut text = out.into_inner();

@@ -122,8 +122,9 @@ impl Player {
         }
     }
 
-    /// A global's value; of a broken player as it stood before the step that faulted. Refused with `NoSuchVariable` where
-    /// there is no such global, and with `OutOfMemory`, but for a number, a truth value and void, which are copied without memory.
+    /// A global's value; of a broken player as it stood before the step that faulted. Takes no memory: a text, a target or a tag
+    /// has one owner more. Refused with `NoSuchVariable` where there is no such global, and with `OutOfMemory` where a text, a
+    /// target or a tag has as many owners already as can be counted.
     pub fn get(&self, name: &str) -> Result<Value, Refusal>
         ensures { Get name.now (state_of self.now) (reply_of_value result) (state_of self.now) }
     {
