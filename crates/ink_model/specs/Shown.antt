@@ -7,12 +7,12 @@ use Rattle.ink_model.specs.declared.mark.Mark.TheVariants.{Text, Blank, Newline,
 
 -- ---- glue
 
--- a Glue stands before, with no Text between
+-- a Glue comes, with no Text before it: so it glues what follows marks before, and what stands before marks after
 abbrev pub glued : List Mark → Bool
 glued [] = false
-glued (Text t ∷ before) = false
-glued (Glue ∷ before) = true
-glued (m ∷ before) = glued before
+glued (Text t ∷ ms) = false
+glued (Glue ∷ ms) = true
+glued (m ∷ ms) = glued ms
 
 -- a Newline stands before, with no Text between
 abbrev pub broken : List Mark → Bool
@@ -20,13 +20,6 @@ broken [] = false
 broken (Text t ∷ before) = false
 broken (Newline ∷ before) = true
 broken (m ∷ before) = broken before
-
--- a Glue follows, with no Text between
-abbrev pub joins : List Mark → Bool
-joins [] = false
-joins (Text t ∷ after) = false
-joins (Glue ∷ after) = true
-joins (m ∷ after) = joins after
 
 -- a Glue follows, with no Text or Tag between
 abbrev pub glues : List Mark → Bool
@@ -59,7 +52,7 @@ covered between (m ∷ after) = covered (m ∷ between) after
 
 -- a Blank is hidden by a function's end, and between a Newline and a Glue
 abbrev pub blank_shown : List Mark → List Mark → Bool
-blank_shown before after = not (covered [] after || (broken before && joins after))
+blank_shown before after = not (covered [] after || (broken before && glued after))
 
 -- some Text or Blank before is shown
 abbrev pub some : List Mark → List Mark → Bool

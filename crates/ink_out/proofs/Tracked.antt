@@ -4,7 +4,7 @@ use Rattle.std.proofs.Common.{◌≡◌, ℕ, ◌<◌, Bool, true, false, not, �
 use Rattle.std.specs.Option.{is_some}
 use Rattle.std.proofs.lemmas.Bool.{cases_Bool, or_parts, or_right, ne_eqb, false≢true}
 use Rattle.std.proofs.lemmas.List.{reverse-append, length-reverse, length-append}
-use Rattle.ink_model.specs.Shown.{broken, joins, glues, covered, some, clear, ends, newline_shown, newlines_before, is_among, is_shown, has_more}
+use Rattle.ink_model.specs.Shown.{broken, glued, glues, covered, some, clear, ends, newline_shown, newlines_before, is_among, is_shown, has_more}
 use Rattle.ink_model.specs.declared.mark.Mark.{Mark}
 use Rattle.ink_model.specs.declared.mark.Mark.TheVariants.{Text, Blank, Newline, Glue, Tag, Enter, Leave}
 use Rattle.ink_out.specs.declared.tracker.Hides.{Hides}
@@ -80,8 +80,8 @@ first_blank t before s settled textless none k =
       ends = λ after. (waiting_kept m p before after s settled k).1;
       some = λ after.
           let nothing : some before (m ∷ after) ≡ false = k.some (m ∷ after) ∙ rw (textless, none) refl in
-          bare_end (not (covered [] after || (broken before && joins after))) (some before (m ∷ after)) nothing
-          ∙ ap (λ b. not (covered [] after || (b && joins after))) (sym k.breaks)
+          bare_end (not (covered [] after || (broken before && glued after))) (some before (m ∷ after)) nothing
+          ∙ ap (λ b. not (covered [] after || (b && glued after))) (sym k.breaks)
           ∙ rw (textless, since_here) refl;
     }
 

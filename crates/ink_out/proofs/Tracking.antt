@@ -2,7 +2,7 @@
 use Rattle.std.proofs.Common.{◌≡◌, ℕ, ◌<◌, Bool, true, false, not, ◌||◌, ◌&&◌, cond, if◌then◌else◌, List, [], ◌∷◌, ◌++◌, length, Option, None, Some, refl, sym, ap, ◌∙◌, subst, arith, inl, inr}
 use Rattle.std.specs.Option.{is_some}
 use Rattle.std.proofs.lemmas.Bool.{cases_Bool, or_parts, or_right, not-true, false≢true}
-use Rattle.ink_model.specs.Shown.{glued, broken, joins, glues, covered, some, clear, ends, newlines_before, has_more}
+use Rattle.ink_model.specs.Shown.{glued, broken, glues, covered, some, clear, ends, newlines_before, has_more}
 use Rattle.ink_model.specs.declared.mark.Mark.{Mark}
 use Rattle.ink_model.specs.declared.mark.Mark.TheVariants.{Text, Blank, Newline, Glue, Tag, Enter, Leave}
 use Rattle.ink_out.specs.declared.tracker.Hides.{Hides}
@@ -36,10 +36,10 @@ hidden_now Never = refl
 
 -- ---- a newline while one waits
 
-unjoined : (before after : List Mark) (o : Option First) → IsBroken o → stays before o (Newline ∷ after) ≡ true → joins after ≡ false
+unjoined : (before after : List Mark) (o : Option First) → IsBroken o → stays before o (Newline ∷ after) ≡ true → glued after ≡ false
 unjoined before after None b e = absurd (false≢true e)
 unjoined before after (Some f) b e =
-    let (c, j) = or_parts (covered (since before f.at) (Newline ∷ after)) (f.broken && joins after) (not-true (covered (since before f.at) (Newline ∷ after) || (f.broken && joins after)) e) in
+    let (c, j) = or_parts (covered (since before f.at) (Newline ∷ after)) (f.broken && glued after) (not-true (covered (since before f.at) (Newline ∷ after) || (f.broken && glued after)) e) in
     rw b at j
 
 unhidden : (before after : List Mark) (t : Bool) (o : Option First) (h : Hides) → (h ≡ Any → (t ≡ false) × IsBroken o) → glues after ≡ false → (t || stays before o (Newline ∷ after)) ≡ true → hidden_by h (Newline ∷ after) ≡ false
@@ -61,7 +61,7 @@ behind before after s settled w t fits c e =
 -- a mark that hides nothing before it
 pub record Plain (m : Mark) : Type 0 where
   pub glues : (after : List Mark) → glues (m ∷ after) ≡ glues after
-  pub joins : (after : List Mark) → joins (m ∷ after) ≡ joins after
+  pub joins : (after : List Mark) → glued (m ∷ after) ≡ glued after
   pub covered : (between after : List Mark) → covered between (m ∷ after) ≡ covered (m ∷ between) after
 
 pub plain_newline : Plain Newline
@@ -151,7 +151,7 @@ put_before : (b : Bool) (k : ℕ) (ks : List ℕ) → cond b (k ∷ ks) ks ≡ c
 put_before true k ks = refl
 put_before false k ks = refl
 
-joins_of_glues : (after : List Mark) → joins after ≡ false → glues after ≡ false
+joins_of_glues : (after : List Mark) → glued after ≡ false → glues after ≡ false
 joins_of_glues [] h = refl
 joins_of_glues (Text t ∷ after) h = refl
 joins_of_glues (Tag t ∷ after) h = refl
@@ -179,8 +179,8 @@ both false = refl
 
 first_shown : (b : First) (before after : List Mark) → (not (glues after || covered [] after) && stays before (Some b) (Newline ∷ after)) ≡ not (hidden_by (if b.broken then Any else Near) after || covered [] after)
 first_shown b before after =
-    elim b.broken as (λ r. (not (glues after || covered [] after) && not (covered (since before b.at) (Newline ∷ after) || (r && joins after))) ≡ not (hidden_by (cond r Any Near) after || covered [] after)) [
-      | true ↦ any_shown (glues after) (covered [] after) (covered (Newline ∷ since before b.at) after) (joins after) (uncovered (Newline ∷ since before b.at) after) (joins_of_glues after)
+    elim b.broken as (λ r. (not (glues after || covered [] after) && not (covered (since before b.at) (Newline ∷ after) || (r && glued after))) ≡ not (hidden_by (cond r Any Near) after || covered [] after)) [
+      | true ↦ any_shown (glues after) (covered [] after) (covered (Newline ∷ since before b.at) after) (glued after) (uncovered (Newline ∷ since before b.at) after) (joins_of_glues after)
       | false ↦ near_shown (glues after) (covered [] after) (covered (Newline ∷ since before b.at) after) (uncovered (Newline ∷ since before b.at) after)
     ]
 
@@ -228,11 +228,11 @@ last_of : (x y : Bool) → (x ≡ true → y ≡ true) → (x || y) ≡ y
 last_of true y h = sym (h refl)
 last_of false y h = refl
 
-some_blank : (a before after : List Mark) (s : Tracker) (b : First) → FitsBlank before s b → s.broken ≡ broken before → not (covered [] after || (broken before && joins after)) ≡ true → not (covered a after || (b.broken && joins after)) ≡ true
+some_blank : (a before after : List Mark) (s : Tracker) (b : First) → FitsBlank before s b → s.broken ≡ broken before → not (covered [] after || (broken before && glued after)) ≡ true → not (covered a after || (b.broken && glued after)) ≡ true
 some_blank a before after s b f e h =
-    let (c, j) = or_parts (covered [] after) (broken before && joins after) (not-true (covered [] after || (broken before && joins after)) h) in
+    let (c, j) = or_parts (covered [] after) (broken before && glued after) (not-true (covered [] after || (broken before && glued after)) h) in
     let u = uncovered a after c in
-    let k : (b.broken && joins after) ≡ false =
+    let k : (b.broken && glued after) ≡ false =
     elim (cases_Bool b.broken) [
       | inl r ↦ let q : broken before ≡ true = sym e ∙ f.breaks r in rw r (rw q at j)
       | inr r ↦ rw r refl
@@ -245,7 +245,7 @@ fits_over m before s (Some w) h f =
     let within = f.within in
     record { within = omega (arith, within); breaks = f.breaks; any = f.any; tagged = f.tagged ∙ sym (h (since before w.at)) ∙ ap has_more (sym (since_more m before w.at within)) }
 
-blank_after : (m : Mark) (before after : List Mark) (s : Tracker) (o : Option First) → FitsFirst before s o → s.broken ≡ broken before → (s.text || is_some o) ≡ true → not (covered [] after || (broken before && joins after)) ≡ true → (s.text || stays (m ∷ before) o after) ≡ true
+blank_after : (m : Mark) (before after : List Mark) (s : Tracker) (o : Option First) → FitsFirst before s o → s.broken ≡ broken before → (s.text || is_some o) ≡ true → not (covered [] after || (broken before && glued after)) ≡ true → (s.text || stays (m ∷ before) o after) ≡ true
 blank_after m before after s None f e h k = h
 blank_after m before after s (Some b) f e h k = rw (some_blank (since (m ∷ before) b.at) before after s b f e k) (or_right s.text true refl)
 
@@ -263,8 +263,8 @@ blank_more before text s settled h t =
       ends = λ after. (waiting_kept m p before after s settled t).1;
       some = λ after.
           let over = sym (stays_over m p before after s s.blank t.first) in
-          ap (λ b. not (covered [] after || (broken before && joins after)) || b) (t.some (m ∷ after) ∙ ap (λ b. s.text || b) over)
-          ∙ last_of (not (covered [] after || (broken before && joins after))) (s.text || stays (m ∷ before) s.blank after)
+          ap (λ b. not (covered [] after || (broken before && glued after)) || b) (t.some (m ∷ after) ∙ ap (λ b. s.text || b) over)
+          ∙ last_of (not (covered [] after || (broken before && glued after))) (s.text || stays (m ∷ before) s.blank after)
           (λ k. blank_after m before after s s.blank t.first t.breaks h k);
     }
 

@@ -2,7 +2,7 @@
 use Rattle.std.proofs.Common.{◌≡◌, ℕ, suc, ◌<◌, ◌≤◌, Bool, true, false, not, ◌||◌, ◌&&◌, cond, eqb, nat_lt, List, [], ◌∷◌, ◌++◌, length, Option, None, Some, refl, sym, ap, ◌∙◌, subst, arith, inl, inr}
 use Rattle.std.proofs.lemmas.Bool.{cases_Bool, or_left, or_right, or_from, ne_eqb, eqb-true, eq-eqb, lt-ltb, le-ltb, leb-false, lt-leb}
 use Rattle.std.proofs.lemmas.List.{append-nil, append_assoc, append_cancel_right, nil_from_length}
-use Rattle.ink_model.specs.Shown.{glues, joins, covered, passes, newline_shown, newlines_before, is_among, text_before, written, broken}
+use Rattle.ink_model.specs.Shown.{glued, glues, covered, passes, newline_shown, newlines_before, is_among, text_before, written, broken}
 use Rattle.ink_model.specs.declared.mark.Mark.{Mark}
 use Rattle.ink_model.specs.declared.mark.Mark.TheVariants as kinds
 use Rattle.ink_out.specs.declared.pile.Held.{Held}
@@ -38,7 +38,7 @@ pile_same before after before' after' w w' n (p ∷ ps) h f =
 
 pub record Smooth (m : Mark) (before : List Mark) : Type 0 where
   pub covered : (between after : List Mark) → covered between (m ∷ after) ≡ covered (m ∷ between) after
-  pub glue : (at : ℕ) (after : List Mark) → at < length before → (joins (m ∷ after) || nat_lt at (glue_at before)) ≡ (joins after || nat_lt at (glue_at (m ∷ before)))
+  pub glue : (at : ℕ) (after : List Mark) → at < length before → (glued (m ∷ after) || nat_lt at (glue_at before)) ≡ (glued after || nat_lt at (glue_at (m ∷ before)))
 
 held_over : (m : Mark) (before after : List Mark) (w w' : Option Waiting) (p : Held) → Smooth m before → ((at : ℕ) → at < length before → is_among at (waiting_at before w (m ∷ after)) ≡ is_among at (waiting_at (m ∷ before) w' after)) → held_at p < length before → held_text before w p (m ∷ after) ≡ held_text (m ∷ before) w' p after
 held_over m before after w w' (Blank at r text) s same l =
@@ -64,7 +64,7 @@ smooth_enter n before = record { covered = λ b after. refl; glue = λ at after 
 pub smooth_glue : (before : List Mark) → Smooth kinds.Glue before
 smooth_glue before = record {
   covered = λ b after. refl;
-  glue = λ at after l. sym (or_right (joins after) (nat_lt at (length before)) (lt-ltb at (length before) l));
+  glue = λ at after l. sym (or_right (glued after) (nat_lt at (length before)) (lt-ltb at (length before) l));
 }
 
 -- the newline that waits, before and after a mark that is no Newline
@@ -134,11 +134,11 @@ not_joined false c e = e
 blank_here : (before after : List Mark) (w : Option Waiting) (r : Bool) (text : Bor (List ℕ)) → r ≡ broken before → held_text (kinds.Blank text.now ∷ before) w (Blank (length before) r text) after ≡ written before (kinds.Blank text.now) after
 blank_here before after w r text e =
     let past : nat_lt (length before) (glue_at before) ≡ false = le-ltb (length before) (glue_at before) (glue_within before) in
-    let joined = not_joined (joins after) (nat_lt (length before) (glue_at before)) past in
+    let joined = not_joined (glued after) (nat_lt (length before) (glue_at before)) past in
     let here = since_here (kinds.Blank text.now) before in
-    ap (λ ms. cond (not (covered ms after || (r && (joins after || nat_lt (length before) (glue_at before))))) text.now []) here
+    ap (λ ms. cond (not (covered ms after || (r && (glued after || nat_lt (length before) (glue_at before))))) text.now []) here
     ∙ ap (λ b. cond (not (covered [] after || (r && b))) text.now []) joined
-    ∙ ap (λ b. cond (not (covered [] after || (b && joins after))) text.now []) e
+    ∙ ap (λ b. cond (not (covered [] after || (b && glued after))) text.now []) e
 
 -- ---- a Leave
 
@@ -160,13 +160,13 @@ left_waiting n before after (Some w) at e =
 
 held_gone : (n : Option ℕ) (before after : List Mark) (w : Option Waiting) (p : Held) → reached (held_at p) (reach_of n before) ≡ true → held_text before w p (kinds.Leave n ∷ after) ≡ []
 held_gone n before after w (Blank at r text) e =
-    ap (λ b. cond (not ((b || covered (kinds.Leave n ∷ since before at) after) || (r && (joins after || nat_lt at (glue_at before))))) text.now []) (passes_reached n at before ∙ e)
+    ap (λ b. cond (not ((b || covered (kinds.Leave n ∷ since before at) after) || (r && (glued after || nat_lt at (glue_at before))))) text.now []) (passes_reached n at before ∙ e)
 held_gone n before after w (Newline at) e = ap (λ b. cond b (10 ∷ []) []) (left_waiting n before after w at e)
 
 held_kept : (n : Option ℕ) (before after : List Mark) (w w' : Option Waiting) (p : Held) → waiting_at before w (kinds.Leave n ∷ after) ≡ waiting_at (kinds.Leave n ∷ before) w' after → held_at p < length before → reached (held_at p) (reach_of n before) ≡ false → held_text before w p (kinds.Leave n ∷ after) ≡ held_text (kinds.Leave n ∷ before) w' p after
 held_kept n before after w w' (Blank at r text) same l e =
-    ap (λ b. cond (not ((b || covered (kinds.Leave n ∷ since before at) after) || (r && (joins after || nat_lt at (glue_at before))))) text.now []) (passes_reached n at before ∙ e)
-    ∙ ap (λ ms. cond (not (covered ms after || (r && (joins after || nat_lt at (glue_at before))))) text.now []) (sym (since_more (kinds.Leave n) before at l))
+    ap (λ b. cond (not ((b || covered (kinds.Leave n ∷ since before at) after) || (r && (glued after || nat_lt at (glue_at before))))) text.now []) (passes_reached n at before ∙ e)
+    ∙ ap (λ ms. cond (not (covered ms after || (r && (glued after || nat_lt at (glue_at before))))) text.now []) (sym (since_more (kinds.Leave n) before at l))
 held_kept n before after w w' (Newline at) same l e = ap (λ ks. cond (is_among at ks) (10 ∷ []) []) same
 
 -- what is not reached has nothing below that is
@@ -206,7 +206,7 @@ left_falls reach k (p ∷ ps) f =
 record Quiet (after : List Mark) : Type 0 where
   covered : (between : List Mark) → covered between after ≡ false
   glues : glues after ≡ false
-  joins : joins after ≡ false
+  joins : glued after ≡ false
 
 quiet_end : Quiet []
 quiet_end = record { covered = λ b. refl; glues = refl; joins = refl }

@@ -1,6 +1,6 @@
 -- What a tracker knows of the marks of a section.
 use Rattle.std.specs.Prelude.{◌≡◌, ℕ, ◌<◌, nat_lt, nat_le, List, [], ◌∷◌, ◌++◌, length, Option, None, Some, Bool, true, false, not, ◌||◌, ◌&&◌, ◌==◌, if◌then◌else◌}
-use Rattle.ink_model.specs.Shown.{glued, broken, joins, glues, covered, some, ends, newlines_before, has_more}
+use Rattle.ink_model.specs.Shown.{glued, broken, glues, covered, some, ends, newlines_before, has_more}
 use Rattle.ink_model.specs.declared.mark.Mark.{Mark}
 use Rattle.ink_model.specs.declared.mark.Mark.TheVariants.{Text, Enter}
 use Rattle.ink_out.specs.declared.tracker.Hides.{Hides}
@@ -26,7 +26,7 @@ since (m ∷ before) at = if nat_lt at (length before) then m ∷ since before a
 -- marks that follow hide it by their glue
 abbrev pub hidden_by : Hides → List Mark → Bool
 hidden_by Near after = glues after
-hidden_by Any after = joins after
+hidden_by Any after = glued after
 hidden_by Never after = false
 
 abbrev pub waits : List Mark → Waiting → List Mark → Bool
@@ -59,7 +59,7 @@ Fits before s (Some w) = FitsNewline before s w
 
 abbrev pub stays : List Mark → Option First → List Mark → Bool
 stays before None after = false
-stays before (Some b) after = not (covered (since before b.at) after || (b.broken && joins after))
+stays before (Some b) after = not (covered (since before b.at) after || (b.broken && glued after))
 
 pub record FitsBlank (before : List Mark) (s : Tracker) (b : First) : Type 0 where
   pub within : b.at < length before

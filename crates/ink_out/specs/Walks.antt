@@ -1,6 +1,6 @@
 -- What the walk over marks has written, and what waits to be written.
 use Rattle.std.specs.Prelude.{◌≡◌, ℕ, ◌<◌, nat_lt, List, [], ◌∷◌, ◌++◌, length, Option, None, Some, Bool, false, not, ◌||◌, ◌&&◌, ◌==◌, if◌then◌else◌}
-use Rattle.ink_model.specs.Shown.{joins, covered, is_among, text_before}
+use Rattle.ink_model.specs.Shown.{glued, covered, is_among, text_before}
 use Rattle.ink_model.specs.declared.mark.Mark.{Mark}
 use Rattle.ink_model.specs.declared.mark.Mark.TheVariants.{Text, Glue}
 use Rattle.ink_out.specs.declared.pile.Held.{Held}
@@ -27,7 +27,7 @@ glue_at (m ∷ before) = glue_at before
 -- what one shows, whatever follows
 abbrev pub held_text : List Mark → Option Waiting → Held → List Mark → List ℕ
 held_text before w (Blank at broken text) after =
-    if not (covered (since before at) after || (broken && (joins after || nat_lt at (glue_at before)))) then text.now else []
+    if not (covered (since before at) after || (broken && (glued after || nat_lt at (glue_at before)))) then text.now else []
 held_text before w (Newline at) after = if is_among at (waiting_at before w after) then 10 ∷ [] else []
 
 -- the last first
