@@ -2,6 +2,7 @@
 
 ghost use Rattle.std.specs.Prelude.{◌≡◌, ◌≢◌, ◌⊎◌, [], ◌∷◌, ◌<◌, ◌≤◌, None, map, option_map, reverse, IfOk, OnOk, OnErr};
 ghost use Rattle.ink_model.specs.Frames.{base_frame, fresh_depth, frame_numbered, gone, mode_in, put_in, unnumbered_frame, unnumbered_thread};
+ghost use Rattle.ink_model.specs.declared.limits.TheConstants.{MAX_FRAMES};
 ghost use Rattle.ink_model.specs.Threads.{frame_count, number_in, popped, pushed, stale_run, staled, temp_in, with_temp};
 ghost use Rattle.ink_stack.specs.Quiet.{is_quiet};
 ghost use Rattle.ink_stack.specs.Words.{Changes, Grows};
@@ -53,9 +54,10 @@ impl<P: Copy> Thread<P> {
         }
     }
 
-    /// How many frames there are.
+    /// How many frames there are, 1,000 at the most.
     pub fn frames(&self) -> usize
-        ensures { result ≡ frame_count self.now }
+        ensures count { result ≡ frame_count self.now }
+        ensures most { result ≤ MAX_FRAMES }
     {
         self.below.len() + 1
     }
