@@ -1,6 +1,6 @@
 //! The globals of a running story.
 
-ghost use Rattle.std.specs.Prelude.{◌≡◌, [], false, is_some, is_ok, option_map, IfErr, OnOk, OnErr};
+ghost use Rattle.std.specs.Prelude.{◌≡◌, [], false, is_some, is_ok, length, option_map, slice_get, IfErr, OnOk, OnErr};
 ghost use Rattle.ink_model.specs.Store.{stored, store};
 
 use indexmap::IndexMap;
@@ -47,6 +47,24 @@ impl Globals {
         ensures { result ≡ is_some (stored name.now self.now) }
     {
         self.values.contains_key(name)
+    }
+
+    /// How many globals there are.
+    pub fn len(&self) -> usize
+        ensures { result ≡ length self.now }
+    {
+        self.values.len()
+    }
+
+    /// The name and the value of the global at an index, in the order in which they were declared; none past the last. Takes
+    /// no memory.
+    pub fn pair(&self, index: usize) -> Option<(&str, &Value)>
+        ensures { option_map (λ pair. (pair.0.now, pair.1.now)) result ≡ slice_get self.now index }
+    {
+        match self.values.get_index(index) {
+            Some((name, value)) => Some((name.as_str(), value)),
+            None => None,
+        }
     }
 
     /// Gives a global that is there a value, without memory. Where there is none, the value is handed back.
