@@ -25,6 +25,8 @@ pub mod Page
 pub mod Frames
 pub mod Rows
 pub mod Threads
+pub mod Variables
+pub mod Counts
 pub mod OperatorExamples
 pub mod Configuration
 pub mod Output
@@ -45,5 +47,7 @@ pub mod PathExamples
 pub mod StoryExamples
 pub mod FrameExamples
 pub mod PushExamples
+pub mod VariableExamples
+pub mod CountExamples
 pub mod OutputExamples
 pub mod Examples

@@ -49,6 +49,10 @@ pub enum Fault {
     BadPop,
     #[error("BadTarget")]
     BadTarget,
+    #[error("BadPointer")]
+    BadPointer,
+    #[error("NotCounted")]
+    NotCounted,
     #[error("NoTemp")]
     NoTemp,
     #[error("HostRefused")]
@@ -101,6 +105,8 @@ impl Fault {
             Fault::BadMode => "BadMode",
             Fault::BadPop => "BadPop",
             Fault::BadTarget => "BadTarget",
+            Fault::BadPointer => "BadPointer",
+            Fault::NotCounted => "NotCounted",
             Fault::NoTemp => "NoTemp",
             Fault::HostRefused => "HostRefused",
             Fault::StopInString => "StopInString",

@@ -12,6 +12,7 @@ mod mark;
 mod operator;
 mod passage;
 mod place;
+mod scope;
 mod seq;
 mod shared;
 mod text;
@@ -23,13 +24,14 @@ pub use fault::{Cause, Failure, Fault, Halt, ReadRefusal, Refusal};
 pub use frame::FrameKind;
 pub use host::{Event, Given};
 pub use limits::{
-    MAX_FRAMES, MAX_INPUT, MAX_LINE, MAX_MARKS, MAX_NESTING, MAX_SECTIONS, MAX_STACK, MAX_STEPS,
+    MAX_COUNT, MAX_FRAMES, MAX_INPUT, MAX_LINE, MAX_MARKS, MAX_NESTING, MAX_SECTIONS, MAX_STACK, MAX_STEPS,
     MAX_STORY, MAX_TEXT, MAX_THREADS,
 };
 pub use mark::Mark;
 pub use operator::Op;
 pub use passage::{Passage, Shown};
 pub use place::{Part, Path, Place};
+pub use scope::Scope;
 pub use seq::Seq;
 pub use shared::Shared;
 pub use text::Text;

@@ -32,3 +32,6 @@ pub const MAX_LINE: usize = 1_048_576;
 
 /// Bytes of an input, its newlines and the story counted.
 pub const MAX_INPUT: usize = 67_108_864;
+
+/// The most that a count of visits and the turn number come to, where they stay.
+pub const MAX_COUNT: u32 = 2_147_483_647;

@@ -2,3 +2,5 @@ pub mod Mapping
 pub mod Reversing
 pub mod Runs
 pub mod Quietness
+pub mod Rows
+pub mod Numbers

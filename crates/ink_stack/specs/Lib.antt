@@ -1,2 +1,3 @@
 pub mod Words
 pub mod Quiet
+pub mod Rows

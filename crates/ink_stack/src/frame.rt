@@ -1,11 +1,12 @@
 //! Frames.
 
-ghost use Rattle.std.specs.Prelude.{◌≡◌, ◌≢◌, [], IfOk, OnErr};
+ghost use Rattle.std.specs.Prelude.{◌≡◌, ◌≢◌, [], None, option_map, IfOk, OnOk, OnErr};
 ghost use Rattle.ink_model.specs.Frames.{base_frame, fresh_depth, is_function, unnumbered_frame};
-ghost use Rattle.ink_model.specs.Threads.{new_frame, same_kind, stale};
+ghost use Rattle.ink_model.specs.Rows.{name_order, row};
+ghost use Rattle.ink_model.specs.Threads.{new_frame, same_kind, stale, with_row_in};
 
 use crate::temps::Temps;
-use ink_model::FrameKind;
+use ink_model::{FrameKind, Value};
 use std::alloc::{AllocError, Global};
 use std::marker::Model;
 
@@ -150,5 +151,22 @@ impl<P: Copy> Frame<P> {
         if self.depth == depth {
             self.fresh = false;
         }
+    }
+
+    /// The value of a temporary, none where the frame has none of that name. Takes no memory.
+    pub(crate) fn temp(&self, name: &str) -> Option<&Value>
+        ensures { option_map (λ value. value.now) result ≡ row name_order name.now self.now.temps }
+    {
+        self.temps.get(name)
+    }
+
+    /// Gives a temporary a value. The one error is a refused request for memory, which is made only for a new name, and
+    /// leaves all as it was.
+    pub(crate) fn set_temp(&mut self, name: &str, value: Value) -> Result<(), AllocError>
+        ensures ok { OnOk result (self.new ≡ with_row_in name.now value self.old) }
+        ensures err { OnErr result (self.new ≡ self.old) }
+        ensures memory { OnErr result (row name_order name.now self.old.temps ≡ None) }
+    {
+        self.temps.set(name, value)
     }
 }

@@ -1,15 +1,19 @@
 //! The temporaries of a frame.
 
-ghost use Rattle.std.specs.Prelude.{◌≡◌, ◌≢◌, [], IfOk, OnErr};
+ghost use Rattle.std.specs.Prelude.{◌≡◌, ◌≢◌, [], None, option_map, IfOk, OnOk, OnErr};
+ghost use Rattle.ink_model.specs.Rows.{name_order, row, with_row};
+ghost use Rattle.ink_stack.specs.Rows.{FindsName};
 
-use ink_model::{Text, Value};
+use ink_model::{Shared, Text, Value};
 use std::alloc::{AllocError, Global};
+use std::cmp::Ordering;
 use std::marker::Model;
 
-/// Values by name, in the order of the names. A contract sees the rows.
+/// Values by name, in the order of the names. The copies of a frame share the names. A contract sees the rows.
 #[derive(Drop)]
 pub(crate) struct Temps {
-    rows: Vec<(Text, Value)>,
+    rows: Vec<(Shared<Text>, Value)>,
+    alloc: Global,
 }
 
 impl Model for Temps {
@@ -27,6 +31,7 @@ impl Temps {
     {
         Temps {
             rows: Vec::new(alloc),
+            alloc,
         }
     }
 
@@ -37,10 +42,54 @@ impl Temps {
     {
         let mut rows = Vec::new(alloc);
         for row in &self.rows {
-            let name = row.0.clone_in(alloc)?;
+            let name = row.0.share()?;
             let value = row.1.clone_in(alloc)?;
             rows.push((name, value))?;
         }
-        Ok(Temps { rows })
+        Ok(Temps { rows, alloc })
     }
+
+    /// The value of a name, none where there is no such temporary. Takes no memory.
+    pub(crate) fn get(&self, name: &str) -> Option<&Value>
+        ensures { option_map (λ value. value.now) result ≡ row name_order name.now self.now }
+    {
+        match find(self.rows.as_slice(), name) {
+            Ok(index) => Some(&self.rows[index].1),
+            Err(_) => None,
+        }
+    }
+
+    /// Gives a name a value. The one error is a refused request for memory, which is made only for a new name, and leaves
+    /// all as it was.
+    pub(crate) fn set(&mut self, name: &str, value: Value) -> Result<(), AllocError>
+        ensures ok { OnOk result (self.new ≡ with_row name_order name.now value self.old) }
+        ensures err { OnErr result (self.new ≡ self.old) }
+        ensures memory { OnErr result (row name_order name.now self.old ≡ None) }
+    {
+        match find(self.rows.as_slice(), name) {
+            Ok(index) => {
+                self.rows[index].1 = value;
+                Ok(())
+            }
+            Err(index) => {
+                let name = Shared::new(self.alloc, Text::from_str(self.alloc, name)?)?;
+                self.rows.insert(index, (name, value))?;
+                Ok(())
+            }
+        }
+    }
+}
+
+/// Where a name stands among rows, or where it would stand.
+fn find(rows: &[(Shared<Text>, Value)], name: &str) -> Result<usize, usize>
+    ensures { FindsName name.now rows.now result }
+{
+    for (index, row) in rows.iter().enumerate() {
+        match name.cmp(row.0.get().as_str()) {
+            Ordering::Less => return Err(index),
+            Ordering::Equal => return Ok(index),
+            Ordering::Greater => {}
+        }
+    }
+    Err(rows.len())
 }

@@ -1,8 +1,9 @@
 //! Threads.
 
-ghost use Rattle.std.specs.Prelude.{◌≡◌, ◌≢◌, ◌⊎◌, [], ◌∷◌, None, map, option_map, reverse, IfOk, OnErr};
+ghost use Rattle.std.specs.Prelude.{◌≡◌, ◌≢◌, ◌⊎◌, [], ◌∷◌, ◌<◌, ◌≤◌, None, map, option_map, reverse, IfOk, OnOk, OnErr};
 ghost use Rattle.ink_model.specs.Frames.{base_frame, fresh_depth, frame_numbered, gone, mode_in, put_in, unnumbered_frame, unnumbered_thread};
-ghost use Rattle.ink_model.specs.Threads.{frame_count, number_in, popped, pushed, stale_run, staled, temp_in};
+ghost use Rattle.ink_model.specs.declared.limits.TheConstants.{MAX_FRAMES};
+ghost use Rattle.ink_model.specs.Threads.{frame_count, number_in, popped, pushed, stale_run, staled, temp_in, with_temp};
 ghost use Rattle.ink_stack.specs.Quiet.{is_quiet};
 ghost use Rattle.ink_stack.specs.Words.{Changes, Grows};
 
@@ -53,9 +54,10 @@ impl<P: Copy> Thread<P> {
         }
     }
 
-    /// How many frames there are.
+    /// How many frames there are, 1,000 at the most.
     pub fn frames(&self) -> usize
-        ensures { result ≡ frame_count self.now }
+        ensures count { result ≡ frame_count self.now }
+        ensures most { result ≤ MAX_FRAMES }
     {
         self.below.len() + 1
     }
@@ -193,6 +195,47 @@ impl<P: Copy> Thread<P> {
             }
             None => Err(Fault::BadPop),
         }
+    }
+
+    /// What a frame has by a name; none where there is no such frame or name.
+    pub(crate) fn temp(&self, frame: usize, name: &str) -> Option<&Value>
+        ensures { option_map (λ value. value.now) result ≡ temp_in frame name.now self.now }
+    {
+        match self.frame_numbered(frame) {
+            Some(frame) => frame.temp(name),
+            None => None,
+        }
+    }
+
+    // A frame by its number, which the bottom one has as 1.
+    fn frame_numbered(&self, number: usize) -> Option<&Frame<P>>
+        ensures { option_map (λ frame. frame.now) result ≡ frame_numbered number (self.now.frame ∷ self.now.below) }
+    {
+        if number == self.frames() {
+            return Some(&self.frame);
+        }
+        if number == 0 || number > self.frames() {
+            return None;
+        }
+        Some(&self.below[number - 1])
+    }
+
+    pub(crate) fn set_temp(
+        &mut self,
+        frame: usize,
+        name: &str,
+        value: Value,
+    ) -> Result<(), AllocError>
+        requires from { 0 < frame }
+        requires there { frame ≤ frame_count self.old }
+        ensures ok { OnOk result (self.new ≡ with_temp frame name.now value self.old) }
+        ensures err { OnErr result (self.new ≡ self.old) }
+        ensures memory { OnErr result (temp_in frame name.now self.old ≡ None) }
+    {
+        if frame == self.frames() {
+            return self.frame.set_temp(name, value);
+        }
+        self.below[frame - 1].set_temp(name, value)
     }
 }
 

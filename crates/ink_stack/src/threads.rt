@@ -1,12 +1,12 @@
 //! The threads of a running story.
 
-ghost use Rattle.std.specs.Prelude.{◌≡◌, ◌≢◌, ◌⊎◌, [], None, is_some, map, unwrap_or, IfOk, IfErr, OnErr};
+ghost use Rattle.std.specs.Prelude.{◌≡◌, ◌≢◌, ◌⊎◌, ◌<◌, ◌≤◌, [], None, is_some, map, option_map, unwrap_or, IfOk, IfErr, OnOk, OnErr};
 ghost use Rattle.ink_model.specs.Frames.{base_threads, fresh_depth, gone, mode_in, on_top, place_in, put_in, unnumbered_thread, unnumbered_threads};
-ghost use Rattle.ink_model.specs.Threads.{alone, doubled, dropped, number_in, popped, pushed, staled, top_result};
+ghost use Rattle.ink_model.specs.Threads.{alone, doubled, dropped, frame_count, number_in, popped, pushed, staled, temp_in, top_result, with_temp};
 ghost use Rattle.ink_stack.specs.Words.{Changes, Grows};
 
 use crate::thread::Thread;
-use ink_model::{Fault, FrameKind, MAX_THREADS};
+use ink_model::{Fault, FrameKind, MAX_THREADS, Value};
 use std::alloc::Global;
 use std::marker::Model;
 
@@ -169,6 +169,29 @@ impl<P: Copy> Threads<P> {
     {
         let copy = self.thread.clone_in(self.alloc)?;
         Ok(copy)
+    }
+
+    /// What a frame of the top thread has by a name; none where there is no such frame, or the frame has no such name. The
+    /// bottom frame has number 1. Takes no memory.
+    pub fn temp(&self, frame: usize, name: &str) -> Option<&Value>
+        ensures { option_map (λ value. value.now) result ≡ temp_in frame name.now self.now.thread }
+    {
+        self.thread.temp(frame, name)
+    }
+
+    /// Gives a name a value in a frame of the top thread; there has to be that frame, and the bottom one has number 1. The
+    /// one error is `OutOfMemory` for a refused request for memory, which is made only where the frame lacks the name, and
+    /// leaves all as it was.
+    pub fn set_temp(&mut self, frame: usize, name: &str, value: Value) -> Result<(), Fault>
+        requires from { 0 < frame }
+        requires there { frame ≤ frame_count self.old.thread }
+        ensures ok { OnOk result (self.new ≡ on_top (with_temp frame name.now value) self.old) }
+        ensures fault { IfErr result (λ f. f ≡ Fault.OutOfMemory) }
+        ensures kept { OnErr result (self.new ≡ self.old) }
+        ensures memory { OnErr result (temp_in frame name.now self.old.thread ≡ None) }
+    {
+        self.thread.set_temp(frame, name, value)?;
+        Ok(())
     }
 
     /// This thread becomes the only one. Takes no memory.

@@ -1,0 +1,118 @@
+-- Frames by their number, over a list whose last item is the top one.
+use Rattle.std.proofs.Common.{◌≡◌, ◌∙◌, ◌<◌, ◌≤◌, ◌+◌, ◌-◌, ℕ, List, [], ◌∷◌, ◌++◌, Bool, true, false, Option, Some, None, option_and_then, Result, Ok, Err, OnOk, OnErr, add-one, ap, append_assoc, arith, drop, get_or, if◌then◌else◌, length, length-append, nat_eq, not, ◌&&◌, refl, reverse, set, sym, take}
+use Rattle.std.proofs.lemmas.Bool.Decides.{nat_tests}
+use Rattle.std.proofs.lemmas.List.{drop_more, length-reverse, length-take-le, reverse-append, set-get_or, set_split, take-append-drop}
+use Rattle.std.proofs.lemmas.Result.{on_err_weaker, on_ok_weaker}
+use Rattle.ink_model.specs.Frames.{FrameOf, ThreadOf, frame_numbered, is_function}
+use Rattle.ink_model.specs.Rows.{name_order, row}
+use Rattle.ink_model.specs.Threads.{changed, temp_in, with_row_in, with_temp}
+use Rattle.ink_model.specs.declared.value.Value.{Value}
+use Rattle.ink_stack.specs.Quiet.{is_quiet}
+
+same_number : (n : ℕ) → nat_eq n n ≡ true
+same_number n = grind (arith, nat_tests)
+
+other_number : (m n : ℕ) → m < n → nat_eq m n ≡ false
+other_number m n h = grind (arith, nat_tests)
+
+other_number_above : (m n : ℕ) → n < m → nat_eq m n ≡ false
+other_number_above m n h = grind (arith, nat_tests)
+
+reverse_around : {X : Type 0} (before after : List X) (x : X) → reverse (before ++ x ∷ after) ≡ reverse after ++ x ∷ reverse before
+reverse_around before after x =
+    reverse-append before (x ∷ after) ∙ ap (λ r. r ++ reverse before) (reverse-append (x ∷ []) after)
+    ∙ append_assoc (reverse after) (x ∷ []) (reverse before)
+
+split_at : {X : Type 0} (xs : List X) (i : ℕ) (d : X) → i < length xs → reverse xs ≡ reverse (drop (i + 1) xs) ++ get_or xs i d ∷ reverse (take i xs)
+split_at xs i d h =
+    ap reverse (sym (take-append-drop i xs) ∙ ap (λ ys. take i xs ++ ys) (drop_more xs i d h))
+    ∙ reverse_around (take i xs) (drop (i + 1) xs) (get_or xs i d)
+
+split_set : {X : Type 0} (xs : List X) (i : ℕ) (y : X) → i < length xs → reverse (set xs i y) ≡ reverse (drop (i + 1) xs) ++ y ∷ reverse (take i xs)
+split_set xs i y h =
+    let parts : set xs i y ≡ take i xs ++ y ∷ drop (i + 1) xs = rw add-one (set_split xs i y h) in
+    ap reverse parts ∙ reverse_around (take i xs) (drop (i + 1) xs) y
+
+length_below : {X : Type 0} (xs : List X) (i : ℕ) → i < length xs → length (reverse (take i xs)) ≡ i
+length_below xs i h = length-reverse (take i xs) ∙ length-take-le i xs (omega arith)
+
+module _ {P : Type 0} where
+  numbered_around : (above : List (FrameOf P)) (f : FrameOf P) (below : List (FrameOf P)) (n : ℕ) → n ≡ length below + 1
+      → frame_numbered n (above ++ f ∷ below) ≡ Some f
+  numbered_around [] f below n is = rw (is, same_number (length below + 1)) refl
+  numbered_around (g ∷ gs) f below n is =
+      rw (other_number n (length (gs ++ f ∷ below) + 1) (omega (arith, length-append gs (f ∷ below)))) (numbered_around gs f below n is)
+
+  changed_around : (change : FrameOf P → FrameOf P) (above : List (FrameOf P)) (f : FrameOf P) (below : List (FrameOf P)) (n : ℕ) → n ≡ length below + 1
+      → changed change n (above ++ f ∷ below) ≡ above ++ change f ∷ below
+  changed_around change [] f below n is = rw (is, same_number (length below + 1)) refl
+  changed_around change (g ∷ gs) f below n is =
+      rw (other_number n (length (gs ++ f ∷ below) + 1) (omega (arith, length-append gs (f ∷ below))))
+      (ap (λ fs. g ∷ fs) (changed_around change gs f below n is))
+
+  -- the frame of a number is the one before it in the list
+  pub numbered_is : (fs : List (FrameOf P)) (n : ℕ) (d : FrameOf P) → 0 < n → n ≤ length fs → frame_numbered n (reverse fs) ≡ Some (get_or fs (n - 1) d)
+  numbered_is fs n d above within =
+      let inside : n - 1 < length fs = omega arith in
+      let is : n ≡ length (reverse (take (n - 1) fs)) + 1 = omega (arith, length_below fs (n - 1) inside) in
+      ap (frame_numbered n) (split_at fs (n - 1) d inside) ∙ numbered_around (reverse (drop (n - 1 + 1) fs)) (get_or fs (n - 1) d) (reverse (take (n - 1) fs)) n is
+
+  pub changed_is : (change : FrameOf P → FrameOf P) (fs : List (FrameOf P)) (n : ℕ) (d : FrameOf P) → 0 < n → n ≤ length fs
+      → reverse (set fs (n - 1) (change (get_or fs (n - 1) d))) ≡ changed change n (reverse fs)
+  changed_is change fs n d above within =
+      let inside : n - 1 < length fs = omega arith in
+      let is : n ≡ length (reverse (take (n - 1) fs)) + 1 = omega (arith, length_below fs (n - 1) inside) in
+      split_set fs (n - 1) (change (get_or fs (n - 1) d)) inside
+      ∙ sym (ap (changed change n) (split_at fs (n - 1) d inside)
+      ∙ changed_around change (reverse (drop (n - 1 + 1) fs)) (get_or fs (n - 1) d) (reverse (take (n - 1) fs)) n is)
+
+  -- numbers that no frame has
+  pub none_numbered : (fs : List (FrameOf P)) (n : ℕ) → length fs < n → frame_numbered n fs ≡ None
+  none_numbered [] n h = refl
+  none_numbered (f ∷ fs) n h = rw (other_number_above n (length fs + 1) (omega arith)) (none_numbered fs n (omega arith))
+
+  pub none_zero : (fs : List (FrameOf P)) → frame_numbered 0 fs ≡ None
+  none_zero [] = refl
+  none_zero (f ∷ fs) = rw (other_number 0 (length fs + 1) (omega arith)) (none_zero fs)
+
+  -- a temporary has nothing to do with freshness
+  quiet_first : (name : List ℕ) (v : Value) (n : ℕ) (f : FrameOf P) (fs : List (FrameOf P)) → is_quiet (changed (with_row_in name v) n fs) ≡ is_quiet fs
+      → (b : Bool) → is_quiet (if b then with_row_in name v f ∷ fs else f ∷ changed (with_row_in name v) n fs) ≡ is_quiet (f ∷ fs)
+  quiet_first name v n f fs rest true = refl
+  quiet_first name v n f fs rest false = ap (λ b. if is_function f.kind then not f.fresh && b else true) rest
+
+  pub quiet_changed : (name : List ℕ) (v : Value) (n : ℕ) (fs : List (FrameOf P)) → is_quiet (changed (with_row_in name v) n fs) ≡ is_quiet fs
+  quiet_changed name v n [] = refl
+  quiet_changed name v n (f ∷ fs) = quiet_first name v n f fs (quiet_changed name v n fs) (nat_eq n (length fs + 1))
+
+  -- a frame of a number, below another one
+  pub numbered_below : (f : FrameOf P) (fs : List (FrameOf P)) (n : ℕ) (d : FrameOf P) → 0 < n → n ≤ length fs
+      → frame_numbered n (f ∷ reverse fs) ≡ Some (get_or fs (n - 1) d)
+  numbered_below f fs n d above within =
+      rw (other_number n (length (reverse fs) + 1) (omega (arith, length-reverse fs))) (numbered_is fs n d above within)
+
+  -- the frames after a call that gives one of them a temporary
+  pub quiet_along : {E : Type 0} (r : Result Unit E) (fs : List (FrameOf P)) (n : ℕ) (d f : FrameOf P) (name : List ℕ) (v : Value) → 0 < n → n ≤ length fs
+      → OnOk r (f ≡ with_row_in name v (get_or fs (n - 1) d)) → OnErr r (f ≡ get_or fs (n - 1) d)
+      → is_quiet (reverse (set fs (n - 1) f)) ≡ is_quiet (reverse fs)
+  quiet_along (Ok u) fs n d f name v above within ok err =
+      ap (λ g. is_quiet (reverse (set fs (n - 1) g))) ok ∙ ap is_quiet (changed_is (with_row_in name v) fs n d above within)
+      ∙ quiet_changed name v n (reverse fs)
+  quiet_along (Err e) fs n d f name v above within ok err = ap (λ g. is_quiet (reverse (set fs (n - 1) g))) err ∙ ap (λ gs. is_quiet (reverse gs)) (set-get_or fs (n - 1) d)
+
+  module _ {E : Type 0} (r : Result Unit E) (f : FrameOf P) (fs : List (FrameOf P)) (previous : Option P) (n : ℕ) (d : FrameOf P) (name : List ℕ)
+      (above : 0 < n) (within : n ≤ length fs) where
+    -- the thread of these frames
+    abbrev thread_of : List (FrameOf P) → ThreadOf P
+    thread_of gs = record { frame = f; below = reverse gs; previous = previous }
+
+    pub temp_along : (v : Value) (g : FrameOf P) → OnOk r (g ≡ with_row_in name v (get_or fs (n - 1) d))
+        → OnOk r (thread_of (set fs (n - 1) g) ≡ with_temp n name v (thread_of fs))
+    temp_along v g ok =
+        on_ok_weaker r
+        (λ made. rw (other_number n (length (reverse fs) + 1) (omega (arith, length-reverse fs)))
+        (ap (λ gs. record { frame = f; below = gs; previous = previous })
+        (ap (λ h. reverse (set fs (n - 1) h)) made ∙ changed_is (with_row_in name v) fs n d above within))) ok
+
+    pub memory_along : OnErr r (row name_order name (get_or fs (n - 1) d).temps ≡ None) → OnErr r (temp_in n name (thread_of fs) ≡ None)
+    memory_along err = on_err_weaker r (λ absent. ap (λ h. option_and_then (λ g. row name_order name g.temps) h) (numbered_below f fs n d above within) ∙ absent) err

@@ -1,0 +1,53 @@
+-- Rows from the first one that does not come before a name.
+use Rattle.std.proofs.Common.{◌≡◌, ◌∙◌, ◌<◌, ◌+◌, add-one, ℕ, List, ◌++◌, Some, Ok, Err, ap, append_assoc, arith, drop, get_or, length, refl, set, take}
+use Rattle.std.proofs.lemmas.List.{drop_all, drop_more, get_or_default, set_split, take_more}
+use Rattle.std.proofs.lemmas.Map.Lookups.{exact_bytes}
+use Rattle.std.specs.declared.cmp.Ordering.TheVariants.{Less, Equal, Greater}
+use Rattle.ink_model.specs.Rows.{name_order, row, with_row}
+use Rattle.ink_model.specs.Store.{Values}
+use Rattle.ink_model.specs.declared.value.Value.{Value}
+use Rattle.ink_stack.specs.Rows.{FindsName}
+
+module _ (name : List ℕ) where
+  -- a name that comes after the rows so far is read and written in the rest
+  pub record Passed (i : ℕ) (rows : Values) : Type 0 where
+    pub reads : row name_order name rows ≡ row name_order name (drop i rows)
+    pub writes : (v : Value) → with_row name_order name v rows ≡ take i rows ++ with_row name_order name v (drop i rows)
+
+  pub passed_none : (rows : Values) → Passed 0 rows
+  passed_none rows = record { reads = refl; writes = λ v. refl }
+
+  module _ (i : ℕ) (rows : Values) (d : List ℕ × Value) (inside : i < length rows) (p : Passed i rows) where
+    pub passed_one : name_order name (get_or rows i d).0 ≡ Greater → Passed (i + 1) rows
+    passed_one after = record {
+      reads = p.reads ∙ ap (row name_order name) (drop_more rows i d inside) ∙ rw after refl;
+      writes = λ v.
+          p.writes v ∙ ap (λ rs. take i rows ++ with_row name_order name v rs) (drop_more rows i d inside)
+          ∙ rw (after, take_more rows i d inside, append_assoc) refl;
+    }
+
+    pub found_here : name_order name (get_or rows i d).0 ≡ Equal → FindsName name rows (Ok i)
+    found_here same =
+        let key : name ≡ (get_or rows i d).0 = exact_bytes name (get_or rows i d).0 same in
+        let reads : row name_order name rows ≡ Some (get_or rows i d).1 = p.reads ∙ ap (row name_order name) (drop_more rows i d inside) ∙ rw same refl in
+        let writes : (v : Value) → with_row name_order name v rows ≡ set rows i ((get_or rows i d).0, v) = λ v.
+        p.writes v ∙ ap (λ rs. take i rows ++ with_row name_order name v rs) (drop_more rows i d inside)
+        ∙ rw (same, set_split rows i ((get_or rows i d).0, v) inside, ← key, add-one) refl in (
+          inside,
+          λ e. reads ∙ ap (λ r. Some r.1) (get_or_default rows i d e inside),
+          λ e v. writes v ∙ ap (λ r. set rows i (r.0, v)) (get_or_default rows i d e inside),
+        )
+
+    pub missing_here : name_order name (get_or rows i d).0 ≡ Less → FindsName name rows (Err i)
+    missing_here before = (
+      omega arith,
+      p.reads ∙ ap (row name_order name) (drop_more rows i d inside) ∙ rw before refl,
+      λ v. p.writes v ∙ ap (λ rs. take i rows ++ with_row name_order name v rs) (drop_more rows i d inside) ∙ rw before (rw (drop_more rows i d inside) refl),
+    )
+
+  pub missing_at_end : (rows : Values) → Passed (length rows) rows → FindsName name rows (Err (length rows))
+  missing_at_end rows p = (
+    omega arith,
+    p.reads ∙ ap (row name_order name) (drop_all (length rows) rows (omega arith)),
+    λ v. p.writes v ∙ rw (drop_all (length rows) rows (omega arith)) refl,
+  )

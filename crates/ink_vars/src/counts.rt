@@ -1,0 +1,96 @@
+//! Visits and turns of containers.
+
+ghost use Rattle.std.specs.Prelude.{◌≡◌, ◌≤◌, [], true, ◌&&◌, IfErr, OnOk, OnErr};
+ghost use Rattle.std.specs.Ordering.{nat_cmp};
+ghost use Rattle.ink_model.specs.Counts as rules;
+ghost use Rattle.ink_model.specs.declared.limits.TheConstants.{MAX_COUNT};
+
+use crate::slots::{add_one, make_room, put, slot};
+use ink_model::{Fault, flags};
+use std::alloc::Global;
+use std::marker::Model;
+
+/// How often each container was visited, and in which turn last, by the container's number, and found at once by it. A
+/// contract sees two lists of rows, which rise by number.
+#[derive(Drop)]
+pub struct Counts {
+    visits: Vec<Option<u32>>,
+    turns: Vec<Option<u32>>,
+}
+
+impl Model for Counts {
+    ghost use Rattle.std.specs.Prelude.{ℕ};
+    ghost use Rattle.ink_model.specs.Counts.{CountsOf};
+    ghost use Rattle.ink_vars.specs.Slots.{AreCounts, rows_from};
+
+    ghost Value = { CountsOf ℕ };
+
+    ghost view = { λ c. record { visits = rows_from 0 c.visits.items; turns = rows_from 0 c.turns.items } };
+
+    ghost invariant = { λ c. AreCounts c.visits.items × AreCounts c.turns.items };
+}
+
+impl Counts {
+    /// No container was visited, which takes no memory.
+    pub fn new(alloc: Global) -> Counts
+        ensures { result ≡ record { visits = []; turns = [] } }
+    {
+        Counts {
+            visits: Vec::new(alloc),
+            turns: Vec::new(alloc),
+        }
+    }
+
+    /// A container with these flags is entered in a turn, at its start or not: one more visit where flag 1 says so, which
+    /// stays at 2,147,483,647, and the turn is noted where flag 2 says so; where flag 4 is set, only at its start. The turn
+    /// is 2,147,483,647 at the most. The one error is `OutOfMemory` for a refused request for memory, which is made only for
+    /// a container that has no such row yet, and leaves all as it was (docs/VARIABLES.md, "Counts").
+    pub fn visit(&mut self, node: usize, flags: u8, at_start: bool, turn: u32) -> Result<(), Fault>
+        requires { turn ≤ MAX_COUNT }
+        ensures ok { OnOk result (self.new ≡ rules.visited nat_cmp node flags at_start turn self.old) }
+        ensures fault { IfErr result (λ f. f ≡ Fault.OutOfMemory) }
+        ensures kept { OnErr result (self.new ≡ self.old) }
+        ensures memory { OnErr result ((rules.counts flags at_start && rules.adds_row nat_cmp node flags self.old) ≡ true) }
+    {
+        if !at_start && flags::counts_at_start(flags) {
+            return Ok(());
+        }
+        let visits = flags::counts_visits(flags);
+        let turns = flags::notes_turns(flags);
+        make_room(&mut self.visits, node, visits)?;
+        make_room(&mut self.turns, node, turns)?;
+        add_one(self.visits.as_mut_slice(), node, visits);
+        put(self.turns.as_mut_slice(), node, turn, turns);
+        Ok(())
+    }
+
+    /// How often a container with these flags was visited. `NotCounted` where flag 1 is not set. Takes no memory
+    /// (docs/VARIABLES.md, "Counts").
+    pub fn visits_of(&self, node: usize, flags: u8) -> Result<i32, Fault>
+        ensures { result ≡ rules.visits_of nat_cmp node flags self.now }
+    {
+        if !flags::counts_visits(flags) {
+            return Err(Fault::NotCounted);
+        }
+        match slot(self.visits.as_slice(), node) {
+            Some(visits) => Ok(visits as i32),
+            None => Ok(0),
+        }
+    }
+
+    /// How many turns ago a container with these flags was entered last, counted from this turn; -1 where it never was. The
+    /// turn is 2,147,483,647 at the most. `NotCounted` where flag 2 is not set. Takes no memory (docs/VARIABLES.md,
+    /// "Counts").
+    pub fn turns_since(&self, node: usize, flags: u8, turn: u32) -> Result<i32, Fault>
+        requires { turn ≤ MAX_COUNT }
+        ensures { result ≡ rules.turns_since nat_cmp node flags turn self.now }
+    {
+        if !flags::notes_turns(flags) {
+            return Err(Fault::NotCounted);
+        }
+        match slot(self.turns.as_slice(), node) {
+            Some(noted) => Ok(turn as i32 - noted as i32),
+            None => Ok(-1),
+        }
+    }
+}

@@ -1,0 +1,80 @@
+//! What names and pointers lead to.
+
+ghost use Rattle.std.specs.Prelude.{◌≡◌, option_map};
+ghost use Rattle.ink_model.specs.Variables as rules;
+
+use crate::globals::Globals;
+use ink_model::{Shared, Text, Value};
+use ink_stack::Threads;
+
+/// The value of a name alone: that of the global, or else that of the top frame's temporary.
+pub(crate) fn named<'a, P: Copy>(
+    globals: &'a Globals,
+    threads: &'a Threads<P>,
+    name: &str,
+) -> Option<&'a Value>
+    ensures { option_map (λ value. value.now) result ≡ rules.named globals.now threads.now.thread name.now }
+{
+    match globals.get(name) {
+        Some(value) => Some(value),
+        None => threads.temp(threads.top().frames(), name),
+    }
+}
+
+/// The value of a name in the frame of a number, which is 0 for the globals.
+pub(crate) fn held<'a, P: Copy>(
+    globals: &'a Globals,
+    threads: &'a Threads<P>,
+    frame: i32,
+    name: &str,
+) -> Option<&'a Value>
+    ensures { option_map (λ value. value.now) result ≡ rules.held globals.now threads.now.thread frame name.now }
+{
+    match usize::try_from(frame) {
+        Ok(0) => globals.get(name),
+        Ok(number) => threads.temp(number, name),
+        Err(_) => None,
+    }
+}
+
+/// Whether there is the global that a pointer leads to, or the frame.
+pub(crate) fn stands<P: Copy>(
+    globals: &Globals,
+    threads: &Threads<P>,
+    frame: i32,
+    name: &str,
+) -> bool
+    ensures { result ≡ rules.stands globals.now threads.now.thread frame name.now }
+{
+    match usize::try_from(frame) {
+        Ok(0) => globals.contains(name),
+        Ok(number) => number <= threads.top().frames(),
+        Err(_) => false,
+    }
+}
+
+/// The last pointer of the chain that begins with this one; none where it has more pointers than there are frames, and one
+/// more. Takes no memory.
+pub(crate) fn chain_end<'a, P: Copy>(
+    globals: &'a Globals,
+    threads: &'a Threads<P>,
+    frame: i32,
+    name: &'a Shared<Text>,
+) -> Option<(i32, &'a Shared<Text>)>
+    ensures { option_map (λ p. (p.0, p.1.now)) result ≡ rules.chain_end globals.now threads.now.thread frame name.now }
+{
+    let mut frame = frame;
+    let mut name = name;
+    let mut left = threads.top().frames() + 1;
+    while left > 0 {
+        left -= 1;
+        match held(globals, threads, frame, name.get().as_str()) {
+            Some(Value::Pointer(next, to)) => {
+                frame = *next;
+                name = to;
+            }
+            _ => return Some((frame, name)),
+        }
+    }
+    None
+}

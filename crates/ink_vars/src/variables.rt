@@ -1,0 +1,280 @@
+//! Variables that are read, assigned and declared.
+
+ghost use Rattle.std.specs.Prelude.{◌≡◌, pos, false, true, is_some, Ok, Some, IfErr, OnOk, OnErr, if◌then◌else◌};
+ghost use Rattle.ink_model.specs.Rows.{name_order, row};
+ghost use Rattle.ink_model.specs.Threads.{frame_count};
+ghost use Rattle.ink_model.specs.Variables as rules;
+ghost use Rattle.ink_vars.specs.Words.{Are, Copies, HandsOut, LeadsInto, LeadsTo, Writes, declare_asks, is_pointer, is_there};
+
+use crate::globals::Globals;
+use crate::pointers::{chain_end, held, named, stands};
+use ink_model::{Fault, Scope, Shared, Text, Value};
+use ink_stack::Threads;
+use std::alloc::Global;
+
+/// Reads a variable: the global of that name, else the current frame's temporary, or what the pointer leads to that it
+/// holds. What nothing has, in a frame that is there, reads 0. `BadPointer` where the pointer leads to a global or a frame
+/// that is not there, or the chain of pointers is too long; `OutOfMemory` where the copy shares something and its count of
+/// owners is full (docs/VARIABLES.md, "Pointers").
+pub fn read<P: Copy>(
+    alloc: Global,
+    globals: &Globals,
+    threads: &Threads<P>,
+    name: &str,
+) -> Result<Value, Fault>
+    ensures { Copies (rules.read globals.now threads.now.thread name.now) result }
+{
+    match named(globals, threads, name) {
+        None => Ok(Value::Int(0)),
+        Some(Value::Pointer(frame, to)) => read_at(alloc, globals, threads, *frame, to),
+        Some(value) => copied(alloc, value),
+    }
+}
+
+// What a pointer leads to.
+fn read_at<P: Copy>(
+    alloc: Global,
+    globals: &Globals,
+    threads: &Threads<P>,
+    frame: i32,
+    name: &Shared<Text>,
+) -> Result<Value, Fault>
+    ensures { let end = rules.chain_end globals.now threads.now.thread frame name.now in
+        Copies (rules.value_at globals.now threads.now.thread end) result }
+{
+    let Some((frame, name)) = chain_end(globals, threads, frame, name) else {
+        return Err(Fault::BadPointer);
+    };
+    let name = name.get().as_str();
+    if !stands(globals, threads, frame, name) {
+        return Err(Fault::BadPointer);
+    }
+    match held(globals, threads, frame, name) {
+        Some(value) => copied(alloc, value),
+        None => Ok(Value::Int(0)),
+    }
+}
+
+fn copied(alloc: Global, value: &Value) -> Result<Value, Fault>
+    ensures { Copies (Ok value.now) result }
+{
+    match value.clone_in(alloc) {
+        Ok(copy) => Ok(copy),
+        Err(_) => Err(Fault::OutOfMemory),
+    }
+}
+
+/// Assigns to a variable: to the global of that name, else to the current frame's temporary, or to what the pointer leads to
+/// that it holds. `NoTemp` where nothing has that name, or the frame that the pointer leads to lacks it; `BadPointer` where
+/// the pointer leads to a global or a frame that is not there, or the chain of pointers is too long; `OutOfMemory` where a
+/// pointer is followed and its name has as many owners as can be. On an error nothing has changed (docs/VARIABLES.md,
+/// "Pointers").
+pub fn assign<P: Copy>(
+    globals: &mut Globals,
+    threads: &mut Threads<P>,
+    name: &str,
+    value: Value,
+) -> Result<(), Fault>
+    ensures { let rule = rules.assign globals.old threads.old.thread name.now value in
+        let asks = is_pointer (rules.named globals.old threads.old.thread name.now) in
+        Writes asks rule globals.old globals.new threads.old threads.new result }
+{
+    match assigned(globals, threads, name) {
+        Ok(None) => write_named(globals, threads, name, value),
+        Ok(Some((frame, to))) => write_held(globals, threads, frame, to.get().as_str(), value),
+        Err(fault) => Err(fault),
+    }
+}
+
+// What assigning to a name writes: none where it is what has the name, else a name in the frame of a number.
+fn assigned<P: Copy>(
+    globals: &Globals,
+    threads: &Threads<P>,
+    name: &str,
+) -> Result<Option<(i32, Shared<Text>)>, Fault>
+    ensures { LeadsTo globals.now threads.now.thread name.now result }
+{
+    match named(globals, threads, name) {
+        None => Err(Fault::NoTemp),
+        Some(Value::Pointer(frame, to)) => {
+            match written_at(globals, threads, *frame, to) {
+                Ok(end) => Ok(Some(end)),
+                Err(fault) => Err(fault),
+            }
+        }
+        Some(_) => Ok(None),
+    }
+}
+
+// Where a pointer leads that something is assigned to.
+fn written_at<P: Copy>(
+    globals: &Globals,
+    threads: &Threads<P>,
+    frame: i32,
+    name: &Shared<Text>,
+) -> Result<(i32, Shared<Text>), Fault>
+    ensures { let end = rules.chain_end globals.now threads.now.thread frame name.now in
+        LeadsInto globals.now threads.now.thread end result }
+{
+    let Some((frame, name)) = chain_end(globals, threads, frame, name) else {
+        return Err(Fault::BadPointer);
+    };
+    if !stands(globals, threads, frame, name.get().as_str()) {
+        return Err(Fault::BadPointer);
+    }
+    if held(globals, threads, frame, name.get().as_str()).is_none() {
+        return Err(Fault::NoTemp);
+    }
+    match name.share() {
+        Ok(name) => Ok((frame, name)),
+        Err(_) => Err(Fault::OutOfMemory),
+    }
+}
+
+// Gives what has a name a value, which asks for memory only where nothing has it.
+fn write_named<P: Copy>(
+    globals: &mut Globals,
+    threads: &mut Threads<P>,
+    name: &str,
+    value: Value,
+) -> Result<(), Fault>
+    ensures ok { OnOk result (Are (rules.with_named globals.old threads.old.thread name.now value) globals.new threads.old threads.new) }
+    ensures fault { IfErr result (λ f. f ≡ Fault.OutOfMemory) }
+    ensures globals_kept { OnErr result (globals.new ≡ globals.old) }
+    ensures threads_kept { OnErr result (threads.new ≡ threads.old) }
+    ensures memory { OnErr result (is_some (rules.named globals.old threads.old.thread name.now) ≡ false) }
+{
+    match globals.replace(name, value) {
+        Ok(()) => Ok(()),
+        Err(value) => {
+            let frame = threads.top().frames();
+            threads.set_temp(frame, name, value)
+        }
+    }
+}
+
+// Gives a name in the frame of a number a value, which asks for memory only where it has none.
+fn write_held<P: Copy>(
+    globals: &mut Globals,
+    threads: &mut Threads<P>,
+    frame: i32,
+    name: &str,
+    value: Value,
+) -> Result<(), Fault>
+    requires { rules.stands globals.old threads.old.thread frame name.now ≡ true }
+    ensures ok { OnOk result (Are (rules.with_held globals.old threads.old.thread frame name.now value) globals.new threads.old threads.new) }
+    ensures fault { IfErr result (λ f. f ≡ Fault.OutOfMemory) }
+    ensures globals_kept { OnErr result (globals.new ≡ globals.old) }
+    ensures threads_kept { OnErr result (threads.new ≡ threads.old) }
+    ensures memory { OnErr result (is_some (rules.held globals.old threads.old.thread frame name.now) ≡ false) }
+{
+    match usize::try_from(frame) {
+        Ok(0) => {
+            globals.put(name, value)?;
+            Ok(())
+        }
+        Ok(number) => threads.set_temp(number, name, value),
+        Err(_) => Err(Fault::OutOfMemory),
+    }
+}
+
+/// Declares a variable in a scope, whether there is one of that name or not; a global that is there keeps its place in their
+/// order. Of a pointer the last of its chain is kept, wherever that leads. `BadPointer` where that chain is too long;
+/// `OutOfMemory` for a refused request for memory, which is made only for a new name, and for a pointer where its name has
+/// as many owners as can be. On an error nothing has changed (docs/VARIABLES.md, "Declaring").
+pub fn declare<P: Copy>(
+    globals: &mut Globals,
+    threads: &mut Threads<P>,
+    scope: Scope,
+    name: &str,
+    value: Value,
+) -> Result<(), Fault>
+    ensures { let rule = rules.declare globals.old threads.old.thread scope name.now value in
+        let asks = declare_asks globals.old threads.old.thread scope name.now value in
+        Writes asks rule globals.old globals.new threads.old threads.new result }
+{
+    match kept(globals, threads, value) {
+        Ok(value) => put(globals, threads, scope, name, value),
+        Err(fault) => Err(fault),
+    }
+}
+
+// What a variable keeps of a value: of a pointer the last of its chain.
+fn kept<P: Copy>(globals: &Globals, threads: &Threads<P>, value: Value) -> Result<Value, Fault>
+    ensures { HandsOut (is_pointer (Some value)) (rules.kept globals.now threads.now.thread value) result }
+{
+    match &value {
+        Value::Pointer(frame, name) => kept_pointer(globals, threads, *frame, name),
+        _ => Ok(value),
+    }
+}
+
+fn kept_pointer<P: Copy>(
+    globals: &Globals,
+    threads: &Threads<P>,
+    frame: i32,
+    name: &Shared<Text>,
+) -> Result<Value, Fault>
+    ensures { let end = rules.chain_end globals.now threads.now.thread frame name.now in
+        HandsOut true (rules.kept_pointer end) result }
+{
+    let Some((frame, name)) = chain_end(globals, threads, frame, name) else {
+        return Err(Fault::BadPointer);
+    };
+    let name = name.share()?;
+    Ok(Value::Pointer(frame, name))
+}
+
+// Puts a value where a variable is declared.
+fn put<P: Copy>(
+    globals: &mut Globals,
+    threads: &mut Threads<P>,
+    scope: Scope,
+    name: &str,
+    value: Value,
+) -> Result<(), Fault>
+    ensures ok { OnOk result (Are (rules.with_declared globals.old threads.old.thread scope name.now value) globals.new threads.old threads.new) }
+    ensures fault { IfErr result (λ f. f ≡ Fault.OutOfMemory) }
+    ensures globals_kept { OnErr result (globals.new ≡ globals.old) }
+    ensures threads_kept { OnErr result (threads.new ≡ threads.old) }
+    ensures memory { OnErr result (is_there globals.old threads.old.thread scope name.now ≡ false) }
+{
+    match scope {
+        Scope::Global => {
+            globals.put(name, value)?;
+            Ok(())
+        }
+        Scope::Temporary => {
+            let frame = threads.top().frames();
+            threads.set_temp(frame, name, value)
+        }
+    }
+}
+
+/// The pointer that is pushed for one of the story: where its frame is not known (a number below 0), it leads to the current
+/// frame where that has the name, and else to the globals. `OutOfMemory` where the name has as many owners as can be
+/// (docs/VARIABLES.md, "Pointers").
+pub fn point<P: Copy>(threads: &Threads<P>, frame: i32, name: &Shared<Text>) -> Result<Value, Fault>
+    ensures { HandsOut true (Ok (rules.point threads.now.thread frame name.now)) result }
+{
+    let frame = if frame < 0 {
+        frame_of(threads, name.get().as_str())
+    } else {
+        frame
+    };
+    let name = name.share()?;
+    Ok(Value::Pointer(frame, name))
+}
+
+// The number of the current frame where that has the name, else 0.
+fn frame_of<P: Copy>(threads: &Threads<P>, name: &str) -> i32
+    ensures { let own = is_some (row name_order name.now threads.now.thread.frame.temps) in
+        result ≡ (if own then pos (frame_count threads.now.thread) else pos 0) }
+{
+    let frame = threads.top().frames();
+    if threads.temp(frame, name).is_some() {
+        frame as i32
+    } else {
+        0
+    }
+}
