@@ -1,5 +1,4 @@
 pub mod Globals
-pub mod Threads
 pub mod Words
 pub mod Performs
 pub mod Stacks

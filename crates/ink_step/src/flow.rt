@@ -8,8 +8,8 @@ ghost use Rattle.ink_model.specs.Tree.{StoryTree};
 ghost use Rattle.ink_step.specs.Steps.{MovesAs};
 ghost use Rattle.ink_tree.specs.Nodes.{place_of, story_tree};
 
-use crate::threads::Threads;
 use ink_model::Fault;
+use ink_stack::Threads;
 use ink_tree::{Spot, Tree};
 
 /// How a step ended: flow went on, or it has stopped.
@@ -21,7 +21,11 @@ pub enum StepEnd {
 
 /// Flow moves on to the place after the one where it is, or stops where there is none. `closed` says that no string and no
 /// tag is open; a stop is `StopInString` otherwise.
-pub(crate) fn move_on(tree: &Tree, threads: &mut Threads, closed: bool) -> Result<StepEnd, Fault>
+pub(crate) fn move_on(
+    tree: &Tree,
+    threads: &mut Threads<Spot>,
+    closed: bool,
+) -> Result<StepEnd, Fault>
     ensures { let s = story_tree tree.now in MovesAs (move_on closed (next_place s) (map_threads (place_of s) threads.old)) (map_threads (place_of s) threads.new) result }
 {
     let next = match threads.place() {
@@ -33,7 +37,7 @@ pub(crate) fn move_on(tree: &Tree, threads: &mut Threads, closed: bool) -> Resul
 
 /// Flow goes to a place, or stops where there is none. A stop is `StopInString` unless `closed`.
 pub(crate) fn go_to(
-    threads: &mut Threads,
+    threads: &mut Threads<Spot>,
     place: Option<Spot>,
     closed: bool,
 ) -> Result<StepEnd, Fault>
@@ -47,7 +51,7 @@ pub(crate) fn go_to(
 }
 
 /// Flow stops where it is. `StopInString` unless `closed`.
-pub(crate) fn done(threads: &mut Threads, closed: bool) -> Result<StepEnd, Fault>
+pub(crate) fn done(threads: &mut Threads<Spot>, closed: bool) -> Result<StepEnd, Fault>
     ensures { (s : StoryTree) → MovesAs (done closed (map_threads (place_of s) threads.old)) (map_threads (place_of s) threads.new) result }
 {
     threads.put(None);
@@ -55,7 +59,7 @@ pub(crate) fn done(threads: &mut Threads, closed: bool) -> Result<StepEnd, Fault
 }
 
 /// Flow stops, and nothing is left of where it was. `StopInString` unless `closed`.
-pub(crate) fn end(threads: &mut Threads, closed: bool) -> Result<StepEnd, Fault>
+pub(crate) fn end(threads: &mut Threads<Spot>, closed: bool) -> Result<StepEnd, Fault>
     ensures { (s : StoryTree) → MovesAs (stop_at closed (base_threads None)) (map_threads (place_of s) threads.new) result }
 {
     threads.reset();

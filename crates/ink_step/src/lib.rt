@@ -12,7 +12,6 @@ mod running;
 mod sections;
 mod step;
 mod storing;
-mod threads;
 mod transfer;
 mod writing;
 

@@ -185,7 +185,7 @@ impl Machine {
             | Control::ReadCount
             | Control::Visit => Ok(Transfer::Next),
         };
-        self.threads.set_evaluating(evaluating);
+        self.threads.set_mode(evaluating);
         transfer
     }
 
