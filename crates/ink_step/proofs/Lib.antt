@@ -9,3 +9,6 @@ pub mod Passages
 pub mod Openings
 pub mod NoMemory
 pub mod Unnumbered
+pub mod Passing
+pub mod Turns
+pub mod Calling

@@ -4,3 +4,4 @@ pub mod Words
 pub mod Performs
 pub mod Stacks
 pub mod Steps
+pub mod Reaches
