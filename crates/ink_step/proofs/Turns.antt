@@ -1,21 +1,18 @@
 -- One turn of where flow goes, by what is at its end.
-use Rattle.std.proofs.Common.{◌≡◌, ◌∙◌, sym, subst, refl, inl, inr, ℕ, ◌+◌, ◌<◌, List, [], ◌∷◌, length, Bool, true, false, nat_eq, if◌then◌else◌, Option, Some, None, option_and_then, Result, Ok, Err, arith}
-use Rattle.ink_model.specs.Flow.{Written, Reached, Reaches, Halts, Breaks, depth_of, halt, leave_for, moved_on, or_breaks, reach, thread_of, void_for}
-use Rattle.ink_model.specs.Frames.{FrameOf, ThreadOf, ThreadsOf, gone, is_function, map_threads}
+use Rattle.std.proofs.Common.{◌≡◌, ◌∙◌, sym, subst, refl, inl, inr, ℕ, ◌+◌, List, [], ◌∷◌, length, Bool, true, false, nat_eq, Option, Some, None, option_and_then, Result, Ok, Err}
+use Rattle.ink_model.specs.Flow.{Written, Reached, Reaches, Halts, Breaks, depth_of, leave_for, moved_on, or_breaks, reach, thread_of, void_for}
+use Rattle.ink_model.specs.Frames.{FrameOf, ThreadOf, ThreadsOf, gone, map_threads}
 use Rattle.ink_model.specs.MoveMemory.{moved_asks}
-use Rattle.ink_model.specs.Output.{is_line}
-use Rattle.ink_model.specs.Threads.{back_to, popped, same_kind}
+use Rattle.ink_model.specs.Threads.{popped}
 use Rattle.ink_model.specs.declared.fault.Fault.{Fault}
-use Rattle.ink_model.specs.declared.fault.Fault.TheVariants.{BadMode, BadPop, OutOfMemory, StopInString}
-use Rattle.ink_model.specs.declared.frame.FrameKind.{FrameKind}
+use Rattle.ink_model.specs.declared.fault.Fault.TheVariants.{OutOfMemory}
 use Rattle.ink_model.specs.declared.frame.FrameKind.TheVariants.{Function}
 use Rattle.ink_step.specs.Reaches.{PassesAs, ReachesAs, ended, left_asks, void_given}
 use Rattle.ink_step.specs.declared.flow.StepEnd.{StepEnd}
 use Rattle.ink_step.specs.declared.flow.StepEnd.TheVariants as ends
 
 module _ {P : Type 0} (after : P → Option P) where
-  -- ---- a place comes next, or a thread ends
-
+  -- a place comes next
   pub goes : (f : FrameOf P) (fs : List (FrameOf P)) (o : Option P) (us : List (ThreadOf P)) (w : Written) (q : P) → option_and_then after f.place ≡ Some q
       → moved_on after (record { thread = thread_of f fs o; below = us }) w ≡ Reaches (record { thread = gone (Some q) (thread_of f fs o); below = us }) w
   goes f [] o [] w q next = rw next refl
@@ -23,44 +20,25 @@ module _ {P : Type 0} (after : P → Option P) where
   goes f [] o (u ∷ us) w q next = rw next refl
   goes f (g ∷ gs) o (u ∷ us) w q next = rw next refl
 
-  module _ (f : FrameOf P) (fs : List (FrameOf P)) (o : Option P) (w : Written) (next : option_and_then after f.place ≡ None) where
-    pub stops : is_function f.kind ≡ false → moved_on after (record { thread = thread_of f fs o; below = [] }) w ≡ halt (record { thread = gone None (thread_of f fs o); below = [] }) w
-    stops kind = by fs
-      where
-        by : (gs : List (FrameOf P)) → moved_on after (record { thread = thread_of f gs o; below = [] }) w ≡ halt (record { thread = gone None (thread_of f gs o); below = [] }) w
-        by [] = rw (next, kind) refl
-        by (g ∷ gs) = rw (next, kind) refl
-
-    pub drops : (u : ThreadOf P) (us : List (ThreadOf P)) → is_function f.kind ≡ false
-        → moved_on after (record { thread = thread_of f fs o; below = u ∷ us }) w ≡ moved_on after (record { thread = u; below = us }) w
-    drops u us kind = by fs
-      where
-        by : (gs : List (FrameOf P)) → moved_on after (record { thread = thread_of f gs o; below = u ∷ us }) w ≡ moved_on after (record { thread = u; below = us }) w
-        by [] = rw (next, kind) refl
-        by (g ∷ gs) = rw (next, kind) refl
-
-    pub drop_asks : (u : ThreadOf P) (us : List (ThreadOf P)) → is_function f.kind ≡ false
-        → moved_asks after (record { thread = thread_of f fs o; below = u ∷ us }) w ≡ moved_asks after (record { thread = u; below = us }) w
-    drop_asks u us kind = rw (next, kind) refl
-
-  -- ---- a function ends
-
+  -- a function ends
   module _ (f : FrameOf P) (o : Option P) (w : Written) (next : option_and_then after f.place ≡ None) (kind : f.kind ≡ Function) where
-    pub leaves : (fs : List (FrameOf P)) (us : List (ThreadOf P)) → let ts : ThreadsOf P = record { thread = thread_of f fs o; below = us } in
-        moved_on after ts w ≡ or_breaks (ended ts w) Breaks (λ r. moved_on after r.0 r.1)
+    -- flow goes on where the function that ended leaves it
+    abbrev GoesOn : List (FrameOf P) → List (ThreadOf P) → Type 0
+    GoesOn fs us = let ts : ThreadsOf P = record { thread = thread_of f fs o; below = us } in moved_on after ts w ≡ or_breaks (ended ts w) Breaks (λ r. moved_on after r.0 r.1)
+
+    pub leaves : (fs : List (FrameOf P)) (us : List (ThreadOf P)) → GoesOn fs us
     leaves [] [] = rw (next, kind) refl
     leaves [] (u ∷ us) = rw (next, kind) refl
     leaves (g ∷ gs) us = by us (nat_eq f.depth (depth_of w)) refl (leave_for Function f.enter w) refl
       where
-        void : (us : List (ThreadOf P)) → nat_eq f.depth (depth_of w) ≡ true → (v : Written) → leave_for Function f.enter w ≡ Ok v → (x : Result Written Fault) → void_for g.evaluating v ≡ x
-            → moved_on after (record { thread = thread_of f (g ∷ gs) o; below = us }) w ≡ or_breaks (ended (record { thread = thread_of f (g ∷ gs) o; below = us }) w) Breaks (λ r. moved_on after r.0 r.1)
+        void : (us : List (ThreadOf P)) → nat_eq f.depth (depth_of w) ≡ true → (v : Written) → leave_for Function f.enter w ≡ Ok v
+            → (x : Result Written Fault) → void_for g.evaluating v ≡ x → GoesOn (g ∷ gs) us
         void [] depth v leave (Ok y) given = rw (next, kind, depth, leave, given) refl
         void (u ∷ us) depth v leave (Ok y) given = rw (next, kind, depth, leave, given) refl
         void [] depth v leave (Err e) given = rw (next, kind, depth, leave, given) refl
         void (u ∷ us) depth v leave (Err e) given = rw (next, kind, depth, leave, given) refl
 
-        by : (us : List (ThreadOf P)) (b : Bool) → nat_eq f.depth (depth_of w) ≡ b → (r : Result Written Fault) → leave_for Function f.enter w ≡ r
-            → moved_on after (record { thread = thread_of f (g ∷ gs) o; below = us }) w ≡ or_breaks (ended (record { thread = thread_of f (g ∷ gs) o; below = us }) w) Breaks (λ r. moved_on after r.0 r.1)
+        by : (us : List (ThreadOf P)) (b : Bool) → nat_eq f.depth (depth_of w) ≡ b → (r : Result Written Fault) → leave_for Function f.enter w ≡ r → GoesOn (g ∷ gs) us
         by [] false depth r leave = rw (next, kind, depth) refl
         by (u ∷ us) false depth r leave = rw (next, kind, depth) refl
         by [] true depth (Err e) leave = rw (next, kind, depth, leave) refl
@@ -121,20 +99,8 @@ frames_in (t ∷ ts) = length t.below + 1 + frames_in ts
 abbrev pub all_frames : {P : Type 0} → ThreadsOf P → ℕ
 all_frames ts = frames_in (ts.thread ∷ ts.below)
 
+-- a function that ended could be popped
 module _ {P : Type 0} where
-  pop_shrinks : (k : FrameKind) (d : ℕ) (t u : ThreadOf P) → popped k d t ≡ Ok u → length u.below < length t.below
-  pop_shrinks k d t u = by (same_kind t.frame.kind k) t.below
-    where
-      at_depth : (e : Bool) (g : FrameOf P) (gs : List (FrameOf P)) → (if e then Ok (record t { frame = g; below = gs }) else Err BadMode) ≡ Ok u → length u.below < length (g ∷ gs)
-      at_depth true g gs h = let same : record t { frame = g; below = gs } ≡ u = cc in subst (λ x. length x.below < length (g ∷ gs)) same (omega arith)
-      at_depth false g gs h = absurd (cc)
-
-      by : (b : Bool) (fs : List (FrameOf P)) → (if b then back_to fs d t else Err BadPop) ≡ Ok u → length u.below < length fs
-      by true [] h = absurd (cc)
-      by true (g ∷ gs) h = at_depth (nat_eq t.frame.depth d) g gs h
-      by false fs h = absurd (cc)
-
-  -- a function that ended could be popped
   ended_asks : (asks : Bool) (ts us : ThreadsOf P) (w v : Written) (u : Unit {0}) → PassesAs asks (ended ts w) us v (Ok u)
       → left_asks Function (popped Function (depth_of w) ts.thread) ≡ true
   ended_asks asks ts us w v u = by (popped Function (depth_of w) ts.thread)
@@ -145,35 +111,12 @@ module _ {P : Type 0} where
       by (Ok t) h = refl
       by (Err g) h = absurd h
 
-  pub end_shrinks : (asks : Bool) (ts us : ThreadsOf P) (w v : Written) (u : Unit {0}) → PassesAs asks (ended ts w) us v (Ok u) → all_frames us < all_frames ts
-  end_shrinks asks ts us w v u = by (popped Function (depth_of w) ts.thread) refl (leave_for Function ts.thread.frame.enter w)
-    where
-      given : (t : ThreadOf P) → length t.below < length ts.thread.below → (r : Result Written Fault)
-          → PassesAs asks (or_breaks r Err (λ x. Ok (record ts { thread = t }, x))) us v (Ok u) → all_frames us < all_frames ts
-      given t less (Ok x) h = subst (λ y. all_frames y < all_frames ts) (sym h.0) (omega arith)
-      given t less (Err e) h = absurd h
-
-      by : (r : Result (ThreadOf P) Fault) → popped Function (depth_of w) ts.thread ≡ r → (l : Result Written Fault)
-          → PassesAs asks (or_breaks (or_breaks r Err (λ t. or_breaks l Err (λ x. Ok (record ts { thread = t }, x)))) Err void_given) us v (Ok u) → all_frames us < all_frames ts
-      by (Ok t) e (Ok x) h = given t (pop_shrinks Function (depth_of w) ts.thread t e) (void_for t.frame.evaluating x) h
-      by (Ok t) e (Err g) h = absurd h
-      by (Err g) e l h = absurd h
-
 -- ---- the way from a start
 
 -- flow goes on from here as it does from the start, and asks for memory only where that asks
 pub record OnTheWay {P : Type 0} (after : P → Option P) (start : ThreadsOf P) (begun : Written) (here : ThreadsOf P) (w : Written) : Type 0 where
   pub same : moved_on after here w ≡ moved_on after start begun
   pub asks : moved_asks after here w ≡ true → moved_asks after start begun ≡ true
-
--- a stop is the rule's
-pub halts : {P : Type 0} (asks : Bool) (ts : ThreadsOf P) (w : Written) (r : Result StepEnd Fault) → r ≡ (if is_line w.page.sections then Ok ends.Stopped else Err StopInString)
-    → ReachesAs asks (halt ts w) ts w r
-halts asks ts w r h = by (is_line w.page.sections) h
-  where
-    by : (b : Bool) → r ≡ (if b then Ok ends.Stopped else Err StopInString) → ReachesAs asks (if b then Halts ts w else Breaks StopInString) ts w r
-    by true e = subst (λ x. ReachesAs asks (Halts ts w) ts w x) (sym e) (refl, refl)
-    by false e = subst (λ x. ReachesAs asks (Breaks StopInString) ts w x) (sym e) (inl refl)
 
 module _ {P Q : Type 0} (f : P → Q) (after : Q → Option Q) (start : ThreadsOf Q) (begun w : Written) (ts : ThreadsOf P) (way : OnTheWay after start begun (map_threads f ts) w) where
   -- a place comes next

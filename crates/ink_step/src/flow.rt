@@ -1,6 +1,6 @@
 //! Where flow goes among frames and threads (docs/FRAMES.md).
 
-ghost use Rattle.std.specs.Prelude.{◌≡◌, List, None, Some, Ok, Err, Bool, true, false, nat_lt, if◌then◌else◌, option_map, option_and_then};
+ghost use Rattle.std.specs.Prelude.{◌≡◌, List, None, Ok, Err, false, nat_lt, if◌then◌else◌, option_map, option_and_then};
 ghost use Rattle.ink_model.specs.Flow.{Written, called, depth_of, done, forked, halt, moved_on, reach, returned, void_for};
 ghost use Rattle.ink_model.specs.Frames.{base_threads, is_function, map_threads, place_in};
 ghost use Rattle.ink_model.specs.Memory.{Gives, leaving};
@@ -49,10 +49,7 @@ pub(crate) fn move_on(
             return Ok(land(threads, place));
         }
         match threads.top().kind() {
-            FrameKind::Function => match end_function(threads, stack, output) {
-                Ok(()) => {}
-                Err(fault) => return Err(fault),
-            },
+            FrameKind::Function => end_function(threads, stack, output)?,
             FrameKind::Base | FrameKind::Tunnel => {
                 if !threads.pop_thread() {
                     threads.go(None);
@@ -83,14 +80,9 @@ pub(crate) fn call(
     ensures { (s : StoryTree) (values : List Data) → let ts = map_threads (place_of s) threads.old in let w : Written = record { stack = values; page = output.old.page } in
         ReachesAs (nat_lt (frame_count ts.thread) MAX_FRAMES) (called kind (place_of s place) ts w) (map_threads (place_of s) threads.new) (record { stack = values; page = output.new.page }) result }
 {
-    match threads.push_frame(kind, output.depth()) {
-        Ok(()) => {}
-        Err(fault) => return Err(fault),
-    }
-    match enter(threads, output, kind) {
-        Ok(()) => Ok(land(threads, place)),
-        Err(fault) => Err(fault),
-    }
+    threads.push_frame(kind, output.depth())?;
+    enter(threads, output, kind)?;
+    Ok(land(threads, place))
 }
 
 /// A frame of this kind is popped. Flow goes on after its call, or lands at the place that is given. `BadPop` where the top frame
@@ -107,10 +99,7 @@ pub(crate) fn give_back(
     ensures { let s = story_tree tree.now in let ts = map_threads (place_of s) threads.old in let w = written stack.old output.old in let q = option_map (place_of s) to in
         ReachesAs (returned_asks (next_place s) kind q ts w) (returned (next_place s) kind q ts w) (map_threads (place_of s) threads.new) (written stack.new output.new) result }
 {
-    match leave(threads, output, kind) {
-        Ok(()) => {}
-        Err(fault) => return Err(fault),
-    }
+    leave(threads, output, kind)?;
     match to {
         Some(place) => Ok(land(threads, place)),
         None => move_on(tree, threads, stack, output),
@@ -128,14 +117,11 @@ pub(crate) fn fork(
     ensures { let s = story_tree tree.now in let ts = map_threads (place_of s) threads.old in let w = written stack.old output.old in
         ReachesAs (forked_asks (next_place s) ts w) (forked (next_place s) ts w) (map_threads (place_of s) threads.new) (written stack.new output.new) result }
 {
-    match move_on(tree, threads, stack, output) {
-        Ok(StepEnd::Went) => {}
-        end => return end,
+    let end = move_on(tree, threads, stack, output)?;
+    if let StepEnd::Went = end {
+        threads.push_thread()?;
     }
-    match threads.push_thread() {
-        Ok(()) => Ok(StepEnd::Went),
-        Err(fault) => Err(fault),
-    }
+    Ok(end)
 }
 
 /// The thread that runs is dropped, and the one below moves on, with the faults of moving on. The last thread stops where it is:
@@ -194,10 +180,8 @@ fn end_function(
     ensures { (s : StoryTree) → let ts = map_threads (place_of s) threads.old in let w = written stack.old output.old in
         PassesAs (left_asks kind.Function (popped kind.Function (depth_of w) ts.thread)) (ended ts w) (map_threads (place_of s) threads.new) (written stack.new output.new) result }
 {
-    match leave(threads, output, FrameKind::Function) {
-        Ok(()) => push_void(stack, threads.is_evaluating()),
-        Err(fault) => Err(fault),
-    }
+    leave(threads, output, FrameKind::Function)?;
+    push_void(stack, threads.is_evaluating())
 }
 
 /// Void for a caller that evaluates.
@@ -218,13 +202,11 @@ fn enter(threads: &mut Threads<Spot>, output: &mut Output, kind: FrameKind) -> R
         PassesAs (is_function kind) (entered kind ts w) (map_threads (place_of s) threads.new) (record { stack = values; page = output.new.page }) result }
 {
     match kind {
-        FrameKind::Function => match output.enter() {
-            Ok(number) => {
-                threads.set_number(number);
-                Ok(())
-            }
-            Err(fault) => Err(fault),
-        },
+        FrameKind::Function => {
+            let number = output.enter()?;
+            threads.set_number(number);
+            Ok(())
+        }
         FrameKind::Base | FrameKind::Tunnel => Ok(()),
     }
 }
@@ -237,10 +219,7 @@ fn leave(threads: &mut Threads<Spot>, output: &mut Output, kind: FrameKind) -> R
         PassesAs (left_asks kind (popped kind (depth_of w) ts.thread)) (left kind ts w) (map_threads (place_of s) threads.new) (record { stack = values; page = output.new.page }) result }
 {
     let number = threads.top().number();
-    match threads.pop_frame(kind, output.depth()) {
-        Ok(()) => {}
-        Err(fault) => return Err(fault),
-    }
+    threads.pop_frame(kind, output.depth())?;
     match kind {
         FrameKind::Function => output.leave(number),
         FrameKind::Base | FrameKind::Tunnel => Ok(()),

@@ -17,8 +17,8 @@ returns-in-Function c s values =
     let w : Written = record { stack = values; page = c.args.output.now.page } in
     let number : c.number-number.result ≡ old.thread.frame.enter = c.number-number.ensures ∙ ap (λ t. t.frame.enter) c.top.ensures in
     let writes : Gives (leaving c.leave.new.self.page c.leave.result) (ends_function old.thread.frame.enter w.page) = rw number at c.leave.ensures.page.0 in
-    let pops_one : Changes (top_result (popped kind.Function (depth_of w) old.thread) old) old c.pop_frame.new.self (Ok c.in-Ok.field-0) = rw (c.in-Function.is, c.depth.ensures) at c.in-Ok.ensures in
-    rw c.in-Function.is (left_marked (map_threads f old) (map_threads f c.pop_frame.new.self) _ _ _ c.in-Ok.field-0 c.leave.result (pops f kind.Function (depth_of w) old c.pop_frame.new.self _ pops_one)
+    let pops_one : Changes (top_result (popped kind.Function (depth_of w) old.thread) old) old c.pop_frame.new.self (Ok c.in_ok-pop_frame.field-0) = rw (c.in-Function.is, c.depth.ensures) at c.in_ok-pop_frame.ensures in
+    rw c.in-Function.is (left_marked (map_threads f old) (map_threads f c.pop_frame.new.self) _ _ _ c.in_ok-pop_frame.field-0 c.leave.result (pops f kind.Function (depth_of w) old c.pop_frame.new.self _ pops_one)
     (gives_page w _ _ _ writes))
 
 pub returns-in-Base : goal.returns-in-Base
@@ -26,9 +26,9 @@ returns-in-Base c s values =
     let f = place_of s in
     let old = c.args.threads.now in
     let w : Written = record { stack = values; page = c.args.output.now.page } in
-    let pops_one : Changes (top_result (popped c.args.kind (depth_of w) old.thread) old) old c.pop_frame.new.self (Ok c.in-Ok.field-0) = rw c.depth.ensures at c.in-Ok.ensures in
+    let pops_one : Changes (top_result (popped c.args.kind (depth_of w) old.thread) old) old c.pop_frame.new.self (Ok c.in_ok-pop_frame.field-0) = rw c.depth.ensures at c.in_ok-pop_frame.ensures in
     let pops_there = pops f c.args.kind (depth_of w) old c.pop_frame.new.self _ pops_one in
     elim c.in-Base.is [
-      | inl base ↦ rw base (left_unmarked _ (map_threads f old) _ w _ c.in-Ok.field-0 (rw base at pops_there))
-      | inr tunnel ↦ rw tunnel (left_unmarked _ (map_threads f old) _ w _ c.in-Ok.field-0 (rw tunnel at pops_there))
+      | inl base ↦ rw base (left_unmarked _ (map_threads f old) _ w _ c.in_ok-pop_frame.field-0 (rw base at pops_there))
+      | inr tunnel ↦ rw tunnel (left_unmarked _ (map_threads f old) _ w _ c.in_ok-pop_frame.field-0 (rw tunnel at pops_there))
     ]
