@@ -38,6 +38,7 @@ pub mod ValueJson
 pub mod Command
 pub mod Answer
 pub mod State
+pub mod MoveMemory
 pub mod Asks
 pub mod Memory
 pub mod Session
@@ -46,4 +47,8 @@ pub mod StoryExamples
 pub mod FrameExamples
 pub mod PushExamples
 pub mod OutputExamples
+pub mod CallStories
+pub mod CallExamples
+pub mod ReturnExamples
+pub mod ThreadExamples
 pub mod Examples

@@ -1,13 +1,13 @@
 //! Threads.
 
-ghost use Rattle.std.specs.Prelude.{◌≡◌, ◌≢◌, ◌⊎◌, [], ◌∷◌, None, map, option_map, reverse, IfOk, OnErr};
-ghost use Rattle.ink_model.specs.Frames.{base_frame, fresh_depth, frame_numbered, gone, mode_in, put_in, unnumbered_frame, unnumbered_thread};
-ghost use Rattle.ink_model.specs.Threads.{frame_count, number_in, popped, pushed, stale_run, staled, temp_in};
+ghost use Rattle.std.specs.Prelude.{◌≡◌, ◌≢◌, ◌⊎◌, [], None, map, reverse, IfOk, OnErr};
+ghost use Rattle.ink_model.specs.Frames.{base_frame, fresh_depth, gone, mode_in, put_in, unnumbered_frame, unnumbered_thread};
+ghost use Rattle.ink_model.specs.Threads.{frame_count, number_in, popped, pushed, stale_run, staled};
 ghost use Rattle.ink_stack.specs.Quiet.{is_quiet};
 ghost use Rattle.ink_stack.specs.Words.{Changes, Grows};
 
 use crate::frame::Frame;
-use ink_model::{Fault, FrameKind, MAX_FRAMES, Value};
+use ink_model::{Fault, FrameKind, MAX_FRAMES};
 use std::alloc::{AllocError, Global};
 use std::marker::Model;
 use std::mem;

@@ -2,4 +2,6 @@ pub mod Globals
 pub mod Words
 pub mod Performs
 pub mod Stacks
+pub mod Reaches
 pub mod Steps
+pub mod Reaches

@@ -4,6 +4,7 @@
 mod diverting;
 mod evaluating;
 mod flow;
+mod frames;
 mod globals;
 mod machine;
 mod opening;
