@@ -1,12 +1,14 @@
 -- Whether a step asks for memory (docs/RUNNING.md, "Out of memory").
 use Rattle.std.specs.Prelude.{List, [], Bool, true, false, not, ◌||◌, Option, Some, None, Result, Ok, Err}
-use Rattle.ink_model.specs.Configuration.{Configuration, current_place}
+use Rattle.ink_model.specs.Configuration.{Configuration, current_place, put_at}
 use Rattle.ink_model.specs.Effect.{Fields, fields_of, is_fresh}
+use Rattle.ink_model.specs.MoveMemory.{move_asks}
 use Rattle.ink_model.specs.Joining.{makes_text}
 use Rattle.ink_model.specs.Operator.{takes}
 use Rattle.ink_model.specs.Output.{closes_string, closes_tag}
 use Rattle.ink_model.specs.Place.{entered}
 use Rattle.ink_model.specs.Stack.{popped, taken}
+use Rattle.ink_model.specs.Step.{effect}
 use Rattle.ink_model.specs.Tree.{StoryTree, leaf, container, at}
 use Rattle.ink_model.specs.Value.{printed}
 use Rattle.ink_model.specs.declared.content.Control.{Control}
@@ -94,9 +96,13 @@ content_asks None f = false
 content_asks (Some (container name flags content named)) f = false
 content_asks (Some (leaf l)) f = leaf_asks l f
 
+-- performing what stands at a place asks for memory, or where flow goes after it
+abbrev pub performing_asks : StoryTree → List Part → Option StoryTree → Configuration → Bool
+performing_asks s p found c = content_asks found (fields_of c) || move_asks s (effect s p found (fields_of c)) (put_at (Some p) c)
+
 abbrev pub asks_at : StoryTree → Option (List Part) → Configuration → Bool
 asks_at s None c = false
-asks_at s (Some p) c = content_asks (at s (entered s p)) (fields_of c)
+asks_at s (Some p) c = performing_asks s (entered s p) (at s (entered s p)) c
 
 -- the step at a configuration asks for memory
 unfoldable pub asks : StoryTree → Configuration → Bool

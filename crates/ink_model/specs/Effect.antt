@@ -1,20 +1,23 @@
 -- What a content does: to the fields that it touches, and how flow goes from there (docs/RUNNING.md, "Steps").
-use Rattle.std.specs.Prelude.{ℕ, List, length, Bool, false, nat_eq, Option, Some, None, Result, Ok, Err}
+use Rattle.std.specs.Prelude.{ℕ, List, [], length, Bool, true, false, nat_eq, Option, Some, None, Result, Ok, Err}
 use Rattle.ink_model.specs.Configuration.{ConfigurationOf, with_globals, with_threads}
 use Rattle.ink_model.specs.Frames.{fresh_depth, mode_in, on_top}
+use Rattle.ink_model.specs.Threads.{staled}
 use Rattle.ink_model.specs.Page.{Page}
 use Rattle.ink_model.specs.Stack.{popped, pushed}
 use Rattle.ink_model.specs.Store.{Values}
 use Rattle.ink_model.specs.declared.fault.Fault.{Fault}
 use Rattle.ink_model.specs.declared.fault.Fault.TheVariants.{StackEmpty}
+use Rattle.ink_model.specs.declared.frame.FrameKind.{FrameKind}
 use Rattle.ink_model.specs.declared.place.Part.{Part}
 use Rattle.ink_model.specs.declared.value.Value.{Value}
 
 -- What content may look at and change: the top frame's mode and freshness, the stack, the page and the globals. fresh: the
--- section in which the top frame is a fresh function, which no content ends yet.
+-- section in which the top frame is a fresh function; wrote: the section in which a Text was written, which ends freshness.
 pub record Fields : Type 0 where
   pub evaluating : Bool
   pub fresh : Option ℕ
+  pub wrote : Option ℕ
   pub stack : List Value
   pub page : Page
   pub globals : Values
@@ -24,6 +27,7 @@ module _ {P : Type 0} where
   fields_of c = record {
     evaluating = c.flow.threads.thread.frame.evaluating;
     fresh = fresh_depth c.flow.threads.thread.frame;
+    wrote = None;
     stack = c.flow.stack;
     page = c.page;
     globals = c.shared.globals;
@@ -38,8 +42,12 @@ module _ {P : Type 0} where
   abbrev pub with_page : Page → ConfigurationOf P → ConfigurationOf P
   with_page page c = record c { page = page }
 
+  abbrev pub with_staleness : Option ℕ → ConfigurationOf P → ConfigurationOf P
+  with_staleness None c = c
+  with_staleness (Some depth) c = with_threads (on_top (staled depth) c.flow.threads) c
+
   abbrev pub with_fields : Fields → ConfigurationOf P → ConfigurationOf P
-  with_fields f c = with_page f.page (with_globals f.globals (with_stack f.stack (with_mode f.evaluating c)))
+  with_fields f c = with_page f.page (with_globals f.globals (with_stack f.stack (with_staleness f.wrote (with_mode f.evaluating c))))
 
 -- the top frame is a function that is fresh in the open section
 abbrev pub is_fresh_at : Option ℕ → ℕ → Bool
@@ -49,10 +57,14 @@ is_fresh_at (Some depth) n = nat_eq depth n
 abbrev pub is_fresh : Fields → Bool
 is_fresh f = is_fresh_at f.fresh (length f.page.sections)
 
--- Flow moves on after its place, or lands at another; it is done with its thread, or ends; or a fault comes.
+-- Flow moves on after its place, or lands at another, or lands there in a frame of its own; it comes back from such a frame,
+-- to after its call or to a place; it goes on in two threads; it is done with its thread, or ends; or a fault comes.
 pub data Effect : Type 0 where
   Moves : (after : Fields) → Effect
   Lands : (place : List Part) → (after : Fields) → Effect
+  Calls : (kind : FrameKind) → (place : List Part) → (after : Fields) → Effect
+  Returns : (kind : FrameKind) → (to : Option (List Part)) → (after : Fields) → Effect
+  Forks : (after : Fields) → Effect
   Done : (after : Fields) → Effect
   Ends : (after : Fields) → Effect
   Fails : (fault : Fault) → Effect
@@ -78,3 +90,12 @@ pushing v f = or_fault (pushed v f.stack) (λ vs. Moves (record f { stack = vs }
 -- the page as it is after a call that writes
 abbrev pub writing : Result Page Fault → Fields → Effect
 writing r f = or_fault r (λ page. Moves (record f { page = page }))
+
+-- the section in which a Text was written, if any was
+abbrev pub wrote_in : Bool → Page → Option ℕ
+wrote_in true page = Some (length page.sections)
+wrote_in false page = None
+
+-- the same of a call that writes a text or a value
+abbrev pub writing_text : Bool → Result Page Fault → Fields → Effect
+writing_text has_text r f = or_fault r (λ page. Moves (record f { page = page; wrote = wrote_in has_text page }))

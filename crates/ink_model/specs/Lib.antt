@@ -40,6 +40,7 @@ pub mod ValueJson
 pub mod Command
 pub mod Answer
 pub mod State
+pub mod MoveMemory
 pub mod Asks
 pub mod Memory
 pub mod Session
@@ -50,4 +51,8 @@ pub mod PushExamples
 pub mod VariableExamples
 pub mod CountExamples
 pub mod OutputExamples
+pub mod CallStories
+pub mod CallExamples
+pub mod ReturnExamples
+pub mod ThreadExamples
 pub mod Examples

@@ -66,13 +66,13 @@ fn supports(leaf: &Leaf) -> bool
         | Leaf::Target(_)
         | Leaf::Op(_)
         | Leaf::Divert { .. }
+        | Leaf::Call { .. }
+        | Leaf::Tunnel { .. }
         | Leaf::Declare(_)
         | Leaf::Assign(_)
         | Leaf::Variable(_) => true,
         Leaf::Control(control) => supports_control(*control),
         Leaf::Pointer(..)
-        | Leaf::Call { .. }
-        | Leaf::Tunnel { .. }
         | Leaf::External { .. }
         | Leaf::DeclareTemp(_)
         | Leaf::AssignTemp(_)
@@ -96,11 +96,11 @@ fn supports_control(control: Control) -> bool
         | Control::BeginTag
         | Control::EndTag
         | Control::Done
-        | Control::End => true,
-        Control::Return
+        | Control::End
+        | Control::Return
         | Control::ReturnTunnel
-        | Control::Thread
-        | Control::ChoiceCount
+        | Control::Thread => true,
+        Control::ChoiceCount
         | Control::Turn
         | Control::Turns
         | Control::ReadCount

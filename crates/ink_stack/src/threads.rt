@@ -1,6 +1,7 @@
 //! The threads of a running story.
 
 ghost use Rattle.std.specs.Prelude.{◌≡◌, ◌≢◌, ◌⊎◌, ◌<◌, ◌≤◌, [], None, is_some, map, option_map, unwrap_or, IfOk, IfErr, OnOk, OnErr};
+ghost use Rattle.ink_model.specs.Flow.{is_last};
 ghost use Rattle.ink_model.specs.Frames.{base_threads, fresh_depth, gone, mode_in, on_top, place_in, put_in, unnumbered_thread, unnumbered_threads};
 ghost use Rattle.ink_model.specs.Threads.{alone, doubled, dropped, frame_count, number_in, popped, pushed, staled, temp_in, top_result, with_temp};
 ghost use Rattle.ink_stack.specs.Words.{Changes, Grows};
@@ -158,6 +159,13 @@ impl<P: Copy> Threads<P> {
         };
         self.thread = next;
         true
+    }
+
+    /// Whether the top thread is the only one. Takes no memory.
+    pub fn is_last(&self) -> bool
+        ensures { result ≡ is_last self.now }
+    {
+        self.below.is_empty()
     }
 
     /// A copy of the top thread. The one error is `OutOfMemory` for a refused request for memory, which a frame alone

@@ -1,19 +1,24 @@
 -- Where flow goes after a content, and so how a step ends.
-use Rattle.std.proofs.Common.{◌≡◌, ◌∙◌, ap, sym, refl, subst, inr, List, Bool, true, Option, Some, None, Result, Ok, Err}
-use Rattle.ink_model.specs.Configuration.{Configuration, current_place, put_at, with_threads}
-use Rattle.ink_model.specs.Effect.{Fields, Effect, Moves, Lands, Done, Ends, Fails, fields_of, with_fields}
-use Rattle.ink_model.specs.Frames.{ThreadsOf, gone, mode_in, on_top}
+use Rattle.std.proofs.Common.{◌≡◌, ◌∙◌, ◌||◌, ap, sym, refl, subst, inl, inr, ℕ, List, Bool, true, false, Option, Some, None, option_map, Result, Ok, Err}
+use Rattle.ink_model.specs.Configuration.{Configuration, current_place, ended, put_at, with_safe, with_threads}
+use Rattle.ink_model.specs.Effect.{Fields, Effect, Moves, Lands, Calls, Returns, Forks, Done, Ends, Fails, fields_of, with_fields}
+use Rattle.ink_model.specs.Flow.{Written, Reached, Reaches, Halts, Breaks, called, depth_of, done, forked, halt, is_last, moved_on, reach, returned}
+use Rattle.ink_model.specs.Frames.{ThreadsOf, base_threads, mode_in, on_top}
 use Rattle.ink_model.specs.Memory.{asks, asks_at, content_asks}
-use Rattle.ink_model.specs.Move.{Went, Outcome, Next, Stop, Wants, Faults, land_at, move}
-use Rattle.ink_model.specs.Place.{entered}
+use Rattle.ink_model.specs.Move.{Outcome, Next, Stop, Wants, Faults, going, move, reached_in, with_flow, written_in}
+use Rattle.ink_model.specs.MoveMemory.{flow_asks, move_asks, moved_asks, returned_asks}
+use Rattle.ink_model.specs.Place.{entered, next_place}
 use Rattle.ink_model.specs.Step.{effect, nothing_bound, step, step_at}
 use Rattle.ink_model.specs.Store.{Values}
+use Rattle.ink_model.specs.Threads.{staled}
 use Rattle.ink_model.specs.Tree.{StoryTree, at}
 use Rattle.ink_model.specs.declared.fault.Fault.{Fault}
 use Rattle.ink_model.specs.declared.fault.Fault.TheVariants.{OutOfMemory}
+use Rattle.ink_model.specs.declared.frame.FrameKind.{FrameKind}
 use Rattle.ink_model.specs.declared.place.Part.{Part}
 use Rattle.ink_step.specs.Performs.{Performs}
-use Rattle.ink_step.specs.Steps.{MovesAs, StepEnds}
+use Rattle.ink_step.specs.Reaches.{ReachesAs}
+use Rattle.ink_step.specs.Steps.{StepEnds}
 use Rattle.ink_step.specs.Words.{config_of}
 use Rattle.ink_step.specs.declared.flow.StepEnd.{StepEnd}
 use Rattle.ink_step.specs.declared.flow.StepEnd.TheVariants as ends
@@ -22,65 +27,190 @@ use Rattle.ink_step.specs.declared.transfer.Transfer.TheVariants as transfer
 use Rattle.ink_tree.specs.Nodes.{place_of}
 use Rattle.ink_tree.specs.declared.spot.Spot.{Spot}
 
--- ---- flow lands
+-- ---- by cases
 
-pub lands : (s : StoryTree) (asks : Bool) (c : Configuration) (spot : Spot) (e : Effect) → Performs s asks e (fields_of c) (Ok (transfer.Land spot))
-    → move s e c ≡ land_at (place_of s spot) c
-lands s asks c spot (Moves f) h = absurd h
-lands s asks c spot (Lands p f) h = ap (λ q. land_at q (with_fields f c)) h.0 ∙ ap (λ g. land_at (place_of s spot) (with_fields g c)) (sym h.1)
-lands s asks c spot (Done f) h = absurd h
-lands s asks c spot (Ends f) h = absurd h
-lands s asks c spot (Fails f) h = absurd h
+or_more : (a b : Bool) → b ≡ true → a || b ≡ true
+or_more true b h = refl
+or_more false b h = h
 
-pub ends_landed : (asks : Bool) (c : Configuration) (p : List Part) (ts : ThreadsOf (List Part)) (r : Result StepEnd Fault)
-    → MovesAs (Went (on_top (gone (Some p)) c.flow.threads)) ts r → StepEnds asks (land_at p c) c.shared.globals (with_threads ts c) r
-ends_landed asks c p ts (Ok ends.Went) h = ap (λ x. with_threads x c) h
-ends_landed asks c p ts (Ok ends.Stopped) h = absurd h
-ends_landed asks c p ts (Err f) h = absurd h
+or_first : (a b : Bool) → a ≡ true → a || b ≡ true
+or_first a b h = subst (λ x. x || b ≡ true) (sym h) refl
+
+-- where memory was refused
+ends_short : (asking : Bool) (o : Outcome) (globals : Values) (d : Configuration) (f : Fault) → (f ≡ OutOfMemory) × (asking ≡ true) → d.shared.globals ≡ globals
+    → StepEnds asking o globals d (Err f)
+ends_short asking (Next c) globals d f short same = (short, same)
+ends_short asking (Stop c) globals d f short same = (short, same)
+ends_short asking (Wants name arguments c) globals d f short same = (short, same)
+ends_short asking (Faults g) globals d f short same = (inr short, same)
+
+-- the same where more asks for memory
+module _ (asking more : Bool) where
+  ends_more : (o : Outcome) (globals : Values) (d : Configuration) (r : Result StepEnd Fault) → StepEnds more o globals d r → StepEnds (asking || more) o globals d r
+  ends_more (Next c) globals d (Ok ends.Went) h = h
+  ends_more (Next c) globals d (Ok ends.Stopped) h = absurd h
+  ends_more (Next c) globals d (Err f) h = ((h.0.0, or_more asking more h.0.1), h.1)
+  ends_more (Stop c) globals d (Ok ends.Went) h = absurd h
+  ends_more (Stop c) globals d (Ok ends.Stopped) h = h
+  ends_more (Stop c) globals d (Err f) h = ((h.0.0, or_more asking more h.0.1), h.1)
+  ends_more (Wants name arguments c) globals d (Ok ends.Went) h = absurd h
+  ends_more (Wants name arguments c) globals d (Ok ends.Stopped) h = absurd h
+  ends_more (Wants name arguments c) globals d (Err f) h = ((h.0.0, or_more asking more h.0.1), h.1)
+  ends_more (Faults g) globals d (Ok ends.Went) h = absurd h
+  ends_more (Faults g) globals d (Ok ends.Stopped) h = absurd h
+  ends_more (Faults g) globals d (Err f) h = (elim h.0 [ inl is ↦ inl is | inr short ↦ inr (short.0, or_more asking more short.1) ], h.1)
+
+-- ---- where flow went
+
+-- a fault on the way
+pub ends_broken : (asking : Bool) (c d : Configuration) (globals : Values) (reached : Reached (List Part)) (ts : ThreadsOf (List Part)) (w : Written) (f : Fault)
+    → ReachesAs asking reached ts w (Err f) → d.shared.globals ≡ globals → StepEnds asking (reached_in c reached) globals d (Err f)
+ends_broken asking c d globals (Reaches us v) ts w f h same = (h, same)
+ends_broken asking c d globals (Halts us v) ts w f h same = (h, same)
+ends_broken asking c d globals (Breaks g) ts w f h same = (h, same)
+
+-- none, and so what was stored before is of no matter
+pub ends_there : (asking : Bool) (c : Configuration) (globals : Values) (reached : Reached (List Part)) (ts : ThreadsOf (List Part)) (w : Written) (end : StepEnd)
+    → ReachesAs asking reached ts w (Ok end) → StepEnds asking (reached_in c reached) globals (with_flow ts w c) (Ok end)
+ends_there asking c globals (Reaches us v) ts w ends.Went h = ap (λ t. with_flow t w c) h.0 ∙ ap (λ x. with_flow us x c) h.1
+ends_there asking c globals (Reaches us v) ts w ends.Stopped h = absurd h
+ends_there asking c globals (Halts us v) ts w ends.Went h = absurd h
+ends_there asking c globals (Halts us v) ts w ends.Stopped h = ap (λ t. with_flow t w c) h.0 ∙ ap (λ x. with_flow us x c) h.1
+ends_there asking c globals (Breaks g) ts w ends.Went h = absurd h
+ends_there asking c globals (Breaks g) ts w ends.Stopped h = absurd h
+
+pub ends_reached : (asking : Bool) (c : Configuration) (reached : Reached (List Part)) (ts : ThreadsOf (List Part)) (w : Written) (r : Result StepEnd Fault)
+    → ReachesAs asking reached ts w r → StepEnds asking (reached_in c reached) c.shared.globals (with_flow ts w c) r
+ends_reached asking c reached ts w (Ok end) h = ends_there asking c c.shared.globals reached ts w end h
+ends_reached asking c reached ts w (Err f) h = ends_broken asking c (with_flow ts w c) c.shared.globals reached ts w f h refl
+
+-- ---- flow goes where a content sends it
+
+module _ (s : StoryTree) (asking : Bool) (c d : Configuration) (r : Result StepEnd Fault) where
+  abbrev Follows : Effect → Type 0
+  Follows e = StepEnds (asking || move_asks s e c) (move s e c) c.shared.globals d r
+
+  abbrev stale_now : Configuration
+  stale_now = with_threads (on_top (staled (depth_of (written_in c))) c.flow.threads) c
+
+  pub goes_after_text : (e : Effect) → Performs s asking e (fields_of c) (Ok transfer.Wrote)
+      → StepEnds (moved_asks (next_place s) stale_now.flow.threads (written_in c)) (going (moved_on (next_place s)) stale_now) c.shared.globals d r → Follows e
+  goes_after_text (Moves f) h go = subst (λ g. Follows (Moves g)) (sym h) (ends_more asking _ _ _ _ r go)
+  goes_after_text (Lands p f) h go = absurd h
+  goes_after_text (Calls k p f) h go = absurd h
+  goes_after_text (Returns k to f) h go = absurd h
+  goes_after_text (Forks f) h go = absurd h
+  goes_after_text (Done f) h go = absurd h
+  goes_after_text (Ends f) h go = absurd h
+  goes_after_text (Fails f) h go = absurd h
+
+  pub goes_there : (spot : Spot) (e : Effect) → Performs s asking e (fields_of c) (Ok (transfer.Land spot))
+      → StepEnds false (going (reach (place_of s spot)) c) c.shared.globals d r → Follows e
+  goes_there spot (Moves f) h go = absurd h
+  goes_there spot (Lands p f) h go = subst (λ q. Follows (Lands q f)) (sym h.0) (subst (λ g. Follows (Lands (place_of s spot) g)) h.1 (ends_more asking false (going (reach (place_of s spot)) c) _ d r go))
+  goes_there spot (Calls k p f) h go = absurd h
+  goes_there spot (Returns k to f) h go = absurd h
+  goes_there spot (Forks f) h go = absurd h
+  goes_there spot (Done f) h go = absurd h
+  goes_there spot (Ends f) h go = absurd h
+  goes_there spot (Fails f) h go = absurd h
+
+  pub goes_back : (kind : FrameKind) (spot : Option Spot) (e : Effect) → Performs s asking e (fields_of c) (Ok (transfer.Return kind spot))
+      → StepEnds (returned_asks (next_place s) kind (option_map (place_of s) spot) c.flow.threads (written_in c)) (going (returned (next_place s) kind (option_map (place_of s) spot)) c) c.shared.globals d r
+      → Follows e
+  goes_back kind spot (Moves f) h go = absurd h
+  goes_back kind spot (Lands p f) h go = absurd h
+  goes_back kind spot (Calls k p f) h go = absurd h
+  goes_back kind spot (Returns k to f) h go = subst (λ x. Follows (Returns x to f)) (sym h.0) (subst (λ o. Follows (Returns kind o f)) (sym h.1)
+      (subst (λ g. Follows (Returns kind (option_map (place_of s) spot) g)) h.2 (ends_more asking _ _ _ _ r go)))
+  goes_back kind spot (Forks f) h go = absurd h
+  goes_back kind spot (Done f) h go = absurd h
+  goes_back kind spot (Ends f) h go = absurd h
+  goes_back kind spot (Fails f) h go = absurd h
+
+  pub goes_nowhere : (e : Effect) → Performs s asking e (fields_of c) (Ok transfer.End)
+      → StepEnds false (reached_in (ended c) (halt (base_threads None) (written_in c))) c.shared.globals d r → Follows e
+  goes_nowhere (Moves f) h go = absurd h
+  goes_nowhere (Lands p f) h go = absurd h
+  goes_nowhere (Calls k p f) h go = absurd h
+  goes_nowhere (Returns k to f) h go = absurd h
+  goes_nowhere (Forks f) h go = absurd h
+  goes_nowhere (Done f) h go = absurd h
+  goes_nowhere (Ends f) h go = subst (λ g. Follows (Ends g)) h (ends_more asking _ _ _ _ r go)
+  goes_nowhere (Fails f) h go = absurd h
 
 -- ---- a step
 
--- where memory was refused
-ends_short : (asks : Bool) (o : Outcome) (globals : Values) (d : Configuration) (f : Fault) → (f ≡ OutOfMemory) × (asks ≡ true) → d.shared.globals ≡ globals
-    → StepEnds asks o globals d (Err f)
-ends_short asks (Next c) globals d f short same = (short, same)
-ends_short asks (Stop c) globals d f short same = (short, same)
-ends_short asks (Wants name arguments c) globals d f short same = (short, same)
-ends_short asks (Faults g) globals d f short same = (inr short, same)
-
 -- performing faults
-pub ends_unperformed : (s : StoryTree) (asks : Bool) (e : Effect) (new : Fields) (c d : Configuration) (globals : Values) (f : Fault) → Performs s asks e new (Err f)
-    → d.shared.globals ≡ globals → StepEnds asks (move s e c) globals d (Err f)
-ends_unperformed s asks (Moves g) new c d globals f h same = ends_short asks (move s (Moves g) c) globals d f h same
-ends_unperformed s asks (Lands p g) new c d globals f h same = ends_short asks (move s (Lands p g) c) globals d f h same
-ends_unperformed s asks (Done g) new c d globals f h same = ends_short asks (move s (Done g) c) globals d f h same
-ends_unperformed s asks (Ends g) new c d globals f h same = ends_short asks (move s (Ends g) c) globals d f h same
-ends_unperformed s asks (Fails g) new c d globals f h same = (h, same)
+pub ends_unperformed : (s : StoryTree) (asking more : Bool) (e : Effect) (new : Fields) (c d : Configuration) (globals : Values) (f : Fault) → Performs s asking e new (Err f)
+    → d.shared.globals ≡ globals → StepEnds (asking || more) (move s e c) globals d (Err f)
+ends_unperformed s asking more e new c d globals f h same = by e h
+  where
+    short : (o : Outcome) → (f ≡ OutOfMemory) × (asking ≡ true) → StepEnds (asking || more) o globals d (Err f)
+    short o k = ends_short (asking || more) o globals d f (k.0, or_first asking more k.1) same
+
+    by : (e : Effect) → Performs s asking e new (Err f) → StepEnds (asking || more) (move s e c) globals d (Err f)
+    by (Moves g) k = short (move s (Moves g) c) k
+    by (Lands p g) k = short (move s (Lands p g) c) k
+    by (Calls kind p g) k = short (move s (Calls kind p g) c) k
+    by (Returns kind to g) k = short (move s (Returns kind to g) c) k
+    by (Forks g) k = short (move s (Forks g) c) k
+    by (Done g) k = short (move s (Done g) c) k
+    by (Ends g) k = short (move s (Ends g) c) k
+    by (Fails g) k = (elim k [ inl is ↦ inl is | inr refused ↦ inr (refused.0, or_first asking more refused.1) ], same)
 
 -- performing changes the fields alone, which a move takes from the effect
 module _ (s : StoryTree) (old mid : Machine) (changes : mid.threads ≡ on_top (mode_in mid.threads.thread.frame.evaluating) old.threads) (safely : mid.safe ≡ old.safe) where
   abbrev changed : Bool → Machine
   changed b = record mid { threads = on_top (mode_in mid.threads.thread.frame.evaluating) old.threads; safe = b }
 
+  over : (f : Fields) (o : Option ℕ) → with_fields (record f { wrote = o }) (config_of s (changed old.safe)) ≡ with_fields (record f { wrote = o }) (config_of s old)
+  over f None = refl
+  over f (Some depth) = refl
+
   goes_alike : (e : Effect) → move s e (config_of s (changed old.safe)) ≡ move s e (config_of s old)
-  goes_alike (Moves f) = refl
-  goes_alike (Lands p f) = refl
-  goes_alike (Done f) = refl
-  goes_alike (Ends f) = refl
+  goes_alike (Moves f) = ap (going (moved_on (next_place s))) (over f f.wrote)
+  goes_alike (Lands p f) = ap (going (reach p)) (over f f.wrote)
+  goes_alike (Calls k p f) = ap (going (called k p)) (over f f.wrote)
+  goes_alike (Returns k to f) = ap (going (returned (next_place s) k to)) (over f f.wrote)
+  goes_alike (Forks f) = ap (going (forked (next_place s))) (over f f.wrote)
+  goes_alike (Done f) = ap (λ c. going (done (next_place s)) (with_safe (c.flow.safe || is_last c.flow.threads) c)) (over f f.wrote)
+  goes_alike (Ends f) = ap (λ c. reached_in (ended c) (halt (base_threads None) (written_in c))) (over f f.wrote)
   goes_alike (Fails f) = refl
 
-  pub goes_as : (e : Effect) → move s e (config_of s mid) ≡ move s e (config_of s old)
-  goes_as e = ap (λ ts. move s e (config_of s (record mid { threads = ts }))) changes ∙ ap (λ b. move s e (config_of s (changed b))) safely ∙ goes_alike e
+  asks_alike : (e : Effect) → move_asks s e (config_of s (changed old.safe)) ≡ move_asks s e (config_of s old)
+  asks_alike (Moves f) = ap (λ c. flow_asks s (Moves f) c.flow.threads (written_in c)) (over f f.wrote)
+  asks_alike (Lands p f) = refl
+  asks_alike (Calls k p f) = ap (λ c. flow_asks s (Calls k p f) c.flow.threads (written_in c)) (over f f.wrote)
+  asks_alike (Returns k to f) = ap (λ c. flow_asks s (Returns k to f) c.flow.threads (written_in c)) (over f f.wrote)
+  asks_alike (Forks f) = ap (λ c. flow_asks s (Forks f) c.flow.threads (written_in c)) (over f f.wrote)
+  asks_alike (Done f) = ap (λ c. flow_asks s (Done f) c.flow.threads (written_in c)) (over f f.wrote)
+  asks_alike (Ends f) = refl
+  asks_alike (Fails f) = refl
+
+  is_changed : mid ≡ changed old.safe
+  is_changed = ap (λ ts. record mid { threads = ts }) changes ∙ ap changed safely
+
+  -- and so a step that follows it ends as one from before it
+  pub ends_after : (asking : Bool) (e : Effect) (globals : Values) (d : Configuration) (r : Result StepEnd Fault)
+      → StepEnds (asking || move_asks s e (config_of s mid)) (move s e (config_of s mid)) globals d r → StepEnds (asking || move_asks s e (config_of s old)) (move s e (config_of s old)) globals d r
+  ends_after asking e globals d r h =
+      let alike = subst (λ m. StepEnds (asking || move_asks s e (config_of s m)) (move s e (config_of s m)) globals d r) is_changed h in
+      let moves = subst (λ o. StepEnds (asking || move_asks s e (config_of s (changed old.safe))) o globals d r) (goes_alike e) alike in
+      subst (λ b. StepEnds (asking || b) (move s e (config_of s old)) globals d r) (asks_alike e) moves
 
 -- a step goes down to the first content, performs what stands there and moves
 pub ends_performed : (s : StoryTree) (p here : List Part) (found : Option StoryTree) (old new : Configuration) (r : Result StepEnd Fault)
     → current_place old ≡ Some p → here ≡ entered s p → found ≡ at s here
-    → StepEnds (content_asks found (fields_of old)) (move s (effect s here found (fields_of old)) (put_at (Some here) old)) old.shared.globals new r
+    → StepEnds (content_asks found (fields_of old) || move_asks s (effect s here found (fields_of old)) (put_at (Some here) old))
+    (move s (effect s here found (fields_of old)) (put_at (Some here) old)) old.shared.globals new r
     → StepEnds (asks s old) (step s nothing_bound old) old.shared.globals new r
 unfolding step asks
 ends_performed s p here found old new r at_p is stands h =
-    let there = subst (λ f. StepEnds (content_asks f (fields_of old)) (move s (effect s here f (fields_of old)) (put_at (Some here) old)) old.shared.globals new r) stands h in
-    let entering = subst (λ q. StepEnds (content_asks (at s q) (fields_of old)) (move s (effect s q (at s q) (fields_of old)) (put_at (Some q) old)) old.shared.globals new r) is there in
+    let there = subst (λ f. StepEnds (content_asks f (fields_of old) || move_asks s (effect s here f (fields_of old)) (put_at (Some here) old))
+    (move s (effect s here f (fields_of old)) (put_at (Some here) old)) old.shared.globals new r) stands h in
+    let entering = subst (λ q. StepEnds (content_asks (at s q) (fields_of old) || move_asks s (effect s q (at s q) (fields_of old)) (put_at (Some q) old))
+    (move s (effect s q (at s q) (fields_of old)) (put_at (Some q) old)) old.shared.globals new r) is there in
     subst (λ o. StepEnds (asks_at s o old) (step_at s nothing_bound o old) old.shared.globals new r) (sym at_p) entering
 
 -- where flow has stopped it stays stopped

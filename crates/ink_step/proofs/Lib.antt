@@ -3,9 +3,14 @@ pub mod Tops
 pub mod Limits
 pub mod Effects
 pub mod Landings
+pub mod Leading
+pub mod Staled
 pub mod Follows
 pub mod Moments
 pub mod Passages
 pub mod Openings
 pub mod NoMemory
 pub mod Unnumbered
+pub mod Passing
+pub mod Turns
+pub mod Calling

@@ -1,20 +1,24 @@
 -- No rule faults with OutOfMemory: who is told so was refused memory.
-use Rattle.std.proofs.Common.{◌≡◌, ◌≢◌, ◌∙◌, ap, refl, subst, sym, ℕ, zero, suc, ℤ, List, [], ◌∷◌, ◌++◌, Bool, true, false, if◌then◌else◌, Option, Some, None, Result, Ok, Err, is_some, option_and_then}
+use Rattle.std.proofs.Common.{◌≡◌, ◌≢◌, ◌∙◌, ◌^◌, ap, refl, subst, sym, ℕ, zero, suc, ℤ, List, [], ◌∷◌, ◌++◌, ◌||◌, Bool, true, false, if◌then◌else◌, Option, Some, None, Result, Ok, Err, is_some, nat_eq, nat_lt, ok_or, option_and_then, option_map}
 use Rattle.ink_model.specs.Bytes.{fits_text}
 use Rattle.ink_model.specs.Configuration.{Configuration, begun, current_place, ended, with_safe}
-use Rattle.ink_model.specs.Effect.{Fields, Effect, Moves, Lands, Done, Ends, Fails, fields_of, is_fresh, or_else, or_fault, pushing, with_fields, writing}
-use Rattle.ink_model.specs.Frames.{ThreadsOf}
-use Rattle.ink_model.specs.Move.{Moved, Went, Stopped, Breaks, Outcome, Next, Stop, Wants, Faults, go_to, move, moved_in, stop_at}
+use Rattle.ink_model.specs.Effect.{Fields, Effect, Moves, Lands, Calls, Returns, Forks, Done, Ends, Fails, fields_of, is_fresh, or_else, or_fault, pushing, with_fields, writing, writing_text}
+use Rattle.ink_model.specs.Flow.{Written, Reached, Reaches, Halts, Breaks, Ending, Continues, Finishes, Collapses, called, done_by, doubled_in, enter_for, frames_on, halt, is_last, leave_for, moved_on, on_ending, on_page, on_stack, or_breaks, or_end, reach, reach_or_on, returned, thread_of, threads_on, void_for}
+use Rattle.ink_model.specs.Frames.{FrameOf, ThreadOf, ThreadsOf, base_threads, is_function}
+use Rattle.ink_model.specs.Move.{Outcome, Next, Stop, Wants, Faults, move, reached_in, written_in}
 use Rattle.ink_model.specs.Opening.{Unopened, declaring, opening, opened_by, opened_from}
 use Rattle.ink_model.specs.Operator.{Operand, number, Operands, numbers, texts, targets, unlike, both, operand, can_divide, of_numbers, of_texts, of_targets, of_one, of_two, apply, takes}
-use Rattle.ink_model.specs.Output.{closes_string_of, closes_tag_of, is_line, writes_value}
+use Rattle.ink_model.specs.Output.{closes_string_of, closes_tag_of, begins_function, is_line, with_next, writes_value}
 use Rattle.ink_model.specs.Page.{Page, Section, SectionKind, string_section, tag_section}
 use Rattle.ink_model.specs.Place.{entered, next_place}
 use Rattle.ink_model.specs.Run as running
 use Rattle.ink_model.specs.Run.{Moment, At, Faulted, Waits, Made, answered, answered_at, came, cut_off, moment, moment_after, next, push_answer, run, value_given, fits_value}
+use Rattle.ink_model.specs.Path.{target}
 use Rattle.ink_model.specs.Stack.{applied_to, on_top, popped, taken}
+use Rattle.ink_model.specs.Threads as threads
 use Rattle.ink_model.specs.Step.{Bound, control_effect, effect, leaf_effect, nothing_bound, step, step_at}
-use Rattle.ink_model.specs.Step.Diverts.{divert_if, divert_to, led_to}
+use Rattle.ink_model.specs.Step.Calls.{call_to, led_back}
+use Rattle.ink_model.specs.Step.Diverts.{divert_to, led_to, where_true}
 use Rattle.ink_model.specs.Step.Evaluation.{output_popped, push_value}
 use Rattle.ink_model.specs.Step.Text.{closed_tag, in_tag, keeps_tag}
 use Rattle.ink_model.specs.Store.{Values, stored}
@@ -26,9 +30,11 @@ use Rattle.ink_model.specs.declared.content.Destination.{Destination}
 use Rattle.ink_model.specs.declared.content.Leaf.{Leaf}
 use Rattle.ink_model.specs.declared.content.Leaf.TheVariants as leaves
 use Rattle.ink_model.specs.declared.fault.Fault.{Fault}
-use Rattle.ink_model.specs.declared.fault.Fault.TheVariants.{BadMode, BadTarget, Divide, HostRefused, NoTemp, OutOfMemory, OutOfSteps, StackEmpty, TooDeep}
+use Rattle.ink_model.specs.declared.fault.Fault.TheVariants.{BadMode, BadPop, BadTarget, Divide, HostRefused, NoTemp, OutOfMemory, OutOfSteps, StackEmpty, StopInString, TooDeep}
+use Rattle.ink_model.specs.declared.frame.FrameKind.{FrameKind}
+use Rattle.ink_model.specs.declared.frame.FrameKind.TheVariants.{Base, Function, Tunnel}
 use Rattle.ink_model.specs.declared.host.Given.{Given}
-use Rattle.ink_model.specs.declared.limits.TheConstants.{MAX_STEPS}
+use Rattle.ink_model.specs.declared.limits.TheConstants.{MAX_FRAMES, MAX_STEPS, MAX_THREADS}
 use Rattle.ink_model.specs.declared.mark.Mark.{Mark}
 use Rattle.ink_model.specs.declared.mark.Mark.TheVariants as mark
 use Rattle.ink_model.specs.declared.operator.Op.{Op}
@@ -57,6 +63,13 @@ deep r limit h = let no : OutOfMemory ≡ TooDeep = limit OutOfMemory h in absur
 result_or : {A : Type 0} (b : Bool) (a : A) (f : Fault) → f ≢ OutOfMemory → Sound (if b then Ok a else Err f)
 result_or true a f k = λ e. absurd (cc)
 result_or false a f k = λ e. k (cc)
+
+result_if : {A : Type 0} (b : Bool) (r q : Result A Fault) → Sound r → Sound q → Sound (if b then r else q)
+result_if true r q h k = h
+result_if false r q h k = k
+
+fault_sound : {A : Type 0} (f : Fault) → f ≢ OutOfMemory → Sound {A = A} (Err f)
+fault_sound f own = λ h. own (cc)
 
 effect_if : (b : Bool) (e d : Effect) → Acts e → Acts d → Acts (if b then e else d)
 effect_if true e d h k = h
@@ -164,29 +177,47 @@ push_acts v f = acts_or _ _ (deep _ (pushed_deep v f.stack)) (λ vs. moves_act _
 write_acts : (r : Result Page Fault) (f : Fields) → Sound r → Acts (writing r f)
 write_acts r f sound = acts_or r _ sound (λ page. moves_act _)
 
+text_acts : (has_text : Bool) (r : Result Page Fault) (f : Fields) → Sound r → Acts (writing_text has_text r f)
+text_acts has_text r f sound = acts_or r _ sound (λ page. moves_act _)
+
 value_acts : (v : Value) (f : Fields) → Acts (push_value v f)
 value_acts v f = effect_if f.evaluating _ _ (push_acts v f) (moves_act f)
 
 output_acts : (top : Option (Value × List Value)) (f : Fields) → Acts (output_popped top f)
 output_acts None f = moves_act f
-output_acts (Some r) f = write_acts _ (record f { stack = r.1 }) (printed_sound (is_fresh f) r.0 f.page)
+output_acts (Some r) f = text_acts _ _ (record f { stack = r.1 }) (printed_sound (is_fresh f) r.0 f.page)
 
-control_acts : (o : Control) (f : Fields) → Acts (control_effect o f)
-control_acts control.BeginEval f = effect_if f.evaluating _ _ (fails_act BadMode (λ h. absurd (cc))) (moves_act _)
-control_acts control.EndEval f = effect_if f.evaluating _ _ (moves_act _) (fails_act BadMode (λ h. absurd (cc)))
-control_acts control.Out f = output_acts (popped f.stack) f
-control_acts control.Pop f = acts_else StackEmpty (popped f.stack) _ (λ h. absurd (cc)) (λ r. moves_act _)
-control_acts control.Duplicate f = acts_else StackEmpty (popped f.stack) _ (λ h. absurd (cc)) (λ r. push_acts r.0 f)
-control_acts control.BeginString f = effect_if f.evaluating _ _ (write_acts _ (record f { evaluating = false }) (deep _ (opens_deep string_section f.page))) (fails_act BadMode (λ h. absurd (cc)))
-control_acts control.EndString f = acts_or _ _ (string_sound f.page f.page.sections) (λ r. push_acts _ _)
-control_acts control.BeginTag f = acts_or _ _ (opened_sound (in_tag f.page.sections) f.stack f.page) (λ r. write_acts _ (record f { stack = r.0 }) (deep _ (opens_deep tag_section r.1)))
-control_acts control.EndTag f = acts_or _ _ (closed_sound f.stack f.page) (λ r. moves_act _)
-control_acts control.Done f = λ h. absurd (cc)
-control_acts control.End f = λ h. absurd (cc)
-control_acts o f = moves_act f
+led_back_sound : (s : StoryTree) (v : Value) → Sound (led_back s v)
+led_back_sound s value.Void = λ h. absurd (cc)
+led_back_sound s (value.Target path) = by (target s [] path)
+  where
+    by : (o : Option (List Part)) → Sound (ok_or (option_map (λ q. Some q) o) BadTarget)
+    by None = λ h. absurd (cc)
+    by (Some q) = λ h. absurd (cc)
+led_back_sound s v = λ h. absurd (cc)
+
+control_acts : (s : StoryTree) (o : Control) (f : Fields) → Acts (control_effect s o f)
+control_acts s control.BeginEval f = effect_if f.evaluating _ _ (fails_act BadMode (λ h. absurd (cc))) (moves_act _)
+control_acts s control.EndEval f = effect_if f.evaluating _ _ (moves_act _) (fails_act BadMode (λ h. absurd (cc)))
+control_acts s control.Out f = output_acts (popped f.stack) f
+control_acts s control.Pop f = acts_else StackEmpty (popped f.stack) _ (λ h. absurd (cc)) (λ r. moves_act _)
+control_acts s control.Duplicate f = acts_else StackEmpty (popped f.stack) _ (λ h. absurd (cc)) (λ r. push_acts r.0 f)
+control_acts s control.BeginString f = effect_if f.evaluating _ _ (write_acts _ (record f { evaluating = false }) (deep _ (opens_deep string_section f.page))) (fails_act BadMode (λ h. absurd (cc)))
+control_acts s control.EndString f = acts_or _ _ (string_sound f.page f.page.sections) (λ r. push_acts _ _)
+control_acts s control.BeginTag f = acts_or _ _ (opened_sound (in_tag f.page.sections) f.stack f.page) (λ r. write_acts _ (record f { stack = r.0 }) (deep _ (opens_deep tag_section r.1)))
+control_acts s control.EndTag f = acts_or _ _ (closed_sound f.stack f.page) (λ r. moves_act _)
+control_acts s control.Done f = λ h. absurd (cc)
+control_acts s control.End f = λ h. absurd (cc)
+control_acts s control.Return f = λ h. absurd (cc)
+control_acts s control.ReturnTunnel f = acts_else StackEmpty (popped f.stack) _ (λ h. absurd (cc)) (λ r. acts_or (led_back s r.0) _ (led_back_sound s r.0) (λ to. λ h. absurd (cc)))
+control_acts s control.Thread f = λ h. absurd (cc)
+control_acts s o f = moves_act f
 
 divert_acts : (s : StoryTree) (p : List Part) (to : Destination) (f : Fields) → Acts (divert_to s p to f)
 divert_acts s p to f = acts_else BadTarget (led_to s p to f.globals) _ (λ h. absurd (cc)) (λ q. λ h. absurd (cc))
+
+call_acts : (k : FrameKind) (s : StoryTree) (p : List Part) (to : Destination) (f : Fields) → Acts (call_to k s p to f)
+call_acts k s p to f = acts_else BadTarget (led_to s p to f.globals) _ (λ h. absurd (cc)) (λ q. λ h. absurd (cc))
 
 true_sound : (v : Value) → Sound (is_true v)
 unfolding is_true
@@ -196,21 +227,23 @@ true_sound (value.Text t) = λ h. absurd (cc)
 true_sound value.Void = λ h. absurd (cc)
 true_sound v = λ h. absurd (cc)
 
-where_acts : (s : StoryTree) (p : List Part) (to : Destination) (f : Fields) → Acts (divert_if s p to f)
-where_acts s p to f = acts_else StackEmpty (popped f.stack) _ (λ h. absurd (cc))
-    (λ r. acts_or (is_true r.0) _ (true_sound r.0) (λ b. effect_if b _ _ (divert_acts s p to _) (moves_act _)))
+where_acts : (conditional : Bool) (f : Fields) (so : Fields → Effect) → ((g : Fields) → Acts (so g)) → Acts (where_true conditional f so)
+where_acts conditional f so acts = effect_if conditional _ _
+    (acts_else StackEmpty (popped f.stack) _ (λ h. absurd (cc)) (λ r. acts_or (is_true r.0) _ (true_sound r.0) (λ b. effect_if b _ _ (acts _) (moves_act _)))) (acts f)
 
 leaf_acts : (s : StoryTree) (p : List Part) (l : Leaf) (f : Fields) → Acts (leaf_effect s p l f)
-leaf_acts s p (leaves.Text t) f = effect_if f.evaluating _ _ (push_acts _ f) (write_acts _ f (deep _ (marks_deep _ f.page)))
+leaf_acts s p (leaves.Text t) f = effect_if f.evaluating _ _ (push_acts _ f) (text_acts _ _ f (deep _ (marks_deep _ f.page)))
 leaf_acts s p leaves.Newline f = effect_if f.evaluating _ _ (push_acts _ f) (write_acts _ f (deep _ (marks_deep _ f.page)))
 leaf_acts s p leaves.Glue f = effect_if f.evaluating _ _ (fails_act BadMode (λ h. absurd (cc))) (write_acts _ f (deep _ (marks_deep (mark.Glue ∷ []) f.page)))
 leaf_acts s p (leaves.Int z) f = value_acts _ f
 leaf_acts s p (leaves.Bool t) f = value_acts _ f
 leaf_acts s p leaves.Void f = value_acts _ f
 leaf_acts s p (leaves.Target text) f = value_acts _ f
-leaf_acts s p (leaves.Control o) f = control_acts o f
+leaf_acts s p (leaves.Control o) f = control_acts s o f
 leaf_acts s p (leaves.Op o) f = acts_or _ _ (applied_sound o (taken (takes o) f.stack [])) (λ vs. moves_act _)
-leaf_acts s p (leaves.Divert to conditional) f = effect_if conditional _ _ (where_acts s p to f) (divert_acts s p to f)
+leaf_acts s p (leaves.Divert to conditional) f = where_acts conditional f _ (divert_acts s p to)
+leaf_acts s p (leaves.Call to conditional) f = where_acts conditional f _ (call_acts Function s p to)
+leaf_acts s p (leaves.Tunnel to conditional) f = where_acts conditional f _ (call_acts Tunnel s p to)
 leaf_acts s p (leaves.Declare name) f = acts_else StackEmpty (popped f.stack) _ (λ h. absurd (cc)) (λ r. moves_act _)
 leaf_acts s p (leaves.Assign name) f = acts_else StackEmpty (popped f.stack) _ (λ h. absurd (cc))
     (λ r. effect_if (is_some (stored name f.globals)) _ _ (moves_act _) (fails_act NoTemp (λ h. absurd (cc))))
@@ -222,30 +255,143 @@ effect_acts s p None f = moves_act f
 effect_acts s p (Some (container name flags content named)) f = moves_act f
 effect_acts s p (Some (leaf l)) f = leaf_acts s p l f
 
--- ---- moves
+-- ---- frames and threads, and what is written to where they are pushed and popped
 
-abbrev Stays : {P : Type 0} → Moved P → Type 0
-Stays m = m ≢ Breaks OutOfMemory
+module _ {P : Type 0} where
+  pushed_sound : (k : FrameKind) (d : ℕ) (t : ThreadOf P) → Sound (threads.pushed k d t)
+  pushed_sound k d t = result_or (nat_lt (threads.frame_count t) MAX_FRAMES) _ TooDeep (λ h. absurd (cc))
 
-stop_stays : {P : Type 0} (closed : Bool) (ts : ThreadsOf P) → Stays (stop_at closed ts)
-stop_stays true ts = λ h. absurd (cc)
-stop_stays false ts = λ h. absurd (cc)
+  back_sound : (fs : List (FrameOf P)) (d : ℕ) (t : ThreadOf P) → Sound (threads.back_to fs d t)
+  back_sound [] d t = λ h. absurd (cc)
+  back_sound (f ∷ fs) d t = result_or (nat_eq t.frame.depth d) _ BadMode (λ h. absurd (cc))
 
-go_stays : {P : Type 0} (closed : Bool) (q : Option P) (ts : ThreadsOf P) → Stays (go_to closed q ts)
-go_stays closed None ts = stop_stays closed _
-go_stays closed (Some q) ts = λ h. absurd (cc)
+  popped_sound : (k : FrameKind) (d : ℕ) (t : ThreadOf P) → Sound (threads.popped k d t)
+  popped_sound k d t = result_if (threads.same_kind t.frame.kind k) _ _ (back_sound t.below d t) (fault_sound BadPop (λ h. absurd (cc)))
 
-moved_goes : (c : Configuration) (m : Moved (List Part)) → Stays m → Goes (moved_in c m)
-moved_goes c (Went ts) stays = λ h. absurd (cc)
-moved_goes c (Stopped ts) stays = λ h. absurd (cc)
-moved_goes c (Breaks f) stays = λ h. stays (cc)
+  doubled_sound : (ts : ThreadsOf P) → Sound (threads.doubled ts)
+  doubled_sound ts = result_or (nat_lt (threads.thread_count ts) MAX_THREADS) _ TooDeep (λ h. absurd (cc))
+
+page_sound : (r : Result Page Fault) (w : Written) → Sound r → Sound (on_page r w)
+page_sound (Ok page) w sound = λ h. absurd (cc)
+page_sound (Err f) w sound = λ h. sound (cc)
+
+stack_sound : (r : Result (List Value) Fault) (w : Written) → Sound r → Sound (on_stack r w)
+stack_sound (Ok vs) w sound = λ h. absurd (cc)
+stack_sound (Err f) w sound = λ h. sound (cc)
+
+begins_sound : (page : Page) → Sound (begins_function page)
+begins_sound page = result_if (nat_lt (suc page.next_enter) (2 ^ 64)) _ _ (deep _ (marks_deep (mark.Enter page.next_enter ∷ []) (with_next page))) (fault_sound TooDeep (λ h. absurd (cc)))
+
+enter_sound : (k : FrameKind) (w : Written) → Sound (enter_for k w)
+enter_sound Base w = λ h. absurd (cc)
+enter_sound Function w = page_sound _ w (begins_sound w.page)
+enter_sound Tunnel w = λ h. absurd (cc)
+
+leave_sound : (k : FrameKind) (n : Option ℕ) (w : Written) → Sound (leave_for k n w)
+leave_sound Base n w = λ h. absurd (cc)
+leave_sound Function n w = page_sound _ w (deep _ (marks_deep (mark.Leave n ∷ []) w.page))
+leave_sound Tunnel n w = λ h. absurd (cc)
+
+void_sound : (evaluating : Bool) (w : Written) → Sound (void_for evaluating w)
+void_sound evaluating w = result_if evaluating _ _ (stack_sound _ w (deep _ (pushed_deep value.Void w.stack))) (λ h. absurd (cc))
+
+-- ---- where flow goes
+
+abbrev Stays : {P : Type 0} → Reached P → Type 0
+Stays r = r ≢ Breaks OutOfMemory
+
+abbrev Closes : {P : Type 0} → Ending P → Type 0
+Closes e = e ≢ Collapses OutOfMemory
+
+module _ {P : Type 0} where
+  stays_or : {A : Type 0} (r : Result A Fault) (so : A → Reached P) → Sound r → ((a : A) → Stays (so a)) → Stays (or_breaks r Breaks so)
+  stays_or (Ok a) so sound stays = stays a
+  stays_or (Err f) so sound stays = λ h. sound (cc)
+
+  closes_or : {A : Type 0} (r : Result A Fault) (so : A → Ending P) → Sound r → ((a : A) → Closes (so a)) → Closes (or_breaks r Collapses so)
+  closes_or (Ok a) so sound closes = closes a
+  closes_or (Err f) so sound closes = λ h. sound (cc)
+
+  closes_if : (b : Bool) (e d : Ending P) → Closes e → Closes d → Closes (if b then e else d)
+  closes_if true e d h k = h
+  closes_if false e d h k = k
+
+  closes_end : (q : Option P) (t : ThreadOf P) (w : Written) (e : Ending P) → Closes e → Closes (or_end q t w e)
+  closes_end None t w e closes = closes
+  closes_end (Some q) t w e closes = λ h. absurd (cc)
+
+  collapse_closes : (f : Fault) → f ≢ OutOfMemory → Closes {P = P} (Collapses f)
+  collapse_closes f own = λ h. own (cc)
+
+  finish_closes : (t : ThreadOf P) (w : Written) → Closes (Finishes t w)
+  finish_closes t w = λ h. absurd (cc)
+
+  halt_stays : (ts : ThreadsOf P) (w : Written) → Stays (halt ts w)
+  halt_stays ts w = by (is_line w.page.sections)
+    where
+      by : (b : Bool) → Stays (if b then Halts ts w else Breaks StopInString)
+      by true = λ h. absurd (cc)
+      by false = λ h. absurd (cc)
+
+  reach_stays : (q : P) (ts : ThreadsOf P) (w : Written) → Stays (reach q ts w)
+  reach_stays q ts w = λ h. absurd (cc)
+
+  called_stays : (k : FrameKind) (q : P) (ts : ThreadsOf P) (w : Written) → Stays (called k q ts w)
+  called_stays k q ts w = stays_or _ _ (pushed_sound k _ ts.thread) (λ t. stays_or _ _ (enter_sound k w) (λ after. λ h. absurd (cc)))
+
+  ending_stays : (e : Ending P) (us : List (ThreadOf P)) (end : ThreadOf P → Written → Reached P) → Closes e → ((t : ThreadOf P) (w : Written) → Stays (end t w)) → Stays (on_ending e us end)
+  ending_stays (Continues t w) us end closes stays = λ h. absurd (cc)
+  ending_stays (Finishes t w) us end closes stays = stays t w
+  ending_stays (Collapses f) us end closes stays = λ h. closes (cc)
+
+module _ {P : Type 0} (after : P → Option P) where
+  frames_close : (f : FrameOf P) (fs : List (FrameOf P)) (o : Option P) (w : Written) → Closes (frames_on after f fs o w)
+  frames_close f [] o w = closes_end (option_and_then after f.place) (thread_of f [] o) w _
+      (closes_if (is_function f.kind) _ _ (collapse_closes BadPop (λ h. absurd (cc))) (finish_closes (thread_of f [] o) w))
+  frames_close f (g ∷ gs) o w = closes_end (option_and_then after f.place) (thread_of f (g ∷ gs) o) w _
+      (closes_if (is_function f.kind) _ _
+      (closes_if (nat_eq f.depth _) _ _
+      (closes_or (leave_for Function f.enter w) _ (leave_sound Function f.enter w) (λ v. closes_or (void_for g.evaluating v) _ (void_sound g.evaluating v) (λ u. frames_close g gs o u)))
+      (collapse_closes BadMode (λ h. absurd (cc))))
+      (finish_closes (thread_of f (g ∷ gs) o) w))
+
+  threads_stay : (t : ThreadOf P) (us : List (ThreadOf P)) (w : Written) → Stays (threads_on after t us w)
+  threads_stay t [] w = ending_stays _ [] _ (frames_close t.frame t.below t.previous w) (λ u v. halt_stays _ v)
+  threads_stay t (u ∷ us) w = ending_stays _ (u ∷ us) _ (frames_close t.frame t.below t.previous w) (λ ended v. threads_stay u us v)
+
+  moved_stays : (ts : ThreadsOf P) (w : Written) → Stays (moved_on after ts w)
+  moved_stays ts w = threads_stay ts.thread ts.below w
+
+  back_stays : (to : Option P) (ts : ThreadsOf P) (w : Written) → Stays (reach_or_on after to ts w)
+  back_stays None ts w = moved_stays ts w
+  back_stays (Some q) ts w = reach_stays q ts w
+
+  returned_stays : (k : FrameKind) (to : Option P) (ts : ThreadsOf P) (w : Written) → Stays (returned after k to ts w)
+  returned_stays k to ts w = stays_or _ _ (popped_sound k _ ts.thread) (λ t. stays_or _ _ (leave_sound k ts.thread.frame.enter w) (λ left. back_stays to _ left))
+
+  forked_stays : (r : Reached P) → Stays r → Stays (doubled_in after r)
+  forked_stays (Reaches ts w) stays = stays_or (threads.doubled ts) _ (doubled_sound ts) (λ us. λ h. absurd (cc))
+  forked_stays (Halts ts w) stays = stays
+  forked_stays (Breaks f) stays = stays
+
+  done_stays : (below : Option (ThreadsOf P)) (ts : ThreadsOf P) (w : Written) → Stays (done_by after below ts w)
+  done_stays None ts w = halt_stays _ w
+  done_stays (Some below) ts w = moved_stays below w
+
+reached_goes : (c : Configuration) (r : Reached (List Part)) → Stays r → Goes (reached_in c r)
+reached_goes c (Reaches ts w) stays = λ h. absurd (cc)
+reached_goes c (Halts ts w) stays = λ h. absurd (cc)
+reached_goes c (Breaks f) stays = λ h. stays (cc)
 
 module _ (s : StoryTree) where
   move_goes : (e : Effect) (c : Configuration) → Acts e → Goes (move s e c)
-  move_goes (Moves f) c acts = let d = with_fields f c in moved_goes d _ (go_stays (is_line d.page.sections) (option_and_then (next_place s) (current_place d)) d.flow.threads)
+  move_goes (Moves f) c acts = let d = with_fields f c in reached_goes d _ (moved_stays (next_place s) d.flow.threads (written_in d))
   move_goes (Lands q f) c acts = λ h. absurd (cc)
-  move_goes (Done f) c acts = moved_goes (with_safe true (with_fields f c)) _ (stop_stays (is_line f.page.sections) _)
-  move_goes (Ends f) c acts = moved_goes (ended (with_fields f c)) _ (stop_stays (is_line f.page.sections) _)
+  move_goes (Calls k q f) c acts = let d = with_fields f c in reached_goes d _ (called_stays k q d.flow.threads (written_in d))
+  move_goes (Returns k to f) c acts = let d = with_fields f c in reached_goes d _ (returned_stays (next_place s) k to d.flow.threads (written_in d))
+  move_goes (Forks f) c acts = let d = with_fields f c in reached_goes d _ (forked_stays (next_place s) _ (moved_stays (next_place s) d.flow.threads (written_in d)))
+  move_goes (Done f) c acts = let d = with_fields f c in reached_goes (with_safe (d.flow.safe || is_last d.flow.threads) d) _ (done_stays (next_place s) (threads.dropped d.flow.threads) d.flow.threads (written_in d))
+  move_goes (Ends f) c acts = let d = with_fields f c in reached_goes (ended d) _ (halt_stays (base_threads None) (written_in d))
   move_goes (Fails f) c acts = λ h. acts (cc)
 
   step_goes : (b : Bound) (c : Configuration) → Goes (step s b c)

@@ -1,6 +1,7 @@
 pub mod Globals
-pub mod Threads
 pub mod Words
 pub mod Performs
 pub mod Stacks
+pub mod Reaches
 pub mod Steps
+pub mod Reaches

@@ -1,6 +1,6 @@
 -- What performing a content does, beside its effect.
-use Rattle.std.specs.Prelude.{◌≡◌, ◌⊎◌, ◌||◌, ℕ, List, Bool, true, Option, is_some, Result, Ok, Err}
-use Rattle.ink_model.specs.Effect.{Fields, Effect, Moves, Lands, Done, Ends, Fails}
+use Rattle.std.specs.Prelude.{◌≡◌, ◌⊎◌, ◌||◌, ℕ, List, length, Bool, true, false, Option, Some, None, is_some, option_map, Result, Ok, Err}
+use Rattle.ink_model.specs.Effect.{Fields, Effect, Moves, Lands, Calls, Returns, Forks, Done, Ends, Fails}
 use Rattle.ink_model.specs.Page.{Page}
 use Rattle.ink_model.specs.Store.{Values, store, stored}
 use Rattle.ink_model.specs.Tree.{StoryTree}
@@ -11,16 +11,26 @@ use Rattle.ink_step.specs.declared.transfer.Transfer.{Transfer}
 use Rattle.ink_step.specs.declared.transfer.Transfer.TheVariants as transfer
 use Rattle.ink_tree.specs.Nodes.{place_of}
 
+-- where no text was written
 abbrev pub fields : Bool → Option ℕ → List Value → Page → Values → Fields
 fields evaluating fresh stack page globals =
-    record { evaluating = evaluating; fresh = fresh; stack = stack; page = page; globals = globals }
+    record { evaluating = evaluating; fresh = fresh; wrote = None; stack = stack; page = page; globals = globals }
 
--- Performing has an effect: it leaves the effect's fields, but for a global that is stored last, which asks for memory where it
--- is not there; or it is its fault. Where it asks for memory it may be OutOfMemory instead.
+-- a text was written in the open section
+abbrev pub with_text : Fields → Fields
+with_text f = record f { wrote = Some (length f.page.sections) }
+
+-- Performing has an effect: it leaves the effect's fields, but for the end of freshness that a text makes, and for a global that
+-- is stored last, which asks for memory where it is not there; or it is its fault. Where it asks for memory it may be OutOfMemory
+-- instead.
 abbrev pub Performs : StoryTree → Bool → Effect → Fields → Result Transfer Fault → Type 0
 Performs s asks (Moves f) new (Ok transfer.Next) = new ≡ f
+Performs s asks (Moves f) new (Ok transfer.Wrote) = f ≡ with_text new
 Performs s asks (Moves f) new (Ok (transfer.Store name v)) = (f ≡ record new { globals = store name.now v new.globals }) × (is_some (stored name.now new.globals) || asks ≡ true)
 Performs s asks (Lands p f) new (Ok (transfer.Land spot)) = (p ≡ place_of s spot) × (new ≡ f)
+Performs s asks (Calls k p f) new (Ok (transfer.Call kind spot)) = (k ≡ kind) × (p ≡ place_of s spot) × (new ≡ f)
+Performs s asks (Returns k to f) new (Ok (transfer.Return kind spot)) = (k ≡ kind) × (to ≡ option_map (place_of s) spot) × (new ≡ f)
+Performs s asks (Forks f) new (Ok transfer.Fork) = new ≡ f
 Performs s asks (Done f) new (Ok transfer.Done) = new ≡ f
 Performs s asks (Ends f) new (Ok transfer.End) = new ≡ f
 Performs s asks (Fails g) new (Err f) = (f ≡ g) ⊎ ((f ≡ OutOfMemory) × (asks ≡ true))
@@ -32,6 +42,22 @@ abbrev pub moving : Result (Unit {0}) Fault → Result Transfer Fault
 moving (Ok u) = Ok transfer.Next
 moving (Err f) = Err f
 
--- The same of a content after which flow goes on.
+-- the same of what may have written a text
+abbrev pub after_text : Result Bool Fault → Result Transfer Fault
+after_text (Ok true) = Ok transfer.Wrote
+after_text (Ok false) = Ok transfer.Next
+after_text (Err f) = Err f
+
+-- Performs, of a content after which flow goes on.
 abbrev pub Changes : Bool → Effect → Fields → Result (Unit {0}) Fault → Type 0
 Changes asks e new result = (s : StoryTree) → Performs s asks e new (moving result)
+
+-- The same of one that tells whether it wrote a text.
+abbrev pub Writes : Bool → Effect → Fields → Result Bool Fault → Type 0
+Writes asks e new result = (s : StoryTree) → Performs s asks e new (after_text result)
+
+-- What a condition comes to: what it is asked for has the effect, or flow only moves on, or it is a fault.
+abbrev pub Decides : Effect → (Fields → Effect) → Fields → Result Bool Fault → Type 0
+Decides e so new (Ok true) = e ≡ so new
+Decides e so new (Ok false) = e ≡ Moves new
+Decides e so new (Err f) = e ≡ Fails f

@@ -1,11 +1,10 @@
--- How moves, steps and runs end, beside the definitions.
+-- How steps and runs end, beside the definitions.
 use Rattle.std.specs.Prelude.{◌≡◌, [], ◌⊎◌, Bool, true, Result, Ok, Err}
 use Rattle.ink_model.specs.Answer as answer
 use Rattle.ink_model.specs.Answer.{Reply, Tells}
 use Rattle.ink_model.specs.Configuration.{Configuration}
-use Rattle.ink_model.specs.Frames.{ThreadsOf}
 use Rattle.ink_model.specs.Memory.{GetsTo, OpensShort}
-use Rattle.ink_model.specs.Move.{Moved, Went, Stopped, Breaks, Outcome, Next, Stop, Faults}
+use Rattle.ink_model.specs.Move.{Outcome, Next, Stop, Faults}
 use Rattle.ink_model.specs.Opening.{opening}
 use Rattle.ink_model.specs.Run as run
 use Rattle.ink_model.specs.Run.{Faulted, moment, cut_off}
@@ -19,13 +18,6 @@ use Rattle.ink_model.specs.declared.limits.TheConstants.{MAX_STEPS}
 use Rattle.ink_model.specs.declared.passage.Passage.{Passage}
 use Rattle.ink_step.specs.declared.flow.StepEnd.{StepEnd}
 use Rattle.ink_step.specs.declared.flow.StepEnd.TheVariants as ends
-
--- threads moved as the definition says
-abbrev pub MovesAs : {P : Type 0} → Moved P → ThreadsOf P → Result StepEnd Fault → Type 0
-MovesAs (Went ts) threads (Ok ends.Went) = threads ≡ ts
-MovesAs (Stopped ts) threads (Ok ends.Stopped) = threads ≡ ts
-MovesAs (Breaks g) threads (Err f) = f ≡ g
-MovesAs m threads result = ⊥
 
 -- A step ends as its outcome says; where it asks for memory, it may end with OutOfMemory instead. A fault leaves the globals
 -- as they were.

@@ -1,14 +1,14 @@
 //! Diverts (docs/RUNNING.md, "Diverts").
 
-ghost use Rattle.std.specs.Prelude.{◌≡◌, ℕ, Bool, false, Some, Option, option_map};
+ghost use Rattle.std.specs.Prelude.{◌≡◌, ℕ, Bool, false, Option, option_map};
 ghost use Rattle.ink_check.specs.Words.{story_tree};
-ghost use Rattle.ink_model.specs.Acceptance.{written_target};
+ghost use Rattle.ink_model.specs.Acceptance.{lands_to, written_target};
+ghost use Rattle.ink_model.specs.Effect.{Fields, Effect};
 ghost use Rattle.ink_model.specs.Page.{Page};
-ghost use Rattle.ink_model.specs.Step.Diverts.{divert, led_by, led_to};
+ghost use Rattle.ink_model.specs.Step.Diverts.{divert, led_by, led_to, where_true};
 ghost use Rattle.ink_model.specs.Step.Variables.{read_global};
-ghost use Rattle.ink_model.specs.Tree.{at, leaf};
-ghost use Rattle.ink_model.specs.declared.content.Leaf.TheVariants as leaves;
-ghost use Rattle.ink_step.specs.Performs.{Performs, fields};
+ghost use Rattle.ink_model.specs.Store.{Values};
+ghost use Rattle.ink_step.specs.Performs.{Decides, Performs, fields};
 ghost use Rattle.ink_tree.specs.Nodes.{place_of};
 
 use crate::globals::Globals;
@@ -19,7 +19,7 @@ use ink_model::{Destination, Fault, Text, Value};
 use ink_tree::{NodeId, Spot};
 use ink_value::{EvalStack, is_true};
 
-const ROOT: NodeId = NodeId { number: 0 };
+pub(crate) const ROOT: NodeId = NodeId { number: 0 };
 
 /// Flow lands where a divert leads, `BadTarget` where that is nowhere. A condition is popped and looked at before all else;
 /// where it is false flow goes on.
@@ -31,29 +31,43 @@ pub(crate) fn divert<'a>(
     stack: &mut EvalStack,
     globals: &Globals,
 ) -> Result<Transfer<'a>, Fault>
-    requires { let s = story_tree story.now in at s (place_of s here) ≡ Some (leaf (leaves.Divert to.now conditional)) }
+    requires { let s = story_tree story.now in written_target s (place_of s here) ≡ lands_to s (place_of s here) to.now }
     ensures { let s = story_tree story.now in (evaluating : Bool) (fresh : Option ℕ) (page : Page)
         → Performs s false (divert s (place_of s here) to.now conditional (fields evaluating fresh stack.old.items page globals.now)) (fields evaluating fresh stack.new.items page globals.now) result }
 {
-    if conditional {
-        let condition = top(stack).ok_or(Fault::StackEmpty)?;
-        if !is_true(&condition)? {
-            return Ok(Transfer::Next);
-        }
+    match is_wanted(conditional, stack) {
+        Ok(true) => match destination(story, here, to, globals) {
+            Some(place) => Ok(Transfer::Land(place)),
+            None => Err(Fault::BadTarget),
+        },
+        Ok(false) => Ok(Transfer::Next),
+        Err(fault) => Err(fault),
     }
-    let place = destination(story, here, to, conditional, globals).ok_or(Fault::BadTarget)?;
-    Ok(Transfer::Land(place))
 }
 
-/// Where a divert leads: by a written path, or by what a variable holds.
-fn destination(
+/// Whether a content that may be conditional is performed: a condition is popped and looked at. `StackEmpty` where there is
+/// none, `BadOperands` where it is no truth.
+pub(crate) fn is_wanted(conditional: bool, stack: &mut EvalStack) -> Result<bool, Fault>
+    ensures { (evaluating : Bool) (fresh : Option ℕ) (page : Page) (globals : Values) (so : Fields → Effect)
+        → Decides (where_true conditional (fields evaluating fresh stack.old.items page globals) so) so (fields evaluating fresh stack.new.items page globals) result }
+{
+    if !conditional {
+        return Ok(true);
+    }
+    match top(stack) {
+        Some(condition) => is_true(&condition),
+        None => Err(Fault::StackEmpty),
+    }
+}
+
+/// Where a divert, a call or a tunnel leads: by a written path, or by what a variable holds.
+pub(crate) fn destination(
     story: &Story,
     here: Spot,
     to: &Destination,
-    conditional: bool,
     globals: &Globals,
 ) -> Option<Spot>
-    requires { let s = story_tree story.now in at s (place_of s here) ≡ Some (leaf (leaves.Divert to.now conditional)) }
+    requires { let s = story_tree story.now in written_target s (place_of s here) ≡ lands_to s (place_of s here) to.now }
     ensures { let s = story_tree story.now in option_map (place_of s) result ≡ led_to s (place_of s here) to.now globals.now }
 {
     match to {

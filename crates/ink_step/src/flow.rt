@@ -1,16 +1,27 @@
-//! Where flow goes: over threads alone, so that nothing else changes (docs/RUNNING.md, "Places").
+//! Where flow goes among frames and threads (docs/FRAMES.md).
 
-ghost use Rattle.std.specs.Prelude.{◌≡◌, None, Some, Ok, Err, if◌then◌else◌, option_map};
-ghost use Rattle.ink_model.specs.Frames.{base_threads, map_threads};
-ghost use Rattle.ink_model.specs.Move.{done, go_to, move_on, stop_at};
+ghost use Rattle.std.specs.Prelude.{◌≡◌, List, None, Ok, Err, false, nat_lt, if◌then◌else◌, option_map, option_and_then};
+ghost use Rattle.ink_model.specs.Flow.{Written, called, depth_of, done, forked, halt, moved_on, reach, returned, void_for};
+ghost use Rattle.ink_model.specs.Frames.{base_threads, is_function, map_threads, place_in};
+ghost use Rattle.ink_model.specs.Memory.{Gives, leaving};
+ghost use Rattle.ink_model.specs.MoveMemory.{dropped_asks, forked_asks, moved_asks, returned_asks};
+ghost use Rattle.ink_model.specs.Output.{is_line};
+ghost use Rattle.ink_model.specs.Page.{Page};
 ghost use Rattle.ink_model.specs.Place.{next_place};
+ghost use Rattle.ink_model.specs.Threads.{dropped, frame_count, popped};
 ghost use Rattle.ink_model.specs.Tree.{StoryTree};
-ghost use Rattle.ink_step.specs.Steps.{MovesAs};
+ghost use Rattle.ink_model.specs.declared.frame.FrameKind.TheVariants as kind;
+ghost use Rattle.ink_model.specs.declared.limits.TheConstants.{MAX_FRAMES};
+ghost use Rattle.ink_model.specs.declared.value.Value.{Value as Data};
+ghost use Rattle.ink_step.specs.Reaches.{PassesAs, ReachesAs, ended, entered, left, left_asks, written};
 ghost use Rattle.ink_tree.specs.Nodes.{place_of, story_tree};
 
-use crate::threads::Threads;
-use ink_model::Fault;
+use crate::operands::push;
+use ink_model::{Fault, FrameKind, Value};
+use ink_out::Output;
+use ink_stack::Threads;
 use ink_tree::{Spot, Tree};
+use ink_value::EvalStack;
 
 /// How a step ended: flow went on, or it has stopped.
 #[derive(Clone, Copy)]
@@ -19,56 +30,198 @@ pub enum StepEnd {
     Stopped,
 }
 
-/// Flow moves on to the place after the one where it is, or stops where there is none. `closed` says that no string and no
-/// tag is open; a stop is `StopInString` otherwise.
-pub(crate) fn move_on(tree: &Tree, threads: &mut Threads, closed: bool) -> Result<StepEnd, Fault>
-    ensures { let s = story_tree tree.now in MovesAs (move_on closed (next_place s) (map_threads (place_of s) threads.old)) (map_threads (place_of s) threads.new) result }
-{
-    let next = match threads.place() {
-        Some(here) => tree.next(here),
-        None => None,
-    };
-    go_to(threads, next, closed)
-}
-
-/// Flow goes to a place, or stops where there is none. A stop is `StopInString` unless `closed`.
-pub(crate) fn go_to(
-    threads: &mut Threads,
-    place: Option<Spot>,
-    closed: bool,
+/// Flow moves on to the place after the one where it is. Off the end of a function it goes on after the call, and off the end
+/// of a thread where the thread below goes on; it stops off the end of the last one. `BadPop` off the end of a function whose
+/// frame is the only one; `BadMode` where another number of strings and tags is open than at its call; `TooDeep` for more than
+/// 100,000 marks in the line or 10,000 values on the stack; `StopInString` for a stop while a string or a tag is open;
+/// `OutOfMemory` for a refused request for memory, which only the end of a function makes.
+pub(crate) fn move_on(
+    tree: &Tree,
+    threads: &mut Threads<Spot>,
+    stack: &mut EvalStack,
+    output: &mut Output,
 ) -> Result<StepEnd, Fault>
-    ensures { (s : StoryTree) → MovesAs (go_to closed (option_map (place_of s) place) (map_threads (place_of s) threads.old)) (map_threads (place_of s) threads.new) result }
+    ensures { let s = story_tree tree.now in let ts = map_threads (place_of s) threads.old in let w = written stack.old output.old in
+        ReachesAs (moved_asks (next_place s) ts w) (moved_on (next_place s) ts w) (map_threads (place_of s) threads.new) (written stack.new output.new) result }
 {
-    threads.go(place);
-    match place {
-        Some(_) => Ok(StepEnd::Went),
-        None => stop(closed),
+    loop {
+        if let Some(place) = next_of(tree, threads) {
+            return Ok(land(threads, place));
+        }
+        match threads.top().kind() {
+            FrameKind::Function => end_function(threads, stack, output)?,
+            FrameKind::Base | FrameKind::Tunnel => {
+                if !threads.pop_thread() {
+                    threads.go(None);
+                    return stop(output);
+                }
+            }
+        }
     }
 }
 
-/// Flow stops where it is. `StopInString` unless `closed`.
-pub(crate) fn done(threads: &mut Threads, closed: bool) -> Result<StepEnd, Fault>
-    ensures { (s : StoryTree) → MovesAs (done closed (map_threads (place_of s) threads.old)) (map_threads (place_of s) threads.new) result }
+/// Flow goes to a place. Takes no memory.
+pub(crate) fn land(threads: &mut Threads<Spot>, place: Spot) -> StepEnd
+    ensures { (s : StoryTree) (w : Written) → ReachesAs false (reach (place_of s place) (map_threads (place_of s) threads.old) w) (map_threads (place_of s) threads.new) w (Ok result) }
 {
-    threads.put(None);
-    stop(closed)
+    threads.go(Some(place));
+    StepEnd::Went
 }
 
-/// Flow stops, and nothing is left of where it was. `StopInString` unless `closed`.
-pub(crate) fn end(threads: &mut Threads, closed: bool) -> Result<StepEnd, Fault>
-    ensures { (s : StoryTree) → MovesAs (stop_at closed (base_threads None)) (map_threads (place_of s) threads.new) result }
+/// A frame is pushed where flow is, and flow lands in it; a function has its mark in the text. `TooDeep` where the thread has
+/// 1,000 frames, for more than 100,000 marks in the line, and where no number is left for the mark; `OutOfMemory` for a refused
+/// request for memory.
+pub(crate) fn call(
+    threads: &mut Threads<Spot>,
+    output: &mut Output,
+    kind: FrameKind,
+    place: Spot,
+) -> Result<StepEnd, Fault>
+    ensures { (s : StoryTree) (values : List Data) → let ts = map_threads (place_of s) threads.old in let w : Written = record { stack = values; page = output.old.page } in
+        ReachesAs (nat_lt (frame_count ts.thread) MAX_FRAMES) (called kind (place_of s place) ts w) (map_threads (place_of s) threads.new) (record { stack = values; page = output.new.page }) result }
+{
+    threads.push_frame(kind, output.depth())?;
+    enter(threads, output, kind)?;
+    Ok(land(threads, place))
+}
+
+/// A frame of this kind is popped. Flow goes on after its call, or lands at the place that is given. `BadPop` where the top frame
+/// is of another kind or the only one, else `BadMode` where another number of strings and tags is open than at its call; the
+/// faults of moving on where no place is given; `TooDeep` and `OutOfMemory` at a function's mark.
+pub(crate) fn give_back(
+    tree: &Tree,
+    threads: &mut Threads<Spot>,
+    stack: &mut EvalStack,
+    output: &mut Output,
+    kind: FrameKind,
+    to: Option<Spot>,
+) -> Result<StepEnd, Fault>
+    ensures { let s = story_tree tree.now in let ts = map_threads (place_of s) threads.old in let w = written stack.old output.old in let q = option_map (place_of s) to in
+        ReachesAs (returned_asks (next_place s) kind q ts w) (returned (next_place s) kind q ts w) (map_threads (place_of s) threads.new) (written stack.new output.new) result }
+{
+    leave(threads, output, kind)?;
+    match to {
+        Some(place) => Ok(land(threads, place)),
+        None => move_on(tree, threads, stack, output),
+    }
+}
+
+/// Flow moves on, and then the thread that runs is there twice; where flow stops there is nothing to copy. The faults of moving
+/// on; `TooDeep` where there are 100 threads; `OutOfMemory` for a refused request for memory.
+pub(crate) fn fork(
+    tree: &Tree,
+    threads: &mut Threads<Spot>,
+    stack: &mut EvalStack,
+    output: &mut Output,
+) -> Result<StepEnd, Fault>
+    ensures { let s = story_tree tree.now in let ts = map_threads (place_of s) threads.old in let w = written stack.old output.old in
+        ReachesAs (forked_asks (next_place s) ts w) (forked (next_place s) ts w) (map_threads (place_of s) threads.new) (written stack.new output.new) result }
+{
+    let end = move_on(tree, threads, stack, output)?;
+    if let StepEnd::Went = end {
+        threads.push_thread()?;
+    }
+    Ok(end)
+}
+
+/// The thread that runs is dropped, and the one below moves on, with the faults of moving on. The last thread stops where it is:
+/// `StopInString` while a string or a tag is open.
+pub(crate) fn done(
+    tree: &Tree,
+    threads: &mut Threads<Spot>,
+    stack: &mut EvalStack,
+    output: &mut Output,
+) -> Result<StepEnd, Fault>
+    ensures { let s = story_tree tree.now in let ts = map_threads (place_of s) threads.old in let w = written stack.old output.old in
+        ReachesAs (dropped_asks (next_place s) (dropped ts) w) (done (next_place s) ts w) (map_threads (place_of s) threads.new) (written stack.new output.new) result }
+{
+    if threads.pop_thread() {
+        return move_on(tree, threads, stack, output);
+    }
+    threads.put(None);
+    stop(output)
+}
+
+/// Flow stops, and of where it was nothing is left. `StopInString` while a string or a tag is open. Takes no memory.
+pub(crate) fn end(threads: &mut Threads<Spot>, output: &Output) -> Result<StepEnd, Fault>
+    ensures { (s : StoryTree) (values : List Data) → let w : Written = record { stack = values; page = output.now.page } in ReachesAs false (halt (base_threads None) w) (map_threads (place_of s) threads.new) w result }
 {
     threads.reset();
-    stop(closed)
+    stop(output)
 }
 
-/// A stop, which may not be while a string or a tag is open.
-fn stop(closed: bool) -> Result<StepEnd, Fault>
-    ensures { result ≡ (if closed then Ok StepEnd.Stopped else Err Fault.StopInString) }
+/// A stop: `StopInString` while a string or a tag is open.
+fn stop(output: &Output) -> Result<StepEnd, Fault>
+    ensures { result ≡ (if is_line output.now.page.sections then Ok StepEnd.Stopped else Err Fault.StopInString) }
 {
-    if closed {
+    if output.depth() == 0 {
         Ok(StepEnd::Stopped)
     } else {
         Err(Fault::StopInString)
+    }
+}
+
+/// The place after the one where flow is; none where there is none, or flow has stopped.
+fn next_of(tree: &Tree, threads: &Threads<Spot>) -> Option<Spot>
+    ensures { let s = story_tree tree.now in option_map (place_of s) result ≡ option_and_then (next_place s) (place_in (map_threads (place_of s) threads.now)) }
+{
+    match threads.place() {
+        Some(here) => tree.next(here),
+        None => None,
+    }
+}
+
+/// Off the end of a function: its frame is popped, its mark is written, and void is pushed where the caller evaluates.
+fn end_function(
+    threads: &mut Threads<Spot>,
+    stack: &mut EvalStack,
+    output: &mut Output,
+) -> Result<(), Fault>
+    ensures { (s : StoryTree) → let ts = map_threads (place_of s) threads.old in let w = written stack.old output.old in
+        PassesAs (left_asks kind.Function (popped kind.Function (depth_of w) ts.thread)) (ended ts w) (map_threads (place_of s) threads.new) (written stack.new output.new) result }
+{
+    leave(threads, output, FrameKind::Function)?;
+    push_void(stack, threads.is_evaluating())
+}
+
+/// Void for a caller that evaluates.
+fn push_void(stack: &mut EvalStack, evaluating: bool) -> Result<(), Fault>
+    ensures { (page : Page) → let w : Written = record { stack = stack.old.items; page = page } in
+        Gives (leaving (record w { stack = stack.new.items }) result) (void_for evaluating w) }
+{
+    if !evaluating {
+        return Ok(());
+    }
+    push(stack, Value::Void)
+}
+
+/// A function that was called has its mark in the text, and its frame the mark's number. `TooDeep` for more than 100,000 marks in
+/// the line, and where no number is left; `OutOfMemory` for a refused request for memory.
+fn enter(threads: &mut Threads<Spot>, output: &mut Output, kind: FrameKind) -> Result<(), Fault>
+    ensures { (s : StoryTree) (values : List Data) → let ts = map_threads (place_of s) threads.old in let w : Written = record { stack = values; page = output.old.page } in
+        PassesAs (is_function kind) (entered kind ts w) (map_threads (place_of s) threads.new) (record { stack = values; page = output.new.page }) result }
+{
+    match kind {
+        FrameKind::Function => {
+            let number = output.enter()?;
+            threads.set_number(number);
+            Ok(())
+        }
+        FrameKind::Base | FrameKind::Tunnel => Ok(()),
+    }
+}
+
+/// Pops a frame of this kind, with the mark where it is a function's. `BadPop` where the top frame is of another kind or the
+/// only one, else `BadMode` where another number of strings and tags is open than at its push, else `TooDeep` for more than
+/// 100,000 marks in the line, and `OutOfMemory` for a refused request for memory.
+fn leave(threads: &mut Threads<Spot>, output: &mut Output, kind: FrameKind) -> Result<(), Fault>
+    ensures { (s : StoryTree) (values : List Data) → let ts = map_threads (place_of s) threads.old in let w : Written = record { stack = values; page = output.old.page } in
+        PassesAs (left_asks kind (popped kind (depth_of w) ts.thread)) (left kind ts w) (map_threads (place_of s) threads.new) (record { stack = values; page = output.new.page }) result }
+{
+    let number = threads.top().number();
+    threads.pop_frame(kind, output.depth())?;
+    match kind {
+        FrameKind::Function => output.leave(number),
+        FrameKind::Base | FrameKind::Tunnel => Ok(()),
     }
 }

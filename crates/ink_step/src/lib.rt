@@ -4,6 +4,7 @@
 mod diverting;
 mod evaluating;
 mod flow;
+mod frames;
 mod globals;
 mod machine;
 mod opening;
@@ -12,7 +13,6 @@ mod running;
 mod sections;
 mod step;
 mod storing;
-mod threads;
 mod transfer;
 mod writing;
 

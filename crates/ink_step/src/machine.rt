@@ -7,16 +7,17 @@ ghost use Rattle.ink_model.specs.Store.{store, stored};
 ghost use Rattle.ink_model.specs.Tree.{StoryTree};
 
 use crate::globals::Globals;
-use crate::threads::Threads;
 use ink_model::Value;
 use ink_out::Output;
+use ink_stack::Threads;
+use ink_tree::Spot;
 use ink_value::EvalStack;
 use std::alloc::Global;
 
 /// What changes while a story runs: a configuration, but for choices, counts and the turn, which no content writes yet.
 #[derive(Drop)]
 pub struct Machine {
-    pub(crate) threads: Threads,
+    pub(crate) threads: Threads<Spot>,
     pub(crate) stack: EvalStack,
     pub(crate) safe: bool,
     pub(crate) output: Output,

@@ -10,10 +10,10 @@ ghost use Rattle.ink_tree.specs.Nodes.{place_of};
 
 use crate::globals::Globals;
 use crate::machine::Machine;
-use crate::threads::Threads;
 use ink_check::Story;
 use ink_model::Fault;
 use ink_out::Output;
+use ink_stack::Threads;
 use ink_tree::Spot;
 use ink_value::EvalStack;
 use std::alloc::Global;
@@ -63,7 +63,7 @@ impl Machine {
         ensures globals { globals_of result ≡ globals }
     {
         Machine {
-            threads: Threads::new(Some(place)),
+            threads: Threads::new(alloc, Some(place)),
             stack: EvalStack::new(alloc),
             safe: false,
             output: Output::new(alloc),

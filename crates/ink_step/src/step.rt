@@ -1,14 +1,18 @@
 //! One step of the machine: enter, effect, move (docs/RUNNING.md, "Steps").
 
-ghost use Rattle.std.specs.Prelude.{◌≡◌, Bool, Some, Ok, option_map};
+ghost use Rattle.std.specs.Prelude.{◌≡◌, ◌||◌, Bool, true, Some, Ok, is_some, option_map};
 ghost use Rattle.ink_check.specs.Words.{story_tree};
+ghost use Rattle.ink_model.specs.Configuration.{with_globals};
 ghost use Rattle.ink_model.specs.Effect.{Effect, fields_of};
+ghost use Rattle.ink_model.specs.Flow.{moved_on};
 ghost use Rattle.ink_model.specs.Frames.{mode_in, on_top};
 ghost use Rattle.ink_model.specs.Memory.{asks, content_asks, control_asks, leaf_asks};
-ghost use Rattle.ink_model.specs.Move.{move as moved};
-ghost use Rattle.ink_model.specs.Output.{is_line};
+ghost use Rattle.ink_model.specs.Move.{going, move as moved, written_in};
+ghost use Rattle.ink_model.specs.MoveMemory.{move_asks, moved_asks};
+ghost use Rattle.ink_model.specs.Place.{next_place};
 ghost use Rattle.ink_model.specs.Step.{control_effect, effect, leaf_effect, step, nothing_bound};
-ghost use Rattle.ink_model.specs.Tree.{StoryTree, at, leaf};
+ghost use Rattle.ink_model.specs.Store.{store, stored};
+ghost use Rattle.ink_model.specs.Tree.{at, leaf};
 ghost use Rattle.ink_model.specs.View.{view};
 ghost use Rattle.ink_step.specs.Performs.{Performs};
 ghost use Rattle.ink_step.specs.Steps.{StepEnds};
@@ -17,14 +21,16 @@ ghost use Rattle.ink_tree.specs.Nodes.{place_of};
 
 use crate::diverting::divert;
 use crate::evaluating::{begin_eval, duplicate, end_eval, operate, pop, push_target, push_value};
-use crate::flow::{StepEnd, done, end, go_to, move_on};
+use crate::flow;
+use crate::flow::{StepEnd, done, end, fork, give_back, land, move_on};
+use crate::frames::{call, return_tunnel};
 use crate::machine::Machine;
 use crate::sections::{begin_string, begin_tag, end_string, end_tag};
 use crate::storing::{assign, declare, push_global};
-use crate::transfer::{Transfer, moving};
+use crate::transfer::{Transfer, after_text, moving};
 use crate::writing::{output_top, write_glue, write_newline, write_text};
 use ink_check::Story;
-use ink_model::{Content, Control, Fault, Leaf, Value};
+use ink_model::{Content, Control, Fault, FrameKind, Leaf, Text, Value};
 use ink_tree::Spot;
 
 impl Machine {
@@ -44,7 +50,8 @@ impl Machine {
     /// What stands where flow is has its effect, and flow moves.
     fn act(&mut self, story: &Story, here: Spot, found: Option<&Content>) -> Result<StepEnd, Fault>
         requires { let s = story_tree story.now in option_map (λ c. view c.now) found ≡ at s (place_of s here) }
-        ensures { let s = story_tree story.now in StepEnds (content_asks (option_map (λ c. view c.now) found.entry) (fields_of (numbered self.old)))
+        ensures { let s = story_tree story.now in StepEnds (content_asks (option_map (λ c. view c.now) found.entry) (fields_of (numbered self.old))
+            || move_asks s (effect s (place_of s here) (option_map (λ c. view c.now) found.entry) (fields_of (numbered self.old))) (config_of s self.old))
             (moved s (effect s (place_of s here) (option_map (λ c. view c.now) found.entry) (fields_of (numbered self.old))) (config_of s self.old)) self.old.globals (config_of s self.new) result }
     {
         let transfer = self.perform(story, here, found)?;
@@ -89,7 +96,7 @@ impl Machine {
         let evaluating = self.threads.is_evaluating();
         let fresh = self.threads.fresh_depth();
         match content {
-            Leaf::Text(text) => moving(write_text(
+            Leaf::Text(text) => after_text(write_text(
                 &mut self.stack,
                 &mut self.output,
                 evaluating,
@@ -121,7 +128,7 @@ impl Machine {
                 evaluating,
                 text,
             )),
-            Leaf::Control(control) => self.perform_control(*control),
+            Leaf::Control(control) => self.perform_control(story, *control),
             Leaf::Op(operator) => moving(operate(self.alloc, &mut self.stack, *operator)),
             Leaf::Divert { to, conditional } => divert(
                 story,
@@ -139,9 +146,25 @@ impl Machine {
                 &self.globals,
                 name,
             )),
+            Leaf::Call { to, conditional } => call(
+                story,
+                here,
+                FrameKind::Function,
+                to,
+                *conditional,
+                &mut self.stack,
+                &self.globals,
+            ),
+            Leaf::Tunnel { to, conditional } => call(
+                story,
+                here,
+                FrameKind::Tunnel,
+                to,
+                *conditional,
+                &mut self.stack,
+                &self.globals,
+            ),
             Leaf::Pointer(..)
-            | Leaf::Call { .. }
-            | Leaf::Tunnel { .. }
             | Leaf::External { .. }
             | Leaf::DeclareTemp(_)
             | Leaf::AssignTemp(_)
@@ -150,9 +173,13 @@ impl Machine {
         }
     }
 
-    fn perform_control<'a>(&mut self, control: Control) -> Result<Transfer<'a>, Fault>
-        ensures effect { (s : StoryTree) → Performs s (control_asks control (fields_of (numbered self.old)))
-            (control_effect control (fields_of (numbered self.old))) (fields_of (numbered self.new)) result }
+    fn perform_control<'a>(
+        &mut self,
+        story: &Story,
+        control: Control,
+    ) -> Result<Transfer<'a>, Fault>
+        ensures effect { let s = story_tree story.now in Performs s (control_asks control (fields_of (numbered self.old)))
+            (control_effect s control (fields_of (numbered self.old))) (fields_of (numbered self.new)) result }
         ensures threads { self.new.threads ≡ on_top (mode_in self.new.threads.thread.frame.evaluating) self.old.threads }
         ensures safe { self.new.safe ≡ self.old.safe }
         ensures globals { self.new.globals ≡ self.old.globals }
@@ -162,7 +189,7 @@ impl Machine {
         let transfer = match control {
             Control::BeginEval => moving(begin_eval(&mut evaluating)),
             Control::EndEval => moving(end_eval(&mut evaluating)),
-            Control::Out => moving(output_top(&mut self.stack, &mut self.output, fresh)),
+            Control::Out => after_text(output_top(&mut self.stack, &mut self.output, fresh)),
             Control::Pop => moving(pop(&mut self.stack)),
             Control::Duplicate => moving(duplicate(self.alloc, &mut self.stack)),
             Control::Nop => Ok(Transfer::Next),
@@ -176,48 +203,94 @@ impl Machine {
             Control::EndTag => moving(end_tag(&mut self.stack, &mut self.output)),
             Control::Done => Ok(Transfer::Done),
             Control::End => Ok(Transfer::End),
-            Control::Return
-            | Control::ReturnTunnel
-            | Control::Thread
-            | Control::ChoiceCount
+            Control::Return => Ok(Transfer::Return(FrameKind::Function, None)),
+            Control::ReturnTunnel => return_tunnel(story, &mut self.stack),
+            Control::Thread => Ok(Transfer::Fork),
+            Control::ChoiceCount
             | Control::Turn
             | Control::Turns
             | Control::ReadCount
             | Control::Visit => Ok(Transfer::Next),
         };
-        self.threads.set_evaluating(evaluating);
+        self.threads.set_mode(evaluating);
         transfer
     }
 
     /// Flow goes where a content sends it, and then a global is stored.
     fn follow(&mut self, story: &Story, transfer: Transfer<'_>) -> Result<StepEnd, Fault>
         ensures { let s = story_tree story.now in (asks : Bool) (e : Effect) → Performs s asks e (fields_of (numbered self.old)) (Ok transfer.entry)
-            → StepEnds asks (moved s e (config_of s self.old)) self.old.globals (config_of s self.new) result }
+            → StepEnds (asks || move_asks s e (config_of s self.old)) (moved s e (config_of s self.old)) self.old.globals (config_of s self.new) result }
     {
-        let closed = self.is_closed();
         match transfer {
-            Transfer::Next => move_on(story.tree(), &mut self.threads, closed),
-            Transfer::Store(name, value) => {
-                let end = move_on(story.tree(), &mut self.threads, closed)?;
-                self.globals.put(name.as_str(), value)?;
-                Ok(end)
+            Transfer::Next => self.go_on(story),
+            Transfer::Wrote => {
+                self.threads.end_freshness(self.output.depth());
+                self.go_on(story)
             }
-            Transfer::Land(place) => go_to(&mut self.threads, Some(place), closed),
+            Transfer::Store(name, value) => self.go_on_storing(story, name, value),
+            Transfer::Land(place) => Ok(land(&mut self.threads, place)),
+            Transfer::Call(kind, place) => {
+                flow::call(&mut self.threads, &mut self.output, kind, place)
+            }
+            Transfer::Return(kind, to) => give_back(
+                story.tree(),
+                &mut self.threads,
+                &mut self.stack,
+                &mut self.output,
+                kind,
+                to,
+            ),
+            Transfer::Fork => fork(
+                story.tree(),
+                &mut self.threads,
+                &mut self.stack,
+                &mut self.output,
+            ),
             Transfer::Done => {
-                self.safe = true;
-                done(&mut self.threads, closed)
+                self.safe |= self.threads.is_last();
+                done(
+                    story.tree(),
+                    &mut self.threads,
+                    &mut self.stack,
+                    &mut self.output,
+                )
             }
             Transfer::End => {
                 self.safe = true;
-                end(&mut self.threads, closed)
+                end(&mut self.threads, &self.output)
             }
         }
     }
 
-    /// Whether no string and no tag is open.
-    fn is_closed(&self) -> bool
-        ensures { result ≡ is_line self.now.output.page.sections }
+    /// Flow goes on after the content.
+    fn go_on(&mut self, story: &Story) -> Result<StepEnd, Fault>
+        ensures { let s = story_tree story.now in let c = config_of s self.old in
+            StepEnds (moved_asks (next_place s) c.flow.threads (written_in c)) (going (moved_on (next_place s)) c) self.old.globals (config_of s self.new) result }
     {
-        self.output.depth() == 0
+        move_on(
+            story.tree(),
+            &mut self.threads,
+            &mut self.stack,
+            &mut self.output,
+        )
+    }
+
+    /// Flow goes on after the content, and then a global is stored.
+    fn go_on_storing(&mut self, story: &Story, name: &Text, value: Value) -> Result<StepEnd, Fault>
+        ensures { let s = story_tree story.now in let c = with_globals (store name.now value self.old.globals) (config_of s self.old) in (asks : Bool) → is_some (stored name.now self.old.globals) || asks ≡ true
+            → StepEnds (asks || moved_asks (next_place s) c.flow.threads (written_in c)) (going (moved_on (next_place s)) c) self.old.globals (config_of s self.new) result }
+    {
+        match move_on(
+            story.tree(),
+            &mut self.threads,
+            &mut self.stack,
+            &mut self.output,
+        ) {
+            Ok(end) => match self.globals.put(name.as_str(), value) {
+                Ok(()) => Ok(end),
+                Err(_) => Err(Fault::OutOfMemory),
+            },
+            Err(fault) => Err(fault),
+        }
     }
 }

@@ -1,9 +1,9 @@
 //! How flow goes on from a content.
 
 ghost use Rattle.std.specs.Prelude.{◌≡◌};
-ghost use Rattle.ink_step.specs.Performs.{moving};
+ghost use Rattle.ink_step.specs.Performs.{after_text, moving};
 
-use ink_model::{Fault, Text, Value};
+use ink_model::{Fault, FrameKind, Text, Value};
 use ink_tree::Spot;
 
 /// Where flow goes once a content has been performed. A global that the content stores is stored last, after flow has
@@ -12,11 +12,19 @@ use ink_tree::Spot;
 pub(crate) enum Transfer<'a> {
     /// On, after the content.
     Next,
+    /// On, after the content, which has written a text: freshness ends in the open section.
+    Wrote,
     /// On, after the content, which stores a value in the global of that name.
     Store(&'a Text, Value),
     /// To another place.
     Land(Spot),
-    /// To a safe stop where it is.
+    /// To another place, in a frame of its own.
+    Call(FrameKind, Spot),
+    /// Back from such a frame, to after its call, or to a place.
+    Return(FrameKind, Option<Spot>),
+    /// On, after the content, in two threads.
+    Fork,
+    /// Out of its thread; in the last one to a safe stop where it is.
     Done,
     /// To a safe stop, and nothing is left of where it was.
     End,
@@ -28,4 +36,15 @@ pub(crate) fn moving<'a>(outcome: Result<(), Fault>) -> Result<Transfer<'a>, Fau
 {
     outcome?;
     Ok(Transfer::Next)
+}
+
+/// The same after a content that tells whether it has written a text.
+pub(crate) fn after_text<'a>(outcome: Result<bool, Fault>) -> Result<Transfer<'a>, Fault>
+    ensures { result ≡ after_text outcome }
+{
+    match outcome {
+        Ok(true) => Ok(Transfer::Wrote),
+        Ok(false) => Ok(Transfer::Next),
+        Err(fault) => Err(fault),
+    }
 }

@@ -8,7 +8,7 @@ ghost use Rattle.ink_model.specs.Step.Evaluation.{output_value};
 ghost use Rattle.ink_model.specs.Step.Text.{write_text, write_newline, write_glue};
 ghost use Rattle.ink_model.specs.Store.{Values};
 ghost use Rattle.ink_model.specs.declared.value.Value.{Value as Data};
-ghost use Rattle.ink_step.specs.Performs.{Changes, fields};
+ghost use Rattle.ink_step.specs.Performs.{Changes, Writes, fields};
 
 use crate::operands::{push, top};
 use ink_model::{Fault, Shared, Text, Value};
@@ -16,7 +16,7 @@ use ink_out::Output;
 use ink_value::EvalStack;
 use std::alloc::Global;
 
-/// A text is pushed in evaluation mode, and written outside it.
+/// A text is pushed in evaluation mode, and written outside it. Whether a text was written.
 #[tactic(auto, unfolding(ink_model::specs::Value::printed))]
 pub(crate) fn write_text(
     stack: &mut EvalStack,
@@ -24,15 +24,15 @@ pub(crate) fn write_text(
     evaluating: bool,
     fresh: Option<usize>,
     text: &Shared<Text>,
-) -> Result<(), Fault>
-    ensures { (globals : Values) → Changes true (write_text text.now (fields evaluating fresh stack.old.items output.old.page globals)) (fields evaluating fresh stack.new.items output.new.page globals) result }
+) -> Result<bool, Fault>
+    ensures { (globals : Values) → Writes true (write_text text.now (fields evaluating fresh stack.old.items output.old.page globals)) (fields evaluating fresh stack.new.items output.new.page globals) result }
 {
     let value = Value::Text(text.share()?);
     if evaluating {
-        return push(stack, value);
+        push(stack, value)?;
+        return Ok(false);
     }
-    output.write(&value, is_fresh(output, fresh))?;
-    Ok(())
+    output.write(&value, is_fresh(output, fresh))
 }
 
 /// A newline is pushed in evaluation mode, and written outside it.
@@ -63,20 +63,19 @@ pub(crate) fn write_glue(output: &mut Output, evaluating: bool) -> Result<(), Fa
     output.glue()
 }
 
-/// The value on top is popped and its printed text written. On an empty stack nothing is done.
+/// The value on top is popped and its printed text written. On an empty stack nothing is done. Whether a text was written.
 pub(crate) fn output_top(
     stack: &mut EvalStack,
     output: &mut Output,
     fresh: Option<usize>,
-) -> Result<(), Fault>
+) -> Result<bool, Fault>
     ensures { (evaluating : Bool) (globals : Values)
-        → Changes (output_asks (popped stack.old.items)) (output_value (fields evaluating fresh stack.old.items output.old.page globals)) (fields evaluating fresh stack.new.items output.new.page globals) result }
+        → Writes (output_asks (popped stack.old.items)) (output_value (fields evaluating fresh stack.old.items output.old.page globals)) (fields evaluating fresh stack.new.items output.new.page globals) result }
 {
-    let Some(value) = top(stack) else {
-        return Ok(());
-    };
-    output.write(&value, is_fresh(output, fresh))?;
-    Ok(())
+    match top(stack) {
+        Some(value) => output.write(&value, is_fresh(output, fresh)),
+        None => Ok(false),
+    }
 }
 
 /// Whether the top frame is a function that is fresh in the open section.

@@ -33,8 +33,8 @@ abbrev pub divert_to : StoryTree → List Part → Destination → Fields → Ef
 divert_to s p to f = or_else BadTarget (led_to s p to f.globals) (λ q. Lands q f)
 
 -- a condition is popped and looked at before all else; where it is false flow moves on
-abbrev pub divert_if : StoryTree → List Part → Destination → Fields → Effect
-divert_if s p to f = popping f (λ v left. or_fault (is_true v) (λ b. if b then divert_to s p to left else Moves left))
+abbrev pub where_true : Bool → Fields → (Fields → Effect) → Effect
+where_true conditional f so = if conditional then popping f (λ v left. or_fault (is_true v) (λ b. if b then so left else Moves left)) else so f
 
 abbrev pub divert : StoryTree → List Part → Destination → Bool → Fields → Effect
-divert s p to conditional f = if conditional then divert_if s p to f else divert_to s p to f
+divert s p to conditional f = where_true conditional f (divert_to s p to)

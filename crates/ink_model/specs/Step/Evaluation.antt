@@ -1,8 +1,9 @@
 -- The effects of values, operators and evaluation mode (docs/RUNNING.md, "Steps" and "Evaluation").
 use Rattle.std.specs.Prelude.{List, true, false, if◌then◌else◌, Option, Some, None}
-use Rattle.ink_model.specs.Effect.{Fields, Effect, Moves, Fails, is_fresh, or_fault, popping, pushing, writing}
-use Rattle.ink_model.specs.Output.{writes_value}
+use Rattle.ink_model.specs.Effect.{Fields, Effect, Moves, Fails, is_fresh, or_fault, popping, pushing, writing_text}
+use Rattle.ink_model.specs.Output.{prints_text, writes_value}
 use Rattle.ink_model.specs.Stack.{applied, popped}
+use Rattle.ink_model.specs.Value.{printed}
 use Rattle.ink_model.specs.declared.fault.Fault.TheVariants.{BadMode}
 use Rattle.ink_model.specs.declared.operator.Op.{Op}
 use Rattle.ink_model.specs.declared.value.Value.{Value}
@@ -20,7 +21,7 @@ end_eval f = if f.evaluating then Moves (record f { evaluating = false }) else F
 -- what is popped is written; on an empty stack nothing is done
 abbrev pub output_popped : Option (Value × List Value) → Fields → Effect
 output_popped None f = Moves f
-output_popped (Some r) f = writing (writes_value (is_fresh f) r.0 f.page) (record f { stack = r.1 })
+output_popped (Some r) f = writing_text (prints_text (printed r.0)) (writes_value (is_fresh f) r.0 f.page) (record f { stack = r.1 })
 
 abbrev pub output_value : Fields → Effect
 output_value f = output_popped (popped f.stack) f

@@ -1,7 +1,9 @@
 -- The effects of text, strings and tags (docs/RUNNING.md, "Steps"; docs/TEXT.md).
 use Rattle.std.specs.Prelude.{ℕ, List, [], ◌∷◌, Bool, true, false, not, if◌then◌else◌, Option, Some, None, Result, Ok, Err}
-use Rattle.ink_model.specs.Effect.{Fields, Effect, Moves, Fails, is_fresh, or_fault, pushing, writing}
-use Rattle.ink_model.specs.Output.{is_string, writes_text, writes_newline, writes_glue, opens, closes_string, closes_tag}
+use Rattle.std.specs.List.{list_any}
+use Rattle.ink_model.specs.Effect.{Fields, Effect, Moves, Fails, is_fresh, or_fault, pushing, writing, writing_text}
+use Rattle.ink_model.specs.Mark.{cut}
+use Rattle.ink_model.specs.Output.{is_string, is_text, writes_text, writes_newline, writes_glue, opens, closes_string, closes_tag}
 use Rattle.ink_model.specs.Page.{Page, Section, string_section, tag_section}
 use Rattle.ink_model.specs.Stack.{pushed}
 use Rattle.ink_model.specs.declared.fault.Fault.{Fault}
@@ -11,7 +13,7 @@ use Rattle.ink_model.specs.declared.value.Value.TheVariants as value
 
 -- a text is pushed in evaluation mode, and written outside it
 abbrev pub write_text : List ℕ → Fields → Effect
-write_text t f = if f.evaluating then pushing (value.Text t) f else writing (writes_text (is_fresh f) t f.page) f
+write_text t f = if f.evaluating then pushing (value.Text t) f else writing_text (list_any is_text (cut t)) (writes_text (is_fresh f) t f.page) f
 
 abbrev pub write_newline : Fields → Effect
 write_newline f = if f.evaluating then pushing (value.Text (10 ∷ [])) f else writing (writes_newline (is_fresh f) f.page) f

@@ -1,0 +1,82 @@
+-- Where flow asks for memory on its way from a content: calls push frames, and marks and void are written where functions end
+-- (docs/RUNNING.md, "Out of memory"; docs/FRAMES.md).
+use Rattle.std.specs.Prelude.{ℕ, List, [], ◌∷◌, Bool, true, false, not, ◌||◌, ◌&&◌, nat_eq, nat_lt, if◌then◌else◌, Option, Some, None, is_some, option_and_then, Result, Ok, Err}
+use Rattle.ink_model.specs.Configuration.{Configuration}
+use Rattle.ink_model.specs.Effect.{Effect, Moves, Lands, Calls, Returns, Forks, Done, Ends, Fails, with_fields}
+use Rattle.ink_model.specs.Flow.{Written, Reached, Reaches, Halts, Breaks, depth_of, moved_on}
+use Rattle.ink_model.specs.Frames.{FrameOf, ThreadOf, ThreadsOf, is_function}
+use Rattle.ink_model.specs.Move.{written_in}
+use Rattle.ink_model.specs.Place.{next_place}
+use Rattle.ink_model.specs.Threads.{dropped, frame_count, popped, thread_count}
+use Rattle.ink_model.specs.Tree.{StoryTree}
+use Rattle.ink_model.specs.declared.fault.Fault.{Fault}
+use Rattle.ink_model.specs.declared.frame.FrameKind.{FrameKind}
+use Rattle.ink_model.specs.declared.frame.FrameKind.TheVariants.{Function}
+use Rattle.ink_model.specs.declared.limits.TheConstants.{MAX_FRAMES, MAX_THREADS}
+use Rattle.ink_model.specs.declared.place.Part.{Part}
+
+abbrev pub is_some_frame : {P : Type 0} → List (FrameOf P) → Bool
+is_some_frame [] = false
+is_some_frame (f ∷ fs) = true
+
+module _ {P : Type 0} (after : P → Option P) where
+  -- The first function that comes to its end on the way is popped, and so writes its mark. Threads above it are only dropped.
+  abbrev pub threads_ask : ThreadOf P → List (ThreadOf P) → ℕ → Bool
+  threads_ask t [] depth = not (is_some (option_and_then after t.frame.place)) && (is_function t.frame.kind && (is_some_frame t.below && nat_eq t.frame.depth depth))
+  threads_ask t (u ∷ us) depth =
+      not (is_some (option_and_then after t.frame.place))
+      && (if is_function t.frame.kind then is_some_frame t.below && nat_eq t.frame.depth depth else threads_ask u us depth)
+
+  abbrev pub moved_asks : ThreadsOf P → Written → Bool
+  moved_asks ts w = threads_ask ts.thread ts.below (depth_of w)
+
+  abbrev pub went_asks : Option P → ThreadsOf P → Written → Bool
+  went_asks None ts w = moved_asks ts w
+  went_asks (Some q) ts w = false
+
+  -- a function's mark is written; a tunnel has none
+  abbrev pub popped_asks : FrameKind → Result (ThreadOf P) Fault → Option P → ThreadsOf P → Written → Bool
+  popped_asks k (Err f) to ts w = false
+  popped_asks Function (Ok t) to ts w = true
+  popped_asks k (Ok t) to ts w = went_asks to (record ts { thread = t }) w
+
+  abbrev pub returned_asks : FrameKind → Option P → ThreadsOf P → Written → Bool
+  returned_asks k to ts w = popped_asks k (popped k (depth_of w) ts.thread) to ts w
+
+  -- the top thread is copied where flow went on
+  abbrev pub copied_asks : Reached P → Bool
+  copied_asks (Reaches ts w) = nat_lt (thread_count ts) MAX_THREADS
+  copied_asks (Halts ts w) = false
+  copied_asks (Breaks f) = false
+
+  abbrev pub forked_asks : ThreadsOf P → Written → Bool
+  forked_asks ts w = moved_asks ts w || copied_asks (moved_on after ts w)
+
+  abbrev pub dropped_asks : Option (ThreadsOf P) → Written → Bool
+  dropped_asks None w = false
+  dropped_asks (Some ts) w = moved_asks ts w
+
+abbrev pub flow_asks : StoryTree → Effect → ThreadsOf (List Part) → Written → Bool
+flow_asks s (Moves f) ts w = moved_asks (next_place s) ts w
+flow_asks s (Lands q f) ts w = false
+flow_asks s (Calls k q f) ts w = nat_lt (frame_count ts.thread) MAX_FRAMES
+flow_asks s (Returns k to f) ts w = returned_asks (next_place s) k to ts w
+flow_asks s (Forks f) ts w = forked_asks (next_place s) ts w
+flow_asks s (Done f) ts w = dropped_asks (next_place s) (dropped ts) w
+flow_asks s (Ends f) ts w = false
+flow_asks s (Fails f) ts w = false
+
+-- with the fields as the effect leaves them
+abbrev pub after_effect : Effect → Configuration → Configuration
+after_effect (Moves f) c = with_fields f c
+after_effect (Lands q f) c = with_fields f c
+after_effect (Calls k q f) c = with_fields f c
+after_effect (Returns k to f) c = with_fields f c
+after_effect (Forks f) c = with_fields f c
+after_effect (Done f) c = with_fields f c
+after_effect (Ends f) c = with_fields f c
+after_effect (Fails f) c = c
+
+-- flow asks for memory after an effect
+abbrev pub move_asks : StoryTree → Effect → Configuration → Bool
+move_asks s e c = flow_asks s e (after_effect e c).flow.threads (written_in (after_effect e c))

@@ -1,0 +1,27 @@
+use Rattle.ink_check.specs.Words.{story_tree}
+use Rattle.ink_model.specs.Step.Diverts.{divert_to}
+use Rattle.ink_step.specs.Performs.{fields}
+use Rattle.ink_step.proofs.Leading.{lands_there, leads_nowhere, passed, performed}
+use Rattle.ink_step.proofs.diverting.divert.Goals as goal
+use Rattle.ink_tree.specs.Nodes.{place_of}
+
+pub returns-in-Some : goal.returns-in-Some
+returns-in-Some c evaluating fresh page =
+    let s = story_tree c.args.story.now in
+    let so = divert_to s (place_of s c.args.here) c.args.to.now in
+    let new = fields evaluating fresh c.is_wanted.new.stack.items page c.args.globals.now in
+    performed s _ new _ so _ _ c.in-Ok-true.field-0-test (c.in-Ok-true.ensures evaluating fresh page c.args.globals.now so) (lands_there s _ new _ _ c.in-Some.ensures)
+
+pub returns-in-None : goal.returns-in-None
+returns-in-None c evaluating fresh page =
+    let s = story_tree c.args.story.now in
+    let so = divert_to s (place_of s c.args.here) c.args.to.now in
+    let new = fields evaluating fresh c.is_wanted.new.stack.items page c.args.globals.now in
+    performed s _ new _ so _ _ c.in-Ok-true.field-0-test (c.in-Ok-true.ensures evaluating fresh page c.args.globals.now so) (leads_nowhere s _ new _ _ c.in-None.ensures)
+
+pub returns-in-Ok-false : goal.returns-in-Ok-false
+returns-in-Ok-false c evaluating fresh page =
+    let s = story_tree c.args.story.now in
+    let so = divert_to s (place_of s c.args.here) c.args.to.now in
+    let new = fields evaluating fresh c.is_wanted.new.stack.items page c.args.globals.now in
+    passed s _ new _ so _ c.in-Ok-false.field-0-test (c.in-Ok-false.ensures evaluating fresh page c.args.globals.now so)

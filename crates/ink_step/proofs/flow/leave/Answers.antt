@@ -1,0 +1,34 @@
+use Rattle.std.proofs.Common.{◌≡◌, ◌∙◌, ap, inl, inr, Ok}
+use Rattle.ink_model.specs.Flow.{Written, depth_of}
+use Rattle.ink_model.specs.Frames.{map_threads}
+use Rattle.ink_model.specs.Memory.{Gives, leaving}
+use Rattle.ink_model.specs.Output.{ends_function}
+use Rattle.ink_model.specs.Threads.{popped, top_result}
+use Rattle.ink_model.specs.declared.frame.FrameKind.TheVariants as kind
+use Rattle.ink_stack.specs.Words.{Changes}
+use Rattle.ink_step.proofs.Passing.{gives_page, left_marked, left_unmarked, pops}
+use Rattle.ink_step.proofs.flow.leave.Goals as goal
+use Rattle.ink_tree.specs.Nodes.{place_of}
+
+pub returns-in-Function : goal.returns-in-Function
+returns-in-Function c s values =
+    let f = place_of s in
+    let old = c.args.threads.now in
+    let w : Written = record { stack = values; page = c.args.output.now.page } in
+    let number : c.number-number.result ≡ old.thread.frame.enter = c.number-number.ensures ∙ ap (λ t. t.frame.enter) c.top.ensures in
+    let writes : Gives (leaving c.leave.new.self.page c.leave.result) (ends_function old.thread.frame.enter w.page) = rw number at c.leave.ensures.page.0 in
+    let pops_one : Changes (top_result (popped kind.Function (depth_of w) old.thread) old) old c.pop_frame.new.self (Ok c.in_ok-pop_frame.field-0) = rw (c.in-Function.is, c.depth.ensures) at c.in_ok-pop_frame.ensures in
+    rw c.in-Function.is (left_marked (map_threads f old) (map_threads f c.pop_frame.new.self) _ _ _ c.in_ok-pop_frame.field-0 c.leave.result (pops f kind.Function (depth_of w) old c.pop_frame.new.self _ pops_one)
+    (gives_page w _ _ _ writes))
+
+pub returns-in-Base : goal.returns-in-Base
+returns-in-Base c s values =
+    let f = place_of s in
+    let old = c.args.threads.now in
+    let w : Written = record { stack = values; page = c.args.output.now.page } in
+    let pops_one : Changes (top_result (popped c.args.kind (depth_of w) old.thread) old) old c.pop_frame.new.self (Ok c.in_ok-pop_frame.field-0) = rw c.depth.ensures at c.in_ok-pop_frame.ensures in
+    let pops_there = pops f c.args.kind (depth_of w) old c.pop_frame.new.self _ pops_one in
+    elim c.in-Base.is [
+      | inl base ↦ rw base (left_unmarked _ (map_threads f old) _ w _ c.in_ok-pop_frame.field-0 (rw base at pops_there))
+      | inr tunnel ↦ rw tunnel (left_unmarked _ (map_threads f old) _ w _ c.in_ok-pop_frame.field-0 (rw tunnel at pops_there))
+    ]

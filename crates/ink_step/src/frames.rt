@@ -1,0 +1,61 @@
+//! Calls, tunnels and the returns of tunnels (docs/FRAMES.md).
+
+ghost use Rattle.std.specs.Prelude.{◌≡◌, ℕ, Bool, false, Option};
+ghost use Rattle.ink_check.specs.Words.{story_tree};
+ghost use Rattle.ink_model.specs.Acceptance.{lands_to, written_target};
+ghost use Rattle.ink_model.specs.Page.{Page};
+ghost use Rattle.ink_model.specs.Step.Calls.{call, return_tunnel};
+ghost use Rattle.ink_model.specs.Store.{Values};
+ghost use Rattle.ink_step.specs.Performs.{Performs, fields};
+ghost use Rattle.ink_tree.specs.Nodes.{place_of};
+
+use crate::diverting::{ROOT, destination, is_wanted};
+use crate::globals::Globals;
+use crate::operands::top;
+use crate::transfer::Transfer;
+use ink_check::Story;
+use ink_model::{Destination, Fault, FrameKind, Value};
+use ink_tree::Spot;
+use ink_value::EvalStack;
+
+/// Flow lands, in a frame of this kind, where a call or a tunnel leads, `BadTarget` where that is nowhere. A condition is popped
+/// and looked at before all else; where it is false flow goes on.
+pub(crate) fn call<'a>(
+    story: &Story,
+    here: Spot,
+    kind: FrameKind,
+    to: &Destination,
+    conditional: bool,
+    stack: &mut EvalStack,
+    globals: &Globals,
+) -> Result<Transfer<'a>, Fault>
+    requires { let s = story_tree story.now in written_target s (place_of s here) ≡ lands_to s (place_of s here) to.now }
+    ensures { let s = story_tree story.now in (evaluating : Bool) (fresh : Option ℕ) (page : Page)
+        → Performs s false (call kind s (place_of s here) to.now conditional (fields evaluating fresh stack.old.items page globals.now)) (fields evaluating fresh stack.new.items page globals.now) result }
+{
+    match is_wanted(conditional, stack) {
+        Ok(true) => match destination(story, here, to, globals) {
+            Some(place) => Ok(Transfer::Call(kind, place)),
+            None => Err(Fault::BadTarget),
+        },
+        Ok(false) => Ok(Transfer::Next),
+        Err(fault) => Err(fault),
+    }
+}
+
+/// A tunnel goes back by what is popped: void leads to after its call, a target to the very place that it names. `StackEmpty`
+/// where nothing is there to be popped, `BadPop` for another value, `BadTarget` for a target that leads nowhere.
+pub(crate) fn return_tunnel<'a>(story: &Story, stack: &mut EvalStack) -> Result<Transfer<'a>, Fault>
+    ensures { let s = story_tree story.now in (evaluating : Bool) (fresh : Option ℕ) (page : Page) (globals : Values)
+        → Performs s false (return_tunnel s (fields evaluating fresh stack.old.items page globals)) (fields evaluating fresh stack.new.items page globals) result }
+{
+    match top(stack) {
+        Some(Value::Void) => Ok(Transfer::Return(FrameKind::Tunnel, None)),
+        Some(Value::Target(path)) => match story.tree().resolve(ROOT, path.get()) {
+            Some(place) => Ok(Transfer::Return(FrameKind::Tunnel, Some(place))),
+            None => Err(Fault::BadTarget),
+        },
+        Some(_) => Err(Fault::BadPop),
+        None => Err(Fault::StackEmpty),
+    }
+}
