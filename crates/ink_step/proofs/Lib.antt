@@ -1,4 +1,3 @@
-pub mod Entries
 pub mod Tops
 pub mod Limits
 pub mod Effects

@@ -1,7 +1,5 @@
-pub mod Globals
 pub mod Words
 pub mod Performs
 pub mod Stacks
 pub mod Reaches
 pub mod Steps
-pub mod Reaches

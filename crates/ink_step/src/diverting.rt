@@ -11,13 +11,13 @@ ghost use Rattle.ink_model.specs.Store.{Values};
 ghost use Rattle.ink_step.specs.Performs.{Decides, Performs, fields};
 ghost use Rattle.ink_tree.specs.Nodes.{place_of};
 
-use crate::globals::Globals;
 use crate::operands::top;
 use crate::transfer::Transfer;
 use ink_check::Story;
 use ink_model::{Destination, Fault, Text, Value};
 use ink_tree::{NodeId, Spot};
 use ink_value::{EvalStack, is_true};
+use ink_vars::Globals;
 
 pub(crate) const ROOT: NodeId = NodeId { number: 0 };
 

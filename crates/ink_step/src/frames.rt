@@ -10,13 +10,13 @@ ghost use Rattle.ink_step.specs.Performs.{Performs, fields};
 ghost use Rattle.ink_tree.specs.Nodes.{place_of};
 
 use crate::diverting::{ROOT, destination, is_wanted};
-use crate::globals::Globals;
 use crate::operands::top;
 use crate::transfer::Transfer;
 use ink_check::Story;
 use ink_model::{Destination, Fault, FrameKind, Value};
 use ink_tree::Spot;
 use ink_value::EvalStack;
+use ink_vars::Globals;
 
 /// Flow lands, in a frame of this kind, where a call or a tunnel leads, `BadTarget` where that is nowhere. A condition is popped
 /// and looked at before all else; where it is false flow goes on.

@@ -5,7 +5,6 @@ mod diverting;
 mod evaluating;
 mod flow;
 mod frames;
-mod globals;
 mod machine;
 mod opening;
 mod operands;
@@ -17,6 +16,5 @@ mod transfer;
 mod writing;
 
 pub use flow::StepEnd;
-pub use globals::Globals;
 pub use machine::Machine;
 pub use opening::Unopened;

@@ -6,12 +6,12 @@ ghost use Rattle.ink_model.specs.Session.{is_loose};
 ghost use Rattle.ink_model.specs.Store.{store, stored};
 ghost use Rattle.ink_model.specs.Tree.{StoryTree};
 
-use crate::globals::Globals;
 use ink_model::Value;
 use ink_out::Output;
 use ink_stack::Threads;
 use ink_tree::Spot;
 use ink_value::EvalStack;
+use ink_vars::Globals;
 use std::alloc::Global;
 
 /// What changes while a story runs: a configuration, but for choices, counts and the turn, which no content writes yet.

@@ -8,7 +8,6 @@ ghost use Rattle.ink_model.specs.Tree.{StoryTree};
 ghost use Rattle.ink_check.specs.Words.{story_tree};
 ghost use Rattle.ink_tree.specs.Nodes.{place_of};
 
-use crate::globals::Globals;
 use crate::machine::Machine;
 use ink_check::Story;
 use ink_model::Fault;
@@ -16,6 +15,7 @@ use ink_out::Output;
 use ink_stack::Threads;
 use ink_tree::Spot;
 use ink_value::EvalStack;
+use ink_vars::Globals;
 use std::alloc::Global;
 
 /// Declarations that could not be run: why, and the globals as they stood before the step that faulted.

@@ -9,11 +9,11 @@ ghost use Rattle.ink_model.specs.Store.{Values};
 ghost use Rattle.ink_model.specs.Tree.{StoryTree};
 ghost use Rattle.ink_step.specs.Performs.{Changes, Performs, fields};
 
-use crate::globals::Globals;
 use crate::operands::{push, top};
 use crate::transfer::Transfer;
 use ink_model::{Fault, Text, Value};
 use ink_value::EvalStack;
+use ink_vars::Globals;
 use std::alloc::{AllocError, Global};
 
 /// What is popped becomes the value of a global, which need not be there.

@@ -30,7 +30,7 @@ use table::run_table;
 use tally::Tally;
 
 /// The tables that are read where none are named.
-const TABLES: [&str; 15] = [
+const TABLES: [&str; 17] = [
     "operators.txt",
     "operators_large.txt",
     "output.txt",
@@ -40,6 +40,8 @@ const TABLES: [&str; 15] = [
     "players_large.txt",
     "reading.txt",
     "sessions.txt",
+    "sessions_calls.txt",
+    "sessions_calls_large.txt",
     "sessions_cut.txt",
     "sessions_large.txt",
     "sessions_limits.txt",
