@@ -1,3 +1,4 @@
 pub mod Chains
+pub mod Copying
 pub mod Entries
 pub mod Numbered

@@ -1,13 +1,13 @@
 //! Visits and turns of containers.
 
-ghost use Rattle.std.specs.Prelude.{◌≡◌, ◌≤◌, [], true, ◌&&◌, IfErr, OnOk, OnErr};
+ghost use Rattle.std.specs.Prelude.{◌≡◌, ◌≤◌, [], true, ◌&&◌, IfOk, IfErr, OnOk, OnErr};
 ghost use Rattle.std.specs.Ordering.{nat_cmp};
 ghost use Rattle.ink_model.specs.Counts as rules;
 ghost use Rattle.ink_model.specs.declared.limits.TheConstants.{MAX_COUNT};
 
 use crate::slots::{add_one, make_room, put, slot};
 use ink_model::{Fault, flags};
-use std::alloc::Global;
+use std::alloc::{AllocError, Global};
 use std::marker::Model;
 
 /// How often each container was visited, and in which turn last, by the container's number, and found at once by it. A
@@ -39,6 +39,17 @@ impl Counts {
             visits: Vec::new(alloc),
             turns: Vec::new(alloc),
         }
+    }
+
+    /// A copy. The one error is a refused request for memory.
+    pub fn clone_in(&self, alloc: Global) -> Result<Counts, AllocError>
+        ensures { IfOk result (λ copy. copy ≡ self.now) }
+    {
+        let mut visits = Vec::new(alloc);
+        visits.extend_from_slice(self.visits.as_slice())?;
+        let mut turns = Vec::new(alloc);
+        turns.extend_from_slice(self.turns.as_slice())?;
+        Ok(Counts { visits, turns })
     }
 
     /// A container with these flags is entered in a turn, at its start or not: one more visit where flag 1 says so, which

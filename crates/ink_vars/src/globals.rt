@@ -1,6 +1,6 @@
 //! The globals of a running story.
 
-ghost use Rattle.std.specs.Prelude.{◌≡◌, [], false, is_some, is_ok, length, option_map, slice_get, IfErr, OnOk, OnErr};
+ghost use Rattle.std.specs.Prelude.{◌≡◌, ◌≢◌, [], false, is_some, is_ok, length, option_map, slice_get, IfOk, IfErr, OnOk, OnErr};
 ghost use Rattle.ink_model.specs.Store.{stored, store};
 
 use indexmap::IndexMap;
@@ -33,6 +33,21 @@ impl Globals {
             values: IndexMap::new(alloc),
             alloc,
         }
+    }
+
+    /// A copy. The one error is a refused request for memory, which no globals never make.
+    pub fn clone_in(&self, alloc: Global) -> Result<Globals, AllocError>
+        ensures copy { IfOk result (λ copy. copy ≡ self.now) }
+        ensures memory { OnErr result (self.now ≢ []) }
+    {
+        let mut copy = Globals::new(alloc);
+        for index in 0..self.values.len() {
+            if let Some((name, value)) = self.values.get_index(index) {
+                let value = value.clone_in(alloc)?;
+                copy.add(name.as_str(), value)?;
+            }
+        }
+        Ok(copy)
     }
 
     /// The value of a global, none where there is no such global.
