@@ -1,5 +1,5 @@
 -- The containers that a landing enters, one further up.
-use Rattle.std.proofs.Common.{◌≡◌, ◌∙◌, ap, sym, refl, List, [], ◌∷◌, ◌++◌, map, reverse, Bool, true, false, true≢false, not, ◌&&◌, ◌||◌, Option, Some, None, is_some, cond, append_assoc, append-nil}
+use Rattle.std.proofs.Common.{◌≡◌, ◌∙◌, ap, sym, refl, List, [], ◌∷◌, ◌++◌, map, reverse, Bool, true, false, true≢false, not, ◌&&◌, ◌||◌, Option, Some, None, is_some, cond, append_assoc}
 use Rattle.std.proofs.lemmas.List.{reverse-append, reverse-reverse, map-append}
 use Rattle.ink_model.specs.Entered.{was_inside, starts_only, is_first, listed_if, entered_above, entered_around, entered_places}
 use Rattle.ink_model.specs.Tree.{StoryTree, at}
@@ -61,6 +61,11 @@ module _ (s : StoryTree) (o : Option (List Part)) where
       enters_at_start a i =
           one_up ∙ rw (sym is_now, a, i) (sym (at_its_start (was_inside up o) up (entered_above s o true (reverse up))))
 
+      -- a container that counts at its start alone, which is not where flow lands
+      pub passes : starts_only s up ≡ true → now ≡ false → entered_above s o at_start (reverse rest) ≡ entered_above s o now (reverse up)
+      passes a i =
+          one_up ∙ rw (sym is_now, a, i) (sym (not_at_its_start (was_inside up o) up (entered_above s o false (reverse up))))
+
 -- one container more
 one_more : (s : StoryTree) (ns : List NodeId) (n : NodeId) (up : List Part) (rest : Places) → node_place s n ≡ up
     → map (node_place s) (ns ++ n ∷ []) ++ rest ≡ map (node_place s) ns ++ up ∷ rest
@@ -72,7 +77,7 @@ pub nodes_more : (s : StoryTree) (ns : List NodeId) (n : NodeId) → AreNodes s 
 nodes_more s [] n h k = (k, tt)
 nodes_more s (m ∷ ns) n h k = (h.0, nodes_more s ns n h.1 k)
 
-pub entered_more : (s : StoryTree) (ns more : List NodeId) (n : NodeId) (up : List Part) (before after all : Places) → node_place s n ≡ up ++ []
+pub entered_more : (s : StoryTree) (ns more : List NodeId) (n : NodeId) (up : List Part) (before after all : Places) → node_place s n ≡ up
     → more ≡ ns ++ n ∷ [] → before ≡ up ∷ after → map (node_place s) ns ++ before ≡ all → map (node_place s) more ++ after ≡ all
 entered_more s ns more n up before after all is e b h =
-    ap (λ ms. map (node_place s) ms ++ after) e ∙ one_more s ns n up after (is ∙ append-nil up) ∙ ap (λ ps. map (node_place s) ns ++ ps) (sym b) ∙ h
+    ap (λ ms. map (node_place s) ms ++ after) e ∙ one_more s ns n up after is ∙ ap (λ ps. map (node_place s) ns ++ ps) (sym b) ∙ h

@@ -1,10 +1,9 @@
 -- What stands one index further than content, and the way down to the first content.
-use Rattle.std.proofs.Common.{◌≡◌, ℕ, List, [], ◌∷◌, ◌++◌, Option, Some, None, option_and_then, refl, sym, ◌∙◌, ap, append_assoc}
+use Rattle.std.proofs.Common.{◌≡◌, List, [], ◌∷◌, ◌++◌, Option, Some, None, option_and_then, refl, sym, ◌∙◌, ap}
 use Rattle.std.proofs.lemmas.List.{append-nil}
-use Rattle.ink_model.specs.Place.{first_content, first_content_at, entered}
-use Rattle.ink_model.specs.Tree.{StoryTree, leaf, container, no_trees, tree, at, down}
+use Rattle.ink_model.specs.Place.{first_content_at, entered}
+use Rattle.ink_model.specs.Tree.{StoryTree, at, down}
 use Rattle.ink_model.specs.declared.place.Part.{Part}
-use Rattle.ink_model.specs.declared.place.Part.TheVariants.{Index}
 use Rattle.ink_tree.proofs.Standing.{at_append}
 
 found_there : (d : Option StoryTree) → option_and_then (λ u. at u []) d ≡ d
@@ -16,8 +15,8 @@ one_down q None = refl
 one_down q (Some t) = found_there (down q t)
 
 -- by what was found at the content's own place
-pub inside : (s : StoryTree) (p : List Part) (i : ℕ) (o : Option StoryTree) → o ≡ at s p → option_and_then (down (Index i)) o ≡ at s (p ++ Index i ∷ [])
-inside s p i o is = ap (option_and_then (down (Index i))) is ∙ (sym (one_down (Index i) (at s p)) ∙ sym (at_append p (Index i ∷ []) s))
+pub below : (s : StoryTree) (p : List Part) (q : Part) (o : Option StoryTree) → o ≡ at s p → option_and_then (down q) o ≡ at s (p ++ q ∷ [])
+below s p q o is = ap (option_and_then (down q)) is ∙ (sym (one_down q (at s p)) ∙ sym (at_append p (q ∷ []) s))
 
 -- ---- down to the first content
 

@@ -8,10 +8,12 @@ pub mod Next
 pub mod Prefixes
 pub mod Entering
 pub mod Places
-pub mod Comparing
 pub mod Rising
-pub mod Finding
+pub mod Absent
 pub mod Spots
 pub mod Knots
 pub mod Further
 pub mod Kept
+pub mod Numbered
+pub mod Leaves
+pub mod Down

@@ -35,10 +35,10 @@ absent k (key l t ks) h =
     let two = both (is_lt (slice_cmp nat_cmp k l)) (is_below k ks) h in
     less (slice_cmp nat_cmp k l) (by_key k ks) t two.0 ∙ absent k ks two.1
 
-at_its_key : (k : List ℕ) (t : StoryTree) (ks : Keyed) → by_key k (key k t ks) ≡ Some t
+pub at_its_key : (k : List ℕ) (t : StoryTree) (ks : Keyed) → by_key k (key k t ks) ≡ Some t
 at_its_key k t ks = rw (tied_itself nat_list_cmp_total k) refl
 
-further : (m k : List ℕ) (t : StoryTree) (ks : Keyed) → is_below k ks ≡ true → is_some (by_key m ks) ≡ true → by_key m (key k t ks) ≡ by_key m ks
+pub further : (m k : List ℕ) (t : StoryTree) (ks : Keyed) → is_below k ks ≡ true → is_some (by_key m ks) ≡ true → by_key m (key k t ks) ≡ by_key m ks
 further m k t ks below some =
     other (slice_cmp nat_cmp m k) (by_key m ks) t
     (λ same. let is = slice_cmp-IsAntisymmetric nat_cmp-IsAntisymmetric m k same in

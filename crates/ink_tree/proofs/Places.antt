@@ -1,7 +1,7 @@
 -- Listing the places of content one element and one key at a time.
-use Rattle.std.proofs.Common.{◌≡◌, ℕ, zero, suc, ◌+◌, ◌-◌, ◌^◌, ◌<◌, ◌≤◌, List, [], ◌∷◌, ◌++◌, map, length, get_or, drop, take, true, ◌&&◌, Option, String, Global, Vec, BTreeMap, nat_lt, Less, string_bytes, string_cmp, refl, sym, ap, ◌∙◌, append_assoc, arith, rules}
+use Rattle.std.proofs.Common.{◌≡◌, ℕ, zero, suc, ◌+◌, ◌^◌, ◌<◌, ◌≤◌, List, [], ◌∷◌, ◌++◌, length, get_or, drop, true, ◌&&◌, Option, Some, String, Global, Vec, BTreeMap, nat_lt, Less, string_bytes, string_cmp, refl, sym, ap, ◌∙◌, append_assoc, arith, rules}
 use Rattle.std.proofs.lemmas.Bool.Decides.{nat_tests}
-use Rattle.std.proofs.lemmas.List.{drop_more, drop_all, append-nil, map-append, map-id, length-append, length-map, take_at}
+use Rattle.std.proofs.lemmas.List.{drop_more, drop_all, append-nil, length-append, length-map}
 use Rattle.std.specs.List.{AllByRecursion}
 use Rattle.std.specs.List.Sorted.{IsStrictlySortedBy}
 use Rattle.std.specs.Map.{keys_of}
@@ -10,53 +10,36 @@ use Rattle.ink_model.specs.Places.{places, places_from, places_by_key}
 use Rattle.ink_model.specs.Tree.{StoryTree, container, Trees, Keyed, count}
 use Rattle.ink_model.specs.View.{view, trees_view, keyed_view}
 use Rattle.ink_model.specs.declared.content.Content.{Content, Container, the_lemmas}
-use Rattle.ink_model.specs.declared.place.Part.{Part}
 use Rattle.ink_model.specs.declared.place.Part.TheVariants.{Index, Name}
-use Rattle.ink_tree.specs.Listing.{below, Lists}
+use Rattle.ink_tree.specs.Kept.{nodes_of, nodes_from, nodes_by_key}
 use Rattle.ink_tree.specs.Order.{keys_rise, keys_rise_in, keys_rise_by_key, is_below}
+use Rattle.ink_tree.specs.declared.node.Node.{Node}
+use Rattle.ink_tree.specs.declared.spot.NodeId.{NodeId}
 use Rattle.ink_tree.proofs.Nodes.{both}
 
 abbrev pub Entry : Type 0
 Entry = String Global × Content
 
--- ---- ways
+-- ---- one after another
 
-below_under : (way : List Part) (p : Part) (ps : List (List Part)) → below (way ++ p ∷ []) ps ≡ below way (map (λ q. p ∷ q) ps)
-below_under way p [] = refl
-below_under way p (q ∷ ps) = λ i. append_assoc way (p ∷ []) q i ∷ below_under way p ps i
+-- some were listed, and the rest is still to come
+pub listed_more : (ns first : List Node) (rest : ℕ → List Node) (whole ns' : List Node) → ns ++ (first ++ rest (length ns + length first)) ≡ whole → ns' ≡ ns ++ first
+    → ns' ++ rest (length ns') ≡ whole
+listed_more ns first rest whole ns' total more =
+    ap (λ l. l ++ rest (length l)) more ∙ ap (λ n. (ns ++ first) ++ rest n) (length-append ns first) ∙ append_assoc ns first (rest (length ns + length first)) ∙ total
 
--- what stands at a part was listed, and the rest is still to come
-pub listed_more : (listed : List (List Part)) (way : List Part) (p : Part) (ps rest whole : List (List Part)) (listed' : List (List Part)) (way' : List Part)
-    → listed ++ below way (map (λ q. p ∷ q) ps ++ rest) ≡ whole → way' ≡ way ++ p ∷ [] → listed' ≡ listed ++ below way' ps
-    → listed' ++ below way rest ≡ whole
-listed_more listed way p ps rest whole listed' way' total pushed more =
-    ap (λ l. l ++ below way rest) (more ∙ ap (λ w. listed ++ below w ps) pushed ∙ ap (λ l. listed ++ l) (below_under way p ps))
-    ∙ append_assoc listed (below way (map (λ q. p ∷ q) ps)) (below way rest)
-    ∙ ap (λ l. listed ++ l) (sym (map-append (λ q. way ++ q) (map (λ q. p ∷ q) ps) rest))
-    ∙ total
-
--- all but the last part
-pub but_last : (way up : List Part) (last : Part) (n : ℕ) → n ≡ length way → way ≡ up ++ last ∷ [] → take (n - 1) way ≡ up
-but_last way up last n long is =
-    let count : n - 1 ≡ length up = omega (arith, ap length is, length-append up (last ∷ [])) in
-    ap (λ k. take k way) count ∙ ap (take (length up)) is ∙ take_at up (last ∷ []) (length up) refl
-
--- the content itself, then its elements, then what it has by key
-pub container_listed : (listed : List (List Part)) (way : List Part) (elements named : List (List Part)) (l1 l2 l3 : List (List Part)) (way1 way2 : List Part)
-    → l1 ≡ listed ++ way ∷ [] → Lists l1 way elements l2 way1 → Lists l2 way1 named l3 way2
-    → Lists listed way ([] ∷ (elements ++ named)) l3 way2
-container_listed listed way elements named l1 l2 l3 way1 way2 first inner last =
-    let whole : l3 ≡ listed ++ below way ([] ∷ (elements ++ named)) =
-    last.0 ∙ ap (λ w. l2 ++ below w named) inner.1 ∙ ap (λ l. l ++ below way named) (inner.0 ∙ ap (λ l. l ++ below way elements) first)
-    ∙ ap (λ l. l ++ below way named) (append_assoc listed (way ∷ []) (below way elements))
-    ∙ append_assoc listed (way ∷ below way elements) (below way named)
-    ∙ ap (λ l. listed ++ way ∷ l) (sym (map-append (λ q. way ++ q) elements named))
-    ∙ ap (λ w. listed ++ w ∷ below way (elements ++ named)) (sym (append-nil way)) in
-    (whole, last.1 ∙ inner.1)
-
--- from the root on, where nothing is listed before
-pub listed_whole : (listed : List (List Part)) (way : List Part) (ps listed' : List (List Part)) (way' : List Part) → listed ≡ [] → way ≡ [] → Lists listed way ps listed' way' → listed' ≡ ps
-listed_whole listed way ps listed' way' none root lists = lists.0 ∙ ap (λ l. l ++ below way ps) none ∙ ap (λ w. below w ps) root ∙ map-id ps
+-- a container, then its elements, then what it has by key
+pub container_listed : (ns : List Node) (own : Node) (elements : ℕ → List Node) (named : ℕ → List Node) (l1 l2 l3 : List Node)
+    → l1 ≡ ns ++ own ∷ [] → l2 ≡ l1 ++ elements (length l1) → l3 ≡ l2 ++ named (length l2)
+    → l3 ≡ ns ++ own ∷ (elements (length ns + 1) ++ named (length ns + 1 + length (elements (length ns + 1))))
+container_listed ns own elements named l1 l2 l3 first inner last =
+    let long : length l1 ≡ length ns + 1 = ap length first ∙ length-append ns (own ∷ []) in
+    let inside : l2 ≡ (ns ++ own ∷ []) ++ elements (length ns + 1) = inner ∙ (λ i. first i ++ elements (long i)) in
+    let longer : length l2 ≡ length ns + 1 + length (elements (length ns + 1)) =
+    ap length inside ∙ length-append (ns ++ own ∷ []) (elements (length ns + 1)) ∙ ap (λ n. n + length (elements (length ns + 1))) (length-append ns (own ∷ [])) in
+    last ∙ (λ i. inside i ++ named (longer i))
+    ∙ append_assoc (ns ++ own ∷ []) (elements (length ns + 1)) (named (length ns + 1 + length (elements (length ns + 1))))
+    ∙ append_assoc ns (own ∷ []) (elements (length ns + 1) ++ named (length ns + 1 + length (elements (length ns + 1))))
 
 -- ---- containers
 
@@ -120,24 +103,23 @@ module _ (cs : List Content) (i : ℕ) (c : Content) (is : c ≡ get_or cs i c) 
   next : drop i cs ≡ c ∷ drop (i + 1) cs
   next = drop_more cs i c h ∙ ap (λ d. d ∷ drop (i + 1) cs) (sym is)
 
-  pub element_listed : (listed : List (List Part)) (way : List Part) (whole listed' : List (List Part)) (way' : List Part)
-      → listed ++ below way (places_from i (trees_view (drop i cs))) ≡ whole → way' ≡ way ++ Index i ∷ [] → listed' ≡ listed ++ below way' (places (view c))
-      → listed' ++ below way (places_from (i + 1) (trees_view (drop (i + 1) cs))) ≡ whole
-  element_listed listed way whole listed' way' total =
-      listed_more listed way (Index i) (places (view c)) (places_from (i + 1) (trees_view (drop (i + 1) cs))) whole listed' way'
-      (ap (λ l. listed ++ below way (places_from i (trees_view l))) (sym next) ∙ total)
+  pub element_listed : (ns : List Node) (h : NodeId) (whole ns' : List Node) → ns ++ nodes_from (length ns) h i (trees_view (drop i cs)) ≡ whole
+      → ns' ≡ ns ++ nodes_of (length ns) h (Some (Index i)) (view c) → ns' ++ nodes_from (length ns') h (i + 1) (trees_view (drop (i + 1) cs)) ≡ whole
+  element_listed ns h whole ns' total more =
+      listed_more ns (nodes_of (length ns) h (Some (Index i)) (view c)) (λ n. nodes_from n h (i + 1) (trees_view (drop (i + 1) cs))) whole ns'
+      (ap (λ l. ns ++ nodes_from (length ns) h i (trees_view l)) (sym next) ∙ total) more
 
   pub element_rises : keys_rise (view c) ≡ true → keys_rise_in (trees_view (drop i cs)) ≡ keys_rise_in (trees_view (drop (i + 1) cs))
   element_rises rises = ap (λ l. keys_rise_in (trees_view l)) next ∙ ap (λ b. b && keys_rise_in (trees_view (drop (i + 1) cs))) rises
 
-pub elements_end : (cs : List Content) (i n : ℕ) → length cs ≤ i → places_from n (trees_view (drop i cs)) ≡ []
-elements_end cs i n h = ap (λ l. places_from n (trees_view l)) (drop_all i cs h)
+pub elements_end : (cs : List Content) (n : ℕ) (h : NodeId) (i j : ℕ) → length cs ≤ i → nodes_from n h j (trees_view (drop i cs)) ≡ []
+elements_end cs n h i j past = ap (λ l. nodes_from n h j (trees_view l)) (drop_all i cs past)
 
 pub elements_risen : (cs : List Content) (i : ℕ) → length cs ≤ i → keys_rise_in (trees_view (drop i cs)) ≡ true
 elements_risen cs i h = ap (λ l. keys_rise_in (trees_view l)) (drop_all i cs h)
 
-pub nothing_left : (listed : List (List Part)) (way : List Part) (rest whole : List (List Part)) → rest ≡ [] → listed ++ below way rest ≡ whole → listed ≡ whole
-nothing_left listed way rest whole none total = sym (append-nil listed) ∙ ap (λ r. listed ++ below way r) (sym none) ∙ total
+pub nothing_left : (ns rest whole : List Node) → rest ≡ [] → ns ++ rest ≡ whole → ns ≡ whole
+nothing_left ns rest whole none total = sym (append-nil ns) ∙ ap (λ r. ns ++ r) (sym none) ∙ total
 
 -- ---- keys
 
@@ -145,10 +127,9 @@ all_below : (k : String Global) (es : List Entry) → AllByRecursion (λ y. stri
 all_below k [] h = refl
 all_below k (e ∷ es) h = rw (h.0) (all_below k es h.1)
 
-pub key_listed : (e : Entry) (es : List Entry) (listed : List (List Part)) (way : List Part) (whole listed' : List (List Part)) (way' : List Part)
-    → listed ++ below way (places_by_key (keyed_view (e ∷ es))) ≡ whole → way' ≡ way ++ Name (string_bytes e.0) ∷ [] → listed' ≡ listed ++ below way' (places (view e.1))
-    → listed' ++ below way (places_by_key (keyed_view es)) ≡ whole
-key_listed e es listed way = listed_more listed way (Name (string_bytes e.0)) (places (view e.1)) (places_by_key (keyed_view es))
+pub key_listed : (e : Entry) (es : List Entry) (ns : List Node) (h : NodeId) (whole ns' : List Node) → ns ++ nodes_by_key (length ns) h (keyed_view (e ∷ es)) ≡ whole
+    → ns' ≡ ns ++ nodes_of (length ns) h (Some (Name (string_bytes e.0))) (view e.1) → ns' ++ nodes_by_key (length ns') h (keyed_view es) ≡ whole
+key_listed e es ns h = listed_more ns (nodes_of (length ns) h (Some (Name (string_bytes e.0))) (view e.1)) (λ n. nodes_by_key n h (keyed_view es))
 
 -- keys that rise strictly are a rising rest, once what they lead to is seen
 pub key_rises : (e : Entry) (es : List Entry) → IsStrictlySortedBy string_cmp (keys_of (e ∷ es)) → keys_rise (view e.1) ≡ true → keys_rise_by_key (keyed_view (e ∷ es)) ≡ keys_rise_by_key (keyed_view es)

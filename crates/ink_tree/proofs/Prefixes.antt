@@ -1,18 +1,52 @@
 -- Places around others.
-use Rattle.std.proofs.Common.{◌≡◌, refl, ℕ, List, [], ◌∷◌, ◌++◌, length, Bool, true, false, ◌&&◌, ◌==◌, Option, Some, None, arith}
+use Rattle.std.proofs.Common.{◌≡◌, ap, refl, sym, ◌∙◌, List, [], ◌∷◌, ◌++◌, Bool, true, false, ◌&&◌, is_eq, arith}
+use Rattle.std.proofs.lemmas.Bool.Decides.{nat_tests}
+use Rattle.std.proofs.lemmas.Map.Text.{is_eq-slice_cmp}
+use Rattle.std.proofs.lemmas.Slice.Eq.{bytes_eq-Decides}
 use Rattle.ink_model.specs.Entered.{is_around}
 use Rattle.ink_model.specs.Value.{same_part}
 use Rattle.ink_model.specs.declared.place.Part.{Part}
-use Rattle.ink_model.specs.declared.place.Part.TheVariants.{Index}
-use Rattle.ink_tree.specs.Nodes.{index_part}
+use Rattle.ink_model.specs.declared.place.Part.TheVariants.{Index, Name}
+use Rattle.ink_tree.proofs.Rising.{nat_list_tied}
 
 and_false : (b : Bool) → (b && false) ≡ false
 and_false true = refl
 and_false false = refl
 
--- two parts are not around one
-pub past_index : (p : Part) (ps right : List Part) (index : Option ℕ) → length right ≡ 0 → (length ps == 0) ≡ false → is_around (p ∷ ps) (right ++ index_part index) ≡ false
-past_index p ps (q ∷ qs) index e h = absurd (omega arith)
-past_index p ps [] None e h = refl
-past_index p [] [] (Some i) e h = absurd cc
-past_index p (o ∷ os) [] (Some i) e h = and_false (same_part p (Index i))
+part_is : (x y : Part) → same_part x y ≡ true → x ≡ y
+part_is (Index i) (Index j) h = let same : i ≡ j = grind (arith, nat_tests, h) in ap Index same
+part_is (Index i) (Name n) h = absurd cc
+part_is (Name m) (Index j) h = absurd cc
+part_is (Name m) (Name n) h = ap Name ((bytes_eq-Decides m n).0 h)
+
+itself : (x : Part) → same_part x x ≡ true
+itself (Index i) = grind (arith, nat_tests)
+itself (Name n) = sym (is_eq-slice_cmp n n) ∙ ap is_eq (nat_list_tied n)
+
+-- a place is around itself
+pub around_itself : (p : List Part) → is_around p p ≡ true
+around_itself [] = refl
+around_itself (x ∷ p) = rw (itself x) (around_itself p)
+
+pub around_same : (p q : List Part) → p ≡ q → true ≡ is_around p q
+around_same p q e = sym (around_itself p) ∙ ap (is_around p) e
+
+-- only the root is around the root
+pub around_root : (p q : List Part) → q ≡ [] → (p ≡ q → ⊥) → false ≡ is_around p q
+around_root [] q e h = absurd (h (sym e))
+around_root (x ∷ p) q e h = ap (is_around (x ∷ p)) (sym e)
+
+both_same : (b u v : Bool) → (b ≡ true → u ≡ v) → (b && u) ≡ (b && v)
+both_same true u v h = h refl
+both_same false u v h = refl
+
+not_both : (b u : Bool) → (b ≡ true → u ≡ false) → (b && u) ≡ false
+not_both true u h = h refl
+not_both false u h = refl
+
+-- another place is around a place where it is around the one above
+pub around_above : (p q : List Part) (x : Part) → (p ≡ q ++ x ∷ [] → ⊥) → is_around p (q ++ x ∷ []) ≡ is_around p q
+around_above [] q x h = refl
+around_above (y ∷ []) [] x h = not_both (same_part y x) true (λ same. absurd (h (ap (λ z. z ∷ []) (part_is y x same))))
+around_above (y ∷ z ∷ p) [] x h = and_false (same_part y x)
+around_above (y ∷ p) (z ∷ q) x h = both_same (same_part y z) (is_around p (q ++ x ∷ [])) (is_around p q) (λ same. around_above p q x (λ e. h (λ i. part_is y z same i ∷ e i)))

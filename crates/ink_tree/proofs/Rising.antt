@@ -1,14 +1,12 @@
 -- The places of a story rise in reading order.
-use Rattle.std.proofs.Common.{◌≡◌, ℕ, zero, suc, ◌+◌, ◌<◌, List, [], ◌∷◌, ◌++◌, map, length, get_or, Bool, true, false, ◌&&◌, Ordering, Less, Equal, Greater, nat_cmp, refl, sym, ap, subst, append_assoc, arith}
+use Rattle.std.proofs.Common.{◌≡◌, ◌∙◌, ℕ, zero, suc, ◌+◌, ◌<◌, List, [], ◌∷◌, ◌++◌, map, Some, slice_get, Bool, true, false, ◌&&◌, Ordering, Less, Equal, Greater, nat_cmp, refl, sym, ap, subst, append_assoc, arith}
 use Rattle.std.proofs.lemmas.Cmp.{nat_cmp_total, nat_list_cmp_total, lists_total, tied_itself}
-use Rattle.std.proofs.lemmas.List.Sorted.{searchable_from_sorted}
-use Rattle.std.proofs.Math.Numerals.{add-one}
+use Rattle.std.proofs.lemmas.Option.{none-some, same_Some}
 use Rattle.std.specs.Cmp.{IsTotalOrder, nat_cmp_is}
 use Rattle.std.specs.Cmp.Lexicographic.{slice_cmp}
 use Rattle.std.specs.FinMap.{nat_cmp-IsAntisymmetric, slice_cmp-IsAntisymmetric}
 use Rattle.std.specs.List.{AllByRecursion}
-use Rattle.std.specs.List.Sorted.{IsSortedBy, IsNonDecreasingBy}
-use Rattle.std.specs.Ordering.{is_lt, ordering_reverse, ordering_index}
+use Rattle.std.specs.Ordering.{is_lt, ordering_reverse}
 use Rattle.ink_model.specs.Places.{places, places_from, places_by_key}
 use Rattle.ink_model.specs.Tree.{StoryTree, leaf, container, Trees, no_trees, tree, Keyed, no_keys, key}
 use Rattle.ink_model.specs.declared.place.Part.{Part}
@@ -40,7 +38,7 @@ part_congr (Name l) (Index j) z h = absurd cc
 part_congr (Name l) (Name m) (Index k) h = refl
 part_congr (Name l) (Name m) (Name n) h = nat_list_cmp_total.congr l m n h
 
-part_total : IsTotalOrder part_cmp
+pub part_total : IsTotalOrder part_cmp
 part_total = record { antisymm = part_antisymm; trans = part_trans; congr = part_congr }
 
 place_total : IsTotalOrder place_cmp
@@ -52,7 +50,7 @@ name_same = slice_cmp-IsAntisymmetric nat_cmp-IsAntisymmetric
 pub nat_list_tied : (n : List ℕ) → slice_cmp nat_cmp n n ≡ Equal
 nat_list_tied n = tied_itself nat_list_cmp_total n
 
-part_same : (x y : Part) → part_cmp x y ≡ Equal → x ≡ y
+pub part_same : (x y : Part) → part_cmp x y ≡ Equal → x ≡ y
 part_same (Index i) (Index j) h = ap Index (nat_cmp-IsAntisymmetric i j h)
 part_same (Index i) (Name n) h = absurd cc
 part_same (Name m) (Index j) h = absurd cc
@@ -181,20 +179,27 @@ mutual
   from_root i no_trees = tt
   from_root i (tree t ts) = all_append _ (map (λ p. Index i ∷ p) (places t)) (places_from (i + 1) ts) (all_under _ (Index i) (places t) (λ x. refl)) (from_root (i + 1) ts)
 
--- ---- searching
+-- ---- no two at one place
 
-turned : (x y : List Part) → place_cmp x y ≡ Less → is_lt (place_cmp y x) ≡ false
-turned x y h = rw (place_total.antisymm y x, h) refl
+at_one : (P : List Part → Type 0) (xs : List (List Part)) (i : ℕ) (x : List Part) → All' P xs → slice_get xs i ≡ Some x → P x
+at_one P [] i x h e = absurd (none-some x e)
+at_one P (y ∷ ys) zero x h e = subst P (same_Some y x e) h.0
+at_one P (y ∷ ys) (suc i) x h e = at_one P ys i x h.1 e
 
-next_above : (xs : List (List Part)) (k : ℕ) (d : List Part) → Rises xs → suc k < length xs → is_lt (place_cmp (get_or xs (suc k) d) (get_or xs k d)) ≡ false
-next_above [] k d up h = absurd (omega arith)
-next_above (x ∷ []) k d up h = absurd (omega arith)
-next_above (x ∷ y ∷ xs) zero d up h = turned x y up.0.0
-next_above (x ∷ y ∷ xs) (suc k) d up h = next_above (y ∷ xs) k d up.1 (omega arith)
+not_itself : (x y : List Part) → place_cmp x y ≡ Less → x ≡ y → ⊥
+not_itself x y h e = let tied = place_tied x in let less : place_cmp x x ≡ Less = ap (place_cmp x) e ∙ h in absurd (less_equal (place_cmp x x) less tied) where
+  less_equal : (o : Ordering) → o ≡ Less → o ≡ Equal → ⊥
+  less_equal Less a b = cc
+  less_equal Equal a b = cc
+  less_equal Greater a b = cc
 
-sorted : (xs : List (List Part)) → Rises xs → IsSortedBy (λ x y. is_lt (place_cmp x y)) xs
-sorted xs up k d low h = rw (add-one k) (next_above xs k d up (omega arith))
+one_place : (xs : List (List Part)) (i j : ℕ) (x : List Part) → Rises xs → slice_get xs i ≡ Some x → slice_get xs j ≡ Some x → i ≡ j
+one_place [] i j x up a b = absurd (none-some x a)
+one_place (y ∷ ys) zero zero x up a b = refl
+one_place (y ∷ ys) zero (suc j) x up a b = absurd (not_itself y x (at_one (λ z. place_cmp y z ≡ Less) ys j x up.0 b) (same_Some y x a))
+one_place (y ∷ ys) (suc i) zero x up a b = absurd (not_itself y x (at_one (λ z. place_cmp y z ≡ Less) ys i x up.0 a) (same_Some y x b))
+one_place (y ∷ ys) (suc i) (suc j) x up a b = ap suc (one_place ys i j x up.1 a b)
 
--- a search over the places of a story by the order of places is a search over what rises
-pub searchable : (s : StoryTree) (p : List Part) → keys_rise s ≡ true → IsNonDecreasingBy (λ q. ordering_index (place_cmp q p)) (places s)
-searchable s p h = searchable_from_sorted place_total (λ q. q) (places s) p (sorted (places s) (rises s h))
+-- two numbers at one place of a story are one
+pub one_number : (s : StoryTree) (i j : ℕ) (x : List Part) → keys_rise s ≡ true → slice_get (places s) i ≡ Some x → slice_get (places s) j ≡ Some x → i ≡ j
+one_number s i j x h = one_place (places s) i j x (rises s h)

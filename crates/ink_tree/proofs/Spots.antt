@@ -1,17 +1,14 @@
 -- Which places are places of a story, given by their last part.
-use Rattle.std.proofs.Common.{◌≡◌, ℕ, zero, suc, List, [], ◌∷◌, ◌++◌, length, reverse, Bool, true, false, ◌&&◌, ◌||◌, nat_eq, nat_le, cond, Option, Some, None, is_some, option_and_then, String, Global, Vec, BTreeMap, refl, sym, ap, ◌∙◌, arith}
+use Rattle.std.proofs.Common.{◌≡◌, ℕ, zero, suc, List, [], ◌∷◌, ◌++◌, length, reverse, Bool, true, false, ◌&&◌, ◌||◌, nat_eq, nat_le, cond, Option, Some, None, is_some, option_and_then, refl, sym, ap, ◌∙◌, arith}
 use Rattle.std.proofs.lemmas.Bool.Decides.{nat_tests}
 use Rattle.std.proofs.lemmas.List.{append-nil, reverse-append, reverse-reverse}
 use Rattle.ink_model.specs.Path.{is_place, is_container, ends_at}
 use Rattle.ink_model.specs.Tree.{StoryTree, leaf, container, Trees, no_trees, tree, nth, down, at, width, count}
-use Rattle.ink_model.specs.View.{view}
-use Rattle.ink_model.specs.declared.content.Content.{Content, Container}
 use Rattle.ink_model.specs.declared.place.Part.{Part}
 use Rattle.ink_model.specs.declared.place.Part.TheVariants.{Index, Name}
-use Rattle.ink_tree.specs.Contents.{reaches}
+use Rattle.ink_tree.specs.Contents.{reaches_in}
 use Rattle.ink_tree.specs.Nodes.{place_of, node_place}
 use Rattle.ink_tree.specs.declared.spot.NodeId.{NodeId}
-use Rattle.ink_tree.proofs.Places.{seen, count_is}
 
 -- ---- one part further
 
@@ -29,10 +26,6 @@ reversed up q = reverse-append up (q ∷ [])
 
 -- ---- by an index
 
-abbrev end_reached : Option StoryTree → ℕ → Bool
-end_reached None i = false
-end_reached (Some t) i = reaches t i
-
 both_more : (b : Bool) (i n : ℕ) → (b || nat_eq i n) ≡ nat_le i n → (b || nat_eq (suc i) (suc n)) ≡ nat_le (suc i) (suc n)
 both_more true i n h = grind (arith, nat_tests, h)
 both_more false i n h = grind (arith, nat_tests, h)
@@ -43,12 +36,12 @@ or_end no_trees (suc i) = grind (arith, nat_tests)
 or_end (tree t ts) zero = grind (arith, nat_tests)
 or_end (tree t ts) (suc i) = both_more (is_some (option_and_then (λ u. Some u) (nth i ts))) i (count ts) (or_end ts i)
 
-reached : (o : Option StoryTree) (i : ℕ) → (is_some (option_and_then (λ u. at u (Index i ∷ [])) o) || (is_container o && nat_eq i (width o))) ≡ end_reached o i
+reached : (o : Option StoryTree) (i : ℕ) → (is_some (option_and_then (λ u. at u (Index i ∷ [])) o) || (is_container o && nat_eq i (width o))) ≡ reaches_in o i
 reached None i = refl
 reached (Some (leaf l)) i = refl
 reached (Some (container name flags content named)) i = or_end content i
 
-place_by_index : (s : StoryTree) (up : List Part) (i : ℕ) → is_place s (up ++ Index i ∷ []) ≡ end_reached (at s up) i
+place_by_index : (s : StoryTree) (up : List Part) (i : ℕ) → is_place s (up ++ Index i ∷ []) ≡ reaches_in (at s up) i
 unfolding is_place
 place_by_index s up i =
     (λ j. is_some (at_further up (Index i) s j) || ends_at s (reversed up (Index i) j))
@@ -60,16 +53,14 @@ chosen b p = cond b (Some p) None
 
 module _ (s : StoryTree) (up : List Part) (i : ℕ) where
   pub nowhere : at s up ≡ None → None ≡ chosen (is_place s (up ++ Index i ∷ [])) (up ++ Index i ∷ [])
-  nowhere none = ap (λ b. chosen b (up ++ Index i ∷ [])) (sym (place_by_index s up i ∙ ap (λ o. end_reached o i) none))
+  nowhere none = ap (λ b. chosen b (up ++ Index i ∷ [])) (sym (place_by_index s up i ∙ ap (λ o. reaches_in o i) none))
 
-  pub beyond : (t : StoryTree) → Some t ≡ at s up → reaches t i ≡ false → None ≡ chosen (is_place s (up ++ Index i ∷ [])) (up ++ Index i ∷ [])
-  beyond t some h = ap (λ b. chosen b (up ++ Index i ∷ [])) (sym (place_by_index s up i ∙ ap (λ o. end_reached o i) (sym some) ∙ h))
+  pub beyond : reaches_in (at s up) i ≡ false → None ≡ chosen (is_place s (up ++ Index i ∷ [])) (up ++ Index i ∷ [])
+  beyond h = ap (λ b. chosen b (up ++ Index i ∷ [])) (sym (place_by_index s up i ∙ h))
 
-  pub within : (t : StoryTree) (n : NodeId) → Some t ≡ at s up → reaches t i ≡ true → node_place s n ≡ up ++ []
+  pub within : (n : NodeId) → reaches_in (at s up) i ≡ true → node_place s n ≡ up
       → Some (place_of s (record { holder = n; index = Some i })) ≡ chosen (is_place s (up ++ Index i ∷ [])) (up ++ Index i ∷ [])
-  within t n some h is =
-      ap (λ p. Some (p ++ Index i ∷ [])) (is ∙ append-nil up)
-      ∙ ap (λ b. chosen b (up ++ Index i ∷ [])) (sym (place_by_index s up i ∙ ap (λ o. end_reached o i) (sym some) ∙ h))
+  within n h is = ap (λ p. Some (p ++ Index i ∷ [])) is ∙ ap (λ b. chosen b (up ++ Index i ∷ [])) (sym (place_by_index s up i ∙ h))
 
 -- ---- otherwise
 
@@ -92,15 +83,8 @@ no_last s [] h = refl
 no_last s (q ∷ p) h = absurd (omega arith)
 
 module _ (s : StoryTree) (p : List Part) where
-  pub missing : at s (p ++ []) ≡ None → None ≡ chosen (is_some (at s p)) p
-  missing none = ap (λ o. chosen (is_some o) p) (sym (ap (at s) (sym (append-nil p)) ∙ none))
+  pub missing : at s p ≡ None → None ≡ chosen (is_some (at s p)) p
+  missing none = ap (λ o. chosen (is_some o) p) (sym none)
 
-  pub there : (n : NodeId) → node_place s n ≡ p ++ [] → is_some (at s (p ++ [])) ≡ true → Some (place_of s (record { holder = n; index = None })) ≡ chosen (is_some (at s p)) p
-  there n is some =
-      ap Some (append-nil (node_place s n) ∙ is ∙ append-nil p) ∙ ap (λ b. chosen b p) (sym (ap (λ q. is_some (at s q)) (sym (append-nil p)) ∙ some))
-
--- ---- content seen
-
-pub reached_seen : (c : Content) (name : Option (List ℕ)) (flags : ℕ) (inside : Vec Content Global) (keyed : BTreeMap (String Global) Content) (i n : ℕ) → c ≡ Container name flags inside keyed
-    → n ≡ length inside.items → nat_le i n ≡ reaches (view c) i
-reached_seen c name flags inside keyed i n is long = ap (nat_le i) (long ∙ sym (count_is inside.items)) ∙ ap (λ t. reaches t i) (sym (seen c name flags inside keyed is))
+  pub there : (n : NodeId) → node_place s n ≡ p → is_some (at s p) ≡ true → Some (place_of s (record { holder = n; index = None })) ≡ chosen (is_some (at s p)) p
+  there n is some = ap Some (append-nil (node_place s n) ∙ is) ∙ ap (λ b. chosen b p) (sym some)

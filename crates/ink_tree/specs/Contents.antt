@@ -1,5 +1,5 @@
 -- What is asked of one content.
-use Rattle.std.specs.Prelude.{ℕ, List, Bool, false, nat_le}
+use Rattle.std.specs.Prelude.{ℕ, List, Bool, false, nat_le, Option, Some, None}
 use Rattle.ink_model.specs.Place.{is_named}
 use Rattle.ink_model.specs.Tree.{StoryTree, leaf, container, count}
 
@@ -7,6 +7,11 @@ use Rattle.ink_model.specs.Tree.{StoryTree, leaf, container, count}
 abbrev pub reaches : StoryTree → ℕ → Bool
 reaches (leaf l) i = false
 reaches (container own flags content named) i = nat_le i (count content)
+
+-- the same of what is found at a place
+abbrev pub reaches_in : Option StoryTree → ℕ → Bool
+reaches_in None i = false
+reaches_in (Some t) i = reaches t i
 
 -- a container gives itself a name
 abbrev pub has_name : List ℕ → StoryTree → Bool

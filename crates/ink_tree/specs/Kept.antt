@@ -1,21 +1,20 @@
 -- What is kept of a story's contents, so that no step walks a place.
-use Rattle.std.specs.Prelude.{◌≡◌, ⊤, ℕ, List, [], ◌∷◌, ◌++◌, nat_lt, slice_get, if◌then◌else◌, Option, Some, None}
+use Rattle.std.specs.Prelude.{◌≡◌, ⊤, ℕ, ◌+◌, List, [], ◌∷◌, ◌++◌, length, nat_lt, slice_get, if◌then◌else◌, Option, Some, None}
 use Rattle.std.specs.Borrow.{Bor}
 use Rattle.std.specs.Option.{option_map}
 use Rattle.ink_model.specs.Entered.{flags_at}
 use Rattle.ink_model.specs.Place.{next_place}
-use Rattle.ink_model.specs.Tree.{StoryTree, leaf, container, at, width}
+use Rattle.ink_model.specs.Tree.{StoryTree, leaf, container, Trees, no_trees, tree, Keyed, no_keys, key, at, count, width}
 use Rattle.ink_model.specs.View.{view}
+use Rattle.ink_model.specs.declared.content.Content as contents
 use Rattle.ink_model.specs.declared.content.Content.{Content}
 use Rattle.ink_model.specs.declared.content.Leaf.{Leaf}
 use Rattle.ink_model.specs.declared.place.Part.{Part}
-use Rattle.ink_model.specs.declared.place.Part.TheVariants.{Index}
-use Rattle.ink_tree.specs.Numbers.{node_place}
+use Rattle.ink_model.specs.declared.place.Part.TheVariants.{Index, Name}
+use Rattle.ink_tree.specs.Numbers.{node_place, IsNode}
+use Rattle.ink_tree.specs.declared.node.Links.{Links}
 use Rattle.ink_tree.specs.declared.node.Node.{Node}
-
--- the place of the first content by index in what stands at a place
-abbrev pub first_inside : StoryTree → List Part → Option (List Part)
-first_inside s p = if nat_lt 0 (width (at s p)) then Some (p ++ Index 0 ∷ []) else None
+use Rattle.ink_tree.specs.declared.spot.NodeId.{NodeId}
 
 -- content that holds no other
 abbrev pub leaf_in : Option StoryTree → Option Leaf
@@ -26,16 +25,54 @@ leaf_in (Some (container name flags content named)) = None
 abbrev pub kept_leaf : Option Content → Option Leaf
 kept_leaf o = leaf_in (option_map view o)
 
+-- the place one part down from a node; without a part the root's
+abbrev pub way_to : StoryTree → NodeId → Option Part → List Part
+way_to s holder None = []
+way_to s holder (Some x) = node_place s holder ++ x ∷ []
+
 -- what is kept of the content at a place
 abbrev pub Keeps : StoryTree → List Part → Node → Type 0
-Keeps s p n = (kept_leaf n.leaf ≡ leaf_in (at s p)) × (option_map (node_place s) n.first ≡ first_inside s p) × (option_map (node_place s) n.next ≡ next_place s p)
-    × (n.flags ≡ flags_at (at s p))
+Keeps s p n = IsNode s n.holder × (way_to s n.holder n.last ≡ p) × (n.width ≡ width (at s p)) × (n.flags ≡ flags_at (at s p)) × (kept_leaf n.leaf ≡ leaf_in (at s p))
 
--- the same, where anything is kept
-abbrev pub MayKeep : StoryTree → List Part → Option (Bor Node) → Type 0
-MayKeep s p None = ⊤
-MayKeep s p (Some n) = Keeps s p n.now
-
--- what is kept of the first contents of a story, in reading order
+-- the same of the contents of a story, in reading order
 abbrev pub KeepsAll : StoryTree → List Node → Type 0
 KeepsAll s ns = (i : ℕ) (n : Node) → slice_get ns i ≡ Some n → Keeps s (node_place s (record { number = i })) n
+
+abbrev mutual
+  -- the nodes of content and of all that is in it, from this number on; what is around the content has a number, and a part leads to
+  -- the content from there
+  pub nodes_of : ℕ → NodeId → Option Part → StoryTree → List Node
+  nodes_of n holder last (leaf l) = record { leaf = Some (contents.Leaf l); holder = holder; last = last; width = 0; flags = 0 } ∷ []
+  nodes_of n holder last (container name flags content named) =
+      record { leaf = None; holder = holder; last = last; width = count content; flags = flags }
+      ∷ (nodes_from (n + 1) (record { number = n }) 0 content
+      ++ nodes_by_key (n + 1 + length (nodes_from (n + 1) (record { number = n }) 0 content)) (record { number = n }) named)
+
+  -- of elements from this index on
+  pub nodes_from : ℕ → NodeId → ℕ → Trees → List Node
+  nodes_from n holder i no_trees = []
+  nodes_from n holder i (tree t ts) =
+      nodes_of n holder (Some (Index i)) t ++ nodes_from (n + length (nodes_of n holder (Some (Index i)) t)) holder (i + 1) ts
+
+  pub nodes_by_key : ℕ → NodeId → Keyed → List Node
+  nodes_by_key n holder no_keys = []
+  nodes_by_key n holder (key k t ks) = nodes_of n holder (Some (Name k)) t ++ nodes_by_key (n + length (nodes_of n holder (Some (Name k)) t)) holder ks
+
+-- ---- the way on
+
+-- the place of the first content by index in what stands at a place
+abbrev pub first_inside : StoryTree → List Part → Option (List Part)
+first_inside s p = if nat_lt 0 (width (at s p)) then Some (p ++ Index 0 ∷ []) else None
+
+-- what is linked to the content at a place
+abbrev pub IsLinked : StoryTree → List Part → Links → Type 0
+IsLinked s p l = (option_map (node_place s) l.first ≡ first_inside s p) × (option_map (node_place s) l.next ≡ next_place s p)
+
+-- the same, where anything is
+abbrev pub MayBeLinked : StoryTree → List Part → Option (Bor Links) → Type 0
+MayBeLinked s p None = ⊤
+MayBeLinked s p (Some l) = IsLinked s p l.now
+
+-- the same of the first contents of a story, in reading order
+abbrev pub AreLinked : StoryTree → List Links → Type 0
+AreLinked s ls = (i : ℕ) (l : Links) → slice_get ls i ≡ Some l → IsLinked s (node_place s (record { number = i })) l

@@ -1,12 +1,11 @@
 -- What nodes and spots of a story stand for.
-use Rattle.std.specs.Prelude.{◌≡◌, ◌<◌, ⊤, ℕ, List, [], ◌∷◌, ◌++◌, length, Option, Some, None}
+use Rattle.std.specs.Prelude.{◌≡◌, ⊤, ℕ, List, [], ◌∷◌, ◌++◌, Option, Some, None}
 use Rattle.std.specs.Borrow.{Bor}
 use Rattle.ink_json.specs.Story.{tree}
-use Rattle.ink_model.specs.Places.{places}
 use Rattle.ink_model.specs.Tree.{StoryTree, at}
 use Rattle.ink_model.specs.declared.place.Part.{Part}
 use Rattle.ink_model.specs.declared.place.Part.TheVariants.{Index}
-pub use Rattle.ink_tree.specs.Numbers.{node_place}
+pub use Rattle.ink_tree.specs.Numbers.{node_place, IsNode}
 use Rattle.ink_tree.specs.declared.spot.NodeId.{NodeId}
 use Rattle.ink_tree.specs.declared.spot.Spot.{Spot}
 use Rattle.ink_tree.specs.declared.tree.Tree.{Tree}
@@ -23,19 +22,10 @@ index_part (Some i) = Index i ∷ []
 abbrev pub place_of : StoryTree → Spot → List Part
 place_of s x = node_place s x.holder ++ index_part x.index
 
--- a node of this story
-abbrev pub IsNode : StoryTree → NodeId → Type 0
-IsNode s n = n.number < length (places s)
-
 -- the node of the content at a place, none where nothing stands there
 abbrev pub Finds : StoryTree → List Part → Option NodeId → Type 0
 Finds s p None = at s p ≡ None
 Finds s p (Some n) = IsNode s n × (node_place s n ≡ p)
-
--- the part that is still to come, where there is one
-abbrev pub last_part : Option (Bor Part) → List Part
-last_part None = []
-last_part (Some part) = part.now ∷ []
 
 abbrev pub AreNodes : StoryTree → List NodeId → Type 0
 AreNodes s [] = ⊤
@@ -45,3 +35,8 @@ AreNodes s (n ∷ ns) = IsNode s n × AreNodes s ns
 abbrev pub MayBeNode : StoryTree → Option NodeId → Type 0
 MayBeNode s None = ⊤
 MayBeNode s (Some n) = IsNode s n
+
+-- what is around the content at a place, and the part that leads from there to it
+abbrev pub IsAbove : StoryTree → List Part → Option (Bor Part × NodeId) → Type 0
+IsAbove s p None = p ≡ []
+IsAbove s p (Some x) = IsNode s x.1 × (p ≡ node_place s x.1 ++ x.0.now ∷ [])

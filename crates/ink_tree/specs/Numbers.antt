@@ -1,5 +1,5 @@
 -- The numbers of a story's contents.
-use Rattle.std.specs.Prelude.{List, [], slice_get, unwrap_or}
+use Rattle.std.specs.Prelude.{◌<◌, List, [], length, slice_get, unwrap_or}
 use Rattle.ink_model.specs.Places.{places}
 use Rattle.ink_model.specs.Tree.{StoryTree}
 use Rattle.ink_model.specs.declared.place.Part.{Part}
@@ -8,3 +8,7 @@ use Rattle.ink_tree.specs.declared.spot.NodeId.{NodeId}
 -- the place of a node, by its number in reading order; a number beyond the story's content stands for the root
 abbrev pub node_place : StoryTree → NodeId → List Part
 node_place s n = unwrap_or (slice_get (places s) n.number) []
+
+-- a node of this story
+abbrev pub IsNode : StoryTree → NodeId → Type 0
+IsNode s n = n.number < length (places s)

@@ -1,5 +1,5 @@
 -- The order of places: reading order, where keys rise.
-use Rattle.std.specs.Prelude.{ℕ, List, [], ◌∷◌, Bool, true, ◌&&◌, Option, Some, None}
+use Rattle.std.specs.Prelude.{ℕ, List, Bool, true, ◌&&◌}
 use Rattle.std.specs.Cmp.Lexicographic.{slice_cmp}
 use Rattle.std.specs.Ordering.{nat_cmp, is_lt}
 use Rattle.std.specs.declared.cmp.Ordering.{Ordering}
@@ -20,10 +20,6 @@ part_cmp (Name m) (Name n) = slice_cmp nat_cmp m n
 abbrev pub key_part : Key → Part
 key_part (Key.Index i) = Index i
 key_part (Key.Name n) = Name n.now
-
-abbrev pub key_parts : Option Key → List Part
-key_parts None = []
-key_parts (Some k) = key_part k ∷ []
 
 -- part by part, and a place before those inside it
 abbrev pub place_cmp : List Part → List Part → Ordering

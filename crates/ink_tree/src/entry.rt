@@ -43,9 +43,9 @@ impl Tree {
     pub(crate) fn first(&self, node: NodeId) -> Option<NodeId>
         ensures { option_map (node_place (story_tree self.now)) result ≡ first_inside (story_tree self.now) (node_place (story_tree self.now) node) }
     {
-        match self.kept(node) {
-            Some(kept) => kept.first,
-            None => self.first_child(node, self.inside(node)),
+        match self.linked(node) {
+            Some(links) => links.first,
+            None => self.first_child(node),
         }
     }
 }

@@ -2,11 +2,12 @@
 #![tactic(auto)]
 
 mod around;
+mod children;
 mod copying;
 mod entry;
-mod inside;
-mod keeping;
+mod linking;
 mod listing;
+mod lookup;
 mod moving;
 mod node;
 mod order;

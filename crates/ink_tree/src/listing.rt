@@ -1,54 +1,80 @@
-//! The places of all content, in reading order.
+//! The nodes of all content, in reading order.
 
-ghost use Rattle.std.specs.Prelude.{◌≡◌, ◌<◌, ◌^◌, List, [], ◌∷◌, ◌++◌, OnOk, IfOk, true};
+ghost use Rattle.std.specs.Prelude.{◌≡◌, ◌<◌, ◌^◌, None, length, ◌++◌, OnOk, IfOk, true};
 ghost use Rattle.ink_json.specs.Story.{tree};
 ghost use Rattle.ink_model.specs.Grammar.{IsSpelled};
 ghost use Rattle.ink_model.specs.Narrow.{is_narrow, are_narrow, are_keyed_narrow};
-ghost use Rattle.ink_model.specs.Places.{places, places_from, places_by_key};
 ghost use Rattle.ink_model.specs.Tree.{count};
 ghost use Rattle.ink_model.specs.View.{view, trees_view, keyed_view};
-ghost use Rattle.ink_model.specs.declared.place.Part.{Part};
-ghost use Rattle.ink_tree.specs.Listing.{Lists};
+ghost use Rattle.ink_tree.specs.Kept.{nodes_of, nodes_from, nodes_by_key};
 ghost use Rattle.ink_tree.specs.Order.{keys_rise, keys_rise_in, keys_rise_by_key};
 
+use crate::copying::copy_leaf;
+use crate::node::Node;
+use crate::spot::NodeId;
 use ink_json::RawStory;
-use ink_model::{Content, Part, Place, Text};
+use ink_model::{Content, Part, Text};
 use std::alloc::{AllocError, Global};
 use std::collections::BTreeMap;
 
-/// The places of a story's content. The one error is a refused request for memory.
-pub(crate) fn list_story(alloc: Global, raw: &RawStory) -> Result<Vec<Place>, AllocError>
-    ensures complete { IfOk result (λ listed. listed.items ≡ places (tree raw.now)) }
+/// The nodes of a story's content. The one error is a refused request for memory.
+pub(crate) fn list_story(alloc: Global, raw: &RawStory) -> Result<Vec<Node>, AllocError>
+    ensures complete { IfOk result (λ nodes. nodes.items ≡ nodes_of 0 (record { number = 0 }) None (tree raw.now)) }
     ensures rising { IfOk result (λ _. keys_rise (tree raw.now) ≡ true) }
     ensures spelled { IfOk result (λ _. IsSpelled (tree raw.now)) }
 {
-    let mut listed = Vec::new(alloc);
+    let mut nodes = Vec::new(alloc);
     let Some(root) = raw.at(&[]) else {
-        return Ok(listed);
+        return Ok(nodes);
     };
-    list_content(alloc, &mut listed, &mut Vec::new(alloc), root)?;
-    Ok(listed)
+    list_content(alloc, &mut nodes, NodeId { number: 0 }, None, root)?;
+    Ok(nodes)
 }
 
-/// Lists the places of content and of all that is in it, behind those that are listed; `way` leads to the content. The one
-/// error is a refused request for memory.
+/// Lists the nodes of content and of all that is in it, behind those that are listed; the last part leads to it from the content
+/// around it. The one error is a refused request for memory.
 #[cycle(listing)]
 fn list_content(
     alloc: Global,
-    listed: &mut Vec<Place>,
-    way: &mut Vec<Part>,
+    nodes: &mut Vec<Node>,
+    holder: NodeId,
+    last: Option<Part>,
     content: &Content,
 ) -> Result<(), AllocError>
     requires narrow { is_narrow (view content.now) ≡ true }
-    ensures lists { OnOk result (Lists listed.old.items way.old.items (places (view content.now)) listed.new.items way.new.items) }
+    ensures lists { OnOk result (nodes.new.items ≡ nodes.old.items ++ nodes_of (length nodes.old.items) holder last (view content.now)) }
     ensures rises { OnOk result (keys_rise (view content.now) ≡ true) }
 {
-    listed.push(Place::from_parts(alloc, way.as_slice())?)?;
+    let own = NodeId {
+        number: nodes.len(),
+    };
     match content {
-        Content::Leaf(_) => Ok(()),
-        Content::Container { content, named, .. } => {
-            list_elements(alloc, listed, way, content)?;
-            list_named(alloc, listed, way, named)
+        Content::Leaf(leaf) => {
+            let leaf = copy_leaf(alloc, leaf)?;
+            nodes.push(Node {
+                leaf: Some(Content::Leaf(leaf)),
+                holder,
+                last,
+                width: 0,
+                flags: 0,
+            })?;
+            Ok(())
+        }
+        Content::Container {
+            flags,
+            content,
+            named,
+            ..
+        } => {
+            nodes.push(Node {
+                leaf: None,
+                holder,
+                last,
+                width: content.len() as u32,
+                flags: *flags,
+            })?;
+            list_elements(alloc, nodes, own, content)?;
+            list_named(alloc, nodes, own, named)
         }
     }
 }
@@ -58,19 +84,18 @@ fn list_content(
 #[tactic(auto, using(crate::proofs::Places::element_narrow))]
 fn list_elements(
     alloc: Global,
-    listed: &mut Vec<Place>,
-    way: &mut Vec<Part>,
+    nodes: &mut Vec<Node>,
+    holder: NodeId,
     elements: &Vec<Content>,
 ) -> Result<(), AllocError>
     requires width { count (trees_view elements.now.items) < 2 ^ 32 }
     requires narrow { are_narrow (trees_view elements.now.items) ≡ true }
-    ensures lists { OnOk result (Lists listed.old.items way.old.items (places_from 0 (trees_view elements.now.items)) listed.new.items way.new.items) }
+    ensures lists { OnOk result (nodes.new.items ≡ nodes.old.items ++ nodes_from (length nodes.old.items) holder 0 (trees_view elements.now.items)) }
     ensures rises { OnOk result (keys_rise_in (trees_view elements.now.items) ≡ true) }
 {
     for (index, element) in elements.iter().enumerate() {
-        way.push(Part::Index(index as u32))?;
-        list_content(alloc, listed, way, element)?;
-        leave(way);
+        let last = Some(Part::Index(index as u32));
+        list_content(alloc, nodes, holder, last, element)?;
     }
     Ok(())
 }
@@ -79,25 +104,17 @@ fn list_elements(
 #[cycle(listing)]
 fn list_named(
     alloc: Global,
-    listed: &mut Vec<Place>,
-    way: &mut Vec<Part>,
+    nodes: &mut Vec<Node>,
+    holder: NodeId,
     named: &BTreeMap<String, Content>,
 ) -> Result<(), AllocError>
     requires narrow { are_keyed_narrow (keyed_view named.now.entries) ≡ true }
-    ensures lists { OnOk result (Lists listed.old.items way.old.items (places_by_key (keyed_view named.now.entries)) listed.new.items way.new.items) }
+    ensures lists { OnOk result (nodes.new.items ≡ nodes.old.items ++ nodes_by_key (length nodes.old.items) holder (keyed_view named.now.entries)) }
     ensures rises { OnOk result (keys_rise_by_key (keyed_view named.now.entries) ≡ true) }
 {
     for (name, content) in named.iter() {
-        way.push(Part::Name(Text::from_str(alloc, name.as_str())?))?;
-        list_content(alloc, listed, way, content)?;
-        leave(way);
+        let last = Some(Part::Name(Text::from_str(alloc, name.as_str())?));
+        list_content(alloc, nodes, holder, last, content)?;
     }
     Ok(())
-}
-
-/// Goes one part back up.
-fn leave(way: &mut Vec<Part>)
-    ensures { (up : List Part) (last : Part) → way.old.items ≡ up ++ last ∷ [] → way.new.items ≡ up }
-{
-    way.pop();
 }

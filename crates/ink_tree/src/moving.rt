@@ -5,8 +5,6 @@ ghost use Rattle.ink_model.specs.Entered.{entered_places, is_first, starts_only}
 ghost use Rattle.ink_model.specs.Place.{landed, next_place, start_place};
 ghost use Rattle.ink_model.specs.declared.place.Part.TheVariants.{Index};
 
-use crate::inside::width_of;
-use crate::order::Key;
 use crate::spot::{NodeId, Spot};
 use crate::tree::Tree;
 use ink_model::Part;
@@ -61,9 +59,9 @@ impl Tree {
     fn next_node(&self, node: NodeId) -> Option<NodeId>
         ensures { option_map (node_place (story_tree self.now)) result ≡ next_place (story_tree self.now) (node_place (story_tree self.now) node) }
     {
-        match self.kept(node) {
-            Some(kept) => kept.next,
-            None => self.next_above(self.parts(node)),
+        match self.linked(node) {
+            Some(links) => links.next,
+            None => self.next_of(&self.links, node),
         }
     }
 
@@ -72,8 +70,8 @@ impl Tree {
         ensures { option_map (node_place (story_tree self.now)) result
             ≡ next_place (story_tree self.now) (node_place (story_tree self.now) holder ++ Index index ∷ []) }
     {
-        if (index as usize) + 1 < width_of(self.inside(holder)) {
-            self.search(self.parts(holder), Some(Key::Index(index + 1)))
+        if (index as usize) + 1 < self.kept(holder).width as usize {
+            self.child_at(holder, index + 1)
         } else {
             self.next_node(holder)
         }
@@ -95,41 +93,20 @@ impl Tree {
         let Some(node) = self.node(at) else {
             return Ok(entered);
         };
-        let mut rest = self.parts(node);
+        let mut rest = node;
         let mut at_start = true;
-        while let Some((last, up)) = rest.split_last() {
-            let Some(container) = self.find(up, None) else {
-                return Ok(entered);
-            };
+        while let Some((last, container)) = self.above(rest) {
             at_start = at_start && is_first(last);
             let starts_only = self.starts_only(container);
-            if !starts_only && self.was_inside(up, previous) {
+            if !starts_only && self.was_inside(container, previous) {
                 return Ok(entered);
             }
             if !starts_only || at_start {
                 entered.push(container)?;
             }
-            rest = up;
+            rest = container;
         }
         Ok(entered)
-    }
-
-    // The place after content, to which these parts lead.
-    #[tactic(auto, using(crate::proofs::Next::after_name), unfolding(ink_model::specs::Place::next_place))]
-    pub(crate) fn next_above(&self, parts: &[Part]) -> Option<NodeId>
-        ensures { option_map (node_place (story_tree self.now)) result ≡ next_place (story_tree self.now) parts.now }
-    {
-        let mut rest = parts;
-        while let Some((last, up)) = rest.split_last() {
-            let Part::Index(index) = last else {
-                return None;
-            };
-            if (*index as usize) + 1 < width_of(self.raw.at(up)) {
-                return self.search(up, Some(Key::Index(*index + 1)));
-            }
-            rest = up;
-        }
-        None
     }
 
     // Whether only entry at its start counts for a container.

@@ -6,15 +6,16 @@ ghost use Rattle.ink_model.specs.View.{view};
 ghost use Rattle.ink_tree.specs.Kept.{kept_leaf};
 
 use crate::spot::NodeId;
-use ink_model::Content;
+use ink_model::{Content, Part};
 
-/// What is kept of a content: a copy of it where it holds no other, the first content by index in it, the content after it, and
-/// the flags of a container.
+/// A content: a copy of it where it holds no other, the content around it and the part that leads from there to it (the root has
+/// none), how many contents it holds by index, and the flags of a container.
 #[derive(Drop)]
 pub(crate) struct Node {
     pub leaf: Option<Content>,
-    pub first: Option<NodeId>,
-    pub next: Option<NodeId>,
+    pub holder: NodeId,
+    pub last: Option<Part>,
+    pub width: u32,
     pub flags: u8,
 }
 
@@ -33,9 +34,9 @@ impl Node {
     }
 }
 
-/// Where the content around a content may be looked for first, and the content behind all that is in it. Nothing rests on it.
+/// The first content by index in a content, and the content after it.
 #[derive(Clone, Copy)]
-pub(crate) struct Guess {
-    pub holder: usize,
-    pub behind: usize,
+pub(crate) struct Links {
+    pub first: Option<NodeId>,
+    pub next: Option<NodeId>,
 }

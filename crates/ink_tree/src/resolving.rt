@@ -1,11 +1,12 @@
 //! Where paths lead (docs/STORY_FORMAT.md, "Paths").
 
-ghost use Rattle.std.specs.Prelude.{◌≡◌, option_map, reverse};
-ghost use Rattle.ink_model.specs.Path.{above, by_name, stepped, stepped_last, target, walked};
-ghost use Rattle.ink_model.specs.declared.place.Part.TheVariants.{Index, Name};
+ghost use Rattle.std.specs.Prelude.{◌≡◌, option_map};
+ghost use Rattle.ink_model.specs.Path.{by_name, listed_index, stepped, stepped_last, target, walked};
+ghost use Rattle.ink_model.specs.Tree.{at};
+ghost use Rattle.ink_model.specs.declared.place.Part.TheVariants.{Index};
 
 use crate::spot::{NodeId, Spot};
-use crate::tree::{Tree, index_in, reaches};
+use crate::tree::{Tree, index_in};
 use ink_model::{Part, Path};
 
 impl Tree {
@@ -49,8 +50,8 @@ impl Tree {
     {
         match component {
             Part::Index(index) => self.step_in(here, *index),
-            Part::Name(name) if name.as_str() == "^" => self.step_up(here),
-            Part::Name(name) => self.step_by_name(here, component, name.as_str()),
+            Part::Name(name) if name.as_str() == "^" => self.holder(here),
+            Part::Name(name) => self.step_by_name(here, name.as_str()),
         }
     }
 
@@ -58,27 +59,27 @@ impl Tree {
         ensures { option_map (node_place (story_tree self.now)) result
             ≡ stepped (story_tree self.now) (node_place (story_tree self.now) here) (Index index) }
     {
-        self.find(self.parts(here), Some(&Part::Index(index)))
-    }
-
-    fn step_up(&self, here: NodeId) -> Option<NodeId>
-        ensures { option_map (node_place (story_tree self.now)) result ≡ above (reverse (node_place (story_tree self.now) here)) }
-    {
-        let (_, up) = self.parts(here).split_last()?;
-        self.find(up, None)
+        self.child_at(here, index)
     }
 
     // To the container given by key, or else to the first in the list that gives itself the name.
-    fn step_by_name(&self, here: NodeId, component: &Part, name: &str) -> Option<NodeId>
-        requires { component.now ≡ Name name.now }
+    fn step_by_name(&self, here: NodeId, name: &str) -> Option<NodeId>
         ensures { option_map (node_place (story_tree self.now)) result
             ≡ by_name (story_tree self.now) (node_place (story_tree self.now) here) name.now }
     {
-        if let Some(node) = self.find(self.parts(here), Some(component)) {
+        if let Some(node) = self.child_by_name(here, name) {
             return Some(node);
         }
-        let index = index_in(self.inside(here)?, name)?;
-        self.find(self.parts(here), Some(&Part::Index(index)))
+        let index = self.listed_index(here, name)?;
+        self.child_at(here, index)
+    }
+
+    // The index in content of the first container that gives itself a name.
+    fn listed_index(&self, here: NodeId, name: &str) -> Option<u32>
+        ensures { result ≡ listed_index name.now (at (story_tree self.now) (node_place (story_tree self.now) here)) }
+    {
+        let _width = self.kept(here).width;
+        index_in(self.inside(here)?, name)
     }
 
     // The last component, an index of which may be a container's end.
@@ -102,7 +103,7 @@ impl Tree {
         ensures { option_map (place_of (story_tree self.now)) result
             ≡ stepped_last (story_tree self.now) (node_place (story_tree self.now) here) (Index index) }
     {
-        if reaches(self.inside(here)?, index) {
+        if self.reaches(here, index) {
             Some(self.by_node(Spot {
                 holder: here,
                 index: Some(index),

@@ -13,34 +13,35 @@ ghost use Rattle.ink_model.specs.Tree as trees;
 ghost use Rattle.ink_model.specs.View.{view, trees_view};
 ghost use Rattle.ink_model.specs.declared.fault.Cause.TheVariants.{OutOfMemory};
 ghost use Rattle.ink_model.specs.declared.place.Part.TheVariants.{Index};
-ghost use Rattle.ink_tree.specs.Contents.{reaches, has_name};
-ghost use Rattle.ink_tree.specs.Kept.{KeepsAll, MayKeep};
-ghost use Rattle.ink_tree.specs.Order.{keys_rise, key_parts};
+ghost use Rattle.ink_tree.specs.Contents.{has_name};
+ghost use Rattle.ink_tree.specs.Kept.{KeepsAll, AreLinked};
+ghost use Rattle.ink_tree.specs.Order.{keys_rise};
 
-use crate::inside::flags_of;
+use crate::children::Children;
 use crate::listing::list_story;
-use crate::node::Node;
-use crate::order::{Key, compare, key_of};
+use crate::node::{Links, Node};
 use crate::spot::{NodeId, Spot};
 use ink_json::RawStory;
 use ink_model::{Cause, Content, Part, Place, ReadRefusal};
 use std::alloc::{AllocError, Global};
 
-/// A story's content, with the places of all content in reading order and what a step asks of each. It never changes.
+/// A story's content, and a node for each content in reading order, with what a step asks of it. It never changes.
 #[derive(Drop)]
 pub struct Tree {
     pub(crate) alloc: Global,
     pub(crate) raw: RawStory,
-    pub(crate) listed: Vec<Place>,
-    nodes: Vec<Node>,
-    ghost complete: { listed.items ≡ places (tree raw) },
+    pub(crate) nodes: Vec<Node>,
+    pub(crate) children: Children,
+    pub(crate) links: Vec<Links>,
+    ghost many: { length nodes.items ≡ length (places (tree raw)) },
     ghost rising: { keys_rise (tree raw) ≡ true },
     ghost spelled: { IsSpelled (tree raw) },
     ghost kept: { KeepsAll (tree raw) nodes.items },
+    ghost linked: { AreLinked (tree raw) links.items },
 }
 
 impl Tree {
-    ghost use Rattle.ink_tree.specs.Nodes.{story_tree, node_place, place_of, last_part, MayBeNode, Finds};
+    ghost use Rattle.ink_tree.specs.Nodes.{story_tree, node_place, place_of, MayBeNode, Finds};
 
     /// The tree of a story that was read, which some bytes spell. `OutOfMemory` is the one refusal, at the root.
     pub fn build(alloc: Global, raw: RawStory) -> Result<Tree, ReadRefusal>
@@ -59,25 +60,29 @@ impl Tree {
         ensures ok { IfOk result (λ t. story_tree t ≡ tree raw) }
         ensures spelled { IfOk result (λ t. IsSpelled (story_tree t)) }
     {
-        let listed = list_story(alloc, &raw)?;
+        let nodes = list_story(alloc, &raw)?;
+        let children = Children::of(alloc, &nodes)?;
         let bare = Tree {
             alloc,
             raw,
-            listed,
-            nodes: Vec::new(alloc),
+            nodes,
+            children,
+            links: Vec::new(alloc),
         };
-        let nodes = bare.kept_nodes()?;
+        let links = bare.link_all()?;
         let Tree {
             alloc,
             raw,
-            listed,
+            nodes,
+            children,
             ..
         } = bare;
         Ok(Tree {
             alloc,
             raw,
-            listed,
             nodes,
+            children,
+            links,
         })
     }
 
@@ -85,7 +90,7 @@ impl Tree {
     pub fn len(&self) -> usize
         ensures { result ≡ length (places (story_tree self.now)) }
     {
-        self.listed.len()
+        self.nodes.len()
     }
 
     /// The content at a place, none where nothing stands there. Takes no memory.
@@ -102,26 +107,17 @@ impl Tree {
     pub(crate) fn content_of(&self, node: NodeId) -> Option<&Content>
         ensures { option_map (λ c. view c.now) result ≡ at (story_tree self.now) (node_place (story_tree self.now) node) }
     {
-        if let Some(kept) = self.kept(node) {
-            if let Some(content) = kept.content() {
-                return Some(content);
-            }
+        match self.kept(node).content() {
+            Some(content) => Some(content),
+            None => self.inside(node),
         }
-        self.raw.at(self.parts(node))
-    }
-
-    /// What is kept of a node.
-    pub(crate) fn kept(&self, node: NodeId) -> Option<&Node>
-        ensures { MayKeep (story_tree self.now) (node_place (story_tree self.now) node) result }
-    {
-        self.nodes.get(node.number)
     }
 
     fn content_in(&self, holder: NodeId, index: u32) -> Option<&Content>
         ensures { option_map (λ c. view c.now) result ≡ at (story_tree self.now) (node_place (story_tree self.now) holder ++ Index index ∷ []) }
     {
-        match self.raw.at(self.parts(holder)) {
-            Some(content) => by_index(content, index),
+        match self.child_at(holder, index) {
+            Some(node) => self.content_of(node),
             None => None,
         }
     }
@@ -131,14 +127,34 @@ impl Tree {
         ensures place { IfOk result (λ place. place ≡ place_of (story_tree self.now) spot) }
         ensures root { place_of (story_tree self.now) spot ≡ [] → IsOk result }
     {
-        let parts = self.parts(spot.holder);
-        if parts.is_empty() && spot.index.is_none() {
-            return Ok(Place::root(self.alloc));
+        match spot.index {
+            Some(index) => self.place_under(spot.holder, Part::Index(index)),
+            None => self.place_at(spot.holder),
         }
-        let mut place = Place::from_parts(self.alloc, parts)?;
-        if let Some(index) = spot.index {
-            place.push(Part::Index(index))?;
+    }
+
+    // The place of a node.
+    fn place_at(&self, node: NodeId) -> Result<Place, AllocError>
+        ensures place { IfOk result (λ place. place ≡ node_place (story_tree self.now) node) }
+        ensures root { node_place (story_tree self.now) node ≡ [] → IsOk result }
+    {
+        let alloc = self.alloc;
+        let kept = self.kept(node);
+        match &kept.last {
+            Some(last) => {
+                let mut place = self.place_at(kept.holder)?;
+                place.push(last.clone_in(alloc)?)?;
+                Ok(place)
+            }
+            None => Ok(Place::root(alloc)),
         }
+    }
+
+    fn place_under(&self, holder: NodeId, last: Part) -> Result<Place, AllocError>
+        ensures { IfOk result (λ place. place ≡ node_place (story_tree self.now) holder ++ last ∷ []) }
+    {
+        let mut place = self.place_at(holder)?;
+        place.push(last)?;
         Ok(place)
     }
 
@@ -160,7 +176,7 @@ impl Tree {
             ≡ (if is_some (at (story_tree self.now) parts.now) then Some parts.now else None) }
     {
         Some(Spot {
-            holder: self.search(parts, None)?,
+            holder: self.find(parts)?,
             index: None,
         })
     }
@@ -170,8 +186,8 @@ impl Tree {
         ensures { option_map (place_of (story_tree self.now)) result
             ≡ (if is_place (story_tree self.now) (up.now ++ Index index ∷ []) then Some (up.now ++ Index index ∷ []) else None) }
     {
-        let holder = self.find(up, None)?;
-        if reaches(self.raw.at(up)?, index) {
+        let holder = self.find(up)?;
+        if self.reaches(holder, index) {
             Some(Spot {
                 holder,
                 index: Some(index),
@@ -186,19 +202,8 @@ impl Tree {
         ensures { Finds (story_tree self.now) (place_of (story_tree self.now) spot) result }
     {
         match spot.index {
-            Some(index) => self.search(self.parts(spot.holder), Some(Key::Index(index))),
+            Some(index) => self.child_at(spot.holder, index),
             None => Some(self.own(spot.holder)),
-        }
-    }
-
-    // A node of the story: the root in place of a number beyond the story's content.
-    fn own(&self, node: NodeId) -> NodeId
-        ensures { Finds (story_tree self.now) (node_place (story_tree self.now) node) (Some result) }
-    {
-        if node.number < self.listed.len() {
-            node
-        } else {
-            NodeId { number: 0 }
         }
     }
 
@@ -206,10 +211,7 @@ impl Tree {
     pub fn flags(&self, node: NodeId) -> u8
         ensures { result ≡ flags_at (at (story_tree self.now) (node_place (story_tree self.now) node)) }
     {
-        match self.kept(node) {
-            Some(kept) => kept.flags,
-            None => flags_of(self.inside(node)),
-        }
+        self.kept(node).flags
     }
 
     /// The knot of a name: the container of the root that has it as its key, or else the first in the root's list that gives
@@ -218,52 +220,12 @@ impl Tree {
         ensures place { option_map (node_place (story_tree self.now)) result ≡ rules.knot name.now (story_tree self.now) }
         ensures inside { MayBeNode (story_tree self.now) result }
     {
-        if let Some(node) = self.search(&[], Some(Key::Name(name))) {
+        let root = NodeId { number: 0 };
+        if let Some(node) = self.child_by_name(root, name) {
             return Some(node);
         }
         let index = index_in(self.raw.at(&[])?, name)?;
-        self.search(&[], Some(Key::Index(index)))
-    }
-
-    /// The place of a node, by its parts.
-    pub(crate) fn parts(&self, node: NodeId) -> &[Part]
-        ensures { result.now ≡ node_place (story_tree self.now) node }
-    {
-        match self.listed.get(node.number) {
-            Some(place) => place.parts(),
-            None => &[],
-        }
-    }
-
-    /// The node at a place, which is some parts and perhaps one part more; none where nothing stands there.
-    pub(crate) fn find(&self, up: &[Part], last: Option<&Part>) -> Option<NodeId>
-        ensures { Finds (story_tree self.now) (up.now ++ last_part last.entry) result }
-    {
-        self.search(up, last.map(key_of))
-    }
-
-    /// The same for a part that is lent.
-    pub(crate) fn search(&self, up: &[Part], last: Option<Key<'_>>) -> Option<NodeId>
-        ensures finds { Finds (story_tree self.now) (up.now ++ key_parts last.entry) result }
-        ensures stands { IsSome result → is_some (at (story_tree self.now) (up.now ++ key_parts last.entry)) ≡ true }
-    {
-        match self
-            .listed
-            .binary_search_by(|place| compare(place.parts(), up, last))
-        {
-            Ok(number) => Some(NodeId { number }),
-            Err(_) => None,
-        }
-    }
-
-    /// Whether the node of this number is the one at a place, which is some parts and perhaps one part more.
-    pub(crate) fn is_at(&self, number: usize, up: &[Part], last: Option<Key<'_>>) -> bool
-        ensures { result ≡ true → Finds (story_tree self.now) (up.now ++ key_parts last.entry) (Some (record { number = number })) }
-    {
-        match self.listed.get(number) {
-            Some(place) => compare(place.parts(), up, last).is_eq(),
-            None => false,
-        }
+        self.child_at(root, index)
     }
 }
 
@@ -285,16 +247,6 @@ fn nth(contents: &Vec<Content>, index: usize) -> Option<&Content>
         Some(&contents[index])
     } else {
         None
-    }
-}
-
-/// Whether an index is one of a container's, or its end.
-pub(crate) fn reaches(content: &Content, index: u32) -> bool
-    ensures { result ≡ reaches (view content.now) index }
-{
-    match content {
-        Content::Leaf(_) => false,
-        Content::Container { content, .. } => index as usize <= content.len(),
     }
 }
 

@@ -5,24 +5,22 @@ use Rattle.ink_model.specs.Narrow.{are_keyed_narrow}
 use Rattle.ink_model.specs.Places.{places, places_from, places_by_key}
 use Rattle.ink_model.specs.View.{view, trees_view, keyed_view}
 use Rattle.ink_tree.proofs.Places.{Entry}
-use Rattle.ink_tree.specs.Listing.{below}
+use Rattle.ink_tree.specs.Kept.{nodes_from, nodes_by_key}
 use Rattle.ink_tree.specs.Order.{keys_rise_in, keys_rise_by_key}
 use Rattle.ink_tree.proofs.listing.+listing.Given as goal
 
 -- what is listed and what is still to come are the whole, and so far all keys rise
 abbrev pub invariant-list_elements-loop-index : goal.invariant-list_elements-loop-index
 invariant-list_elements-loop-index l = record {
-  way : l.way.items ≡ l.initial.way.items;
-  listed : l.listed.items ++ below l.way.items (places_from l.index (trees_view (drop l.index l.elements.items)))
-      ≡ l.initial.listed.items ++ below l.initial.way.items (places_from 0 (trees_view l.elements.items));
+  listed : l.nodes.items ++ nodes_from (length l.nodes.items) l.holder l.index (trees_view (drop l.index l.elements.items))
+      ≡ l.initial.nodes.items ++ nodes_from (length l.initial.nodes.items) l.holder 0 (trees_view l.elements.items);
   rises : keys_rise_in (trees_view l.elements.items) ≡ keys_rise_in (trees_view (drop l.index l.elements.items));
 }
 
 abbrev pub invariant-list_named-loop-name : goal.invariant-list_named-loop-name
 invariant-list_named-loop-name l = record {
-  way : l.way.items ≡ l.initial.way.items;
-  listed : l.listed.items ++ below l.way.items (places_by_key (keyed_view l.name-iterator))
-      ≡ l.initial.listed.items ++ below l.initial.way.items (places_by_key (keyed_view l.named.entries));
+  listed : l.nodes.items ++ nodes_by_key (length l.nodes.items) l.holder (keyed_view l.name-iterator)
+      ≡ l.initial.nodes.items ++ nodes_by_key (length l.initial.nodes.items) l.holder (keyed_view l.named.entries);
   rises : keys_rise_by_key (keyed_view l.named.entries) ≡ keys_rise_by_key (keyed_view l.name-iterator);
   sorted : IsStrictlySortedBy string_cmp (keys_of l.name-iterator);
   narrow : are_keyed_narrow (keyed_view l.name-iterator) ≡ true;

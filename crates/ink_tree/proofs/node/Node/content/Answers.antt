@@ -3,7 +3,7 @@ use Rattle.std.specs.Option.{option_map}
 use Rattle.ink_model.specs.Tree.{leaf}
 use Rattle.ink_model.specs.View.{view}
 use Rattle.ink_tree.specs.Kept.{leaf_in}
-use Rattle.ink_tree.proofs.Kept.{leaf_found, leaf_seen, container_found}
+use Rattle.ink_tree.proofs.Leaves.{leaf_found, leaf_seen, container_found}
 use Rattle.ink_tree.proofs.node.Node.content.Goals as goal
 
 pub returns-in-Leaf : goal.returns-in-Leaf

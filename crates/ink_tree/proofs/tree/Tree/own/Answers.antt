@@ -1,8 +1,8 @@
-use Rattle.std.proofs.Common.{arith, ap, length}
+use Rattle.std.proofs.Common.{arith}
 use Rattle.ink_tree.specs.Nodes.{story_tree}
 use Rattle.ink_tree.proofs.Kept.{root_for}
 use Rattle.ink_tree.proofs.tree.Tree.own.Goals as goal
 
 pub returns-else-node-len : goal.returns-else-node-len
 returns-else-node-len c =
-    root_for (story_tree c.args.self.now) c.args.node (omega (arith, c.len.ensures, c.if-node-len.false, c.args.self.now.listed.ok.0, ap length c.args.self.now.complete))
+    root_for (story_tree c.args.self.now) c.args.node (omega (arith, c.len.ensures, c.if-node-len.false, c.args.self.now.nodes.ok.0, c.args.self.now.many))

@@ -1,7 +1,10 @@
-use Rattle.std.proofs.Common.{refl}
 use Rattle.ink_tree.specs.Nodes.{story_tree}
+use Rattle.ink_tree.proofs.Absent.{stands}
 use Rattle.ink_tree.proofs.Spots.{there}
 use Rattle.ink_tree.proofs.tree.Tree.spot_on.Goals as goal
 
 pub returns : goal.returns
-returns c = there (story_tree c.args.self.now) c.args.parts.now c.in_ok-search.field-0 c.in_ok-search.ensures.finds.1 (c.in_ok-search.ensures.stands refl)
+returns c =
+    let s = story_tree c.args.self.now in
+    let n = c.in_ok-find.field-0 in
+    there s c.args.parts.now n c.in_ok-find.ensures.1 (stands s c.args.parts.now n c.args.self.now.rising c.in_ok-find.ensures)

@@ -1,0 +1,91 @@
+-- Contents one part down, and the numbers of those that stand there.
+use Rattle.std.proofs.Common.{◌≡◌, ◌∙◌, ap, sym, refl, ℕ, ◌+◌, ◌<◌, ◌≤◌, List, [], ◌∷◌, ◌++◌, length, take, drop, get_or, true, false, true≢false, nat_le, Option, Some, None, is_some, is_eq, option_map, option_and_then, Ordering, Less, Equal, Greater, arith}
+use Rattle.std.proofs.lemmas.Cmp.{tied_itself}
+use Rattle.std.proofs.lemmas.List.{length-append, take_more, take-append-drop}
+use Rattle.std.proofs.lemmas.Option.{none-some}
+use Rattle.ink_model.specs.Tree.{StoryTree, leaf, container, at, width}
+use Rattle.ink_model.specs.declared.place.Part.{Part}
+use Rattle.ink_model.specs.declared.place.Part.TheVariants.{Index}
+use Rattle.ink_tree.specs.Contents.{reaches_in}
+use Rattle.ink_tree.specs.Kept.{Keeps, leaf_in}
+use Rattle.ink_tree.specs.Nodes.{node_place, IsNode}
+use Rattle.ink_tree.specs.Order.{keys_rise, part_cmp}
+use Rattle.ink_tree.specs.declared.node.Node.{Node}
+use Rattle.ink_tree.specs.declared.spot.NodeId.{NodeId}
+use Rattle.ink_tree.proofs.Absent.{one_node}
+use Rattle.ink_tree.proofs.Kept.{led_by, led_by_none}
+use Rattle.ink_tree.proofs.Rising.{part_same, part_total}
+use Rattle.ink_tree.proofs.Standing.{at_append, index_within}
+
+-- ---- parts
+
+is_equal : (o : Ordering) → is_eq o ≡ true → o ≡ Equal
+is_equal Less h = absurd cc
+is_equal Equal h = refl
+is_equal Greater h = absurd cc
+
+pub equal_parts : (x y : Part) → is_eq (part_cmp x y) ≡ true → x ≡ y
+equal_parts x y h = part_same x y (is_equal (part_cmp x y) h)
+
+pub other_parts : (x y : Part) → is_eq (part_cmp x y) ≡ false → x ≡ y → ⊥
+other_parts x y h e = true≢false (sym (ap is_eq (ap (part_cmp x) (sym e) ∙ tied_itself part_total x)) ∙ h)
+
+pub last_same : (p q : List Part) (x y : Part) → p ++ x ∷ [] ≡ q ++ y ∷ [] → (p ≡ q) × (x ≡ y)
+last_same [] [] x y e = let same : x ≡ y = cc in (refl, same)
+last_same [] (b ∷ q) x y e = absurd (omega (arith, ap length e, length-append q (y ∷ [])))
+last_same (a ∷ p) [] x y e = absurd (omega (arith, ap length e, length-append p (x ∷ [])))
+last_same (a ∷ p) (b ∷ q) x y e =
+    let rest : p ++ x ∷ [] ≡ q ++ y ∷ [] = cc in
+    let first : a ≡ b = cc in
+    let same = last_same p q x y rest in
+    ((λ i. first i ∷ same.0 i), same.1)
+
+-- ---- the node of a number
+
+module _ (s : StoryTree) (m : ℕ) (k : Node) (own : NodeId) (q : List Part) (is : node_place s own ≡ q) (keeps : Keeps s (node_place s (record { number = m })) k) where
+  pub stands_under : (x y : Part) → k.last ≡ Some x → k.holder.number ≡ own.number → x ≡ y → node_place s (record { number = m }) ≡ q ++ y ∷ []
+  stands_under x y last same part =
+      led_by s (node_place s (record { number = m })) k keeps x last
+      ∙ (λ i. (ap (λ j. node_place s (record { number = j })) same ∙ is) i ++ part i ∷ [])
+
+  -- at another part
+  pub other_part : (x y : Part) → k.last ≡ Some x → (x ≡ y → ⊥) → node_place s (record { number = m }) ≡ q ++ y ∷ [] → ⊥
+  other_part x y last other e =
+      other (last_same (node_place s k.holder) q x y (sym (led_by s (node_place s (record { number = m })) k keeps x last) ∙ e)).1
+
+  -- under another
+  pub other_holder : (x y : Part) → keys_rise s ≡ true → IsNode s own → k.last ≡ Some x → (k.holder.number ≡ own.number → ⊥) → node_place s (record { number = m }) ≡ q ++ y ∷ [] → ⊥
+  other_holder x y rise node last other e =
+      other (one_node s k.holder own rise keeps.0 node
+      ((last_same (node_place s k.holder) q x y (sym (led_by s (node_place s (record { number = m })) k keeps x last) ∙ e)).0 ∙ sym is))
+
+  -- the root
+  pub under_none : (y : Part) → k.last ≡ None → node_place s (record { number = m }) ≡ q ++ y ∷ [] → ⊥
+  under_none y last e =
+      absurd (omega (arith, ap length (sym (led_by_none s (node_place s (record { number = m })) k keeps last) ∙ e), length-append q (y ∷ [])))
+
+-- ---- where nothing stands
+
+none_or : (o : Option StoryTree) → (is_some o ≡ true → ⊥) → o ≡ None
+none_or None h = refl
+none_or (Some t) h = absurd (h refl)
+
+pub past_width : (s : StoryTree) (p : List Part) (i : ℕ) → width (at s p) ≤ i → at s (p ++ Index i ∷ []) ≡ None
+past_width s p i past = none_or (at s (p ++ Index i ∷ [])) (λ some. let below = index_within s p i some in absurd (omega arith))
+
+pub none_beyond : (s : StoryTree) (p q : List Part) → at s p ≡ None → at s (p ++ q) ≡ None
+none_beyond s p q none = at_append p q s ∙ ap (option_and_then (λ t. at t q)) none
+
+-- where nothing stands at some of the parts, nothing stands at all of them
+pub missing_before : (s : StoryTree) (ps : List Part) (i : ℕ) (p : List Part) (x y : Part) → i < length ps → y ≡ get_or ps i y → p ≡ take i ps → x ≡ y → at s (p ++ x ∷ []) ≡ None
+    → at s ps ≡ None
+missing_before s ps i p x y within is front part none =
+    let some : p ++ x ∷ [] ≡ take (i + 1) ps = (λ j. front j ++ (part ∙ is) j ∷ []) ∙ sym (take_more ps i y within) in
+    ap (at s) (sym (take-append-drop (i + 1) ps) ∙ ap (λ l. l ++ drop (i + 1) ps) (sym some)) ∙ none_beyond s (p ++ x ∷ []) (drop (i + 1) ps) none
+
+-- ---- containers
+
+pub container_reaches : (o : Option StoryTree) (i w : ℕ) → is_some o ≡ true → None ≡ option_map leaf (leaf_in o) → w ≡ width o → nat_le i w ≡ reaches_in o i
+container_reaches None i w some none wide = absurd (true≢false (sym some))
+container_reaches (Some (leaf l)) i w some none wide = absurd (none-some (leaf l) none)
+container_reaches (Some (container name flags content named)) i w some none wide = ap (nat_le i) wide

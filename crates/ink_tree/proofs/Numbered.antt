@@ -1,0 +1,175 @@
+-- What is kept of the contents of a story is what stands at their places.
+use Rattle.std.proofs.Common.{◌≡◌, ◌∙◌, ap, sym, refl, subst, ℕ, zero, suc, ◌+◌, ◌<◌, List, [], ◌∷◌, ◌++◌, length, map, true, ◌&&◌, Option, Some, None, is_some, slice_get, unwrap_or, append_assoc, arith}
+use Rattle.std.proofs.lemmas.List.{append-nil, length-append, length-map}
+use Rattle.std.proofs.lemmas.Option.{none-some, same_Some, slice_get_within}
+use Rattle.ink_model.specs.Places.{places, places_from, places_by_key}
+use Rattle.ink_model.specs.Tree.{StoryTree, leaf, container, Trees, no_trees, tree, Keyed, no_keys, key, nth, by_key, at, count, width}
+use Rattle.ink_model.specs.Entered.{flags_at}
+use Rattle.ink_model.specs.declared.content.Content as contents
+use Rattle.ink_model.specs.declared.place.Part.{Part}
+use Rattle.ink_model.specs.declared.place.Part.TheVariants.{Index, Name}
+use Rattle.ink_tree.specs.Kept.{Keeps, KeepsAll, kept_leaf, leaf_in, nodes_of, nodes_from, nodes_by_key, way_to}
+use Rattle.ink_tree.specs.Numbers.{node_place, IsNode}
+use Rattle.ink_tree.specs.Order.{keys_rise, keys_rise_in, keys_rise_by_key, is_below}
+use Rattle.ink_tree.specs.declared.node.Node.{Node}
+use Rattle.ink_tree.specs.declared.spot.NodeId.{NodeId}
+use Rattle.ink_tree.proofs.Further.{below}
+use Rattle.ink_tree.proofs.Leaves.{leaf_seen}
+use Rattle.ink_tree.proofs.Nodes.{both, at_its_key, further}
+
+-- ---- as many as there are places
+
+mutual
+  pub many : (n : ℕ) (h : NodeId) (x : Option Part) (t : StoryTree) → length (nodes_of n h x t) ≡ length (places t)
+  many n h x (leaf l) = refl
+  many n h x (container name flags content named) =
+      let own : NodeId = record { number = n } in
+      let inside = nodes_from (n + 1) own 0 content in
+      let by_keys = nodes_by_key (n + 1 + length inside) own named in
+      ap suc (length-append inside by_keys ∙ (λ i. many_from (n + 1) own 0 content i + many_by_key (n + 1 + length inside) own named i)
+      ∙ sym (length-append (places_from 0 content) (places_by_key named)))
+
+  many_from : (n : ℕ) (h : NodeId) (i : ℕ) (ts : Trees) → length (nodes_from n h i ts) ≡ length (places_from i ts)
+  many_from n h i no_trees = refl
+  many_from n h i (tree t ts) =
+      let first = nodes_of n h (Some (Index i)) t in
+      length-append first (nodes_from (n + length first) h (i + 1) ts)
+      ∙ (λ j. (many n h (Some (Index i)) t ∙ sym (length-map (places t) (λ p. Index i ∷ p))) j + many_from (n + length first) h (i + 1) ts j)
+      ∙ sym (length-append (map (λ p. Index i ∷ p) (places t)) (places_from (i + 1) ts))
+
+  many_by_key : (n : ℕ) (h : NodeId) (ks : Keyed) → length (nodes_by_key n h ks) ≡ length (places_by_key ks)
+  many_by_key n h no_keys = refl
+  many_by_key n h (key k t ks) =
+      let first = nodes_of n h (Some (Name k)) t in
+      length-append first (nodes_by_key (n + length first) h ks)
+      ∙ (λ j. (many n h (Some (Name k)) t ∙ sym (length-map (places t) (λ p. Name k ∷ p))) j + many_by_key (n + length first) h ks j)
+      ∙ sym (length-append (map (λ p. Name k ∷ p) (places t)) (places_by_key ks))
+
+module _ (s : StoryTree) where
+  -- ---- places from a number on
+
+  -- these places, as seen from further up, are those of the story from a number on
+  abbrev Sits : ℕ → List Part → List (List Part) → Type 0
+  Sits n p [] = Unit {0}
+  Sits n p (q ∷ qs) = (slice_get (places s) n ≡ Some (p ++ q)) × Sits (suc n) p qs
+
+  sits_front : (n : ℕ) (p : List Part) (xs ys : List (List Part)) → Sits n p (xs ++ ys) → Sits n p xs
+  sits_front n p [] ys h = tt
+  sits_front n p (x ∷ xs) ys h = (h.0, sits_front (suc n) p xs ys h.1)
+
+  sits_back : (n m : ℕ) (p : List Part) (xs ys : List (List Part)) → m ≡ n + length xs → Sits n p (xs ++ ys) → Sits m p ys
+  sits_back n m p [] ys e h = let same : m ≡ n = omega arith in subst (λ k. Sits k p ys) (sym same) h
+  sits_back n m p (x ∷ xs) ys e h = sits_back (suc n) m p xs ys (omega arith) h.1
+
+  sits_under : (n : ℕ) (p : List Part) (x : Part) (qs : List (List Part)) → Sits n p (map (λ q. x ∷ q) qs) → Sits n (p ++ x ∷ []) qs
+  sits_under n p x [] h = tt
+  sits_under n p x (q ∷ qs) h = (h.0 ∙ ap (λ r. Some r) (sym (append_assoc p (x ∷ []) q)), sits_under (suc n) p x qs h.1)
+
+  got : (done : List (List Part)) (q : List Part) (qs : List (List Part)) → slice_get (done ++ q ∷ qs) (length done) ≡ Some q
+  got [] q qs = refl
+  got (d ∷ done) q qs = got done q qs
+
+  sits_all : (done qs : List (List Part)) (n : ℕ) → n ≡ length done → places s ≡ done ++ qs → Sits n [] qs
+  sits_all done [] n long e = tt
+  sits_all done (q ∷ qs) n long e = (
+    ap (slice_get (places s)) long ∙ ap (λ ps. slice_get ps (length done)) e ∙ got done q qs,
+    sits_all (done ++ q ∷ []) qs (suc n) (omega (arith, length-append done (q ∷ []))) (e ∙ sym (append_assoc done (q ∷ []) qs)),
+  )
+
+  -- ---- what is kept from a number on
+
+  abbrev Each : ℕ → List Node → Type 0
+  Each n [] = Unit {0}
+  Each n (k ∷ ks) = Keeps s (node_place s (record { number = n })) k × Each (suc n) ks
+
+  each_append : (n m : ℕ) (xs ys : List Node) → m ≡ n + length xs → Each n xs → Each m ys → Each n (xs ++ ys)
+  each_append n m [] ys e h g = let same : m ≡ n = omega arith in subst (λ k. Each k ys) same g
+  each_append n m (x ∷ xs) ys e h g = (h.0, each_append (suc n) m xs ys (omega arith) h.1 g)
+
+  each_at : (n : ℕ) (ks : List Node) (i m : ℕ) (k : Node) → m ≡ n + i → Each n ks → slice_get ks i ≡ Some k → Keeps s (node_place s (record { number = m })) k
+  each_at n [] i m k e h is = absurd (none-some k is)
+  each_at n (x ∷ ks) zero m k e h is =
+      let same : n ≡ m = omega arith in
+      subst (λ j. Keeps s (node_place s (record { number = j })) k) same (subst (Keeps s (node_place s (record { number = n }))) (same_Some x k is) h.0)
+  each_at n (x ∷ ks) (suc i) m k e h is = each_at (suc n) ks i m k (omega arith) h.1 is
+
+  -- ---- one content
+
+  placed : (n : ℕ) (p : List Part) → slice_get (places s) n ≡ Some (p ++ []) → node_place s (record { number = n }) ≡ p
+  placed n p is = ap (λ o. unwrap_or o []) is ∙ append-nil p
+
+  keeps : (n : ℕ) (p : List Part) (t : StoryTree) (k : Node) → slice_get (places s) n ≡ Some (p ++ []) → at s p ≡ Some t → IsNode s k.holder → way_to s k.holder k.last ≡ p
+      → k.width ≡ width (Some t) → k.flags ≡ flags_at (Some t) → kept_leaf k.leaf ≡ leaf_in (Some t) → Keeps s (node_place s (record { number = n })) k
+  keeps n p t k is stands inside way wide flags held =
+      subst (λ q. Keeps s q k) (sym (placed n p is))
+      (inside, way, wide ∙ sym (ap width stands), flags ∙ sym (ap flags_at stands), held ∙ sym (ap leaf_in stands))
+
+  one_further : (h : NodeId) (p : List Part) (x : Part) → node_place s h ≡ p → way_to s h (Some x) ≡ p ++ x ∷ []
+  one_further h p x is = ap (λ q. q ++ x ∷ []) is
+
+  mutual
+    hold : (n : ℕ) (h : NodeId) (x : Option Part) (p : List Part) (t : StoryTree) → IsNode s h → way_to s h x ≡ p → at s p ≡ Some t → Sits n p (places t) → keys_rise t ≡ true
+        → Each n (nodes_of n h x t)
+    hold n h x p (leaf l) inside way stands sits rise = (keeps n p (leaf l) (record { leaf = Some (contents.Leaf l); holder = h; last = x; width = 0; flags = 0 }) sits.0 stands inside way refl refl (ap (λ o. leaf_in (Some o)) (leaf_seen l)), tt)
+    hold n h x p (container name flags content named) inside way stands sits rise =
+        let own : NodeId = record { number = n } in
+        let two = both (keys_rise_in content) (keys_rise_by_key named) rise in
+        let within : IsNode s own = slice_get_within (places s) n (p ++ []) sits.0 in
+        let here = placed n p sits.0 in
+        let elements = nodes_from (n + 1) own 0 content in
+        let m = n + 1 + length elements in
+        let next : n + 1 ≡ suc n = omega arith in
+        let rest = subst (λ k. Sits k p (places_from 0 content ++ places_by_key named)) (sym next) sits.1 in (
+          keeps n p (container name flags content named) (record { leaf = None; holder = h; last = x; width = count content; flags = flags }) sits.0 stands inside way refl refl refl,
+          subst (λ k. Each k (elements ++ nodes_by_key m own named)) next
+              (each_append (n + 1) m elements (nodes_by_key m own named) refl
+              (hold_from (n + 1) own 0 p content within here
+              (λ k j e. sym (below s p (Index k) (Some (container name flags content named)) (sym stands)) ∙ ap (λ i. nth i content) (omega (arith, e)))
+              (sits_front (n + 1) p (places_from 0 content) (places_by_key named) rest) two.0)
+              (hold_by_key m own p named within here
+              (λ k some. sym (below s p (Name k) (Some (container name flags content named)) (sym stands)))
+              (sits_back (n + 1) m p (places_from 0 content) (places_by_key named) (omega (arith, many_from (n + 1) own 0 content)) rest) two.1)),
+        )
+
+    hold_from : (n : ℕ) (h : NodeId) (i : ℕ) (p : List Part) (ts : Trees) → IsNode s h → node_place s h ≡ p → ((k j : ℕ) → k ≡ i + j → at s (p ++ Index k ∷ []) ≡ nth j ts)
+        → Sits n p (places_from i ts) → keys_rise_in ts ≡ true → Each n (nodes_from n h i ts)
+    hold_from n h i p no_trees inside here each sits rise = tt
+    hold_from n h i p (tree t ts) inside here each sits rise =
+        let two = both (keys_rise t) (keys_rise_in ts) rise in
+        let first = nodes_of n h (Some (Index i)) t in
+        let m = n + length first in
+        each_append n m first (nodes_from m h (i + 1) ts) refl
+        (hold n h (Some (Index i)) (p ++ Index i ∷ []) t inside (one_further h p (Index i) here) (each i 0 (omega arith))
+        (sits_under n p (Index i) (places t) (sits_front n p (map (λ q. Index i ∷ q) (places t)) (places_from (i + 1) ts) sits)) two.0)
+        (hold_from m h (i + 1) p ts inside here (λ k j e. each k (suc j) (omega (arith, e)))
+        (sits_back n m p (map (λ q. Index i ∷ q) (places t)) (places_from (i + 1) ts)
+        (omega (arith, many n h (Some (Index i)) t, length-map (places t) (λ q. Index i ∷ q))) sits) two.1)
+
+    hold_by_key : (n : ℕ) (h : NodeId) (p : List Part) (ks : Keyed) → IsNode s h → node_place s h ≡ p
+        → ((k : List ℕ) → is_some (by_key k ks) ≡ true → at s (p ++ Name k ∷ []) ≡ by_key k ks)
+        → Sits n p (places_by_key ks) → keys_rise_by_key ks ≡ true → Each n (nodes_by_key n h ks)
+    hold_by_key n h p no_keys inside here each sits rise = tt
+    hold_by_key n h p (key k t ks) inside here each sits rise =
+        let apart = both (is_below k ks) (keys_rise t && keys_rise_by_key ks) rise in
+        let two = both (keys_rise t) (keys_rise_by_key ks) apart.1 in
+        let first = nodes_of n h (Some (Name k)) t in
+        let m = n + length first in
+        each_append n m first (nodes_by_key m h ks) refl
+        (hold n h (Some (Name k)) (p ++ Name k ∷ []) t inside (one_further h p (Name k) here) (each k (ap is_some (at_its_key k t ks)) ∙ at_its_key k t ks)
+        (sits_under n p (Name k) (places t) (sits_front n p (map (λ q. Name k ∷ q) (places t)) (places_by_key ks) sits)) two.0)
+        (hold_by_key m h p ks inside here (λ o some. let on = further o k t ks apart.0 some in each o (ap is_some on ∙ some) ∙ on)
+        (sits_back n m p (map (λ q. Name k ∷ q) (places t)) (places_by_key ks)
+        (omega (arith, many n h (Some (Name k)) t, length-map (places t) (λ q. Name k ∷ q))) sits) two.1)
+
+some_place : (s : StoryTree) → 0 < length (places s)
+some_place (leaf l) = omega arith
+some_place (container name flags content named) = omega arith
+
+pub keeps_all : (s : StoryTree) (ns : List Node) → ns ≡ nodes_of 0 (record { number = 0 }) None s → keys_rise s ≡ true → KeepsAll s ns
+keeps_all s ns is rise = λ i n e.
+    each_at s 0 (nodes_of 0 (record { number = 0 }) None s) i i n (omega arith)
+    (hold s 0 (record { number = 0 }) None [] s (some_place s) refl refl (sits_all s [] (places s) 0 refl refl) rise)
+    (ap (λ ks. slice_get ks i) (sym is) ∙ e)
+
+pub all_kept : (s : StoryTree) (ns : List Node) → ns ≡ nodes_of 0 (record { number = 0 }) None s → length ns ≡ length (places s)
+all_kept s ns is = ap length is ∙ many 0 (record { number = 0 }) None s

@@ -1,0 +1,8 @@
+use Rattle.std.proofs.Common.{arith}
+use Rattle.ink_tree.specs.Nodes.{story_tree, node_place}
+use Rattle.ink_tree.proofs.Down.{past_width}
+use Rattle.ink_tree.proofs.tree.Tree.child_at.Goals as goal
+
+pub returns-else-index-kept : goal.returns-else-index-kept
+returns-else-index-kept c =
+    let s = story_tree c.args.self.now in past_width s (node_place s c.args.holder) c.args.index (omega (arith, c.kept.ensures.2, c.if-index-kept.false))

@@ -1,0 +1,42 @@
+use Rattle.std.proofs.Common.{◌≡◌, ◌∙◌, sym, true≢false, eq-eqb, arith}
+use Rattle.std.proofs.lemmas.Bool.Decides.{nat_tests}
+use Rattle.std.proofs.lemmas.Option.{slice_get_within}
+use Rattle.ink_tree.specs.Nodes.{story_tree, node_place}
+use Rattle.ink_tree.specs.Order.{key_part}
+use Rattle.ink_tree.proofs.Down.{stands_under, other_part, other_holder, under_none}
+use Rattle.ink_tree.proofs.tree.Tree.is_child.Goals as goal
+
+pub returns-then-node-own-clause-yes : goal.returns-then-node-own-clause-yes
+returns-then-node-own-clause-yes c = λ h.
+    let t = c.args.self.now in
+    let s = story_tree t in
+    let k = c.in-Some.node.now in
+    let same : k.holder.number ≡ c.own-own.result.number = grind (arith, nat_tests, c.if-node-own.true) in
+    let within = slice_get_within t.nodes.items c.args.number k (sym c.in-Some.ensures) in (
+      omega (arith, within, t.many),
+      stands_under s c.args.number k c.own-own.result (node_place s c.args.holder) c.own-own.ensures.1 (t.kept c.args.number k (sym c.in-Some.ensures))
+          c.in-Some-last.last (key_part c.args.key) c.in-Some-last.is same (c.is_part.ensures.yes h),
+    )
+
+pub returns-then-node-own-clause-no : goal.returns-then-node-own-clause-no
+returns-then-node-own-clause-no c = λ h within.
+    let t = c.args.self.now in
+    let s = story_tree t in
+    let k = c.in-Some.node.now in
+    other_part s c.args.number k c.own-own.result (node_place s c.args.holder) c.own-own.ensures.1 (t.kept c.args.number k (sym c.in-Some.ensures))
+    c.in-Some-last.last (key_part c.args.key) c.in-Some-last.is (c.is_part.ensures.no h)
+
+pub returns-else-node-own-clause-no : goal.returns-else-node-own-clause-no
+returns-else-node-own-clause-no c = λ h within.
+    let t = c.args.self.now in
+    let s = story_tree t in
+    let k = c.in-Some.node.now in
+    other_holder s c.args.number k c.own-own.result (node_place s c.args.holder) c.own-own.ensures.1 (t.kept c.args.number k (sym c.in-Some.ensures))
+    c.in-Some-last.last (key_part c.args.key) t.rising c.own-own.ensures.0 c.in-Some-last.is (λ same. true≢false (sym (eq-eqb k.holder.number c.own-own.result.number same) ∙ h))
+
+pub returns-in-None-last-clause-no : goal.returns-in-None-last-clause-no
+returns-in-None-last-clause-no c = λ h within.
+    let t = c.args.self.now in
+    let s = story_tree t in
+    let k = c.in-Some.node.now in
+    under_none s c.args.number k c.own-own.result (node_place s c.args.holder) c.own-own.ensures.1 (t.kept c.args.number k (sym c.in-Some.ensures)) (key_part c.args.key) c.in-None-last.is

@@ -1,0 +1,128 @@
+//! Where contents may be looked for first.
+
+use crate::node::Node;
+use crate::order::{Key, compare_parts};
+use std::alloc::{AllocError, Global};
+use std::cmp::Ordering;
+
+/// The numbers of the contents in each container, in order: a block for each, and where it ends. Nothing rests on it: what is
+/// found here is looked at again.
+#[derive(Drop)]
+pub(crate) struct Children {
+    numbers: Vec<usize>,
+    ends: Vec<usize>,
+}
+
+impl Children {
+    /// None, for a story without nodes.
+    pub(crate) fn none(alloc: Global) -> Children {
+        Children {
+            numbers: Vec::new(alloc),
+            ends: Vec::new(alloc),
+        }
+    }
+
+    /// The numbers of these nodes by what is around them. The one error is a refused request for memory.
+    pub(crate) fn of(alloc: Global, nodes: &Vec<Node>) -> Result<Children, AllocError> {
+        let mut ends = starts(alloc, nodes)?;
+        let mut numbers = filled(alloc, nodes.len())?;
+        for (number, node) in nodes.iter().enumerate() {
+            if node.last.is_some() {
+                if let Some(end) = ends.get_mut(node.holder.number) {
+                    if let Some(slot) = numbers.get_mut(*end) {
+                        *slot = number;
+                    }
+                    *end = (*end).wrapping_add(1);
+                }
+            }
+        }
+        Ok(Children { numbers, ends })
+    }
+
+    /// The number of the content that stands at an index in a container.
+    pub(crate) fn at(&self, container: usize, index: usize) -> usize {
+        self.number(self.start(container).wrapping_add(index))
+    }
+
+    /// The number of what a container has by a key, behind so many contents by index: the keys rise.
+    pub(crate) fn named(
+        &self,
+        nodes: &Vec<Node>,
+        container: usize,
+        width: usize,
+        name: &str,
+    ) -> usize {
+        let mut low = self.start(container).wrapping_add(width);
+        let mut high = self.end(container);
+        while low < high {
+            let middle = low + (high - low) / 2;
+            let number = self.number(middle);
+            match order(nodes, number, name) {
+                Ordering::Less => low = middle + 1,
+                Ordering::Equal => return number,
+                Ordering::Greater => high = middle,
+            }
+        }
+        0
+    }
+
+    fn number(&self, place: usize) -> usize {
+        match self.numbers.get(place) {
+            Some(number) => *number,
+            None => 0,
+        }
+    }
+
+    fn start(&self, container: usize) -> usize {
+        if container == 0 {
+            0
+        } else {
+            self.end(container - 1)
+        }
+    }
+
+    fn end(&self, container: usize) -> usize {
+        match self.ends.get(container) {
+            Some(end) => *end,
+            None => 0,
+        }
+    }
+}
+
+// Where the block of each container starts.
+fn starts(alloc: Global, nodes: &Vec<Node>) -> Result<Vec<usize>, AllocError> {
+    let mut starts = filled(alloc, nodes.len())?;
+    for node in nodes {
+        if node.last.is_some() {
+            if let Some(count) = starts.get_mut(node.holder.number) {
+                *count = (*count).wrapping_add(1);
+            }
+        }
+    }
+    let mut before: usize = 0;
+    for start in starts.iter_mut() {
+        let count = *start;
+        *start = before;
+        before = before.wrapping_add(count);
+    }
+    Ok(starts)
+}
+
+fn filled(alloc: Global, count: usize) -> Result<Vec<usize>, AllocError> {
+    let mut zeros = Vec::with_capacity(alloc, count)?;
+    for _ in 0..count {
+        zeros.push(0)?;
+    }
+    Ok(zeros)
+}
+
+// How the key of a node stands to a name.
+fn order(nodes: &Vec<Node>, number: usize, name: &str) -> Ordering {
+    match nodes.get(number) {
+        Some(node) => match &node.last {
+            Some(part) => compare_parts(part, Key::Name(name)),
+            None => Ordering::Less,
+        },
+        None => Ordering::Greater,
+    }
+}
