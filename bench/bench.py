@@ -1,9 +1,9 @@
 #!/usr/bin/env python3
-"""Times reading, checking and running stories of 1, 4 and 16 MiB, long arithmetic, and long passages, and prints the times
-side by side.
+"""Times reading, checking and running stories of 1, 4 and 16 MiB, long arithmetic, long passages, command lines and calls,
+and prints the times side by side.
 
-    bench/bench.py [--program PROGRAM] [--worker WORKER] [reading] [arithmetic] [passages]
-        ./inkplay, crates/inkbench and all three, unless others are named
+    bench/bench.py [--program PROGRAM] [--worker WORKER] [reading] [arithmetic] [passages] [commands] [calls]
+        ./inkplay, crates/inkbench and all of them, unless others are named
 
 Each time is the least of three runs, in milliseconds, with the program's start in it. The last column is the time at
 16 MiB over that at 4 MiB: work that grows with the bytes alone grows about four times. Machines are noisy, so compare
@@ -13,6 +13,7 @@ import argparse
 import os
 import subprocess
 import sys
+import threading
 import time
 
 TOP = os.path.dirname(os.path.dirname(os.path.abspath(__file__)))
@@ -148,7 +149,75 @@ def passages(_program, worker):
             print("%-34s %9d %9.0f" % ("  " + what, count, took * 1e6 / (count * rounds)))
 
 
-BENCHES = {"reading": reading, "arithmetic": steps, "passages": passages}
+def piped(program, story, lines):
+    """The least processor time of three runs, in seconds, with the answers read from a pipe."""
+    times = []
+    for _ in range(3):
+        player = subprocess.Popen([program], stdin=subprocess.PIPE, stdout=subprocess.PIPE)
+        feeder = threading.Thread(target=feed, args=(player.stdin, (story + "\n" + lines).encode()))
+        feeder.start()
+        while player.stdout.read(1 << 20):
+            pass
+        feeder.join()
+        _, status, used = os.wait4(player.pid, 0)
+        player.returncode = status
+        times.append(used.ru_utime + used.ru_stime)
+        if status != 0:
+            sys.exit("bench: the program failed")
+    return min(times)
+
+
+def feed(pipe, text):
+    with pipe:
+        pipe.write(text)
+
+
+def commands(program, _worker):
+    """Lines of `get` and `set`, whose answers are read through a pipe."""
+    story = '{"inkVersion":21,"root":["done",{"global decl":["ev",1,{"VAR=":"x"},"str","^word","/str",{"VAR=":"t"},"/ev","end",null]}]}'
+    start = piped(program, story, "")
+    print("%-34s %9s %12s" % ("lines, answers through a pipe", "lines", "ns each, processor"))
+    for line in ("get x", "get t", "set x 7", 'set t "stone"', "get y", "look"):
+        for count in (20000, 200000):
+            took = piped(program, story, (line + "\n") * count) - start
+            print("%-34s %9d %12.0f" % ("  " + line, count, took * 1e9 / count))
+
+
+# what a loop does each time, with the knots for it
+CALLS = {
+    "a function": ('{"f()":"f"},', '"f":["nop",null]'),
+    "a function with a value": ('"ev",{"f()":"v"},"pop","/ev",', '"v":["ev",1,"/ev","~ret",null]'),
+    "a tunnel": ('{"->t->":"t"},', '"t":["ev","void","/ev","->->",null]'),
+    "a thread": ('"thread",{"->":"a"},', '"a":["done",null]'),
+}
+# the steps of the loop itself
+LOOP_STEPS = 12
+
+
+def looping(body, knots, count, depth):
+    """A loop with this in it, so many times, in so many functions."""
+    return ('{"inkVersion":21,"root":[[{"->":"down"},null],"done",{%s"down":["ev",{"VAR?":"n"},1,"-",{"VAR=":"n","re":true},{"VAR?":"n"},0,">","/ev",{"f()":"down","c":true},{"->":"loop"},null],'
+            '"loop":["ev",{"VAR?":"x"},1,"-",{"VAR=":"x","re":true},"/ev",%s"ev",{"VAR?":"x"},0,">","/ev",{"->":"loop","c":true},"end",null],'
+            '"global decl":["ev",%d,{"VAR=":"x"},%d,{"VAR=":"n"},"/ev","end",null]}]}' % (knots + "," if knots else "", body, count, depth))
+
+
+def calls(program, _worker):
+    """Calls with their returns, in loops at some depths of calls."""
+    rounds = 30
+    print("%-34s %9s %9s %9s %12s" % ("calls with their returns", "depth", "calls", "ns each", "plain steps"))
+    for depth in (1, 50, 400):
+        for count in (10000, 40000):
+            def loop(body, knots):
+                story = looping(body, knots, count, depth) + "\n"
+                return best(program, story + "through\nrestart\n" * rounds)[0] - best(program, story)[0]
+            plain = loop("", "")
+            step = plain / LOOP_STEPS
+            for name, (body, knots) in CALLS.items():
+                took = loop(body, knots) - plain
+                print("%-34s %9d %9d %9.0f %12.1f" % ("  " + name, depth, count, took * 1e6 / (count * rounds), took / step))
+
+
+BENCHES = {"reading": reading, "arithmetic": steps, "passages": passages, "commands": commands, "calls": calls}
 
 
 def main():

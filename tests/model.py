@@ -8,6 +8,7 @@ how many really played, and how many were left out since the model takes too lon
 differs.
 """
 import argparse
+import copy
 import json
 import os
 import random
@@ -147,12 +148,24 @@ def broken(marks):
     return False
 
 
+def left(marks, i):
+    """A Leave, no text before it, whose Enter stands before this mark or nowhere among the marks."""
+    for kind, number in marks[i + 1:]:
+        if kind == "text":
+            return False
+        if kind == "leave" and (("enter", number) in marks[:i] or ("enter", number) not in marks):
+            return True
+    return False
+
+
 def shown(marks):
     out, begun, last = "", False, None
     for i, (kind, text) in enumerate(marks):
         before, after = marks[:i], marks[i + 1:]
         if kind == "text":
             out, begun, last = out + text, True, "text"
+        elif kind in ("blank", "newline") and left(marks, i):
+            continue
         elif kind == "blank" and not (broken(before) and glue_comes(after, ("text",))):
             out, begun = out + text, True
         elif kind == "newline" and begun and last != "newline" and not glued(before) and not glue_comes(after, ("text", "tag")):
@@ -272,8 +285,8 @@ def is_bad(root, place, content):
 
 def is_unsupported(content):
     if isinstance(content, dict):
-        return not any(head in content for head in ("->", "^->", "VAR=", "VAR?"))
-    return content in ("~ret", "->->", "thread", "choiceCnt", "turn", "turns", "readc", "visit")
+        return not any(head in content for head in ("->", "^->", "VAR=", "VAR?", "f()", "->t->"))
+    return content in ("choiceCnt", "turn", "turns", "readc", "visit")
 
 
 def refusal(root):
@@ -285,11 +298,37 @@ def refusal(root):
     return None
 
 
+class Frame:
+    """What a call pushes. The depth says how many sections were open at its push, and the number is that of its Enter."""
+
+    def __init__(self, kind, place, depth):
+        self.kind, self.place, self.depth = kind, place, depth
+        self.evaluating, self.fresh, self.number = False, kind == "function", None
+
+
+CALLS = {"f()": "function", "->t->": "tunnel"}
+
+
 class Machine:
     def __init__(self, root, place, global_values):
-        self.root, self.place, self.globals = root, place, global_values
-        self.evaluating, self.stack, self.safe = False, [], False
-        self.marks, self.sections = [], []
+        self.root, self.globals = root, global_values
+        self.threads = [[Frame("base", place, 0)]]
+        self.stack, self.safe = [], False
+        self.begin()
+
+    def begin(self):
+        self.marks, self.sections, self.numbers, self.safe = [], [], 0, False
+        for thread in self.threads:
+            for frame in thread:
+                frame.number = None
+
+    @property
+    def frames(self):
+        return self.threads[-1]
+
+    @property
+    def frame(self):
+        return self.frames[-1]
 
     def pop(self):
         if not self.stack:
@@ -301,21 +340,36 @@ class Machine:
             raise Fault("TooDeep")
         self.stack.append(value)
 
-    def write(self, marks):
-        if not self.sections and len(self.marks) + len(marks) > 100000:
+    def mark(self, mark):
+        if not self.sections and len(self.marks) >= 100000:
             raise Fault("TooDeep")
-        (self.sections[-1][1] if self.sections else self.marks).extend(marks)
+        (self.sections[-1][1] if self.sections else self.marks).append(mark)
+
+    def write(self, marks):
+        for kind, text in marks:
+            depth = len(self.sections)
+            if kind == "newline" and self.frame.kind == "function" and self.frame.fresh and self.frame.depth == depth:
+                continue
+            self.mark((kind, text))
+            if kind == "text":
+                self.end_freshness(depth)
+
+    def end_freshness(self, depth):
+        for above, frame in enumerate(reversed(self.frames)):
+            if above and frame.kind != "function":
+                return
+            frame.fresh = frame.fresh and frame.depth != depth
 
     def say(self, text, marks):
-        if self.evaluating:
+        if self.frame.evaluating:
             self.push(text)
         else:
             self.write(marks)
 
     def turn(self, evaluating):
-        if self.evaluating == evaluating:
+        if self.frame.evaluating == evaluating:
             raise Fault("BadMode")
-        self.evaluating = evaluating
+        self.frame.evaluating = evaluating
 
     def close(self, kind):
         if not self.sections or self.sections[-1][0] != kind:
@@ -327,7 +381,7 @@ class Machine:
         if self.sections:
             self.push(text)
         else:
-            self.write([("tag", text)])
+            self.mark(("tag", text))
 
     def section(self, word):
         if word == "str":
@@ -335,7 +389,7 @@ class Machine:
             self.sections.append(("string", []))
         elif word == "/str":
             self.push(self.close("string"))
-            self.evaluating = True
+            self.frame.evaluating = True
         elif word == "/#":
             self.close_tag()
         else:
@@ -356,11 +410,11 @@ class Machine:
         elif word == "\n":
             self.say("\n", [("newline", "\n")])
         elif word == "<>":
-            if self.evaluating:
+            if self.frame.evaluating:
                 raise Fault("BadMode")
-            self.write([("glue", "")])
+            self.mark(("glue", ""))
         elif word == "void":
-            if self.evaluating:
+            if self.frame.evaluating:
                 self.push(None)
         elif word in ("ev", "/ev"):
             self.turn(word == "ev")
@@ -379,56 +433,130 @@ class Machine:
             operands = [self.pop() for _ in range(1 if word in SINGLE else 2)]
             self.push(apply(word, operands[::-1]))
 
-    def divert(self, head):
-        """Where a divert leads, none where flow goes on behind it."""
-        if head.get("c") and not is_true(self.pop()):
+    # ---- where flow goes
+
+    def led(self, content, head):
+        """Where a divert, a call or a tunnel leads, none where its condition is false."""
+        if content.get("c") and not is_true(self.pop()):
             return None
-        if head.get("var"):
-            value = self.globals.get(head["->"], 0)
+        if content.get("var"):
+            value = self.globals.get(content[head], 0)
             if not isinstance(value, Target):
                 raise Fault("BadTarget")
             return target(self.root, [], (False, list(value)))
-        path = path_of(head["->"])
-        place = target(self.root, self.place, path)
+        path = path_of(content[head])
+        place = target(self.root, self.frame.place, path)
         return place if isinstance(path[1][-1], int) else landed(self.root, place)
 
+    def call(self, kind, place):
+        if len(self.frames) >= 1000:
+            raise Fault("TooDeep")
+        frame = Frame(kind, place, len(self.sections))
+        if kind == "function":
+            frame.number, self.numbers = self.numbers, self.numbers + 1
+            self.mark(("enter", frame.number))
+        self.frames.append(frame)
+
+    def leave(self, kind):
+        """The top frame is popped, which has to be of this kind."""
+        if self.frame.kind != kind or len(self.frames) == 1:
+            raise Fault("BadPop")
+        if self.frame.depth != len(self.sections):
+            raise Fault("BadMode")
+        if kind == "function":
+            self.mark(("leave", self.frame.number))
+        self.frames.pop()
+
+    def back(self, word):
+        """`~ret` and `->->`: a frame goes, and flow goes on behind its call, or to a tunnel's target."""
+        if word == "~ret":
+            self.leave("function")
+            return self.go_on()
+        value = self.pop()
+        if value is not None and not isinstance(value, Target):
+            raise Fault("BadPop")
+        self.leave("tunnel")
+        if value is None:
+            return self.go_on()
+        self.frame.place = target(self.root, [], (False, list(value)))
+        return None
+
+    def go_on(self):
+        """Flow goes on behind where it is: ended functions give void to a caller that evaluates, ended threads are dropped."""
+        place = self.frame.place and after(self.root, self.frame.place)
+        if place is not None:
+            self.frame.place = place
+        elif self.frame.kind == "function":
+            self.leave("function")
+            if self.frame.evaluating:
+                self.push(None)
+            self.go_on()
+        elif len(self.threads) > 1:
+            self.threads.pop()
+            self.go_on()
+        else:
+            self.stop()
+
     def stop(self):
-        self.place = None
+        self.frame.place = None
         if self.sections:
             raise Fault("StopInString")
 
+    def fork(self):
+        self.go_on()
+        if self.frame.place is not None:
+            if len(self.threads) >= 100:
+                raise Fault("TooDeep")
+            self.threads.append([copy.copy(frame) for frame in self.frames])
+
+    def done(self):
+        if len(self.threads) > 1:
+            self.threads.pop()
+            return self.go_on()
+        self.safe = True
+        return self.stop()
+
+    def end(self):
+        self.threads, self.safe = [[Frame("base", None, 0)]], True
+        self.stop()
+
     def step(self):
-        while width(found(self.root, self.place)):
-            self.place = self.place + [0]
-        content, stored = found(self.root, self.place), {}
-        if content in ("done", "end"):
-            self.safe = True
-            self.evaluating = self.evaluating and content == "done"
-            return self.stop()
+        while width(found(self.root, self.frame.place)):
+            self.frame.place = self.frame.place + [0]
+        content, stored = found(self.root, self.frame.place), {}
+        ways = {"done": self.done, "end": self.end, "thread": self.fork}
+        if isinstance(content, str) and content in ways:
+            return ways[content]()
+        if content in ("~ret", "->->"):
+            return self.back(content)
         if isinstance(content, str):
             self.word(content)
         elif isinstance(content, dict) and "->" in content:
-            place = self.divert(content)
+            place = self.led(content, "->")
             if place is not None:
-                self.place = place
+                self.frame.place = place
                 return None
+        elif isinstance(content, dict) and ("f()" in content or "->t->" in content):
+            head = "f()" if "f()" in content else "->t->"
+            place = self.led(content, head)
+            if place is not None:
+                return self.call(CALLS[head], place)
         elif isinstance(content, dict) and "^->" in content:
-            if self.evaluating:
+            if self.frame.evaluating:
                 self.push(Target(path_of(content["^->"])[1]))
         elif isinstance(content, dict) and "VAR=" in content:
             stored = self.to_store(content)
         elif isinstance(content, dict):
             self.push(self.globals.get(content["VAR?"], 0))
-        elif isinstance(content, int) and self.evaluating:
+        elif isinstance(content, int) and self.frame.evaluating:
             self.push(content)
-        self.place = after(self.root, self.place)
-        passage = self.stop() if self.place is None else None
+        self.go_on()
         self.globals.update(stored)
-        return passage
+        return None
 
     def run(self):
         for _ in range(5000):
-            if self.place is None:
+            if self.frame.place is None:
                 return
             self.step()
         raise TooSlow()
@@ -468,9 +596,9 @@ class Player:
         machine = self.machine
         if self.broken:
             return {"fault": self.broken, "refused": "Broken"}
-        if machine.place is None:
+        if machine.frame.place is None:
             return {"refused": "CannotContinue"}
-        machine.safe, machine.marks, machine.sections = False, [], []
+        machine.begin()
         try:
             machine.run()
         except Fault as fault:
@@ -536,6 +664,9 @@ def random_leaf(chance):
         lambda: {"VAR=": chance.choice("xyz")},
         lambda: {"VAR=": chance.choice("xyz"), "re": chance.random() < 0.7},
         lambda: {"VAR?": chance.choice("xyz")},
+        lambda: chance.choice(("~ret", "->->", "thread")),
+        lambda: {chance.choice(("f()", "->t->")): chance.choice("xyz"), "var": True},
+        lambda: {chance.choice(("f()", "->t->")): WAY},
     ))()
 
 
@@ -556,8 +687,10 @@ def random_group(chance):
         inside = [chance.choice(("\n", "<>", random_text(chance), random_text(chance))) for _ in range(chance.randrange(4))]
         tag = ["#", random_text(chance), "/#"] if chance.random() < 0.2 else []
         return ["ev", "str"] + inside + tag + ["/str"] + chance.choice((["out"], [{"VAR=": chance.choice("xyz")}])) + ["/ev"]
-    if kind < 0.65:
+    if kind < 0.64:
         return [{"->": WAY}]
+    if kind < 0.65:
+        return random_call(chance)
     if kind < 0.72:
         return ["ev", random_value(chance), "/ev", {"->": WAY, "c": True}]
     if kind < 0.75:
@@ -568,6 +701,56 @@ def random_group(chance):
     end = chance.choice((["out"], ["out"], ["du", "out", "out"], ["pop"], [{"VAR=": chance.choice("xyz")}],
                          [{"VAR=": chance.choice("xyz"), "re": True}]))
     return ["ev"] + chance.choice((values + [operator], values[:1])) + end + ["/ev"]
+
+
+# the knots that a story with calls has, and which of them each may call, so that most runs end
+KNOTS = {"f": "g", "g": "", "h": "fgtu", "t": "fgu", "u": "fg"}
+
+
+def knots_of(names):
+    return "".join(name for name in names if name in "fg"), "".join(name for name in names if name in "tu")
+
+
+def random_call(chance, names="fgtuh"):
+    """Content that calls a knot: a function by itself or in an evaluation, a tunnel, or a thread."""
+    functions, tunnels = knots_of(names)
+    kind = chance.random()
+    condition = {"c": True} if chance.random() < 0.1 else {}
+    value = [chance.choice((True, False, 1))] if condition else []
+    if functions and kind < 0.2:
+        return (["ev"] + value + ["/ev"] if value else []) + [dict({"f()": chance.choice(functions)}, **condition)]
+    if functions and kind < 0.6:
+        end = chance.choice((["out"], ["out"], ["pop"], [{"VAR=": chance.choice("xyz")}], ["str", "^(", "/str", "+", "out"]))
+        return ["ev"] + value + [dict({"f()": chance.choice(functions)}, **condition)] + end + ["/ev"]
+    if functions and kind < 0.65:
+        return ["ev", "str", random_text(chance), {"f()": chance.choice(functions)}, random_text(chance), "/str", "out", "/ev"]
+    if functions and kind < 0.7:
+        name = chance.choice("xyz")
+        return ["ev", {"^->": chance.choice(functions)}, {"VAR=": name}, {"f()": name, "var": True}, "out", "/ev"]
+    if tunnels and kind < 0.9:
+        return (["ev"] + value + ["/ev"] if value else []) + [dict({"->t->": chance.choice(tunnels)}, **condition)]
+    if "h" in names and kind < 0.98:
+        return ["thread", {"->": "h"}] if chance.random() < 0.7 else [["thread", {"->": "h"}, None]]
+    return chance.choice((["thread"], ["~ret"], ["ev", "void", "/ev", "->->"]))
+
+
+def random_knot(chance, name):
+    """A function, a tunnel or a thread that ends in its way, mostly."""
+    content = []
+    for _ in range(chance.randrange(6)):
+        content += random_call(chance, KNOTS[name]) if chance.random() < 0.25 and KNOTS[name] else random_plain(chance)
+    functions = (["ev", random_value(chance), "/ev", "~ret"], ["ev", random_value(chance), "/ev", "~ret"], ["\n"], [], ["~ret"])
+    tunnels = (["ev", "void", "/ev", "->->"],) * 4 + (["ev", {"^->": WAY}, "/ev", "->->"], [])
+    threads = (["done"], ["done"], [], ["end"])
+    return content + chance.choice(functions if name in "fg" else tunnels if name in "tu" else threads) + [None]
+
+
+def random_plain(chance):
+    """Content without a divert."""
+    while True:
+        group = random_group(chance)
+        if not any(isinstance(content, dict) and ("->" in content or "f()" in content or "->t->" in content) for content in group):
+            return group
 
 
 def random_container(chance, depth):
@@ -588,6 +771,8 @@ def random_container(chance, depth):
 
 def random_story(chance):
     root = random_container(chance, 3)
+    if chance.random() < 0.6:
+        add_calls(chance, root)
     declarations = ["ev"]
     for name in chance.sample("xyz", chance.randrange(4)):
         declarations += [chance.choice((1, True, "^t", "void", -5)), {"VAR=": name}]
@@ -600,7 +785,7 @@ def random_story(chance):
     for place in list(places(root)):
         content = found(root, place)
         if isinstance(content, dict):
-            for head in ("->", "^->"):
+            for head in ("->", "^->", "f()", "->t->"):
                 if content.get(head) == WAY:
                     content[head] = random_path(chance, root, place, head)
     if chance.random() < 0.05:
@@ -625,9 +810,32 @@ def random_path(chance, root, place, head):
     return "." + ".".join(["^"] * (len(place) - common) + [str(part) for part in named_end[common:]])
 
 
+def between(container):
+    """The indexes of a container at which no evaluation, string or tag is open."""
+    indexes, is_open = [], 0
+    for index, content in enumerate(container):
+        if not is_open:
+            indexes.append(index)
+        if content in ("ev", "#"):
+            is_open += 1
+        elif content in ("/ev", "/#"):
+            is_open = max(is_open - 1, 0)
+    return indexes or [len(container) - 1]
+
+
+def add_calls(chance, root):
+    """Knots at the root, and calls of them here and there."""
+    root[-1] = dict(root[-1] or {}, **{name: random_knot(chance, name) for name in KNOTS})
+    containers = [found(root, place) for place in places(root) if place[:1] == [] or isinstance(place[0], int)]
+    for container in [c for c in containers if isinstance(c, list)]:
+        for _ in range(chance.choice((0, 1, 1, 2, 3))):
+            at = chance.choice(between(container))
+            container[at:at] = random_call(chance)
+
+
 def add_unsupported(chance, root):
     container = chance.choice([found(root, place) for place in places(root) if isinstance(found(root, place), list)])
-    content = chance.choice(("visit", "~ret", {"x()": "f"}, {"temp=": "t"}, {"^var": "x"}, {"f()": "x", "var": True}))
+    content = chance.choice(("visit", "turns", {"x()": "f"}, {"temp=": "t"}, {"^var": "x"}, {"temp=": "x", "re": True}))
     container.insert(chance.randrange(len(container)), content)
 
 

@@ -8,7 +8,7 @@ ghost use Rattle.ink_stack.specs.Quiet.{is_quiet};
 ghost use Rattle.ink_stack.specs.Words.{Changes, Grows};
 
 use crate::frame::Frame;
-use ink_model::{Fault, FrameKind, MAX_FRAMES};
+use ink_model::{Fault, FrameKind, MAX_FRAMES, Value};
 use std::alloc::{AllocError, Global};
 use std::marker::Model;
 use std::mem;

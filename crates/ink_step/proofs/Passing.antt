@@ -42,20 +42,22 @@ module _ {P Q : Type 0} (f : P → Q) where
       by true = refl
       by false = refl
 
-  changes_map : {U : Type 0} (r : Result (ThreadOf P) Fault) (old new : ThreadsOf P) (u : U) → Changes (top_result r old) old new (Ok u)
-      → Changes (top_result (mapped (map_thread f) r) (map_threads f old)) (map_threads f old) (map_threads f new) (Ok u)
-  changes_map (Ok t) old new u h = ap (map_threads f) h
-  changes_map (Err e) old new u h = absurd h
+  changes_map : {U : Type 0} (r : Result (ThreadOf P) Fault) (old new : ThreadsOf P) (result : Result U Fault) → Changes (top_result r old) old new result
+      → Changes (top_result (mapped (map_thread f) r) (map_threads f old)) (map_threads f old) (map_threads f new) result
+  changes_map (Ok t) old new (Ok u) h = ap (map_threads f) h
+  changes_map (Ok t) old new (Err g) h = absurd h
+  changes_map (Err e) old new (Ok u) h = absurd h
+  changes_map (Err e) old new (Err g) h = (h.0, ap (map_threads f) h.1)
 
   grows_map : {U : Type 0} (r : Result (ThreadOf P) Fault) (old new : ThreadsOf P) (u : U) → Grows (top_result r old) old new (Ok u)
       → Grows (top_result (mapped (map_thread f) r) (map_threads f old)) (map_threads f old) (map_threads f new) (Ok u)
   grows_map (Ok t) old new u h = ap (map_threads f) h
   grows_map (Err e) old new u h = absurd h
 
-  pub pops : {U : Type 0} (k : FrameKind) (d : ℕ) (old new : ThreadsOf P) (u : U) → Changes (top_result (popped k d old.thread) old) old new (Ok u)
-      → Changes (top_result (popped k d (map_threads f old).thread) (map_threads f old)) (map_threads f old) (map_threads f new) (Ok u)
-  pops k d old new u h = subst (λ r. Changes (top_result r (map_threads f old)) (map_threads f old) (map_threads f new) (Ok u)) (sym (popped_map k d old.thread))
-      (changes_map (popped k d old.thread) old new u h)
+  pub pops : {U : Type 0} (k : FrameKind) (d : ℕ) (old new : ThreadsOf P) (result : Result U Fault) → Changes (top_result (popped k d old.thread) old) old new result
+      → Changes (top_result (popped k d (map_threads f old).thread) (map_threads f old)) (map_threads f old) (map_threads f new) result
+  pops k d old new result h = subst (λ r. Changes (top_result r (map_threads f old)) (map_threads f old) (map_threads f new) result) (sym (popped_map k d old.thread))
+      (changes_map (popped k d old.thread) old new result h)
 
   pub pushes : {U : Type 0} (k : FrameKind) (d : ℕ) (old new : ThreadsOf P) (u : U) → Grows (top_result (pushed k d old.thread) old) old new (Ok u)
       → Grows (top_result (pushed k d (map_threads f old).thread) (map_threads f old)) (map_threads f old) (map_threads f new) (Ok u)
@@ -95,3 +97,9 @@ module _ {P : Type 0} where
       → PassesAs asks (or_breaks r Err (λ t. Ok (record ts { thread = t }, w))) us w (Ok tt)
   left_unmarked asks ts us w (Ok t) u h = (h, refl)
   left_unmarked asks ts us w (Err e) u h = absurd h
+
+  -- a frame that is not popped
+  pub not_left : (k : FrameKind) (ts us : ThreadsOf P) (w : Written) (r : Result (ThreadOf P) Fault) (rule : Result Written Fault) (f : Fault)
+      → Changes {U = Unit {0}} (top_result r ts) ts us (Err f) → PassesAs (left_asks k r) (or_breaks r Err (λ t. or_breaks rule Err (λ x. Ok (record ts { thread = t }, x)))) us w (Err f)
+  not_left k ts us w (Ok t) rule f h = absurd h
+  not_left k ts us w (Err e) rule f h = inl h.0
