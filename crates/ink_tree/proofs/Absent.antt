@@ -17,7 +17,7 @@ use Rattle.ink_tree.proofs.Rising.{name_same, one_number}
 
 -- ---- a place that is not listed
 
-abbrev Lacks : List Part → List (List Part) → Type 0
+abbrev pub Lacks : List Part → List (List Part) → Type 0
 Lacks p = AllByRecursion (λ q. q ≢ p)
 
 abbrev MayLack : List Part → Option StoryTree → Type 0
@@ -65,13 +65,13 @@ onward ps f None h = refl
 onward ps f (Some t) h = f t h
 
 -- nothing stands at a place that is not listed
-absent : (p : List Part) (s : StoryTree) → Lacks p (places s) → at s p ≡ None
+pub absent : (p : List Part) (s : StoryTree) → Lacks p (places s) → at s p ≡ None
 absent [] (leaf l) h = absurd (h.0 refl)
 absent [] (container name flags content named) h = absurd (h.0 refl)
 absent (p ∷ ps) s h = onward ps (absent ps) (down p s) (down_lacks p ps s h)
 
 -- nothing stands at a place that no number has
-lacks : (p : List Part) (ps : List (List Part)) → ((i : ℕ) (q : List Part) → slice_get ps i ≡ Some q → q ≡ p → ⊥) → Lacks p ps
+pub lacks : (p : List Part) (ps : List (List Part)) → ((i : ℕ) (q : List Part) → slice_get ps i ≡ Some q → q ≡ p → ⊥) → Lacks p ps
 lacks p [] h = tt
 lacks p (q ∷ ps) h = (h 0 q refl, lacks p ps (λ i r e. h (suc i) r e))
 
@@ -82,9 +82,10 @@ nowhere s p h = absent p s (lacks p (places s) (λ i q e is. h i (slice_get_with
 pub stands : (s : StoryTree) (p : List Part) (n : NodeId) → keys_rise s ≡ true → Finds s p (Some n) → is_some (at s p) ≡ true
 stands s p n rising h = subst (λ q. is_some (at s q) ≡ true) h.1 (node_stands s n rising)
 
+-- the place of a node
+pub got_place : (s : StoryTree) (k : NodeId) → IsNode s k → slice_get (places s) k.number ≡ Some (node_place s k)
+got_place s k h = slice_get-get_or (places s) k.number [] h ∙ ap (λ p. Some p) (sym (unwrap_or-slice_get (places s) k.number []))
+
 -- nodes of one place have one number
 pub one_node : (s : StoryTree) (m n : NodeId) → keys_rise s ≡ true → IsNode s m → IsNode s n → node_place s m ≡ node_place s n → m.number ≡ n.number
-one_node s m n rising a b same =
-    one_number s m.number n.number (node_place s n) rising (there m a ∙ ap (λ p. Some p) same) (there n b) where
-      there : (k : NodeId) → IsNode s k → slice_get (places s) k.number ≡ Some (node_place s k)
-      there k h = slice_get-get_or (places s) k.number [] h ∙ ap (λ p. Some p) (sym (unwrap_or-slice_get (places s) k.number []))
+one_node s m n rising a b same = one_number s m.number n.number (node_place s n) rising (got_place s m a ∙ ap (λ p. Some p) same) (got_place s n b)

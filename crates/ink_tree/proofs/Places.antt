@@ -1,5 +1,5 @@
 -- Listing the places of content one element and one key at a time.
-use Rattle.std.proofs.Common.{◌≡◌, ℕ, zero, suc, ◌+◌, ◌^◌, ◌<◌, ◌≤◌, List, [], ◌∷◌, ◌++◌, length, get_or, drop, true, ◌&&◌, Option, Some, String, Global, Vec, BTreeMap, nat_lt, Less, string_bytes, string_cmp, refl, sym, ap, ◌∙◌, append_assoc, arith, rules}
+use Rattle.std.proofs.Common.{◌≡◌, ℕ, zero, suc, ◌+◌, ◌^◌, ◌<◌, ◌≤◌, List, [], ◌∷◌, ◌++◌, length, get_or, drop, slice_set, true, ◌&&◌, Option, Some, String, Global, Vec, BTreeMap, nat_lt, Less, string_bytes, string_cmp, refl, sym, ap, ◌∙◌, append_assoc, arith, rules}
 use Rattle.std.proofs.lemmas.Bool.Decides.{nat_tests}
 use Rattle.std.proofs.lemmas.List.{drop_more, drop_all, append-nil, length-append, length-map}
 use Rattle.std.specs.List.{AllByRecursion}
@@ -40,6 +40,24 @@ container_listed ns own elements named l1 l2 l3 first inner last =
     last ∙ (λ i. inside i ++ named (longer i))
     ∙ append_assoc (ns ++ own ∷ []) (elements (length ns + 1)) (named (length ns + 1 + length (elements (length ns + 1))))
     ∙ append_assoc ns (own ∷ []) (elements (length ns + 1) ++ named (length ns + 1 + length (elements (length ns + 1))))
+
+-- one of them with another in its place
+set_at : (before inside : List Node) (own new : Node) → slice_set (before ++ own ∷ inside) (length before) new ≡ before ++ new ∷ inside
+set_at [] inside own new = refl
+set_at (n ∷ before) inside own new = ap (λ l. n ∷ l) (set_at before inside own new)
+
+got_at : (before inside : List Node) (own d : Node) → get_or (before ++ own ∷ inside) (length before) d ≡ own
+got_at [] inside own d = refl
+got_at (n ∷ before) inside own d = got_at before inside own d
+
+abbrev Ending : Node → ℕ → Node
+Ending n b = record { leaf = n.leaf; holder = n.holder; last = n.last; width = n.width; flags = n.flags; behind = b }
+
+pub closed : (ns before inside : List Node) (own x : Node) (i b : ℕ) → ns ≡ before ++ own ∷ inside → i ≡ length before → x ≡ get_or ns i x → b ≡ length ns
+    → slice_set ns i (Ending x b) ≡ before ++ Ending own (length ns) ∷ inside
+closed ns before inside own x i b is number at_it long =
+    let same : x ≡ own = at_it ∙ (λ j. get_or (is j) (number j) x) ∙ got_at before inside own x in
+    (λ j. slice_set (is j) (number j) (Ending (same j) (long j))) ∙ set_at before inside own (Ending own (length ns))
 
 -- ---- containers
 

@@ -1,8 +1,8 @@
 -- What is kept of a story's contents, so that no step walks a place.
-use Rattle.std.specs.Prelude.{◌≡◌, ⊤, ℕ, ◌+◌, List, [], ◌∷◌, ◌++◌, length, nat_lt, slice_get, if◌then◌else◌, Option, Some, None}
+use Rattle.std.specs.Prelude.{◌≡◌, ⊤, ℕ, ◌+◌, List, [], ◌∷◌, ◌++◌, length, nat_le, nat_lt, ◌&&◌, slice_get, if◌then◌else◌, Option, Some, None}
 use Rattle.std.specs.Borrow.{Bor}
 use Rattle.std.specs.Option.{option_map}
-use Rattle.ink_model.specs.Entered.{flags_at}
+use Rattle.ink_model.specs.Entered.{flags_at, is_around}
 use Rattle.ink_model.specs.Place.{next_place}
 use Rattle.ink_model.specs.Tree.{StoryTree, leaf, container, Trees, no_trees, tree, Keyed, no_keys, key, at, count, width}
 use Rattle.ink_model.specs.View.{view}
@@ -34,18 +34,26 @@ way_to s holder (Some x) = node_place s holder ++ x ∷ []
 abbrev pub Keeps : StoryTree → List Part → Node → Type 0
 Keeps s p n = IsNode s n.holder × (way_to s n.holder n.last ≡ p) × (n.width ≡ width (at s p)) × (n.flags ≡ flags_at (at s p)) × (kept_leaf n.leaf ≡ leaf_in (at s p))
 
--- the same of the contents of a story, in reading order
+-- a content and all that is in it have the numbers from one on that are below another
+abbrev pub Spans : StoryTree → ℕ → ℕ → Type 0
+Spans s i behind = (q : NodeId) → IsNode s q → is_around (node_place s (record { number = i })) (node_place s q) ≡ (nat_le i q.number && nat_lt q.number behind)
+
+-- what is kept of the contents of a story, in reading order
 abbrev pub KeepsAll : StoryTree → List Node → Type 0
-KeepsAll s ns = (i : ℕ) (n : Node) → slice_get ns i ≡ Some n → Keeps s (node_place s (record { number = i })) n
+KeepsAll s ns = (i : ℕ) (n : Node) → slice_get ns i ≡ Some n → Keeps s (node_place s (record { number = i })) n × Spans s i n.behind
+
+-- a container, and the nodes of what is in it
+abbrev pub around : ℕ → NodeId → Option Part → ℕ → ℕ → List Node → List Node
+around n holder last width flags inside = record { leaf = None; holder = holder; last = last; width = width; flags = flags; behind = n + 1 + length inside } ∷ inside
 
 abbrev mutual
   -- the nodes of content and of all that is in it, from this number on; what is around the content has a number, and a part leads to
   -- the content from there
   pub nodes_of : ℕ → NodeId → Option Part → StoryTree → List Node
-  nodes_of n holder last (leaf l) = record { leaf = Some (contents.Leaf l); holder = holder; last = last; width = 0; flags = 0 } ∷ []
+  nodes_of n holder last (leaf l) = record { leaf = Some (contents.Leaf l); holder = holder; last = last; width = 0; flags = 0; behind = n + 1 } ∷ []
   nodes_of n holder last (container name flags content named) =
-      record { leaf = None; holder = holder; last = last; width = count content; flags = flags }
-      ∷ (nodes_from (n + 1) (record { number = n }) 0 content
+      around n holder last (count content) flags
+      (nodes_from (n + 1) (record { number = n }) 0 content
       ++ nodes_by_key (n + 1 + length (nodes_from (n + 1) (record { number = n }) 0 content)) (record { number = n }) named)
 
   -- of elements from this index on

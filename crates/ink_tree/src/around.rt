@@ -37,14 +37,8 @@ impl Tree {
         ensures { result ≡ is_around (node_place (story_tree self.now) container) (node_place (story_tree self.now) node) }
     {
         let container = self.own(container);
-        let mut here = self.own(node);
-        while here.number != container.number {
-            let kept = self.kept(here);
-            match &kept.last {
-                Some(_) => here = kept.holder,
-                None => return false,
-            }
-        }
-        true
+        let node = self.own(node);
+        let behind = self.nodes[container.number].behind;
+        container.number <= node.number && node.number < behind
     }
 }

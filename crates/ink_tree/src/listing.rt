@@ -1,12 +1,13 @@
 //! The nodes of all content, in reading order.
 
-ghost use Rattle.std.specs.Prelude.{◌≡◌, ◌<◌, ◌^◌, None, length, ◌++◌, OnOk, IfOk, true};
+ghost use Rattle.std.specs.Prelude.{◌≡◌, ◌<◌, ◌^◌, ◌∷◌, List, None, length, ◌++◌, OnOk, IfOk, true};
 ghost use Rattle.ink_json.specs.Story.{tree};
 ghost use Rattle.ink_model.specs.Grammar.{IsSpelled};
 ghost use Rattle.ink_model.specs.Narrow.{is_narrow, are_narrow, are_keyed_narrow};
 ghost use Rattle.ink_model.specs.Tree.{count};
 ghost use Rattle.ink_model.specs.View.{view, trees_view, keyed_view};
 ghost use Rattle.ink_tree.specs.Kept.{nodes_of, nodes_from, nodes_by_key};
+ghost use Rattle.ink_tree.specs.declared.node.Node.{Node};
 ghost use Rattle.ink_tree.specs.Order.{keys_rise, keys_rise_in, keys_rise_by_key};
 
 use crate::copying::copy_leaf;
@@ -57,7 +58,9 @@ fn list_content(
                 last,
                 width: 0,
                 flags: 0,
+                behind: 0,
             })?;
+            close(nodes, own);
             Ok(())
         }
         Content::Container {
@@ -72,9 +75,12 @@ fn list_content(
                 last,
                 width: content.len() as u32,
                 flags: *flags,
+                behind: 0,
             })?;
             list_elements(alloc, nodes, own, content)?;
-            list_named(alloc, nodes, own, named)
+            list_named(alloc, nodes, own, named)?;
+            close(nodes, own);
+            Ok(())
         }
     }
 }
@@ -117,4 +123,14 @@ fn list_named(
         list_content(alloc, nodes, holder, last, content)?;
     }
     Ok(())
+}
+
+/// All that is in a content is listed: the number behind it is the next one.
+fn close(nodes: &mut Vec<Node>, content: NodeId)
+    requires { content.number < length nodes.old.items }
+    ensures { (before : List Node) (own : Node) (inside : List Node) → nodes.old.items ≡ before ++ own ∷ inside → content.number ≡ length before
+        → nodes.new.items ≡ before ++ (record { leaf = own.leaf; holder = own.holder; last = own.last; width = own.width; flags = own.flags; behind = length nodes.old.items }) ∷ inside }
+{
+    let behind = nodes.len();
+    nodes[content.number].behind = behind;
 }

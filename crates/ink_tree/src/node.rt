@@ -9,7 +9,8 @@ use crate::spot::NodeId;
 use ink_model::{Content, Part};
 
 /// A content: a copy of it where it holds no other, the content around it and the part that leads from there to it (the root has
-/// none), how many contents it holds by index, and the flags of a container.
+/// none), how many contents it holds by index, the flags of a container, and the number behind its own and those of all that is
+/// in it.
 #[derive(Drop)]
 pub(crate) struct Node {
     pub leaf: Option<Content>,
@@ -17,6 +18,7 @@ pub(crate) struct Node {
     pub last: Option<Part>,
     pub width: u32,
     pub flags: u8,
+    pub behind: usize,
 }
 
 impl Node {

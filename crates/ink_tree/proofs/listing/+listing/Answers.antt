@@ -1,5 +1,5 @@
-use Rattle.std.proofs.Common.{◌≡◌, true, string_cmp, subst, [], ◌∷◌, ◌++◌, ap, sym, length, ℕ, ◌∙◌, Some, None, arith}
-use Rattle.std.proofs.lemmas.Result.{on_ok_weaker}
+use Rattle.std.proofs.Common.{◌≡◌, ◌+◌, true, string_cmp, subst, [], ◌∷◌, ◌++◌, ap, sym, length, List, ℕ, ◌∙◌, Some, None, arith}
+use Rattle.std.proofs.lemmas.List.{length-append}
 use Rattle.std.specs.List.Sorted.{IsStrictlySortedBy}
 use Rattle.std.specs.Map.{keys_of}
 use Rattle.ink_model.specs.Narrow.{are_keyed_narrow}
@@ -76,23 +76,26 @@ list_content-overflow_cast-len t c =
 pub list_elements-overflow_cast-last : goal.list_elements-overflow_cast-last
 list_elements-overflow_cast-last t c = let small = index_small c.args.elements.now.items _ c.requires.width in omega arith
 
-pub list_content-returns-in_ok-list_elements-in-Container-clause-lists :
-    goal.list_content-returns-in_ok-list_elements-in-Container-clause-lists
-list_content-returns-in_ok-list_elements-in-Container-clause-lists t c =
+pub list_content-returns-in_ok-list_named-in-Container-clause-lists :
+    goal.list_content-returns-in_ok-list_named-in-Container-clause-lists
+list_content-returns-in_ok-list_named-in-Container-clause-lists t c =
     let k = c.in-Container in
     let s = seen c.args.content.now k.name k.flags k.content k.named k.is in
     let ns = c.args.nodes.now.items in
     let own : NodeId = record { number = length ns } in
-    let wide : c.len-in-Container.result ≡ count (trees_view k.content.items) = omega (arith, c.len-in-Container.ensures, c.in-Container.content.ok.0, count_is k.content.items) in
-    let node : ℕ → Node = λ w. record { leaf = None; holder = c.args.holder; last = c.args.last; width = w; flags = k.flags } in
+    let w = count (trees_view k.content.items) in
+    let wide : c.len-in-Container.result ≡ w = omega (arith, c.len-in-Container.ensures, c.in-Container.content.ok.0, count_is k.content.items) in
+    let node : ℕ → ℕ → Node = λ w b. record { leaf = None; holder = c.args.holder; last = c.args.last; width = w; flags = k.flags; behind = b } in
     let number : c.len.result ≡ length ns = omega (arith, c.len.ensures, c.args.nodes.now.ok.0) in
-    on_ok_weaker c.list_named.result
-    (λ (last : c.list_named.new.nodes.items ≡ c.list_elements.new.nodes.items ++ nodes_by_key (length c.list_elements.new.nodes.items) (record { number = c.len.result }) (keyed_view k.named.entries)).
-    container_listed ns (node (count (trees_view k.content.items))) (λ n. nodes_from n own 0 (trees_view k.content.items)) (λ n. nodes_by_key n own (keyed_view k.named.entries))
-    c.push-in-Container.new.self.items c.list_elements.new.nodes.items c.list_named.new.nodes.items
-    (c.in_ok-push-in-Container.ensures.items ∙ ap (λ w. ns ++ node w ∷ []) wide)
+    let elements : ℕ → List Node = λ n. nodes_from n own 0 (trees_view k.content.items) in
+    let named : ℕ → List Node = λ n. nodes_by_key n own (keyed_view k.named.entries) in
+    let inside = elements (length ns + 1) ++ named (length ns + 1 + length (elements (length ns + 1))) in
+    let three : c.list_named.new.nodes.items ≡ ns ++ node w 0 ∷ inside =
+    container_listed ns (node w 0) elements named c.push-in-Container.new.self.items c.list_elements.new.nodes.items c.list_named.new.nodes.items
+    (c.in_ok-push-in-Container.ensures.items ∙ ap (λ w. ns ++ node w 0 ∷ []) wide)
     (c.in_ok-list_elements-in-Container.ensures.lists
     ∙ ap (λ m. c.push-in-Container.new.self.items ++ nodes_from (length c.push-in-Container.new.self.items) (record { number = m }) 0 (trees_view k.content.items)) number)
-    (last ∙ ap (λ m. c.list_elements.new.nodes.items ++ nodes_by_key (length c.list_elements.new.nodes.items) (record { number = m }) (keyed_view k.named.entries)) number)
-    ∙ ap (λ x. ns ++ nodes_of (length ns) c.args.holder c.args.last x) (sym s))
-    c.list_named.ensures.lists
+    (c.in_ok-list_named-in-Container.ensures.lists
+    ∙ ap (λ m. c.list_elements.new.nodes.items ++ nodes_by_key (length c.list_elements.new.nodes.items) (record { number = m }) (keyed_view k.named.entries)) number) in
+    let long : length c.list_named.new.nodes.items ≡ length ns + 1 + length inside = omega (arith, ap length three, length-append ns (node w 0 ∷ inside)) in
+    c.close-in-Container.ensures ns (node w 0) inside three number ∙ ap (λ b. ns ++ node w b ∷ inside) long ∙ ap (λ x. ns ++ nodes_of (length ns) c.args.holder c.args.last x) (sym s)

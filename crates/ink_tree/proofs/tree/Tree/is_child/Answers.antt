@@ -14,7 +14,7 @@ returns-then-node-own-clause-yes c = λ h.
     let same : k.holder.number ≡ c.own-own.result.number = grind (arith, nat_tests, c.if-node-own.true) in
     let within = slice_get_within t.nodes.items c.args.number k (sym c.in-Some.ensures) in (
       omega (arith, within, t.many),
-      stands_under s c.args.number k c.own-own.result (node_place s c.args.holder) c.own-own.ensures.1 (t.kept c.args.number k (sym c.in-Some.ensures))
+      stands_under s c.args.number k c.own-own.result (node_place s c.args.holder) c.own-own.ensures.1 (t.kept c.args.number k (sym c.in-Some.ensures)).0
           c.in-Some-last.last (key_part c.args.key) c.in-Some-last.is same (c.is_part.ensures.yes h),
     )
 
@@ -23,7 +23,7 @@ returns-then-node-own-clause-no c = λ h within.
     let t = c.args.self.now in
     let s = story_tree t in
     let k = c.in-Some.node.now in
-    other_part s c.args.number k c.own-own.result (node_place s c.args.holder) c.own-own.ensures.1 (t.kept c.args.number k (sym c.in-Some.ensures))
+    other_part s c.args.number k c.own-own.result (node_place s c.args.holder) c.own-own.ensures.1 (t.kept c.args.number k (sym c.in-Some.ensures)).0
     c.in-Some-last.last (key_part c.args.key) c.in-Some-last.is (c.is_part.ensures.no h)
 
 pub returns-else-node-own-clause-no : goal.returns-else-node-own-clause-no
@@ -31,7 +31,7 @@ returns-else-node-own-clause-no c = λ h within.
     let t = c.args.self.now in
     let s = story_tree t in
     let k = c.in-Some.node.now in
-    other_holder s c.args.number k c.own-own.result (node_place s c.args.holder) c.own-own.ensures.1 (t.kept c.args.number k (sym c.in-Some.ensures))
+    other_holder s c.args.number k c.own-own.result (node_place s c.args.holder) c.own-own.ensures.1 (t.kept c.args.number k (sym c.in-Some.ensures)).0
     c.in-Some-last.last (key_part c.args.key) t.rising c.own-own.ensures.0 c.in-Some-last.is (λ same. true≢false (sym (eq-eqb k.holder.number c.own-own.result.number same) ∙ h))
 
 pub returns-in-None-last-clause-no : goal.returns-in-None-last-clause-no
@@ -39,4 +39,4 @@ returns-in-None-last-clause-no c = λ h within.
     let t = c.args.self.now in
     let s = story_tree t in
     let k = c.in-Some.node.now in
-    under_none s c.args.number k c.own-own.result (node_place s c.args.holder) c.own-own.ensures.1 (t.kept c.args.number k (sym c.in-Some.ensures)) (key_part c.args.key) c.in-None-last.is
+    under_none s c.args.number k c.own-own.result (node_place s c.args.holder) c.own-own.ensures.1 (t.kept c.args.number k (sym c.in-Some.ensures)).0 (key_part c.args.key) c.in-None-last.is

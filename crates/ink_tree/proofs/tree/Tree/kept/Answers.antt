@@ -10,4 +10,4 @@ returns c =
     let ns = c.args.self.now.nodes.items in
     let own = c.own-own.result in
     subst (λ p. Keeps s p c.index.result.now) c.own-own.ensures.1
-    (c.args.self.now.kept own.number c.index.result.now (slice_get_read ns (length ns) own.number c.index.result.now refl (omega (arith, c.own-own.ensures.0, c.args.self.now.many)) c.index.ensures))
+    (c.args.self.now.kept own.number c.index.result.now (slice_get_read ns (length ns) own.number c.index.result.now refl (omega (arith, c.own-own.ensures.0, c.args.self.now.many)) c.index.ensures)).0
