@@ -85,6 +85,16 @@ STORIES = (
      ("through", "through", "restart", "through")),
     ('{"inkVersion":21,"root":["ev",{"VAR?":"x"},2,"*",{"VAR=":"x","re":true},"/ev","done",{"global decl":["ev",3,{"VAR=":"x"},"/ev","end",null]}]}',
      ("set x 7", "get x", "through", "get x", "restart", "get x")),
+    ('{"inkVersion":21,"root":[["^[","ev",{"f()":"f"},"out",{"f()":"g"},"pop","/ev","^]","\\n","end",null],"done",{"f":["\\n","^x","\\n","ev",3,"/ev","~ret",null],"g":["^ y",{"f()":"f"},null]}]}',
+     ("through", "restart", "through")),
+    ('{"inkVersion":21,"root":[["^a",{"->t->":"t"},"^c",{"->t->":"v","var":true},"^no",null],"done",{"t":["^b",{"->t->":"s"},"ev","void","/ev","->->",null],"s":["ev","void","/ev","->->",null],"u":["ev",{"^->":"e"},"/ev","->->",null],"e":["^e","end",null],"global decl":["ev",{"^->":"u"},{"VAR=":"v"},"/ev","end",null]}]}',
+     ("through", "get v", "restart", "get v")),
+    ('{"inkVersion":21,"root":[["thread",{"->":"a"},"thread",{"->":"b"},"^C","\\n","done",null],"done",{"a":["^A",{"f()":"f"},"done",null],"b":["^B",null],"f":["thread",{"->":".^.^.a.0"},null]}]}',
+     ("through", "through", "restart")),
+    ('{"inkVersion":21,"root":[["ev","str",{"f()":"f"},"^-",{"f()":"f"},"/str",{"VAR=":"x","re":true},"/ev","#",{"f()":"f"},"/#","end",null],"done",{"f":["\\n","^x","\\n","ev","str","^s","/str","out","/ev",null],"global decl":["ev",{"f()":"g"},{"VAR=":"x"},"/ev","end",null],"g":["ev",7,"/ev","~ret",null]}]}',
+     ("through", "get x", "restart", "get x")),
+    ('{"inkVersion":21,"root":[[{"f()":"f"},"^b",null],"done",{"f":["ev",{"VAR?":"n"},1,"-",{"VAR=":"n","re":true},{"VAR?":"n"},"/ev",{"f()":"f","c":true},{"f()":"r"},null],"r":["~ret",null],"global decl":["ev",9,{"VAR=":"n"},"/ev","end",null]}]}',
+     ("through", "through", "restart", "get n")),
 )
 
 BROKEN = b'{"fault":"OutOfMemory","refused":"Broken"}'
