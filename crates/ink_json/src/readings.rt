@@ -11,7 +11,7 @@ ghost use Rattle.ink_json.specs.Reading.{Reads, placed};
 use crate::error::{ReadFailure, refused};
 use crate::limits::MOST;
 use crate::options::{frame, is_on, whole_or};
-use ink_model::{Cause, Destination, Leaf, Text};
+use ink_model::{Cause, Destination, Leaf, Shared, Text};
 use serde_json::Value;
 use std::alloc::Global;
 
@@ -124,7 +124,8 @@ fn point(alloc: Global, name: &str, frame: i128) -> Result<Leaf, ReadFailure>
     if frame > MOST {
         return Err(refused(alloc, Cause::Limit));
     }
-    Ok(Leaf::Pointer(Text::from_str(alloc, name)?, frame as i32))
+    let name = Shared::new(alloc, Text::from_str(alloc, name)?)?;
+    Ok(Leaf::Pointer(name, frame as i32))
 }
 
 /// A variable stored to, which is declared, or assigned where it is there already.

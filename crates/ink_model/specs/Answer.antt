@@ -1,7 +1,8 @@
 -- Answers (docs/PROTOCOL.md, "Answers").
-use Rattle.std.specs.Prelude.{ℕ, List, [], ◌∷◌, ◌++◌, map, codes, Result, Ok, Err}
+use Rattle.std.specs.Prelude.{ℕ, ℤ, List, [], ◌∷◌, ◌++◌, map, codes, Result, Ok, Err}
 use Rattle.ink_model.specs.ValueJson.{value_data}
-use Rattle.serde_json.specs.Data.{Data, boolean, string, array, object, Items, no_items, item, no_members, member}
+use Rattle.serde_json.specs.Data.{Data, boolean, number, string, array, object, Items, no_items, item, no_members, member}
+use Rattle.serde_json.specs.Find.{of_integer}
 use Rattle.serde_json.specs.Written.{compact_text}
 use Rattle.ink_model.specs.declared.fault.Fault.{Fault}
 use Rattle.ink_model.specs.declared.fault.Fault.TheVariants as fault
@@ -14,11 +15,13 @@ use Rattle.ink_model.specs.declared.passage.Passage.{Passage}
 use Rattle.ink_model.specs.declared.value.Value.{Value}
 use Rattle.ink_model.specs.declared.passage.Shown.{Shown}
 
--- what a command answers: a passage, what happened, a value, a refusal, or a fault with what happened before it
+-- what a command answers: a passage, what happened, a value, a count of visits, a refusal, or a fault with what happened before
+-- it
 pub data Reply : Type 0 where
   Tells : (passage : Passage) → Reply
   Acts : (events : List Event) → Reply
   Shows : (value : Value) → Reply
+  Counts : (visits : ℤ) → Reply
   Refuses : (refusal : Refusal) → Reply
   Breaks : (fault : Fault) → (events : List Event) → Reply
 
@@ -38,6 +41,10 @@ reply_of_events (Err h) = reply_of_halt h
 abbrev pub reply_of_value : Result Value Refusal → Reply
 reply_of_value (Ok v) = Shows v
 reply_of_value (Err r) = Refuses r
+
+abbrev pub reply_of_visits : Result ℤ Refusal → Reply
+reply_of_visits (Ok visits) = Counts visits
+reply_of_visits (Err r) = Refuses r
 
 -- ---- replies as JSON
 
@@ -60,6 +67,7 @@ fault_name fault.OutOfMemory = codes "OutOfMemory"
 abbrev pub refusal_name : Refusal → List ℕ
 refusal_name refusal.CannotContinue = codes "CannotContinue"
 refusal_name refusal.NoSuchVariable = codes "NoSuchVariable"
+refusal_name refusal.NoSuchPath = codes "NoSuchPath"
 refusal_name refusal.BadValue = codes "BadValue"
 refusal_name refusal.BadCommand = codes "BadCommand"
 refusal_name (refusal.Broken f) = codes "Broken"
@@ -100,6 +108,7 @@ abbrev pub reply_data : Reply → Data
 reply_data (Tells passage) = passage_data passage
 reply_data (Acts events) = object (member (codes "events") (events_data events) no_members)
 reply_data (Shows v) = object (member (codes "value") (value_data v) no_members)
+reply_data (Counts visits) = object (member (codes "visits") (number (of_integer visits)) no_members)
 reply_data (Refuses r) = refusal_data r
 reply_data (Breaks f events) =
     object (member (codes "events") (events_data events) (member (codes "fault") (string (fault_name f)) no_members))

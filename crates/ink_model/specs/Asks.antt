@@ -1,16 +1,23 @@
 -- Whether a step asks for memory (docs/RUNNING.md, "Out of memory").
-use Rattle.std.specs.Prelude.{List, [], Bool, true, false, not, ◌||◌, Option, Some, None, Result, Ok, Err}
-use Rattle.ink_model.specs.Configuration.{Configuration, current_place, put_at}
-use Rattle.ink_model.specs.Effect.{Fields, fields_of, is_fresh}
+use Rattle.std.specs.Prelude.{List, [], reverse, Bool, true, false, not, ◌||◌, Option, Some, None, Result, Ok, Err, is_ok}
+use Rattle.ink_model.specs.Acceptance.{leads}
+use Rattle.ink_model.specs.Configuration.{Configuration, current_place}
+use Rattle.ink_model.specs.Effect.{Context, Fields, context_of, fields_of, is_fresh}
+use Rattle.ink_model.specs.Entered.{passed_places}
 use Rattle.ink_model.specs.MoveMemory.{move_asks}
 use Rattle.ink_model.specs.Joining.{makes_text}
 use Rattle.ink_model.specs.Operator.{takes}
 use Rattle.ink_model.specs.Output.{closes_string, closes_tag}
+use Rattle.ink_model.specs.Path.{above}
 use Rattle.ink_model.specs.Place.{entered}
 use Rattle.ink_model.specs.Stack.{popped, taken}
-use Rattle.ink_model.specs.Step.{effect}
+use Rattle.ink_model.specs.Step.{effect, gone_in}
+use Rattle.ink_model.specs.Step.Counts.{visits_at}
 use Rattle.ink_model.specs.Tree.{StoryTree, leaf, container, at}
 use Rattle.ink_model.specs.Value.{printed}
+use Rattle.ink_model.specs.VariableMemory.{assign_asks, declare_asks, on_popped}
+use Rattle.ink_model.specs.Variables.{read}
+use Rattle.ink_model.specs.Visits.{adds_rows}
 use Rattle.ink_model.specs.declared.content.Control.{Control}
 use Rattle.ink_model.specs.declared.content.Control.TheVariants as control
 use Rattle.ink_model.specs.declared.content.Leaf.{Leaf}
@@ -19,6 +26,7 @@ use Rattle.ink_model.specs.declared.fault.Fault.{Fault}
 use Rattle.ink_model.specs.declared.fault.Fault.TheVariants.{TooDeep}
 use Rattle.ink_model.specs.declared.operator.Op.{Op}
 use Rattle.ink_model.specs.declared.place.Part.{Part}
+use Rattle.ink_model.specs.declared.scope.Scope.TheVariants.{Global, Temporary}
 use Rattle.ink_model.specs.declared.value.Value.{Value}
 
 -- a limit is looked at once the answer is made; every other fault is found before
@@ -46,63 +54,73 @@ abbrev pub operator_asks : Op → Option (List Value × List Value) → Bool
 operator_asks o None = false
 operator_asks o (Some r) = makes_text o r.0
 
-abbrev pub control_asks : Control → Fields → Bool
-control_asks control.Out f = output_asks (popped f.stack)
-control_asks control.Duplicate f = has_top (popped f.stack)
-control_asks control.BeginString f = f.evaluating
-control_asks control.EndString f = asks_for (closes_string f.page)
-control_asks control.BeginTag f = true
-control_asks control.EndTag f = asks_for (closes_tag f.page)
-control_asks control.BeginEval f = false
-control_asks control.EndEval f = false
-control_asks control.Pop f = false
-control_asks control.Nop f = false
-control_asks control.Done f = false
-control_asks control.End f = false
-control_asks control.Return f = false
-control_asks control.ReturnTunnel f = false
-control_asks control.Thread f = false
-control_asks control.ChoiceCount f = false
-control_asks control.Turn f = false
-control_asks control.Turns f = false
-control_asks control.ReadCount f = false
-control_asks control.Visit f = false
+-- a number is pushed, unless nothing is counted there; what `turns` and `readc` give takes the place of their target
+abbrev pub visit_asks : StoryTree → Context → Option (List Part) → Bool
+visit_asks s seen None = false
+visit_asks s seen (Some q) = is_ok (visits_at s seen q)
 
-abbrev pub leaf_asks : Leaf → Fields → Bool
-leaf_asks (leaves.Text t) f = true
-leaf_asks leaves.Newline f = f.evaluating || not (is_fresh f)
-leaf_asks leaves.Glue f = not f.evaluating
-leaf_asks (leaves.Int z) f = f.evaluating
-leaf_asks (leaves.Bool b) f = f.evaluating
-leaf_asks leaves.Void f = f.evaluating
-leaf_asks (leaves.Target text) f = f.evaluating
-leaf_asks (leaves.Control o) f = control_asks o f
-leaf_asks (leaves.Op o) f = operator_asks o (taken (takes o) f.stack [])
-leaf_asks (leaves.Declare name) f = has_top (popped f.stack)
-leaf_asks (leaves.Assign name) f = false
-leaf_asks (leaves.Variable name) f = true
-leaf_asks (leaves.Divert to conditional) f = false
-leaf_asks (leaves.Pointer name frame) f = false
-leaf_asks (leaves.Call to conditional) f = false
-leaf_asks (leaves.Tunnel to conditional) f = false
-leaf_asks (leaves.External name arguments conditional) f = false
-leaf_asks (leaves.DeclareTemp name) f = false
-leaf_asks (leaves.AssignTemp name) f = false
-leaf_asks (leaves.Count text) f = false
-leaf_asks (leaves.Choice text flags) f = false
+abbrev pub control_asks : StoryTree → List Part → Context → Control → Fields → Bool
+control_asks s p seen control.Out f = output_asks (popped f.stack)
+control_asks s p seen control.Duplicate f = has_top (popped f.stack)
+control_asks s p seen control.BeginString f = f.evaluating
+control_asks s p seen control.EndString f = asks_for (closes_string f.page)
+control_asks s p seen control.BeginTag f = true
+control_asks s p seen control.EndTag f = asks_for (closes_tag f.page)
+control_asks s p seen control.BeginEval f = false
+control_asks s p seen control.EndEval f = false
+control_asks s p seen control.Pop f = false
+control_asks s p seen control.Nop f = false
+control_asks s p seen control.Done f = false
+control_asks s p seen control.End f = false
+control_asks s p seen control.Return f = false
+control_asks s p seen control.ReturnTunnel f = false
+control_asks s p seen control.Thread f = false
+control_asks s p seen control.ChoiceCount f = false
+control_asks s p seen control.Turn f = true
+control_asks s p seen control.Turns f = false
+control_asks s p seen control.ReadCount f = false
+control_asks s p seen control.Visit f = visit_asks s seen (above (reverse p))
 
-abbrev pub content_asks : Option StoryTree → Fields → Bool
-content_asks None f = false
-content_asks (Some (container name flags content named)) f = false
-content_asks (Some (leaf l)) f = leaf_asks l f
+abbrev pub leaf_asks : StoryTree → List Part → Context → Leaf → Fields → Bool
+leaf_asks s p seen (leaves.Text t) f = true
+leaf_asks s p seen leaves.Newline f = f.evaluating || not (is_fresh f)
+leaf_asks s p seen leaves.Glue f = not f.evaluating
+leaf_asks s p seen (leaves.Int z) f = f.evaluating
+leaf_asks s p seen (leaves.Bool b) f = f.evaluating
+leaf_asks s p seen leaves.Void f = f.evaluating
+leaf_asks s p seen (leaves.Target text) f = f.evaluating
+leaf_asks s p seen (leaves.Control o) f = control_asks s p seen o f
+leaf_asks s p seen (leaves.Op o) f = operator_asks o (taken (takes o) f.stack [])
+leaf_asks s p seen (leaves.Declare name) f = on_popped (popped f.stack) (declare_asks f.globals seen.thread Global name)
+leaf_asks s p seen (leaves.Assign name) f = on_popped (popped f.stack) (assign_asks f.globals seen.thread name)
+leaf_asks s p seen (leaves.Variable name) f = is_ok (read f.globals seen.thread name)
+leaf_asks s p seen (leaves.Divert to conditional) f = false
+leaf_asks s p seen (leaves.Pointer name frame) f = f.evaluating
+leaf_asks s p seen (leaves.Call to conditional) f = false
+leaf_asks s p seen (leaves.Tunnel to conditional) f = false
+leaf_asks s p seen (leaves.External name arguments conditional) f = false
+leaf_asks s p seen (leaves.DeclareTemp name) f = on_popped (popped f.stack) (declare_asks f.globals seen.thread Temporary name)
+leaf_asks s p seen (leaves.AssignTemp name) f = on_popped (popped f.stack) (assign_asks f.globals seen.thread name)
+leaf_asks s p seen (leaves.Count text) f = visit_asks s seen (leads s p text)
+leaf_asks s p seen (leaves.Choice text flags) f = false
+
+abbrev pub content_asks : StoryTree → List Part → Option StoryTree → Context → Fields → Bool
+content_asks s p None seen f = false
+content_asks s p (Some (container name flags content named)) seen f = false
+content_asks s p (Some (leaf l)) seen f = leaf_asks s p seen l f
 
 -- performing what stands at a place asks for memory, or where flow goes after it
 abbrev pub performing_asks : StoryTree → List Part → Option StoryTree → Configuration → Bool
-performing_asks s p found c = content_asks found (fields_of c) || move_asks s (effect s p found (fields_of c)) (put_at (Some p) c)
+performing_asks s p found c =
+    content_asks s p found (context_of c) (fields_of c) || move_asks s (effect s p found (context_of c) (fields_of c)) c
+
+-- so does going in, where that is a container's first visit
+abbrev pub going_in_asks : StoryTree → List Part → Configuration → Bool
+going_in_asks s p c = adds_rows s (passed_places s p) c.shared.counts
 
 abbrev pub asks_at : StoryTree → Option (List Part) → Configuration → Bool
 asks_at s None c = false
-asks_at s (Some p) c = performing_asks s (entered s p) (at s (entered s p)) c
+asks_at s (Some p) c = going_in_asks s p c || performing_asks s (entered s p) (at s (entered s p)) (gone_in s p c)
 
 -- the step at a configuration asks for memory
 unfoldable pub asks : StoryTree → Configuration → Bool

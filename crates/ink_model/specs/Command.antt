@@ -28,18 +28,24 @@ get_command name = if is_filled name && is_none (at_space name) then Some (comma
 abbrev pub set_command : List ℕ × List ℕ → Option Command
 set_command r = if is_filled r.0 && is_filled r.1 then Some (command.Set r.0 (given_of r.1)) else None
 
+-- a path, which is not empty
+abbrev pub visits_command : List ℕ → Option Command
+visits_command path = if is_filled path then Some (command.Visits path) else None
+
 abbrev pub command_word : List ℕ → Option Command
 command_word line = option_or (plain_command line) (option_or (option_and_then get_command (after (codes "get ") line))
-    (option_and_then set_command (option_and_then at_space (after (codes "set ") line))))
+    (option_or (option_and_then set_command (option_and_then at_space (after (codes "set ") line)))
+    (option_and_then visits_command (after (codes "visits ") line))))
 
 -- the command of a line; a line that is no text, or no command, has none
 unfoldable pub command_of : List ℕ → Option Command
 command_of line = if is_utf8 line then command_word line else None
 
--- only a command that has a name needs memory to be read
+-- only a command that has a name or a path needs memory to be read
 abbrev pub NeedsMemory : Option Command → Type 0
 NeedsMemory None = ⊥
 NeedsMemory (Some command.Through) = ⊥
 NeedsMemory (Some (command.Set name value)) = Unit {0}
 NeedsMemory (Some (command.Get name)) = Unit {0}
+NeedsMemory (Some (command.Visits path)) = Unit {0}
 NeedsMemory (Some command.Restart) = ⊥

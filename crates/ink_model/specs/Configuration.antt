@@ -1,5 +1,6 @@
 -- A configuration: all that a saved game holds, and the text being written (docs/RUNNING.md, "Configurations").
 use Rattle.std.specs.Prelude.{ℕ, List, [], map, Bool, true, false, Option, Some, None, is_some}
+use Rattle.ink_model.specs.Counts.{CountsOf}
 use Rattle.ink_model.specs.Frames.{ThreadOf, ThreadsOf, map_thread, map_threads, base_threads, gone, place_in, on_top, put_in, unnumbered_thread, unnumbered_threads}
 pub use Rattle.ink_model.specs.Page.{Page, Section, SectionKind, string_section, tag_section}
 use Rattle.ink_model.specs.Place.{start_place}
@@ -26,11 +27,10 @@ pub record FlowOf (P : Type 0) : Type 0 where
   pub choices : List (ChoiceOf P)
   pub safe : Bool
 
--- what all flows share; globals in order of declaration, visits and turns as rows that rise by place (Rows.antt)
+-- what all flows share; globals in order of declaration, visits and turns by place (Counts.antt)
 pub record SharedOf (P : Type 0) : Type 0 where
   pub globals : Values
-  pub visits : List (P × ℕ)
-  pub turns : List (P × ℕ)
+  pub counts : CountsOf P
   pub turn : ℕ
 
 pub record ConfigurationOf (P : Type 0) : Type 0 where
@@ -50,8 +50,11 @@ module _ {P Q : Type 0} (f : P → Q) where
   abbrev pub map_flow : FlowOf P → FlowOf Q
   map_flow a = record { threads = map_threads f a.threads; stack = a.stack; choices = map map_choice a.choices; safe = a.safe }
 
+  abbrev pub map_counts : CountsOf P → CountsOf Q
+  map_counts a = record { visits = map_keys f a.visits; turns = map_keys f a.turns }
+
   abbrev pub map_shared : SharedOf P → SharedOf Q
-  map_shared a = record { globals = a.globals; visits = map_keys f a.visits; turns = map_keys f a.turns; turn = a.turn }
+  map_shared a = record { globals = a.globals; counts = map_counts a.counts; turn = a.turn }
 
   abbrev pub map_configuration : ConfigurationOf P → ConfigurationOf Q
   map_configuration c = record { flow = map_flow c.flow; shared = map_shared c.shared; page = c.page }
@@ -83,6 +86,9 @@ module _ {P : Type 0} where
   abbrev pub with_globals : Values → ConfigurationOf P → ConfigurationOf P
   with_globals vs c = record c { shared = record c.shared { globals = vs } }
 
+  abbrev pub with_counts : CountsOf P → ConfigurationOf P → ConfigurationOf P
+  with_counts counts c = record c { shared = record c.shared { counts = counts } }
+
   -- `end`: flow stops safely, and of threads and choices nothing is left
   abbrev pub ended : ConfigurationOf P → ConfigurationOf P
   ended c = record c { flow = record { threads = base_threads None; stack = c.flow.stack; choices = []; safe = true } }
@@ -105,7 +111,7 @@ module _ {P : Type 0} where
   unfoldable pub fresh_at : P → ConfigurationOf P
   fresh_at p = record {
     flow = record { threads = base_threads (Some p); stack = []; choices = []; safe = false };
-    shared = record { globals = []; visits = []; turns = []; turn = 0 };
+    shared = record { globals = []; counts = record { visits = []; turns = [] }; turn = 0 };
     page = record { line = []; sections = []; next_enter = 0 };
   }
 

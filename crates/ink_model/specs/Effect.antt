@@ -1,7 +1,8 @@
 -- What a content does: to the fields that it touches, and how flow goes from there (docs/RUNNING.md, "Steps").
-use Rattle.std.specs.Prelude.{ℕ, List, [], length, Bool, true, false, nat_eq, Option, Some, None, Result, Ok, Err}
-use Rattle.ink_model.specs.Configuration.{ConfigurationOf, with_globals, with_threads}
-use Rattle.ink_model.specs.Frames.{fresh_depth, mode_in, on_top}
+use Rattle.std.specs.Prelude.{ℕ, List, length, Bool, true, false, nat_eq, Option, Some, None, Result, Ok, Err}
+use Rattle.ink_model.specs.Configuration.{Configuration, ConfigurationOf, with_globals, with_threads}
+use Rattle.ink_model.specs.Counts.{CountsOf}
+use Rattle.ink_model.specs.Frames.{ThreadOf, fresh_depth, mode_in, on_top}
 use Rattle.ink_model.specs.Threads.{staled}
 use Rattle.ink_model.specs.Page.{Page}
 use Rattle.ink_model.specs.Stack.{popped, pushed}
@@ -21,6 +22,16 @@ pub record Fields : Type 0 where
   pub stack : List Value
   pub page : Page
   pub globals : Values
+
+-- What content may look at beside these, and not change: the thread that runs, for its temporaries; visits and turns, and the
+-- number of the turn.
+pub record Context : Type 0 where
+  pub thread : ThreadOf (List Part)
+  pub counts : CountsOf (List Part)
+  pub turn : ℕ
+
+abbrev pub context_of : Configuration → Context
+context_of c = record { thread = c.flow.threads.thread; counts = c.shared.counts; turn = c.shared.turn }
 
 module _ {P : Type 0} where
   abbrev pub fields_of : ConfigurationOf P → Fields
@@ -42,6 +53,9 @@ module _ {P : Type 0} where
   abbrev pub with_page : Page → ConfigurationOf P → ConfigurationOf P
   with_page page c = record c { page = page }
 
+  abbrev pub with_thread : ThreadOf P → ConfigurationOf P → ConfigurationOf P
+  with_thread t c = with_threads (on_top (λ u. t) c.flow.threads) c
+
   abbrev pub with_staleness : Option ℕ → ConfigurationOf P → ConfigurationOf P
   with_staleness None c = c
   with_staleness (Some depth) c = with_threads (on_top (staled depth) c.flow.threads) c
@@ -57,13 +71,20 @@ is_fresh_at (Some depth) n = nat_eq depth n
 abbrev pub is_fresh : Fields → Bool
 is_fresh f = is_fresh_at f.fresh (length f.page.sections)
 
--- Flow moves on after its place, or lands at another, or lands there in a frame of its own; it comes back from such a frame,
--- to after its call or to a place; it goes on in two threads; it is done with its thread, or ends; or a fault comes.
+-- where flow lands; enters: whether that enters containers around the place
+pub record Landing : Type 0 where
+  pub place : List Part
+  pub enters : Bool
+
+-- Flow moves on after its place, or does that with these variables in its thread; it lands at another place, or lands there in
+-- a frame of its own; it comes back from such a frame, to after its call or to a place; it goes on in two threads; it is done
+-- with its thread, or ends; or a fault comes.
 pub data Effect : Type 0 where
   Moves : (after : Fields) → Effect
-  Lands : (place : List Part) → (after : Fields) → Effect
-  Calls : (kind : FrameKind) → (place : List Part) → (after : Fields) → Effect
-  Returns : (kind : FrameKind) → (to : Option (List Part)) → (after : Fields) → Effect
+  Stores : (thread : ThreadOf (List Part)) → (after : Fields) → Effect
+  Lands : (to : Landing) → (after : Fields) → Effect
+  Calls : (kind : FrameKind) → (to : Landing) → (after : Fields) → Effect
+  Returns : (kind : FrameKind) → (to : Option Landing) → (after : Fields) → Effect
   Forks : (after : Fields) → Effect
   Done : (after : Fields) → Effect
   Ends : (after : Fields) → Effect

@@ -1,6 +1,6 @@
--- Which containers a landing enters (docs/RUNNING.md, "Visits").
-use Rattle.std.specs.Prelude.{ℕ, List, [], ◌∷◌, reverse, Bool, true, false, not, ◌&&◌, ◌||◌, ◌==◌, if◌then◌else◌, Option, Some, None}
-use Rattle.ink_model.specs.Tree.{StoryTree, leaf, container, at}
+-- Which containers a landing enters, and which a step goes into (docs/RUNNING.md, "Visits").
+use Rattle.std.specs.Prelude.{ℕ, List, [], ◌∷◌, ◌++◌, reverse, Bool, true, false, not, ◌&&◌, ◌||◌, ◌==◌, if◌then◌else◌, Option, Some, None}
+use Rattle.ink_model.specs.Tree.{StoryTree, leaf, container, Trees, no_trees, tree, at}
 use Rattle.ink_model.specs.Flags.{counts_at_start}
 use Rattle.ink_model.specs.Value.{same_part}
 use Rattle.ink_model.specs.declared.place.Part.{Part}
@@ -45,3 +45,23 @@ entered_around (Some t) s o n = entered_above s o true (reverse n)
 
 unfoldable pub entered_places : StoryTree → Option (List Part) → List Part → List (List Part)
 entered_places s o n = entered_around (at s n) s o n
+
+-- ---- on the way of a step
+
+-- the containers on the way from a place down to the first content that holds no other, the outermost first
+abbrev mutual
+  pub passed : List Part → StoryTree → List (List Part)
+  passed p (leaf l) = []
+  passed p (container own flags content named) = p ∷ passed_in p content
+
+  pub passed_in : List Part → Trees → List (List Part)
+  passed_in p no_trees = []
+  passed_in p (tree t ts) = passed (p ++ Index 0 ∷ []) t
+
+abbrev pub passed_at : List Part → Option StoryTree → List (List Part)
+passed_at p None = []
+passed_at p (Some t) = passed p t
+
+-- a step at a place goes into these; where nothing stands, into none
+unfoldable pub passed_places : StoryTree → List Part → List (List Part)
+passed_places s p = passed_at p (at s p)

@@ -5,6 +5,7 @@ use Rattle.std.proofs.lemmas.Str.{is_utf8-from_IsUtf8}
 use Rattle.std.specs.Char.{encode_utf8}
 use Rattle.serde_json.specs.Data.{unsigned, Data, null, number, string, array, object, no_items, item, no_members, member}
 use Rattle.serde_json.proofs.OnLiterals.{serde_json_on_literals}
+use Rattle.ink_model.specs.Entered.{entered_places, passed_places}
 use Rattle.ink_model.specs.Tree.{StoryTree, leaf, container, Trees, no_trees, tree, no_keys, key, at}
 use Rattle.ink_model.specs.Place.{entered, next_place, landed, knot}
 use Rattle.ink_model.specs.Grammar as grammar
@@ -87,21 +88,21 @@ stays_in_name = refl
 -- a text is written, and flow moves on
 a_step : step small nothing_bound (start small [])
     ≡ Next (with_page (record { line = Text (codes "Hi") ∷ []; sections = []; next_enter = 0 }) (moved (Index 0 ∷ []) (Some (Index 1 ∷ [])) (start small [])))
-unfolding step start fresh_at entered next_place cut
+unfolding step start fresh_at entered next_place cut passed_places entered_places
 a_step = refl
 
 -- `done` stops flow safely, and the previous place stays
 a_done : step (list (tree (leaf (leaves.Control Done)) no_trees)) nothing_bound (start small []) ≡ Stop (with_safe true (put_at None (start small [])))
-unfolding step start fresh_at entered
+unfolding step start fresh_at entered passed_places entered_places
 a_done = refl
 
 an_end : step (list (tree (leaf (leaves.Control End)) no_trees)) nothing_bound (start small []) ≡ Stop (ended (start small []))
-unfolding step start fresh_at entered
+unfolding step start fresh_at entered passed_places entered_places
 an_end = refl
 
 -- off the story's end flow stops, and has moved
 off_the_end : step (list (tree (list no_trees) no_trees)) nothing_bound (start small []) ≡ Stop (moved (Index 0 ∷ []) None (start small []))
-unfolding step start fresh_at entered next_place
+unfolding step start fresh_at entered next_place passed_places entered_places
 off_the_end = refl
 
 -- ---- a run and its passage
@@ -109,7 +110,7 @@ off_the_end = refl
 a_run : moment small nothing_bound (start small []) [] 3
     ≡ Stopped (with_safe true (put_at None (with_page (record { line = Text (codes "Hi") ∷ Newline ∷ []; sections = []; next_enter = 0 })
     (moved (Index 1 ∷ []) (Some (Index 2 ∷ [])) (start small []))))) [] []
-unfolding run step start fresh_at entered next_place cut
+unfolding run step start fresh_at entered next_place cut passed_places entered_places
 a_run = refl
 
 a_passage : (passage (with_safe true (put_at None (with_page (record { line = Text (codes "Hi") ∷ Newline ∷ []; sections = []; next_enter = 0 }) (start small [])))))
@@ -304,7 +305,7 @@ abbrev no_memory : State
 no_memory = record { condition = Broken fault.OutOfMemory []; stamp = 0 }
 
 abbrev first_step : GetsTo small nothing_bound (begun (start small [])) [] (begun (start small []))
-unfolding start fresh_at run asks entered
+unfolding start fresh_at run asks entered passed_places
 first_step = record { steps = 0; within = omega arith; got_there = refl; asking = refl }
 
 -- where memory is refused at some step, the fault is OutOfMemory, and the player is broken by it
@@ -344,47 +345,47 @@ at_first vs = with_stack vs (fresh_at (Index 0 ∷ []))
 -- in evaluation mode a text is pushed and not written
 a_text_pushed : step (story_of (tree (text (codes "x")) (tree newline no_trees))) nothing_bound (evaluating (at_first []))
     ≡ Next (with_stack (value.Text (codes "x") ∷ []) (moved (Index 0 ∷ []) (Some (Index 1 ∷ [])) (evaluating (at_first []))))
-unfolding step fresh_at entered next_place cut
+unfolding step fresh_at entered next_place cut passed_places entered_places
 a_text_pushed = refl
 
 -- outside it an integer does nothing
 a_number_passed : step (story_of (tree (number_content (pos 5)) (tree newline no_trees))) nothing_bound (at_first [])
     ≡ Next (moved (Index 0 ∷ []) (Some (Index 1 ∷ [])) (at_first []))
-unfolding step fresh_at entered next_place
+unfolding step fresh_at entered next_place passed_places entered_places
 a_number_passed = refl
 
 -- `ev` in evaluation mode, and `/ev` outside it
 begun_twice : step (story_of (tree (control_content control.BeginEval) no_trees)) nothing_bound (evaluating (at_first [])) ≡ Faults fault.BadMode
-unfolding step fresh_at entered
+unfolding step fresh_at entered passed_places entered_places
 begun_twice = refl
 
 ended_twice : step (story_of (tree (control_content control.EndEval) no_trees)) nothing_bound (at_first []) ≡ Faults fault.BadMode
-unfolding step fresh_at entered
+unfolding step fresh_at entered passed_places entered_places
 ended_twice = refl
 
 -- `out` writes what it pops, and on an empty stack does nothing; `pop` faults there
 an_out : step (story_of (tree (control_content control.Out) (tree newline no_trees))) nothing_bound (at_first (value.Bool true ∷ []))
     ≡ Next (with_page (record { line = Text (codes "true") ∷ []; sections = []; next_enter = 0 }) (moved (Index 0 ∷ []) (Some (Index 1 ∷ [])) (at_first [])))
-unfolding step fresh_at entered printed next_place cut
+unfolding step fresh_at entered printed next_place cut passed_places entered_places
 an_out = refl
 
 an_empty_out : step (story_of (tree (control_content control.Out) (tree newline no_trees))) nothing_bound (at_first [])
     ≡ Next (moved (Index 0 ∷ []) (Some (Index 1 ∷ [])) (at_first []))
-unfolding step fresh_at entered next_place
+unfolding step fresh_at entered next_place passed_places entered_places
 an_empty_out = refl
 
 an_empty_pop : step (story_of (tree (control_content control.Pop) no_trees)) nothing_bound (at_first []) ≡ Faults fault.StackEmpty
-unfolding step fresh_at entered
+unfolding step fresh_at entered passed_places entered_places
 an_empty_pop = refl
 
 -- a lone operand is popped, and its kind is never looked at
 lacking_an_operand : step (story_of (tree (leaf (leaves.Op op.Add)) no_trees)) nothing_bound (at_first (value.Void ∷ [])) ≡ Faults fault.StackEmpty
-unfolding step fresh_at entered
+unfolding step fresh_at entered passed_places entered_places
 lacking_an_operand = refl
 
 a_quotient : step (story_of (tree (leaf (leaves.Op op.Divide)) (tree newline no_trees))) nothing_bound (at_first (value.Int (negsuc 6) ∷ value.Int (pos 2) ∷ []))
     ≡ Next (with_stack (value.Int (negsuc 2) ∷ []) (moved (Index 0 ∷ []) (Some (Index 1 ∷ [])) (at_first [])))
-unfolding step fresh_at entered apply next_place
+unfolding step fresh_at entered apply next_place passed_places entered_places
 a_quotient = refl
 
 -- a global is declared; one that is there keeps its place when it is declared again
@@ -396,12 +397,12 @@ declared_last = refl
 
 -- assigning to a global that is absent faults, and reading one gives 0
 assigned_absent : step (story_of (tree (leaf (leaves.Assign (codes "x"))) no_trees)) nothing_bound (at_first (value.Void ∷ [])) ≡ Faults fault.NoTemp
-unfolding step fresh_at entered
+unfolding step fresh_at entered passed_places entered_places
 assigned_absent = refl
 
 read_absent : step (story_of (tree (leaf (leaves.Variable (codes "x"))) (tree newline no_trees))) nothing_bound (at_first [])
     ≡ Next (with_stack (value.Int (pos 0) ∷ []) (moved (Index 0 ∷ []) (Some (Index 1 ∷ [])) (at_first [])))
-unfolding step fresh_at entered next_place
+unfolding step fresh_at entered next_place passed_places entered_places
 read_absent = refl
 
 -- ["ev",1,{"VAR=":"x"},"end",null] as the knot `global decl`
@@ -426,7 +427,7 @@ abbrev declared_end : Configuration
 declared_end = ended (with_globals ((codes "x", value.Int (pos 1)) ∷ []) (fresh_at (Name (codes "global decl") ∷ Index 0 ∷ [])))
 
 declarations_run : moment declaring nothing_bound (fresh_at (Name (codes "global decl") ∷ Index 0 ∷ [])) [] 4 ≡ Stopped declared_end [] []
-unfolding run step fresh_at entered next_place
+unfolding run step fresh_at entered next_place passed_places entered_places
 declarations_run = refl
 
 -- a story is opened with the globals that it declares
@@ -469,7 +470,7 @@ half_moment = moment declaring_half nothing_bound half_start [] 4
 
 half_fault : opened_by declaring_half half_moment
     ≡ Err (record { fault = fault.StackEmpty; globals = (codes "x", value.Int (pos 1)) ∷ [] })
-unfolding run step fresh_at entered next_place
+unfolding run step fresh_at entered next_place passed_places entered_places
 half_fault = refl
 
 -- a broken player still shows its globals, and begins anew

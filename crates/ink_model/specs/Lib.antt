@@ -29,6 +29,7 @@ pub mod Variables
 pub mod Counts
 pub mod OperatorExamples
 pub mod Configuration
+pub mod Visits
 pub mod Output
 pub mod Flow
 pub mod Effect
@@ -40,6 +41,7 @@ pub mod ValueJson
 pub mod Command
 pub mod Answer
 pub mod State
+pub mod VariableMemory
 pub mod MoveMemory
 pub mod Asks
 pub mod Memory
@@ -55,4 +57,9 @@ pub mod CallStories
 pub mod CallExamples
 pub mod ReturnExamples
 pub mod ThreadExamples
+pub mod CountStories
+pub mod VisitExamples
+pub mod LandingExamples
+pub mod QuestionExamples
+pub mod TemporaryExamples
 pub mod Examples

@@ -1,12 +1,13 @@
 -- Where flow goes after an effect (docs/RUNNING.md, "Places"; docs/FRAMES.md). Of what a configuration has it changes where
--- flow is, the stack and the page alone, and `safe` where flow is done.
-use Rattle.std.specs.Prelude.{ℕ, List, ◌||◌, None}
+-- flow is, the stack and the page alone, visits and turns where flow lands, and `safe` where flow is done.
+use Rattle.std.specs.Prelude.{ℕ, List, Bool, true, false, ◌||◌, Option, Some, None, option_map}
 use Rattle.ink_model.specs.Configuration.{Configuration, ended, with_safe, with_threads}
-use Rattle.ink_model.specs.Effect.{Effect, Moves, Lands, Calls, Returns, Forks, Done, Ends, Fails, with_fields, with_page, with_stack}
+use Rattle.ink_model.specs.Effect.{Effect, Landing, Moves, Stores, Lands, Calls, Returns, Forks, Done, Ends, Fails, with_fields, with_page, with_stack, with_thread}
 use Rattle.ink_model.specs.Flow.{Written, Reached, Reaches, Halts, Breaks, called, done, forked, halt, is_last, moved_on, reach, returned}
 use Rattle.ink_model.specs.Frames.{ThreadsOf, base_threads}
 use Rattle.ink_model.specs.Place.{next_place}
 use Rattle.ink_model.specs.Tree.{StoryTree}
+use Rattle.ink_model.specs.Visits.{entering_around}
 use Rattle.ink_model.specs.declared.fault.Fault.{Fault}
 use Rattle.ink_model.specs.declared.place.Part.{Part}
 use Rattle.ink_model.specs.declared.value.Value.{Value}
@@ -33,6 +34,22 @@ reached_in c (Breaks f) = Faults f
 abbrev pub going : (ThreadsOf (List Part) → Written → Reached (List Part)) → Configuration → Outcome
 going how c = reached_in c (how c.flow.threads (written_in c))
 
+-- the same where flow has landed; a landing may enter containers around
+abbrev pub landed_in : StoryTree → Bool → Configuration → Reached (List Part) → Outcome
+landed_in s true c (Reaches ts w) = Next (entering_around s (with_flow ts w c))
+landed_in s enters c r = reached_in c r
+
+abbrev pub landing : StoryTree → Bool → (ThreadsOf (List Part) → Written → Reached (List Part)) → Configuration → Outcome
+landing s enters how c = landed_in s enters c (how c.flow.threads (written_in c))
+
+-- flow that comes back lands only where it is given a place
+abbrev pub may_enter : Option Landing → Bool
+may_enter None = false
+may_enter (Some to) = to.enters
+
+abbrev pub place_to : Option Landing → Option (List Part)
+place_to to = option_map (λ l. l.place) to
+
 -- flow stops safely where it is, in the last thread
 abbrev pub finish : StoryTree → Configuration → Outcome
 finish s c = going (done (next_place s)) (with_safe (c.flow.safe || is_last c.flow.threads) c)
@@ -43,9 +60,10 @@ end_all c = reached_in (ended c) (halt (base_threads None) (written_in c))
 
 abbrev pub move : StoryTree → Effect → Configuration → Outcome
 move s (Moves f) c = going (moved_on (next_place s)) (with_fields f c)
-move s (Lands q f) c = going (reach q) (with_fields f c)
-move s (Calls k q f) c = going (called k q) (with_fields f c)
-move s (Returns k to f) c = going (returned (next_place s) k to) (with_fields f c)
+move s (Stores t f) c = going (moved_on (next_place s)) (with_fields f (with_thread t c))
+move s (Lands to f) c = landing s to.enters (reach to.place) (with_fields f c)
+move s (Calls k to f) c = landing s to.enters (called k to.place) (with_fields f c)
+move s (Returns k to f) c = landing s (may_enter to) (returned (next_place s) k (place_to to)) (with_fields f c)
 move s (Forks f) c = going (forked (next_place s)) (with_fields f c)
 move s (Done f) c = finish s (with_fields f c)
 move s (Ends f) c = end_all (with_fields f c)

@@ -1,14 +1,16 @@
--- Where flow asks for memory on its way from a content: calls push frames, and marks and void are written where functions end
--- (docs/RUNNING.md, "Out of memory"; docs/FRAMES.md).
+-- Where flow asks for memory on its way from a content: calls push frames, marks and void are written where functions end, and
+-- a landing may be the first visit of a container (docs/RUNNING.md, "Out of memory"; docs/FRAMES.md).
 use Rattle.std.specs.Prelude.{ℕ, List, [], ◌∷◌, Bool, true, false, not, ◌||◌, ◌&&◌, nat_eq, nat_lt, if◌then◌else◌, Option, Some, None, is_some, option_and_then, Result, Ok, Err}
 use Rattle.ink_model.specs.Configuration.{Configuration}
-use Rattle.ink_model.specs.Effect.{Effect, Moves, Lands, Calls, Returns, Forks, Done, Ends, Fails, with_fields}
-use Rattle.ink_model.specs.Flow.{Written, Reached, Reaches, Halts, Breaks, depth_of, moved_on}
+use Rattle.ink_model.specs.Effect.{Effect, Moves, Stores, Lands, Calls, Returns, Forks, Done, Ends, Fails, with_fields, with_thread}
+use Rattle.ink_model.specs.Counts.{CountsOf}
+use Rattle.ink_model.specs.Flow.{Written, Reached, Reaches, Halts, Breaks, called, depth_of, moved_on, reach, returned}
 use Rattle.ink_model.specs.Frames.{FrameOf, ThreadOf, ThreadsOf, is_function}
-use Rattle.ink_model.specs.Move.{written_in}
+use Rattle.ink_model.specs.Move.{may_enter, place_to, written_in}
 use Rattle.ink_model.specs.Place.{next_place}
 use Rattle.ink_model.specs.Threads.{dropped, frame_count, popped, thread_count}
 use Rattle.ink_model.specs.Tree.{StoryTree}
+use Rattle.ink_model.specs.Visits.{adds_rows, around}
 use Rattle.ink_model.specs.declared.fault.Fault.{Fault}
 use Rattle.ink_model.specs.declared.frame.FrameKind.{FrameKind}
 use Rattle.ink_model.specs.declared.frame.FrameKind.TheVariants.{Function}
@@ -56,21 +58,29 @@ module _ {P : Type 0} (after : P → Option P) where
   dropped_asks None w = false
   dropped_asks (Some ts) w = moved_asks ts w
 
-abbrev pub flow_asks : StoryTree → Effect → ThreadsOf (List Part) → Written → Bool
-flow_asks s (Moves f) ts w = moved_asks (next_place s) ts w
-flow_asks s (Lands q f) ts w = false
-flow_asks s (Calls k q f) ts w = nat_lt (frame_count ts.thread) MAX_FRAMES
-flow_asks s (Returns k to f) ts w = returned_asks (next_place s) k to ts w
-flow_asks s (Forks f) ts w = forked_asks (next_place s) ts w
-flow_asks s (Done f) ts w = dropped_asks (next_place s) (dropped ts) w
-flow_asks s (Ends f) ts w = false
-flow_asks s (Fails f) ts w = false
+-- a landing is the first visit of a container around
+abbrev pub landed_asks : StoryTree → Bool → CountsOf (List Part) → Reached (List Part) → Bool
+landed_asks s true counts (Reaches ts w) = adds_rows s (around s ts) counts
+landed_asks s enters counts r = false
+
+abbrev pub flow_asks : StoryTree → Effect → CountsOf (List Part) → ThreadsOf (List Part) → Written → Bool
+flow_asks s (Moves f) counts ts w = moved_asks (next_place s) ts w
+flow_asks s (Stores t f) counts ts w = moved_asks (next_place s) ts w
+flow_asks s (Lands to f) counts ts w = landed_asks s to.enters counts (reach to.place ts w)
+flow_asks s (Calls k to f) counts ts w = nat_lt (frame_count ts.thread) MAX_FRAMES || landed_asks s to.enters counts (called k to.place ts w)
+flow_asks s (Returns k to f) counts ts w =
+    returned_asks (next_place s) k (place_to to) ts w || landed_asks s (may_enter to) counts (returned (next_place s) k (place_to to) ts w)
+flow_asks s (Forks f) counts ts w = forked_asks (next_place s) ts w
+flow_asks s (Done f) counts ts w = dropped_asks (next_place s) (dropped ts) w
+flow_asks s (Ends f) counts ts w = false
+flow_asks s (Fails f) counts ts w = false
 
 -- with the fields as the effect leaves them
 abbrev pub after_effect : Effect → Configuration → Configuration
 after_effect (Moves f) c = with_fields f c
-after_effect (Lands q f) c = with_fields f c
-after_effect (Calls k q f) c = with_fields f c
+after_effect (Stores t f) c = with_fields f (with_thread t c)
+after_effect (Lands to f) c = with_fields f c
+after_effect (Calls k to f) c = with_fields f c
 after_effect (Returns k to f) c = with_fields f c
 after_effect (Forks f) c = with_fields f c
 after_effect (Done f) c = with_fields f c
@@ -79,4 +89,4 @@ after_effect (Fails f) c = c
 
 -- flow asks for memory after an effect
 abbrev pub move_asks : StoryTree → Effect → Configuration → Bool
-move_asks s e c = flow_asks s e (after_effect e c).flow.threads (written_in (after_effect e c))
+move_asks s e c = flow_asks s e c.shared.counts (after_effect e c).flow.threads (written_in (after_effect e c))

@@ -1,5 +1,6 @@
 -- Strings, tags and glue in small steps, each proved by computation (docs/TEXT.md, "Sections").
 use Rattle.std.specs.Prelude.{◌≡◌, List, [], ◌∷◌, refl, codes, true, false, Some, None, Ok, Err}
+use Rattle.ink_model.specs.Entered.{entered_places, passed_places}
 use Rattle.ink_model.specs.Tree.{StoryTree, leaf, container, no_trees, tree, no_keys}
 use Rattle.ink_model.specs.Place.{entered, next_place}
 use Rattle.ink_model.specs.Mark.{cut}
@@ -98,42 +99,42 @@ abbrev at_second : Configuration → Configuration
 at_second c = moved (Index 0 ∷ []) (Some (Index 1 ∷ [])) c
 
 glue_is_no_value : step (container None 0 (tree (leaf leaves.Glue) no_trees) no_keys) nothing_bound (with_mode true (at_first empty_page [])) ≡ Faults fault.BadMode
-unfolding step fresh_at entered
+unfolding step fresh_at entered passed_places entered_places
 glue_is_no_value = refl
 
 a_string_begins : step (story control.BeginString) nothing_bound (with_mode true (at_first empty_page [])) ≡ Next (at_second (with_mode false (at_first (in_string [] []) [])))
-unfolding step fresh_at entered next_place
+unfolding step fresh_at entered next_place passed_places entered_places
 a_string_begins = refl
 
 not_in_evaluation : step (story control.BeginString) nothing_bound (at_first empty_page []) ≡ Faults fault.BadMode
-unfolding step fresh_at entered
+unfolding step fresh_at entered passed_places entered_places
 not_in_evaluation = refl
 
 a_string_ends : step (story control.EndString) nothing_bound (at_first (in_string [] (a ∷ [])) []) ≡ Next (at_second (with_mode true (at_first empty_page (value.Text (codes "a") ∷ []))))
-unfolding step fresh_at entered next_place
+unfolding step fresh_at entered next_place passed_places entered_places
 a_string_ends = refl
 
 a_tag_begins : step (story control.BeginTag) nothing_bound (at_first (line_of (a ∷ [])) []) ≡ Next (at_second (at_first (in_tag (a ∷ []) []) []))
-unfolding step fresh_at entered next_place
+unfolding step fresh_at entered next_place passed_places entered_places
 a_tag_begins = refl
 
 -- and closes one that is on top
 another_tag_begins : step (story control.BeginTag) nothing_bound (at_first (in_tag [] (a ∷ [])) []) ≡ Next (at_second (at_first (in_tag (Tag (codes "a") ∷ []) []) []))
-unfolding step fresh_at entered next_place clean
+unfolding step fresh_at entered next_place clean passed_places entered_places
 another_tag_begins = refl
 
 a_tag_ends_in_a_string : step (story control.EndTag) nothing_bound (at_first (tag_in_string [] (a ∷ [])) []) ≡ Next (at_second (at_first (in_string [] []) (value.Tag (codes "a") ∷ [])))
-unfolding step fresh_at entered next_place clean
+unfolding step fresh_at entered next_place clean passed_places entered_places
 a_tag_ends_in_a_string = refl
 
 stopped_in_a_string : step (story control.Done) nothing_bound (at_first (in_string [] []) []) ≡ Faults fault.StopInString
-unfolding step fresh_at entered
+unfolding step fresh_at entered passed_places entered_places
 stopped_in_a_string = refl
 
 stopped_on_the_line : step (story control.Done) nothing_bound (at_first (line_of (a ∷ [])) []) ≡ Stop (with_safe true (put_at None (at_first (line_of (a ∷ [])) [])))
-unfolding step fresh_at entered
+unfolding step fresh_at entered passed_places entered_places
 stopped_on_the_line = refl
 
 a_tag_is_not_printed : step (story control.Out) nothing_bound (at_first empty_page (value.Tag [] ∷ [])) ≡ Faults fault.BadOperands
-unfolding step fresh_at entered printed
+unfolding step fresh_at entered printed passed_places entered_places
 a_tag_is_not_printed = refl

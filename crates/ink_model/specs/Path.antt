@@ -73,6 +73,10 @@ walked s p (c ∷ d ∷ cs) = option_and_then (λ q. walked s q (d ∷ cs)) (ste
 unfoldable pub target : StoryTree → List Part → Path → Option (List Part)
 target s from path = walked s (if path.relative then from else []) path.parts
 
+-- where a host's path leads, which is not relative
+abbrev pub absolute_target : StoryTree → Path → Option (List Part)
+absolute_target s path = if path.relative then None else target s [] path
+
 -- ---- landing
 
 abbrev pub ends_in_index : List Part → Bool

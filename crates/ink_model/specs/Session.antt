@@ -1,5 +1,5 @@
 -- What a player answers to command lines (docs/PROTOCOL.md, "Sessions").
-use Rattle.std.specs.Prelude.{is_some, Result, Ok, Err, ◌≡◌, ℕ, List, [], ◌∷◌, ◌++◌, Bool, true, false, not, ◌&&◌, ◌⊎◌, Option, Some, None, if◌then◌else◌, MatchBool}
+use Rattle.std.specs.Prelude.{is_some, Result, Ok, Err, ◌≡◌, ℕ, ℤ, List, [], ◌∷◌, ◌++◌, Bool, true, false, not, ◌&&◌, ◌⊎◌, Option, Some, None, if◌then◌else◌, MatchBool}
 use Rattle.ink_model.specs.Bytes.{fits_text}
 use Rattle.ink_model.specs.Tree.{StoryTree}
 use Rattle.ink_model.specs.Mark.{tags}
@@ -10,10 +10,11 @@ use Rattle.ink_model.specs.Step.Host.{Bound}
 use Rattle.ink_model.specs.Run.{value_given, Made, answers_of, Moment, Stopped, Faulted, through}
 use Rattle.ink_model.specs.Memory.{FallsShort, OpensShort, holds_memory}
 use Rattle.ink_model.specs.Command.{command_of, NeedsMemory}
-use Rattle.ink_model.specs.Answer.{Reply, Tells, Acts, Shows, Refuses, Breaks, answer}
+use Rattle.ink_model.specs.Answer.{Reply, Tells, Acts, Shows, Counts, Refuses, Breaks, answer}
 use Rattle.ink_model.specs.State.{State, Condition, Ready, Broken, globals_of}
 use Rattle.ink_model.specs.Store.{stored, store}
 use Rattle.ink_model.specs.Opening.{opening, Unopened}
+use Rattle.ink_model.specs.Visits.{visits_by}
 use Rattle.ink_model.specs.declared.command.Command.{Command}
 use Rattle.ink_model.specs.declared.command.Command.TheVariants as command
 use Rattle.ink_model.specs.declared.fault.Refusal.TheVariants as refusal
@@ -128,15 +129,28 @@ SetsFrom name value (Ready c) old reply new = SetsBy name value c old reply new
 abbrev pub Set : List ℕ → Option Given → State → Reply → State → Type 0
 Set name value old reply new = SetsFrom name value old.condition old reply new
 
+-- `visits`, without memory: a path that leads to nothing whose visits are counted is refused
+abbrev pub VisitsBy : Option ℤ → State → Reply → State → Type 0
+VisitsBy None old reply new = Keeps (Refuses refusal.NoSuchPath) old reply new
+VisitsBy (Some z) old reply new = Keeps (Counts z) old reply new
+
+abbrev pub VisitsFrom : StoryTree → List ℕ → Condition → State → Reply → State → Type 0
+VisitsFrom s path (Broken f globals) old reply new = Keeps (Refuses (refusal.Broken f)) old reply new
+VisitsFrom s path (Ready c) old reply new = VisitsBy (visits_by s path c) old reply new
+
+abbrev pub Visits : StoryTree → List ℕ → State → Reply → State → Type 0
+Visits s path old reply new = VisitsFrom s path old.condition old reply new
+
 -- one command, with the calls that it made
 abbrev pub Does : StoryTree → Bound → List Made → Option Command → State → Reply → State → Type 0
 Does s b made None old reply new = (made ≡ []) × Keeps (Refuses refusal.BadCommand) old reply new
 Does s b made (Some command.Through) old reply new = Through s b made old reply new
 Does s b made (Some (command.Set name value)) old reply new = (made ≡ []) × Set name value old reply new
 Does s b made (Some (command.Get name)) old reply new = (made ≡ []) × Get name old reply new
+Does s b made (Some (command.Visits path)) old reply new = (made ≡ []) × Visits s path old reply new
 Does s b made (Some command.Restart) old reply new = (made ≡ []) × Restart s old reply new
 
--- memory was refused for reading a line, which only a line with a name needs
+-- memory was refused for reading a line, or the path in it, which only a line with a name or a path needs
 abbrev pub LineFails : Option Command → State → Reply → State → Type 0
 LineFails command old reply new = NeedsMemory command × FailsAllocation old reply new
 

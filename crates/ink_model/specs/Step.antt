@@ -1,25 +1,29 @@
 -- One step: enter, effect, move (docs/RUNNING.md, "Steps").
 use Rattle.std.specs.Prelude.{ℕ, List, Option, Some, None}
 use Rattle.ink_model.specs.Configuration.{Configuration, current_place, put_at}
-use Rattle.ink_model.specs.Effect.{Fields, Effect, Moves, Forks, Done, Ends, fields_of}
+use Rattle.ink_model.specs.Effect.{Context, Fields, Effect, Moves, Forks, Done, Ends, context_of, fields_of}
 pub use Rattle.ink_model.specs.Move.{Outcome, Next, Stop, Wants, Faults}
 use Rattle.ink_model.specs.Move.{move}
 use Rattle.ink_model.specs.Place.{entered}
 pub use Rattle.ink_model.specs.Step.Host.{Binding, Bound, nothing_bound}
 use Rattle.ink_model.specs.Step.Calls.{call, return_function, return_tunnel}
+use Rattle.ink_model.specs.Step.Counts.{push_count, push_read_count, push_turn, push_turns, push_visit}
 use Rattle.ink_model.specs.Step.Diverts.{divert, path_of}
 use Rattle.ink_model.specs.Step.Evaluation.{begin_eval, duplicate, end_eval, operate, output_value, pop, push_value}
 use Rattle.ink_model.specs.Step.Text.{begin_string, begin_tag, end_string, end_tag, write_glue, write_newline, write_text}
-use Rattle.ink_model.specs.Step.Variables.{assign, declare, push_global}
+use Rattle.ink_model.specs.Step.Variables.{assign, declare, push_pointer, push_variable}
 use Rattle.ink_model.specs.Tree.{StoryTree, leaf, container, at}
+use Rattle.ink_model.specs.Visits.{entering_at}
 use Rattle.ink_model.specs.declared.content.Control.{Control}
 use Rattle.ink_model.specs.declared.content.Control.TheVariants as control
 use Rattle.ink_model.specs.declared.content.Leaf.{Leaf}
 use Rattle.ink_model.specs.declared.content.Leaf.TheVariants as leaves
 use Rattle.ink_model.specs.declared.frame.FrameKind.TheVariants.{Function, Tunnel}
 use Rattle.ink_model.specs.declared.place.Part.{Part}
+use Rattle.ink_model.specs.declared.scope.Scope.TheVariants.{Global, Temporary}
 use Rattle.ink_model.specs.declared.value.Value.TheVariants as value
 pub mod Calls
+pub mod Counts
 pub mod Diverts
 pub mod Evaluation
 pub mod Host
@@ -30,65 +34,69 @@ pub mod Variables
 abbrev pub not_yet : Fields → Effect
 not_yet f = Moves f
 
-abbrev pub control_effect : StoryTree → Control → Fields → Effect
-control_effect s control.BeginEval f = begin_eval f
-control_effect s control.EndEval f = end_eval f
-control_effect s control.Out f = output_value f
-control_effect s control.Pop f = pop f
-control_effect s control.Duplicate f = duplicate f
-control_effect s control.Nop f = Moves f
-control_effect s control.BeginString f = begin_string f
-control_effect s control.EndString f = end_string f
-control_effect s control.BeginTag f = begin_tag f
-control_effect s control.EndTag f = end_tag f
-control_effect s control.Done f = Done f
-control_effect s control.End f = Ends f
-control_effect s control.Return f = return_function f
-control_effect s control.ReturnTunnel f = return_tunnel s f
-control_effect s control.Thread f = Forks f
-control_effect s control.ChoiceCount f = not_yet f
-control_effect s control.Turn f = not_yet f
-control_effect s control.Turns f = not_yet f
-control_effect s control.ReadCount f = not_yet f
-control_effect s control.Visit f = not_yet f
+abbrev pub control_effect : StoryTree → List Part → Context → Control → Fields → Effect
+control_effect s p seen control.BeginEval f = begin_eval f
+control_effect s p seen control.EndEval f = end_eval f
+control_effect s p seen control.Out f = output_value f
+control_effect s p seen control.Pop f = pop f
+control_effect s p seen control.Duplicate f = duplicate f
+control_effect s p seen control.Nop f = Moves f
+control_effect s p seen control.BeginString f = begin_string f
+control_effect s p seen control.EndString f = end_string f
+control_effect s p seen control.BeginTag f = begin_tag f
+control_effect s p seen control.EndTag f = end_tag f
+control_effect s p seen control.Done f = Done f
+control_effect s p seen control.End f = Ends f
+control_effect s p seen control.Return f = return_function f
+control_effect s p seen control.ReturnTunnel f = return_tunnel s f
+control_effect s p seen control.Thread f = Forks f
+control_effect s p seen control.ChoiceCount f = not_yet f
+control_effect s p seen control.Turn f = push_turn s seen f
+control_effect s p seen control.Turns f = push_turns s seen f
+control_effect s p seen control.ReadCount f = push_read_count s seen f
+control_effect s p seen control.Visit f = push_visit s seen p f
 
 -- of content that holds no other, at a place
-abbrev pub leaf_effect : StoryTree → List Part → Leaf → Fields → Effect
-leaf_effect s p (leaves.Text t) f = write_text t f
-leaf_effect s p leaves.Newline f = write_newline f
-leaf_effect s p leaves.Glue f = write_glue f
-leaf_effect s p (leaves.Int z) f = push_value (value.Int z) f
-leaf_effect s p (leaves.Bool b) f = push_value (value.Bool b) f
-leaf_effect s p leaves.Void f = push_value value.Void f
-leaf_effect s p (leaves.Target text) f = push_value (value.Target (path_of text)) f
-leaf_effect s p (leaves.Control o) f = control_effect s o f
-leaf_effect s p (leaves.Op o) f = operate o f
-leaf_effect s p (leaves.Divert to conditional) f = divert s p to conditional f
-leaf_effect s p (leaves.Declare name) f = declare name f
-leaf_effect s p (leaves.Assign name) f = assign name f
-leaf_effect s p (leaves.Variable name) f = push_global name f
-leaf_effect s p (leaves.Pointer name frame) f = not_yet f
-leaf_effect s p (leaves.Call to conditional) f = call Function s p to conditional f
-leaf_effect s p (leaves.Tunnel to conditional) f = call Tunnel s p to conditional f
-leaf_effect s p (leaves.External name arguments conditional) f = not_yet f
-leaf_effect s p (leaves.DeclareTemp name) f = not_yet f
-leaf_effect s p (leaves.AssignTemp name) f = not_yet f
-leaf_effect s p (leaves.Count text) f = not_yet f
-leaf_effect s p (leaves.Choice text flags) f = not_yet f
+abbrev pub leaf_effect : StoryTree → List Part → Context → Leaf → Fields → Effect
+leaf_effect s p seen (leaves.Text t) f = write_text t f
+leaf_effect s p seen leaves.Newline f = write_newline f
+leaf_effect s p seen leaves.Glue f = write_glue f
+leaf_effect s p seen (leaves.Int z) f = push_value (value.Int z) f
+leaf_effect s p seen (leaves.Bool b) f = push_value (value.Bool b) f
+leaf_effect s p seen leaves.Void f = push_value value.Void f
+leaf_effect s p seen (leaves.Target text) f = push_value (value.Target (path_of text)) f
+leaf_effect s p seen (leaves.Control o) f = control_effect s p seen o f
+leaf_effect s p seen (leaves.Op o) f = operate o f
+leaf_effect s p seen (leaves.Divert to conditional) f = divert s p seen to conditional f
+leaf_effect s p seen (leaves.Declare name) f = declare Global name seen f
+leaf_effect s p seen (leaves.Assign name) f = assign name seen f
+leaf_effect s p seen (leaves.Variable name) f = push_variable name seen f
+leaf_effect s p seen (leaves.Pointer name frame) f = push_pointer name frame seen f
+leaf_effect s p seen (leaves.Call to conditional) f = call Function s p seen to conditional f
+leaf_effect s p seen (leaves.Tunnel to conditional) f = call Tunnel s p seen to conditional f
+leaf_effect s p seen (leaves.External name arguments conditional) f = not_yet f
+leaf_effect s p seen (leaves.DeclareTemp name) f = declare Temporary name seen f
+leaf_effect s p seen (leaves.AssignTemp name) f = assign name seen f
+leaf_effect s p seen (leaves.Count text) f = push_count s seen p text f
+leaf_effect s p seen (leaves.Choice text flags) f = not_yet f
 
 -- of what stands at a place: an empty container, or nothing, has none
-abbrev pub effect : StoryTree → List Part → Option StoryTree → Fields → Effect
-effect s p None f = Moves f
-effect s p (Some (container name flags content named)) f = Moves f
-effect s p (Some (leaf l)) f = leaf_effect s p l f
+abbrev pub effect : StoryTree → List Part → Option StoryTree → Context → Fields → Effect
+effect s p None seen f = Moves f
+effect s p (Some (container name flags content named)) seen f = Moves f
+effect s p (Some (leaf l)) seen f = leaf_effect s p seen l f
 
--- at the place of the first content
+-- flow is at the place of the first content
 abbrev pub perform : StoryTree → Bound → List Part → Configuration → Outcome
-perform s b p c = move s (effect s p (at s p) (fields_of c)) (put_at (Some p) c)
+perform s b p c = move s (effect s p (at s p) (context_of c) (fields_of c)) c
+
+-- as a step at a place performs: the containers on the way down are entered, and flow is at the first content
+abbrev pub gone_in : StoryTree → List Part → Configuration → Configuration
+gone_in s p c = put_at (Some (entered s p)) (entering_at s p c)
 
 abbrev pub step_at : StoryTree → Bound → Option (List Part) → Configuration → Outcome
 step_at s b None c = Stop c
-step_at s b (Some p) c = perform s b (entered s p) c
+step_at s b (Some p) c = perform s b (entered s p) (gone_in s p c)
 
 -- One step goes down to the first content, performs it and moves. Where flow has stopped it stays stopped.
 unfoldable pub step : StoryTree → Bound → Configuration → Outcome

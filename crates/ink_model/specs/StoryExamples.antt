@@ -1,6 +1,7 @@
 -- Small stories that are refused, and diverts, each proved by computation.
 use Rattle.std.specs.Prelude.{◌≡◌, pos, ℕ, List, [], ◌∷◌, refl, codes, Bool, true, false, Some, None, Ok, Err}
 use Rattle.serde_json.specs.Data.{unsigned, Data, null, boolean, number, string, array, object, no_items, item, Members, no_members, member}
+use Rattle.ink_model.specs.Entered.{entered_places, passed_places}
 use Rattle.ink_model.specs.Tree.{StoryTree, leaf, container, no_trees, tree, no_keys, key}
 use Rattle.ink_model.specs.Acceptance.{accepted, bad_places, bad_path, written_target, counted_container}
 use Rattle.ink_model.specs.Grammar.{content, here}
@@ -137,7 +138,7 @@ a_relative_value : accepted (container None 0 (tree (leaf (leaves.Target (codes 
 unfolding accepted bad_places read_path target
 a_relative_value = refl
 
-the_first_unsupported : unsupported (counting (codes "n")) ≡ (Index 0 ∷ []) ∷ []
+the_first_unsupported : unsupported (container None 0 (tree (leaf (leaves.Count (codes "k"))) (tree (leaf (leaves.Choice (codes "k") 0)) no_trees)) no_keys) ≡ (Index 1 ∷ []) ∷ []
 unfolding unsupported
 the_first_unsupported = refl
 
@@ -186,7 +187,7 @@ abbrev here_with : List Value → List (List ℕ × Value) → Configuration
 here_with vs globals = with_globals globals (with_stack vs (fresh_at (Index 1 ∷ Index 0 ∷ [])))
 
 diverted : step to_k nothing_bound (here_with [] []) ≡ Next (moved (Index 1 ∷ Index 0 ∷ []) (Some (Name (codes "k") ∷ Index 0 ∷ [])) (here_with [] []))
-unfolding step fresh_at entered read_path target landed
+unfolding step fresh_at entered read_path target landed passed_places entered_places
 diverted = refl
 
 abbrev if_k : StoryTree
@@ -194,25 +195,25 @@ if_k = with_divert (to (codes "k")) true
 
 where_true : step if_k nothing_bound (here_with (value.Bool true ∷ []) [])
     ≡ Next (moved (Index 1 ∷ Index 0 ∷ []) (Some (Name (codes "k") ∷ Index 0 ∷ [])) (here_with [] []))
-unfolding step fresh_at entered read_path target landed is_true
+unfolding step fresh_at entered read_path target landed is_true passed_places entered_places
 where_true = refl
 
 where_false : step if_k nothing_bound (here_with (value.Int (pos 0) ∷ []) [])
     ≡ Next (moved (Index 1 ∷ Index 0 ∷ []) (Some (Index 1 ∷ Index 1 ∷ [])) (here_with [] []))
-unfolding step fresh_at entered next_place is_true
+unfolding step fresh_at entered next_place is_true passed_places entered_places
 where_false = refl
 
 without_a_condition : step if_k nothing_bound (here_with [] []) ≡ Faults fault.StackEmpty
-unfolding step fresh_at entered
+unfolding step fresh_at entered passed_places entered_places
 without_a_condition = refl
 
 -- the condition is looked at before the target
 bad_condition_first : step (with_divert (destination.Variable (codes "v")) true) nothing_bound (here_with (value.Tag [] ∷ []) []) ≡ Faults fault.BadOperands
-unfolding step fresh_at entered is_true
+unfolding step fresh_at entered is_true passed_places entered_places
 bad_condition_first = refl
 
 no_target : step (with_divert (destination.Variable (codes "v")) false) nothing_bound (here_with [] []) ≡ Faults fault.BadTarget
-unfolding step fresh_at entered
+unfolding step fresh_at entered passed_places entered_places
 no_target = refl
 
 -- a variable's target is the container itself
@@ -220,5 +221,5 @@ by_a_variable_to_k : step (with_divert (destination.Variable (codes "v")) false)
     (here_with [] ((codes "v", value.Target (record { relative = false; parts = Name (codes "k") ∷ [] })) ∷ []))
     ≡ Next (moved (Index 1 ∷ Index 0 ∷ []) (Some (Name (codes "k") ∷ []))
     (here_with [] ((codes "v", value.Target (record { relative = false; parts = Name (codes "k") ∷ [] })) ∷ [])))
-unfolding step fresh_at entered target
+unfolding step fresh_at entered target passed_places entered_places
 by_a_variable_to_k = refl

@@ -29,17 +29,17 @@ supports_control control.Return = true
 supports_control control.ReturnTunnel = true
 supports_control control.Thread = true
 supports_control control.ChoiceCount = false
-supports_control control.Turn = false
-supports_control control.Turns = false
-supports_control control.ReadCount = false
-supports_control control.Visit = false
+supports_control control.Turn = true
+supports_control control.Turns = true
+supports_control control.ReadCount = true
+supports_control control.Visit = true
 
 abbrev pub supports : Leaf → Bool
-supports (leaves.Pointer name frame) = false
+supports (leaves.Pointer name frame) = true
 supports (leaves.External name arguments conditional) = false
-supports (leaves.DeclareTemp name) = false
-supports (leaves.AssignTemp name) = false
-supports (leaves.Count text) = false
+supports (leaves.DeclareTemp name) = true
+supports (leaves.AssignTemp name) = true
+supports (leaves.Count text) = true
 supports (leaves.Choice text flags) = false
 supports (leaves.Control o) = supports_control o
 supports (leaves.Text t) = true

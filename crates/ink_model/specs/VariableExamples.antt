@@ -15,10 +15,10 @@ frame_of rows = record (base_frame (Some 7)) { temps = rows }
 abbrev thread_of : Values → Values → ThreadOf ℕ
 thread_of bottom top = record { frame = frame_of top; below = frame_of bottom ∷ []; previous = None }
 
-abbrev one : List ℕ → Value → Values
+abbrev pub one : List ℕ → Value → Values
 one name v = (name, v) ∷ []
 
-abbrev a : List ℕ
+abbrev pub a : List ℕ
 a = codes "a"
 
 abbrev b : List ℕ

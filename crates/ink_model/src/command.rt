@@ -9,5 +9,6 @@ pub enum Command {
     Through,
     Set { name: Text, value: Option<Given> },
     Get { name: Text },
+    Visits { path: Text },
     Restart,
 }

@@ -50,7 +50,7 @@ pub enum Leaf {
     Bool(bool),
     Void,
     Target(Text),
-    Pointer(Text, i32),
+    Pointer(Shared<Text>, i32),
     Control(Control),
     Op(Op),
     Divert {

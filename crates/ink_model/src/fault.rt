@@ -74,6 +74,8 @@ pub enum Refusal {
     CannotContinue,
     #[error("NoSuchVariable")]
     NoSuchVariable,
+    #[error("NoSuchPath")]
+    NoSuchPath,
     #[error("BadValue")]
     BadValue,
     #[error("BadCommand")]
@@ -127,6 +129,7 @@ impl Refusal {
         match self {
             Refusal::CannotContinue => "CannotContinue",
             Refusal::NoSuchVariable => "NoSuchVariable",
+            Refusal::NoSuchPath => "NoSuchPath",
             Refusal::BadValue => "BadValue",
             Refusal::BadCommand => "BadCommand",
             Refusal::Broken(_) => "Broken",

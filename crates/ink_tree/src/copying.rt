@@ -17,7 +17,7 @@ pub(crate) fn copy_leaf(alloc: Global, leaf: &Leaf) -> Result<Leaf, AllocError>
         Leaf::Bool(truth) => Leaf::Bool(*truth),
         Leaf::Void => Leaf::Void,
         Leaf::Target(path) => Leaf::Target(path.clone_in(alloc)?),
-        Leaf::Pointer(name, depth) => Leaf::Pointer(name.clone_in(alloc)?, *depth),
+        Leaf::Pointer(name, depth) => Leaf::Pointer(name.share()?, *depth),
         Leaf::Control(control) => Leaf::Control(*control),
         Leaf::Op(operator) => Leaf::Op(*operator),
         Leaf::Divert { to, conditional } => Leaf::Divert {

@@ -53,7 +53,7 @@ fn show_leaf(text: &mut String, leaf: &Leaf) -> Result<(), AllocError> {
         Leaf::Bool(truth) => write!(text, "bool {truth}"),
         Leaf::Control(control) => write!(text, "{control:?}"),
         Leaf::Op(operator) => write!(text, "{operator:?}"),
-        Leaf::Pointer(name, frame) => write!(text, "pointer {} {frame}", name.as_str()),
+        Leaf::Pointer(name, frame) => write!(text, "pointer {} {frame}", name.get().as_str()),
         Leaf::Divert { to, conditional } => show_jump(text, "divert", to, *conditional),
         Leaf::Call { to, conditional } => show_jump(text, "call", to, *conditional),
         Leaf::Tunnel { to, conditional } => show_jump(text, "tunnel", to, *conditional),

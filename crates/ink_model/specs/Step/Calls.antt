@@ -1,9 +1,7 @@
 -- The effects of calls, tunnels and returns (docs/FRAMES.md).
-use Rattle.std.specs.Prelude.{List, [], Bool, Option, Some, None, Result, Ok, Err, ok_or}
-use Rattle.std.specs.Option.{option_map}
-use Rattle.ink_model.specs.Effect.{Fields, Effect, Calls, Returns, or_else, or_fault, popping}
-use Rattle.ink_model.specs.Path.{target}
-use Rattle.ink_model.specs.Step.Diverts.{led_to, where_true}
+use Rattle.std.specs.Prelude.{List, Bool, Option, Some, None, option_map, Result, Ok, Err, ok_or}
+use Rattle.ink_model.specs.Effect.{Context, Fields, Effect, Landing, Calls, Returns, or_fault, popping}
+use Rattle.ink_model.specs.Step.Diverts.{landing_by, led_to, where_true}
 use Rattle.ink_model.specs.Tree.{StoryTree}
 use Rattle.ink_model.specs.declared.content.Destination.{Destination}
 use Rattle.ink_model.specs.declared.fault.Fault.{Fault}
@@ -15,19 +13,19 @@ use Rattle.ink_model.specs.declared.value.Value.{Value}
 use Rattle.ink_model.specs.declared.value.Value.TheVariants as value
 
 -- a call or a tunnel leads as a divert does, in a frame of its own
-abbrev pub call_to : FrameKind → StoryTree → List Part → Destination → Fields → Effect
-call_to k s p to f = or_else BadTarget (led_to s p to f.globals) (λ q. Calls k q f)
+abbrev pub call_to : FrameKind → StoryTree → List Part → Context → Destination → Fields → Effect
+call_to k s p seen to f = or_fault (led_to s p seen to f.globals) (λ l. Calls k l f)
 
-abbrev pub call : FrameKind → StoryTree → List Part → Destination → Bool → Fields → Effect
-call k s p to conditional f = where_true conditional f (call_to k s p to)
+abbrev pub call : FrameKind → StoryTree → List Part → Context → Destination → Bool → Fields → Effect
+call k s p seen to conditional f = where_true conditional f (call_to k s p seen to)
 
 abbrev pub return_function : Fields → Effect
 return_function f = Returns Function None f
 
 -- where a tunnel leads back to by what it gives: void is after its call, a target the very place that it names
-abbrev pub led_back : StoryTree → Value → Result (Option (List Part)) Fault
+abbrev pub led_back : StoryTree → Value → Result (Option Landing) Fault
 led_back s value.Void = Ok None
-led_back s (value.Target path) = ok_or (option_map (λ q. Some q) (target s [] path)) BadTarget
+led_back s (value.Target path) = ok_or (option_map (λ l. Some l) (landing_by s (value.Target path))) BadTarget
 led_back s v = Err BadPop
 
 abbrev pub return_tunnel : StoryTree → Fields → Effect

@@ -1,14 +1,15 @@
 -- The effects of diverts (docs/RUNNING.md, "Diverts").
-use Rattle.std.specs.Prelude.{ℕ, List, [], Bool, false, if◌then◌else◌, Option, None, unwrap_or}
+use Rattle.std.specs.Prelude.{ℕ, List, [], Bool, true, false, if◌then◌else◌, Option, None, unwrap_or, option_map, Result, Ok, Err, ok_or}
 use Rattle.ink_model.specs.Acceptance.{lands}
-use Rattle.ink_model.specs.Effect.{Fields, Effect, Moves, Lands, or_else, or_fault, popping}
-use Rattle.ink_model.specs.Path.{read_path, target}
-use Rattle.ink_model.specs.Step.Variables.{read_global}
+use Rattle.ink_model.specs.Effect.{Context, Fields, Effect, Landing, Moves, Lands, or_fault, popping}
+use Rattle.ink_model.specs.Path.{ends_in_index, read_path, target}
 use Rattle.ink_model.specs.Store.{Values}
 use Rattle.ink_model.specs.Tree.{StoryTree}
 use Rattle.ink_model.specs.Value.{is_true}
+use Rattle.ink_model.specs.Variables.{read}
 use Rattle.ink_model.specs.declared.content.Destination.{Destination}
 use Rattle.ink_model.specs.declared.content.Destination.TheVariants as destination
+use Rattle.ink_model.specs.declared.fault.Fault.{Fault}
 use Rattle.ink_model.specs.declared.fault.Fault.TheVariants.{BadTarget}
 use Rattle.ink_model.specs.declared.place.Part.{Part}
 use Rattle.ink_model.specs.declared.place.Path.{Path}
@@ -19,22 +20,27 @@ use Rattle.ink_model.specs.declared.value.Value.TheVariants as value
 abbrev pub path_of : List ℕ → Path
 path_of text = unwrap_or (read_path text) (record { relative = false; parts = [] })
 
--- a target that was read from a variable leads to the very place that it names
-abbrev pub led_by : StoryTree → Value → Option (List Part)
-led_by s (value.Target path) = target s [] path
-led_by s v = None
+-- A target that was read from a variable leads to the very place that it names. Containers around that are entered only where
+-- its path ends in an index.
+abbrev pub landing_by : StoryTree → Value → Option Landing
+landing_by s (value.Target path) = option_map (λ q. record { place = q; enters = ends_in_index path.parts }) (target s [] path)
+landing_by s v = None
 
--- where a divert at a place leads: by a written path, or by what a variable holds
-abbrev pub led_to : StoryTree → List Part → Destination → Values → Option (List Part)
-led_to s p (destination.Path text) globals = lands s p text
-led_to s p (destination.Variable name) globals = led_by s (read_global name globals)
+abbrev pub led_by : StoryTree → Result Value Fault → Result Landing Fault
+led_by s (Ok v) = ok_or (landing_by s v) BadTarget
+led_by s (Err f) = Err f
 
-abbrev pub divert_to : StoryTree → List Part → Destination → Fields → Effect
-divert_to s p to f = or_else BadTarget (led_to s p to f.globals) (λ q. Lands q f)
+-- where a divert at a place leads: by a written path, or by what a variable is read as
+abbrev pub led_to : StoryTree → List Part → Context → Destination → Values → Result Landing Fault
+led_to s p seen (destination.Path text) globals = ok_or (option_map (λ q. record { place = q; enters = true }) (lands s p text)) BadTarget
+led_to s p seen (destination.Variable name) globals = led_by s (read globals seen.thread name)
+
+abbrev pub divert_to : StoryTree → List Part → Context → Destination → Fields → Effect
+divert_to s p seen to f = or_fault (led_to s p seen to f.globals) (λ l. Lands l f)
 
 -- a condition is popped and looked at before all else; where it is false flow moves on
 abbrev pub where_true : Bool → Fields → (Fields → Effect) → Effect
 where_true conditional f so = if conditional then popping f (λ v left. or_fault (is_true v) (λ b. if b then so left else Moves left)) else so f
 
-abbrev pub divert : StoryTree → List Part → Destination → Bool → Fields → Effect
-divert s p to conditional f = where_true conditional f (divert_to s p to)
+abbrev pub divert : StoryTree → List Part → Context → Destination → Bool → Fields → Effect
+divert s p seen to conditional f = where_true conditional f (divert_to s p seen to)

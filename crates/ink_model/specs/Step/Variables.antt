@@ -1,26 +1,31 @@
--- The effects of variables (docs/RUNNING.md, "Globals").
-use Rattle.std.specs.Prelude.{ℕ, List, pos, if◌then◌else◌, is_some, unwrap_or}
-use Rattle.ink_model.specs.Effect.{Fields, Effect, Moves, Fails, popping, pushing}
-use Rattle.ink_model.specs.Store.{Values, stored, store}
-use Rattle.ink_model.specs.declared.fault.Fault.TheVariants.{NoTemp}
-use Rattle.ink_model.specs.declared.value.Value.{Value}
-use Rattle.ink_model.specs.declared.value.Value.TheVariants as value
+-- The effects of variables and pointers (docs/VARIABLES.md).
+use Rattle.std.specs.Prelude.{ℕ, ℤ, List, Result}
+use Rattle.ink_model.specs.Effect.{Context, Fields, Effect, Stores, or_fault, popping, pushing}
+use Rattle.ink_model.specs.Frames.{ThreadOf}
+use Rattle.ink_model.specs.Step.Evaluation.{push_value}
+use Rattle.ink_model.specs.Store.{Values}
+use Rattle.ink_model.specs.Variables as variables
+use Rattle.ink_model.specs.Variables.{point, read}
+use Rattle.ink_model.specs.declared.fault.Fault.{Fault}
+use Rattle.ink_model.specs.declared.place.Part.{Part}
+use Rattle.ink_model.specs.declared.scope.Scope.{Scope}
 
--- a global that is absent reads 0
-abbrev pub read_global : List ℕ → Values → Value
-read_global name globals = unwrap_or (stored name globals) (value.Int (pos 0))
+-- what a variable is read as is pushed
+abbrev pub push_variable : List ℕ → Context → Fields → Effect
+push_variable name seen f = or_fault (read f.globals seen.thread name) (λ v. pushing v f)
 
-abbrev pub push_global : List ℕ → Fields → Effect
-push_global name f = pushing (read_global name f.globals) f
+-- a pointer is a value; where its frame is not known, that is found as it is pushed
+abbrev pub push_pointer : List ℕ → ℤ → Context → Fields → Effect
+push_pointer name frame seen f = push_value (point seen.thread frame name) f
 
--- with this value of a global
-abbrev pub storing : List ℕ → Value → Fields → Effect
-storing name v f = Moves (record f { globals = store name v f.globals })
+-- flow moves on with these variables
+abbrev pub storing : Result (Values × ThreadOf (List Part)) Fault → Fields → Effect
+storing r f = or_fault r (λ w. Stores w.1 (record f { globals = w.0 }))
 
--- what is popped becomes the value of a global, which need not be there
-abbrev pub declare : List ℕ → Fields → Effect
-declare name f = popping f (λ v left. storing name v left)
+-- what is popped becomes the value of a global, or of a temporary of the current frame
+abbrev pub declare : Scope → List ℕ → Context → Fields → Effect
+declare scope name seen f = popping f (λ v left. storing (variables.declare left.globals seen.thread scope name v) left)
 
--- the same of a global that has to be there
-abbrev pub assign : List ℕ → Fields → Effect
-assign name f = popping f (λ v left. if is_some (stored name f.globals) then storing name v left else Fails NoTemp)
+-- what is popped becomes the value of the variable that the name leads to, which has to be there
+abbrev pub assign : List ℕ → Context → Fields → Effect
+assign name seen f = popping f (λ v left. storing (variables.assign left.globals seen.thread name v) left)
