@@ -1,12 +1,15 @@
 -- What performing a content does, beside its effect.
 use Rattle.std.specs.Prelude.{◌≡◌, ◌⊎◌, ◌||◌, ℕ, List, length, Bool, true, false, Option, Some, None, is_some, option_map, Result, Ok, Err}
-use Rattle.ink_model.specs.Effect.{Fields, Effect, Moves, Lands, Calls, Returns, Forks, Done, Ends, Fails}
+use Rattle.ink_model.specs.Effect.{Fields, Effect, Landing as Goal, Moves, Stores, Lands, Calls, Returns, Forks, Done, Ends, Fails}
+use Rattle.ink_model.specs.Frames.{ThreadOf}
 use Rattle.ink_model.specs.Page.{Page}
 use Rattle.ink_model.specs.Store.{Values, store, stored}
 use Rattle.ink_model.specs.Tree.{StoryTree}
 use Rattle.ink_model.specs.declared.fault.Fault.{Fault}
 use Rattle.ink_model.specs.declared.fault.Fault.TheVariants.{OutOfMemory}
 use Rattle.ink_model.specs.declared.value.Value.{Value}
+use Rattle.ink_model.specs.declared.place.Part.{Part}
+use Rattle.ink_step.specs.declared.transfer.Landing.{Landing}
 use Rattle.ink_step.specs.declared.transfer.Transfer.{Transfer}
 use Rattle.ink_step.specs.declared.transfer.Transfer.TheVariants as transfer
 use Rattle.ink_tree.specs.Nodes.{place_of}
@@ -20,22 +23,32 @@ fields evaluating fresh stack page globals =
 abbrev pub with_text : Fields → Fields
 with_text f = record f { wrote = Some (length f.page.sections) }
 
+-- a landing, at the place that its spot stands for
+abbrev pub landing_of : StoryTree → Landing → Goal
+landing_of s to = record { place = place_of s to.place; enters = to.enters }
+
 -- Performing has an effect: it leaves the effect's fields, but for the end of freshness that a text makes, and for a global that
 -- is stored last, which asks for memory where it is not there; or it is its fault. Where it asks for memory it may be OutOfMemory
--- instead.
+-- instead. Temporaries are stored at once (`stored_by`).
 abbrev pub Performs : StoryTree → Bool → Effect → Fields → Result Transfer Fault → Type 0
 Performs s asks (Moves f) new (Ok transfer.Next) = new ≡ f
 Performs s asks (Moves f) new (Ok transfer.Wrote) = f ≡ with_text new
-Performs s asks (Moves f) new (Ok (transfer.Store name v)) = (f ≡ record new { globals = store name.now v new.globals }) × (is_some (stored name.now new.globals) || asks ≡ true)
-Performs s asks (Lands p f) new (Ok (transfer.Land spot)) = (p ≡ place_of s spot) × (new ≡ f)
-Performs s asks (Calls k p f) new (Ok (transfer.Call kind spot)) = (k ≡ kind) × (p ≡ place_of s spot) × (new ≡ f)
-Performs s asks (Returns k to f) new (Ok (transfer.Return kind spot)) = (k ≡ kind) × (to ≡ option_map (place_of s) spot) × (new ≡ f)
+Performs s asks (Stores t f) new (Ok transfer.Next) = new ≡ f
+Performs s asks (Stores t f) new (Ok (transfer.Store name v)) = (f ≡ record new { globals = store name.now v new.globals }) × (is_some (stored name.now new.globals) || asks ≡ true)
+Performs s asks (Lands l f) new (Ok (transfer.Land to)) = (l ≡ landing_of s to) × (new ≡ f)
+Performs s asks (Calls k l f) new (Ok (transfer.Call kind to)) = (k ≡ kind) × (l ≡ landing_of s to) × (new ≡ f)
+Performs s asks (Returns k to f) new (Ok (transfer.Return kind back)) = (k ≡ kind) × (to ≡ option_map (landing_of s) back) × (new ≡ f)
 Performs s asks (Forks f) new (Ok transfer.Fork) = new ≡ f
 Performs s asks (Done f) new (Ok transfer.Done) = new ≡ f
 Performs s asks (Ends f) new (Ok transfer.End) = new ≡ f
 Performs s asks (Fails g) new (Err f) = (f ≡ g) ⊎ ((f ≡ OutOfMemory) × (asks ≡ true))
 Performs s asks e new (Err f) = (f ≡ OutOfMemory) × (asks ≡ true)
 Performs s asks e new result = ⊥
+
+-- the thread that runs, with the temporaries of an effect
+abbrev pub stored_by : Effect → ThreadOf (List Part) → ThreadOf (List Part)
+stored_by (Stores t f) u = t
+stored_by e u = u
 
 -- flow goes on after what was done without a fault
 abbrev pub moving : Result (Unit {0}) Fault → Result Transfer Fault

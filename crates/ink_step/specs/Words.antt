@@ -1,23 +1,42 @@
 -- What a machine stands for.
-use Rattle.std.specs.Prelude.{[]}
-use Rattle.ink_model.specs.Configuration.{Configuration, ConfigurationOf, map_configuration}
+use Rattle.std.specs.Prelude.{ℕ, List, [], ◌∷◌, length, nat_lt, if◌then◌else◌}
+use Rattle.ink_model.specs.Configuration.{Configuration}
+use Rattle.ink_model.specs.Counts.{CountsOf}
+use Rattle.ink_model.specs.Effect.{Context}
+use Rattle.ink_model.specs.Frames.{ThreadsOf, map_thread, map_threads}
+use Rattle.ink_model.specs.Places.{places}
+use Rattle.ink_model.specs.Rows.{map_keys}
 use Rattle.ink_model.specs.Store.{Values}
 use Rattle.ink_model.specs.Tree.{StoryTree}
+use Rattle.ink_model.specs.declared.place.Part.{Part}
 use Rattle.ink_step.specs.declared.machine.Machine.{Machine}
-use Rattle.ink_tree.specs.Nodes.{place_of}
+use Rattle.ink_tree.specs.Nodes.{node_place, place_of}
 use Rattle.ink_tree.specs.declared.spot.Spot.{Spot}
 
--- the configuration of a machine, over spots; what no content writes yet is as at the start
-abbrev pub numbered : Machine → ConfigurationOf Spot
-numbered m = record {
-  flow = record { threads = m.threads; stack = m.stack.items; choices = []; safe = m.safe };
-  shared = record { globals = m.globals; visits = []; turns = []; turn = 0 };
+-- the rows of a story's contents; rows rise, and so these come first
+abbrev pub rows_below : ℕ → List (ℕ × ℕ) → List (ℕ × ℕ)
+rows_below k [] = []
+rows_below k (r ∷ rs) = if nat_lt r.0 k then r ∷ rows_below k rs else []
+
+abbrev pub rows_in : StoryTree → List (ℕ × ℕ) → List (List Part × ℕ)
+rows_in s rows = map_keys (λ n. node_place s (record { number = n })) (rows_below (length (places s)) rows)
+
+-- what counts by number stand for in a story
+abbrev pub counts_in : StoryTree → CountsOf ℕ → CountsOf (List Part)
+counts_in s counts = record { visits = rows_in s counts.visits; turns = rows_in s counts.turns }
+
+-- the configuration of a machine, over the places that its spots and numbers stand for; choices, which begin turns, are as at the
+-- start
+abbrev pub config_of : StoryTree → Machine → Configuration
+config_of s m = record {
+  flow = record { threads = map_threads (place_of s) m.threads; stack = m.stack.items; choices = []; safe = m.safe };
+  shared = record { globals = m.globals; counts = counts_in s m.counts; turn = 0 };
   page = m.output.page;
 }
 
--- the same over places, which the spots stand for in a story
-abbrev pub config_of : StoryTree → Machine → Configuration
-config_of s m = map_configuration (place_of s) (numbered m)
+-- what content may look at and not change, as `context_of` gives it
+abbrev pub seen_by : StoryTree → ThreadsOf Spot → CountsOf ℕ → Context
+seen_by s threads counts = record { thread = map_thread (place_of s) threads.thread; counts = counts_in s counts; turn = 0 }
 
 abbrev pub globals_of : Machine → Values
 globals_of m = m.globals

@@ -1,6 +1,7 @@
 //! The machine that runs a story forward.
 #![tactic(auto)]
 
+mod counting;
 mod diverting;
 mod evaluating;
 mod flow;
@@ -8,6 +9,7 @@ mod frames;
 mod machine;
 mod opening;
 mod operands;
+mod questions;
 mod running;
 mod sections;
 mod step;

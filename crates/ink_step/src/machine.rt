@@ -11,10 +11,10 @@ use ink_out::Output;
 use ink_stack::Threads;
 use ink_tree::Spot;
 use ink_value::EvalStack;
-use ink_vars::Globals;
+use ink_vars::{Counts, Globals};
 use std::alloc::Global;
 
-/// What changes while a story runs: a configuration, but for choices, counts and the turn, which no content writes yet.
+/// What changes while a story runs: a configuration, but for choices and the turn, which no content writes yet.
 #[derive(Drop)]
 pub struct Machine {
     pub(crate) threads: Threads<Spot>,
@@ -22,6 +22,7 @@ pub struct Machine {
     pub(crate) safe: bool,
     pub(crate) output: Output,
     pub(crate) globals: Globals,
+    pub(crate) counts: Counts,
     pub(crate) alloc: Global,
 }
 

@@ -15,7 +15,7 @@ use ink_out::Output;
 use ink_stack::Threads;
 use ink_tree::Spot;
 use ink_value::EvalStack;
-use ink_vars::Globals;
+use ink_vars::{Counts, Globals};
 use std::alloc::Global;
 
 /// Declarations that could not be run: why, and the globals as they stood before the step that faulted.
@@ -68,6 +68,7 @@ impl Machine {
             safe: false,
             output: Output::new(alloc),
             globals,
+            counts: Counts::new(alloc),
             alloc,
         }
     }

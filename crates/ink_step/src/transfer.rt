@@ -6,6 +6,13 @@ ghost use Rattle.ink_step.specs.Performs.{after_text, moving};
 use ink_model::{Fault, FrameKind, Text, Value};
 use ink_tree::Spot;
 
+/// Where flow lands, and whether that enters containers around the place.
+#[derive(Clone, Copy)]
+pub(crate) struct Landing {
+    pub place: Spot,
+    pub enters: bool,
+}
+
 /// Where flow goes once a content has been performed. A global that the content stores is stored last, after flow has
 /// moved: a fault on the way leaves the globals as they were.
 #[derive(Drop)]
@@ -17,11 +24,11 @@ pub(crate) enum Transfer<'a> {
     /// On, after the content, which stores a value in the global of that name.
     Store(&'a Text, Value),
     /// To another place.
-    Land(Spot),
+    Land(Landing),
     /// To another place, in a frame of its own.
-    Call(FrameKind, Spot),
+    Call(FrameKind, Landing),
     /// Back from such a frame, to after its call, or to a place.
-    Return(FrameKind, Option<Spot>),
+    Return(FrameKind, Option<Landing>),
     /// On, after the content, in two threads.
     Fork,
     /// Out of its thread; in the last one to a safe stop where it is.
