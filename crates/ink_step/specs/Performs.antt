@@ -1,7 +1,7 @@
 -- What performing a content does, beside its effect.
 use Rattle.std.specs.Prelude.{◌≡◌, ◌⊎◌, ◌||◌, ℕ, List, length, Bool, true, false, Option, Some, None, is_some, option_map, Result, Ok, Err}
 use Rattle.ink_model.specs.Effect.{Fields, Effect, Landing as Goal, Moves, Stores, Lands, Calls, Returns, Forks, Done, Ends, Fails}
-use Rattle.ink_model.specs.Frames.{ThreadOf}
+use Rattle.ink_model.specs.Frames.{ThreadOf, ThreadsOf, map_threads, mode_in, on_top}
 use Rattle.ink_model.specs.Page.{Page}
 use Rattle.ink_model.specs.Store.{Values, store, stored}
 use Rattle.ink_model.specs.Tree.{StoryTree}
@@ -13,6 +13,7 @@ use Rattle.ink_step.specs.declared.transfer.Landing.{Landing}
 use Rattle.ink_step.specs.declared.transfer.Transfer.{Transfer}
 use Rattle.ink_step.specs.declared.transfer.Transfer.TheVariants as transfer
 use Rattle.ink_tree.specs.Nodes.{place_of}
+use Rattle.ink_tree.specs.declared.spot.Spot.{Spot}
 
 -- where no text was written
 abbrev pub fields : Bool → Option ℕ → List Value → Page → Values → Fields
@@ -49,6 +50,10 @@ Performs s asks e new result = ⊥
 abbrev pub stored_by : Effect → ThreadOf (List Part) → ThreadOf (List Part)
 stored_by (Stores t f) u = t
 stored_by e u = u
+
+-- Performing keeps the threads, but for the mode of the top frame, and for temporaries that an effect stores.
+abbrev pub Keeps : StoryTree → Effect → ThreadsOf Spot → ThreadsOf Spot → Type 0
+Keeps s e old new = map_threads (place_of s) new ≡ on_top (mode_in new.thread.frame.evaluating) (on_top (stored_by e) (map_threads (place_of s) old))
 
 -- flow goes on after what was done without a fault
 abbrev pub moving : Result (Unit {0}) Fault → Result Transfer Fault

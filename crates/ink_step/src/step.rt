@@ -3,7 +3,7 @@
 ghost use Rattle.std.specs.Prelude.{◌≡◌, ◌||◌, Bool, true, Some, Ok, is_some, option_map};
 ghost use Rattle.ink_check.specs.Words.{story_tree};
 ghost use Rattle.ink_model.specs.Configuration.{with_globals};
-ghost use Rattle.ink_model.specs.Effect.{Effect, fields_of};
+ghost use Rattle.ink_model.specs.Effect.{Effect, context_of, fields_of};
 ghost use Rattle.ink_model.specs.Flow.{moved_on};
 ghost use Rattle.ink_model.specs.Frames.{mode_in, on_top};
 ghost use Rattle.ink_model.specs.Memory.{asks, content_asks, control_asks, leaf_asks};
@@ -14,9 +14,9 @@ ghost use Rattle.ink_model.specs.Step.{control_effect, effect, leaf_effect, step
 ghost use Rattle.ink_model.specs.Store.{store, stored};
 ghost use Rattle.ink_model.specs.Tree.{at, leaf};
 ghost use Rattle.ink_model.specs.View.{view};
-ghost use Rattle.ink_step.specs.Performs.{Performs};
+ghost use Rattle.ink_step.specs.Performs.{Keeps, Performs};
 ghost use Rattle.ink_step.specs.Steps.{StepEnds};
-ghost use Rattle.ink_step.specs.Words.{config_of, numbered};
+ghost use Rattle.ink_step.specs.Words.{config_of};
 ghost use Rattle.ink_tree.specs.Nodes.{place_of};
 
 use crate::diverting::divert;
@@ -26,11 +26,12 @@ use crate::flow::{StepEnd, done, end, fork, give_back, land, move_on};
 use crate::frames::{call, return_tunnel};
 use crate::machine::Machine;
 use crate::sections::{begin_string, begin_tag, end_string, end_tag};
-use crate::storing::{assign, declare, push_global};
-use crate::transfer::{Transfer, after_text, moving};
+use crate::questions::{push_count, push_read_count, push_turn, push_turns, push_visit};
+use crate::storing::{assign, declare, push_pointer, push_variable};
+use crate::transfer::{Landing, Transfer, after_text, moving};
 use crate::writing::{output_top, write_glue, write_newline, write_text};
 use ink_check::Story;
-use ink_model::{Content, Control, Fault, FrameKind, Leaf, Text, Value};
+use ink_model::{Content, Control, Fault, FrameKind, Leaf, Scope, Text, Value};
 use ink_tree::Spot;
 
 impl Machine {
@@ -42,17 +43,16 @@ impl Machine {
         let Some(place) = self.threads.place() else {
             return Ok(StepEnd::Stopped);
         };
-        let (here, found) = story.tree().first_content(place);
-        self.threads.put(Some(here));
+        let (here, found) = self.go_in(story.tree(), place)?;
         self.act(story, here, found)
     }
 
     /// What stands where flow is has its effect, and flow moves.
     fn act(&mut self, story: &Story, here: Spot, found: Option<&Content>) -> Result<StepEnd, Fault>
         requires { let s = story_tree story.now in option_map (λ c. view c.now) found ≡ at s (place_of s here) }
-        ensures { let s = story_tree story.now in StepEnds (content_asks (option_map (λ c. view c.now) found.entry) (fields_of (numbered self.old))
-            || move_asks s (effect s (place_of s here) (option_map (λ c. view c.now) found.entry) (fields_of (numbered self.old))) (config_of s self.old))
-            (moved s (effect s (place_of s here) (option_map (λ c. view c.now) found.entry) (fields_of (numbered self.old))) (config_of s self.old)) self.old.globals (config_of s self.new) result }
+        ensures { let s = story_tree story.now in let p = place_of s here in let stands = option_map (λ c. view c.now) found.entry in let c = config_of s self.old in
+            let e = effect s p stands (context_of c) (fields_of c) in
+            StepEnds (content_asks s p stands (context_of c) (fields_of c) || move_asks s e c) (moved s e c) self.old.globals (config_of s self.new) result }
     {
         let transfer = self.perform(story, here, found)?;
         self.follow(story, transfer)
@@ -66,9 +66,11 @@ impl Machine {
         found: Option<&'a Content>,
     ) -> Result<Transfer<'a>, Fault>
         requires { let s = story_tree story.now in option_map (λ c. view c.now) found ≡ at s (place_of s here) }
-        ensures effect { let s = story_tree story.now in Performs s (content_asks (option_map (λ c. view c.now) found.entry) (fields_of (numbered self.old)))
-            (effect s (place_of s here) (option_map (λ c. view c.now) found.entry) (fields_of (numbered self.old))) (fields_of (numbered self.new)) result }
-        ensures threads { self.new.threads ≡ on_top (mode_in self.new.threads.thread.frame.evaluating) self.old.threads }
+        ensures effect { let s = story_tree story.now in let p = place_of s here in let stands = option_map (λ c. view c.now) found.entry in let c = config_of s self.old in
+            Performs s (content_asks s p stands (context_of c) (fields_of c)) (effect s p stands (context_of c) (fields_of c)) (fields_of (config_of s self.new)) result }
+        ensures threads { let s = story_tree story.now in let stands = option_map (λ c. view c.now) found.entry in let c = config_of s self.old in
+            OnOk result (Keeps s (effect s (place_of s here) stands (context_of c) (fields_of c)) self.old.threads self.new.threads) }
+        ensures counts { self.new.counts ≡ self.old.counts }
         ensures safe { self.new.safe ≡ self.old.safe }
         ensures globals { self.new.globals ≡ self.old.globals }
     {
@@ -87,9 +89,11 @@ impl Machine {
         content: &'a Leaf,
     ) -> Result<Transfer<'a>, Fault>
         requires { let s = story_tree story.now in at s (place_of s here) ≡ Some (leaf content.now) }
-        ensures effect { let s = story_tree story.now in Performs s (leaf_asks content.now (fields_of (numbered self.old)))
-            (leaf_effect s (place_of s here) content.now (fields_of (numbered self.old))) (fields_of (numbered self.new)) result }
-        ensures threads { self.new.threads ≡ on_top (mode_in self.new.threads.thread.frame.evaluating) self.old.threads }
+        ensures effect { let s = story_tree story.now in let p = place_of s here in let c = config_of s self.old in
+            Performs s (leaf_asks s p (context_of c) content.now (fields_of c)) (leaf_effect s p (context_of c) content.now (fields_of c)) (fields_of (config_of s self.new)) result }
+        ensures threads { let s = story_tree story.now in let c = config_of s self.old in
+            OnOk result (Keeps s (leaf_effect s (place_of s here) (context_of c) content.now (fields_of c)) self.old.threads self.new.threads) }
+        ensures counts { self.new.counts ≡ self.old.counts }
         ensures safe { self.new.safe ≡ self.old.safe }
         ensures globals { self.new.globals ≡ self.old.globals }
     {
@@ -128,7 +132,7 @@ impl Machine {
                 evaluating,
                 text,
             )),
-            Leaf::Control(control) => self.perform_control(story, *control),
+            Leaf::Control(control) => self.perform_control(story, here, *control),
             Leaf::Op(operator) => moving(operate(self.alloc, &mut self.stack, *operator)),
             Leaf::Divert { to, conditional } => divert(
                 story,
@@ -137,14 +141,48 @@ impl Machine {
                 *conditional,
                 &mut self.stack,
                 &self.globals,
+                &self.threads,
             ),
-            Leaf::Declare(name) => declare(&mut self.stack, name),
-            Leaf::Assign(name) => assign(&mut self.stack, &self.globals, name),
-            Leaf::Variable(name) => moving(push_global(
+            Leaf::Declare(name) => declare(
+                &mut self.stack,
+                &self.globals,
+                &mut self.threads,
+                Scope::Global,
+                name,
+            ),
+            Leaf::DeclareTemp(name) => declare(
+                &mut self.stack,
+                &self.globals,
+                &mut self.threads,
+                Scope::Temporary,
+                name,
+            ),
+            Leaf::Assign(name) | Leaf::AssignTemp(name) => assign(
+                &mut self.stack,
+                &self.globals,
+                &mut self.threads,
+                name,
+            ),
+            Leaf::Variable(name) => moving(push_variable(
                 self.alloc,
                 &mut self.stack,
                 &self.globals,
+                &self.threads,
                 name,
+            )),
+            Leaf::Pointer(name, frame) => moving(push_pointer(
+                &mut self.stack,
+                &self.threads,
+                evaluating,
+                name,
+                *frame,
+            )),
+            Leaf::Count(path) => moving(push_count(
+                story,
+                here,
+                &self.counts,
+                &mut self.stack,
+                path,
             )),
             Leaf::Call { to, conditional } => call(
                 story,
@@ -154,6 +192,7 @@ impl Machine {
                 *conditional,
                 &mut self.stack,
                 &self.globals,
+                &self.threads,
             ),
             Leaf::Tunnel { to, conditional } => call(
                 story,
@@ -163,23 +202,21 @@ impl Machine {
                 *conditional,
                 &mut self.stack,
                 &self.globals,
+                &self.threads,
             ),
-            Leaf::Pointer(..)
-            | Leaf::External { .. }
-            | Leaf::DeclareTemp(_)
-            | Leaf::AssignTemp(_)
-            | Leaf::Count(_)
-            | Leaf::Choice { .. } => Ok(Transfer::Next),
+            Leaf::External { .. } | Leaf::Choice { .. } => Ok(Transfer::Next),
         }
     }
 
     fn perform_control<'a>(
         &mut self,
         story: &Story,
+        here: Spot,
         control: Control,
     ) -> Result<Transfer<'a>, Fault>
-        ensures effect { let s = story_tree story.now in Performs s (control_asks control (fields_of (numbered self.old)))
-            (control_effect s control (fields_of (numbered self.old))) (fields_of (numbered self.new)) result }
+        ensures effect { let s = story_tree story.now in let p = place_of s here in let c = config_of s self.old in
+            Performs s (control_asks s p (context_of c) control (fields_of c)) (control_effect s p (context_of c) control (fields_of c)) (fields_of (config_of s self.new)) result }
+        ensures counts { self.new.counts ≡ self.old.counts }
         ensures threads { self.new.threads ≡ on_top (mode_in self.new.threads.thread.frame.evaluating) self.old.threads }
         ensures safe { self.new.safe ≡ self.old.safe }
         ensures globals { self.new.globals ≡ self.old.globals }
@@ -206,11 +243,11 @@ impl Machine {
             Control::Return => Ok(Transfer::Return(FrameKind::Function, None)),
             Control::ReturnTunnel => return_tunnel(story, &mut self.stack),
             Control::Thread => Ok(Transfer::Fork),
-            Control::ChoiceCount
-            | Control::Turn
-            | Control::Turns
-            | Control::ReadCount
-            | Control::Visit => Ok(Transfer::Next),
+            Control::Turn => moving(push_turn(&mut self.stack)),
+            Control::Turns => moving(push_turns(story, &self.counts, &mut self.stack)),
+            Control::ReadCount => moving(push_read_count(story, &self.counts, &mut self.stack)),
+            Control::Visit => moving(push_visit(story, here, &self.counts, &mut self.stack)),
+            Control::ChoiceCount => Ok(Transfer::Next),
         };
         self.threads.set_mode(evaluating);
         transfer
@@ -218,7 +255,7 @@ impl Machine {
 
     /// Flow goes where a content sends it, and then a global is stored.
     fn follow(&mut self, story: &Story, transfer: Transfer<'_>) -> Result<StepEnd, Fault>
-        ensures { let s = story_tree story.now in (asks : Bool) (e : Effect) → Performs s asks e (fields_of (numbered self.old)) (Ok transfer.entry)
+        ensures { let s = story_tree story.now in (asks : Bool) (e : Effect) → Performs s asks e (fields_of (config_of s self.old)) (Ok transfer.entry)
             → StepEnds (asks || move_asks s e (config_of s self.old)) (moved s e (config_of s self.old)) self.old.globals (config_of s self.new) result }
     {
         match transfer {
@@ -228,18 +265,17 @@ impl Machine {
                 self.go_on(story)
             }
             Transfer::Store(name, value) => self.go_on_storing(story, name, value),
-            Transfer::Land(place) => Ok(land(&mut self.threads, place)),
-            Transfer::Call(kind, place) => {
-                flow::call(&mut self.threads, &mut self.output, kind, place)
+            Transfer::Land(to) => {
+                let end = land(&mut self.threads, to.place);
+                self.enter_around(story.tree(), to.enters)?;
+                Ok(end)
             }
-            Transfer::Return(kind, to) => give_back(
-                story.tree(),
-                &mut self.threads,
-                &mut self.stack,
-                &mut self.output,
-                kind,
-                to,
-            ),
+            Transfer::Call(kind, to) => {
+                let end = flow::call(&mut self.threads, &mut self.output, kind, to.place)?;
+                self.enter_around(story.tree(), to.enters)?;
+                Ok(end)
+            }
+            Transfer::Return(kind, to) => self.go_back(story, kind, to),
             Transfer::Fork => fork(
                 story.tree(),
                 &mut self.threads,
@@ -260,6 +296,33 @@ impl Machine {
                 end(&mut self.threads, &self.output)
             }
         }
+    }
+
+    /// Flow comes back from a frame of this kind, to after its call or to where it lands.
+    fn go_back(
+        &mut self,
+        story: &Story,
+        kind: FrameKind,
+        to: Option<Landing>,
+    ) -> Result<StepEnd, Fault>
+        ensures { todo }
+    {
+        let place = match to {
+            Some(to) => Some(to.place),
+            None => None,
+        };
+        let end = give_back(
+            story.tree(),
+            &mut self.threads,
+            &mut self.stack,
+            &mut self.output,
+            kind,
+            place,
+        )?;
+        if let Some(to) = to {
+            self.enter_around(story.tree(), to.enters)?;
+        }
+        Ok(end)
     }
 
     /// Flow goes on after the content.
