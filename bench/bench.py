@@ -1,8 +1,8 @@
 #!/usr/bin/env python3
-"""Times reading, checking and running stories of 1, 4 and 16 MiB, long arithmetic, long passages, command lines and calls,
-and prints the times side by side.
+"""Times reading, checking and running stories of 1, 4 and 16 MiB, long arithmetic, long passages, command lines, calls and
+visits, and prints the times side by side.
 
-    bench/bench.py [--program PROGRAM] [--worker WORKER] [reading] [arithmetic] [passages] [commands] [calls]
+    bench/bench.py [--program PROGRAM] [--worker WORKER] [reading] [arithmetic] [passages] [commands] [calls] [visits]
         ./inkplay, crates/inkbench and all of them, unless others are named
 
 Each time is the least of three runs, in milliseconds, with the program's start in it. The last column is the time at
@@ -187,6 +187,8 @@ def commands(program, _worker):
 CALLS = {
     "a function": ('{"f()":"f"},', '"f":["nop",null]'),
     "a function with a value": ('"ev",{"f()":"v"},"pop","/ev",', '"v":["ev",1,"/ev","~ret",null]'),
+    "a function with a reference": ('"ev",{"^var":"x"},{"f()":"r"},"/ev",',
+                                    '"r":[{"temp=":"p"},"ev",{"VAR?":"p"},{"temp=":"p","re":true},"/ev","~ret",null]'),
     "a tunnel": ('{"->t->":"t"},', '"t":["ev","void","/ev","->->",null]'),
     "a thread": ('"thread",{"->":"a"},', '"a":["done",null]'),
 }
@@ -217,7 +219,26 @@ def calls(program, _worker):
                 print("%-34s %9d %9d %9.0f %12.1f" % ("  " + name, depth, count, took * 1e6 / (count * rounds), took / step))
 
 
-BENCHES = {"reading": reading, "arithmetic": steps, "passages": passages, "commands": commands, "calls": calls}
+def through_knot(containers, count, flags):
+    """A loop through a knot with these flags, so many times, in a story with so many other containers that are counted."""
+    others = ",".join('"c%d":["^a","done",{"#f":3}]' % number for number in range(containers))
+    return ('{"inkVersion":21,"root":[[{"->":"loop"},null],"done",{%s,"loop":["ev",{"VAR?":"x"},1,"-",{"VAR=":"x","re":true},"/ev",'
+            '"ev",{"VAR?":"x"},0,">","/ev",{"->":"z","c":true},"end",null],"z":[{"->":"loop"},%s],'
+            '"global decl":["ev",%d,{"VAR=":"x"},"/ev","end",null]}]}' % (others, flags, count))
+
+
+def visits(program, _worker):
+    """Turns of a loop through a knot that is counted, and through one that is not."""
+    rounds, count = 20, 40000
+    print("%-34s %9s %9s %12s" % ("turns through a knot", "counted", "ns a turn", "not counted"))
+    for containers in (10, 10000):
+        def loop(flags):
+            story = through_knot(containers, count, flags) + "\n"
+            return (best(program, story + "through\nrestart\n" * rounds)[0] - best(program, story)[0]) * 1e6 / (count * rounds)
+        print("%-34s %9d %9.0f %12.0f" % ("", containers, loop('{"#f":3}'), loop("null")))
+
+
+BENCHES = {"reading": reading, "arithmetic": steps, "passages": passages, "commands": commands, "calls": calls, "visits": visits}
 
 
 def main():

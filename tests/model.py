@@ -38,12 +38,21 @@ class Target(tuple):
 class Tag(str):
     """The text of a tag."""
 
+
+class Pointer(tuple):
+    """The number of a frame, or 0 for the globals, and a name."""
+
+
+# what no operator takes, nothing prints and no condition is
+KEPT = (Target, Tag, Pointer)
+
+
 def wrapped(number):
     return (number - LEAST) % 2 ** 32 + LEAST
 
 
 def printed(value):
-    if isinstance(value, (Target, Tag)):
+    if isinstance(value, KEPT):
         raise Fault("BadOperands")
     if value is None:
         return ""
@@ -53,7 +62,7 @@ def printed(value):
 
 
 def is_true(value):
-    if isinstance(value, (Target, Tag)):
+    if isinstance(value, KEPT):
         raise Fault("BadOperands")
     return bool(value)
 
@@ -62,6 +71,8 @@ def told(value):
     """A value as an answer tells it."""
     if isinstance(value, Target):
         return {"->": ".".join(map(str, value))}
+    if isinstance(value, Pointer):
+        return {"ci": value[0], "var": value[1]}
     return {"tag": str(value)} if isinstance(value, Tag) else value
 
 
@@ -93,7 +104,7 @@ def of_numbers(operator, x, y):
 def apply(operator, operands):
     if operator in ("==", "!=") and all(isinstance(v, Target) for v in operands):
         return (operands[0] == operands[1]) == (operator == "==")
-    if any(v is None or isinstance(v, (Target, Tag)) for v in operands):
+    if any(v is None or isinstance(v, KEPT) for v in operands):
         raise Fault("BadOperands")
     if operator in SINGLE:
         if isinstance(operands[0], str):
@@ -285,8 +296,8 @@ def is_bad(root, place, content):
 
 def is_unsupported(content):
     if isinstance(content, dict):
-        return not any(head in content for head in ("->", "^->", "VAR=", "VAR?", "f()", "->t->"))
-    return content in ("choiceCnt", "turn", "turns", "readc", "visit")
+        return "x()" in content or "*" in content
+    return content == "choiceCnt"
 
 
 def refusal(root):
@@ -298,12 +309,34 @@ def refusal(root):
     return None
 
 
+def flags_at(root, place):
+    """The flags of the container at a place, none where no container is there."""
+    content = found(root, place)
+    return own(content).get("#f", 0) if isinstance(content, list) else None
+
+
 class Frame:
     """What a call pushes. The depth says how many sections were open at its push, and the number is that of its Enter."""
 
     def __init__(self, kind, place, depth):
         self.kind, self.place, self.depth = kind, place, depth
-        self.evaluating, self.fresh, self.number = False, kind == "function", None
+        self.evaluating, self.fresh, self.number, self.temporaries = False, kind == "function", None, {}
+
+    def again(self):
+        other = copy.copy(self)
+        other.temporaries = dict(self.temporaries)
+        return other
+
+
+class Thread(list):
+    """Frames, the current one last, and the place from which flow last moved."""
+
+    previous = None
+
+    def again(self):
+        other = Thread(frame.again() for frame in self)
+        other.previous = self.previous
+        return other
 
 
 CALLS = {"f()": "function", "->t->": "tunnel"}
@@ -312,8 +345,9 @@ CALLS = {"f()": "function", "->t->": "tunnel"}
 class Machine:
     def __init__(self, root, place, global_values):
         self.root, self.globals = root, global_values
-        self.threads = [[Frame("base", place, 0)]]
+        self.threads = [Thread([Frame("base", place, 0)])]
         self.stack, self.safe = [], False
+        self.visits, self.turns, self.turn_number = {}, {}, 0
         self.begin()
 
     def begin(self):
@@ -397,12 +431,118 @@ class Machine:
                 self.close_tag()
             self.sections.append(("tag", []))
 
-    def to_store(self, head):
-        """What a content stores, which is stored once flow has moved: a fault on the way leaves the globals."""
+    # ---- variables
+
+    def names(self, number):
+        """The values by name of the globals, 0, or of the frame of a number; none where there is no such frame."""
+        if number == 0:
+            return self.globals
+        return self.frames[number - 1].temporaries if number <= len(self.frames) else None
+
+    def held(self, pointer):
+        return (self.names(pointer[0]) or {}).get(pointer[1])
+
+    def last_pointer(self, pointer):
+        """The end of the chain that begins with a pointer."""
+        met = 1
+        while isinstance(self.held(pointer), Pointer):
+            met += 1
+            if met > len(self.frames) + 1:
+                raise Fault("BadPointer")
+            pointer = self.held(pointer)
+        return pointer
+
+    def led_to(self, pointer):
+        """What a pointer leads to in the end, which has to stand: a frame, or the very global."""
+        number, name = self.last_pointer(pointer)
+        if self.names(number) is None or (number == 0 and name not in self.globals):
+            raise Fault("BadPointer")
+        return number, name
+
+    def owner(self, name):
+        """The number of what has a name: the globals, else the current frame; none where nothing has it."""
+        if name in self.globals:
+            return 0
+        return len(self.frames) if name in self.frame.temporaries else None
+
+    def read(self, name):
+        number = self.owner(name)
+        value = 0 if number is None else self.names(number)[name]
+        if isinstance(value, Pointer):
+            number, name = self.led_to(value)
+            return self.names(number).get(name, 0)
+        return value
+
+    def pointer(self, content):
+        number = content.get("ci", -1)
+        if number < 0:
+            number = len(self.frames) if content["^var"] in self.frame.temporaries else 0
+        return Pointer((number, content["^var"]))
+
+    def to_store(self, content):
+        """What a content stores in the globals, which is stored once flow has moved: a fault on the way leaves them."""
         value = self.pop()
-        if head.get("re") and head["VAR="] not in self.globals:
-            raise Fault("NoTemp")
-        return {head["VAR="]: value}
+        name = content.get("VAR=", content.get("temp="))
+        if content.get("re"):
+            number = self.owner(name)
+            if number is None:
+                raise Fault("NoTemp")
+            if isinstance(self.names(number)[name], Pointer):
+                number, name = self.led_to(self.names(number)[name])
+                if name not in self.names(number):
+                    raise Fault("NoTemp")
+        else:
+            number = 0 if "VAR=" in content else len(self.frames)
+            if isinstance(value, Pointer):
+                value = self.last_pointer(value)
+        if number == 0:
+            return {name: value}
+        self.names(number)[name] = value
+        return {}
+
+    # ---- counts
+
+    def enter(self, place):
+        flags = flags_at(self.root, place)
+        if flags & 1:
+            self.visits[tuple(place)] = self.visits.get(tuple(place), 0) + 1
+        if flags & 2:
+            self.turns[tuple(place)] = self.turn_number
+
+    def enter_around(self, place):
+        """Flow has landed: what it enters of the containers around."""
+        before, only_zeros = self.frames.previous, True
+        if found(self.root, place) is None:
+            return
+        for size in reversed(range(len(place))):
+            around, only_zeros = place[:size], only_zeros and place[size] == 0
+            start_only = flags_at(self.root, around) & 4
+            if before is not None and before[:size] == around and not start_only:
+                return
+            if only_zeros or not start_only:
+                self.enter(around)
+
+    def visits_at(self, place):
+        if not flags_at(self.root, place) & 1:
+            raise Fault("NotCounted")
+        return self.visits.get(tuple(place), 0)
+
+    def asked(self, word):
+        """What `visit`, `turns` and `readc` push."""
+        if word == "visit":
+            return self.visits_at(self.frame.place[:-1]) - 1
+        place = self.pop()
+        if not isinstance(place, Target):
+            raise Fault("BadTarget")
+        place = target(self.root, [], (False, list(place)))
+        flags = flags_at(self.root, place)
+        if flags is None:
+            return 0 if word == "readc" else -1
+        if word == "readc":
+            return self.visits_at(place)
+        if not flags & 2:
+            raise Fault("NotCounted")
+        return self.turn_number - self.turns[tuple(place)] if tuple(place) in self.turns else -1
 
     def word(self, word):
         if word.startswith("^"):
@@ -432,30 +572,41 @@ class Machine:
         elif word in OPERATORS:
             operands = [self.pop() for _ in range(1 if word in SINGLE else 2)]
             self.push(apply(word, operands[::-1]))
+        elif word in ("visit", "turns", "readc"):
+            self.push(self.asked(word))
+        elif word == "turn":
+            self.push(self.turn_number)
 
     # ---- where flow goes
 
     def led(self, content, head):
-        """Where a divert, a call or a tunnel leads, none where its condition is false."""
+        """Where a divert, a call or a tunnel leads, and whether it enters containers around; none where its condition is false."""
         if content.get("c") and not is_true(self.pop()):
             return None
         if content.get("var"):
-            value = self.globals.get(content[head], 0)
+            value = self.read(content[head])
             if not isinstance(value, Target):
                 raise Fault("BadTarget")
-            return target(self.root, [], (False, list(value)))
+            return target(self.root, [], (False, list(value))), isinstance(value[-1], int)
         path = path_of(content[head])
         place = target(self.root, self.frame.place, path)
-        return place if isinstance(path[1][-1], int) else landed(self.root, place)
+        return (place if isinstance(path[1][-1], int) else landed(self.root, place)), True
 
-    def call(self, kind, place):
+    def land(self, place, enters):
+        """Flow moves from where it is to a place."""
+        self.frames.previous, self.frame.place = self.frame.place, place
+        if enters:
+            self.enter_around(place)
+
+    def call(self, kind, place, enters):
         if len(self.frames) >= 1000:
             raise Fault("TooDeep")
-        frame = Frame(kind, place, len(self.sections))
+        frame = Frame(kind, self.frame.place, len(self.sections))
         if kind == "function":
             frame.number, self.numbers = self.numbers, self.numbers + 1
             self.mark(("enter", frame.number))
         self.frames.append(frame)
+        self.land(place, enters)
 
     def leave(self, kind):
         """The top frame is popped, which has to be of this kind."""
@@ -478,14 +629,13 @@ class Machine:
         self.leave("tunnel")
         if value is None:
             return self.go_on()
-        self.frame.place = target(self.root, [], (False, list(value)))
-        return None
+        return self.land(target(self.root, [], (False, list(value))), isinstance(value[-1], int))
 
     def go_on(self):
         """Flow goes on behind where it is: ended functions give void to a caller that evaluates, ended threads are dropped."""
         place = self.frame.place and after(self.root, self.frame.place)
         if place is not None:
-            self.frame.place = place
+            self.land(place, False)
         elif self.frame.kind == "function":
             self.leave("function")
             if self.frame.evaluating:
@@ -495,6 +645,7 @@ class Machine:
             self.threads.pop()
             self.go_on()
         else:
+            self.frames.previous = self.frame.place
             self.stop()
 
     def stop(self):
@@ -507,7 +658,7 @@ class Machine:
         if self.frame.place is not None:
             if len(self.threads) >= 100:
                 raise Fault("TooDeep")
-            self.threads.append([copy.copy(frame) for frame in self.frames])
+            self.threads.append(self.frames.again())
 
     def done(self):
         if len(self.threads) > 1:
@@ -517,11 +668,14 @@ class Machine:
         return self.stop()
 
     def end(self):
-        self.threads, self.safe = [[Frame("base", None, 0)]], True
+        self.threads, self.safe = [Thread([Frame("base", None, 0)])], True
         self.stop()
 
     def step(self):
-        while width(found(self.root, self.frame.place)):
+        while isinstance(found(self.root, self.frame.place), list):
+            self.enter(self.frame.place)
+            if not width(found(self.root, self.frame.place)):
+                break
             self.frame.place = self.frame.place + [0]
         content, stored = found(self.root, self.frame.place), {}
         ways = {"done": self.done, "end": self.end, "thread": self.fork}
@@ -532,22 +686,26 @@ class Machine:
         if isinstance(content, str):
             self.word(content)
         elif isinstance(content, dict) and "->" in content:
-            place = self.led(content, "->")
-            if place is not None:
-                self.frame.place = place
-                return None
+            way = self.led(content, "->")
+            if way is not None:
+                return self.land(*way)
         elif isinstance(content, dict) and ("f()" in content or "->t->" in content):
             head = "f()" if "f()" in content else "->t->"
-            place = self.led(content, head)
-            if place is not None:
-                return self.call(CALLS[head], place)
+            way = self.led(content, head)
+            if way is not None:
+                return self.call(CALLS[head], *way)
         elif isinstance(content, dict) and "^->" in content:
             if self.frame.evaluating:
                 self.push(Target(path_of(content["^->"])[1]))
-        elif isinstance(content, dict) and "VAR=" in content:
+        elif isinstance(content, dict) and "^var" in content:
+            if self.frame.evaluating:
+                self.push(self.pointer(content))
+        elif isinstance(content, dict) and "CNT?" in content:
+            self.push(self.visits_at(target(self.root, self.frame.place, path_of(content["CNT?"]))))
+        elif isinstance(content, dict) and ("VAR=" in content or "temp=" in content):
             stored = self.to_store(content)
         elif isinstance(content, dict):
-            self.push(self.globals.get(content["VAR?"], 0))
+            self.push(self.read(content["VAR?"]))
         elif isinstance(content, int) and self.frame.evaluating:
             self.push(content)
         self.go_on()
@@ -626,12 +784,23 @@ class Player:
         self.machine.globals[name] = value
         return {"events": []}
 
+    def visits(self, text):
+        if self.broken:
+            return {"fault": self.broken, "refused": "Broken"}
+        path = path_of(text)
+        place = None if path is None or path[0] else target(self.root, [], path)
+        if place is None or not (flags_at(self.root, place) or 0) & 1:
+            return {"refused": "NoSuchPath"}
+        return {"visits": self.machine.visits_at(place)}
+
     def answer(self, line):
         if line in ("through", "restart"):
             return getattr(self, line)()
         word, _, rest = line.partition(" ")
         if word == "get" and rest and " " not in rest:
             return self.get(rest)
+        if word == "visits" and rest:
+            return self.visits(rest)
         name, _, text = rest.partition(" ")
         if word == "set" and name and text:
             return self.set(name, text)
@@ -640,11 +809,12 @@ class Player:
 
 # ---- random stories
 
-# stands for a path until the story is whole
-WAY = "?"
+# stand for paths until the story is whole, one onward, and one anywhere
+WAY, BACK = "?", "??"
 
 COMMANDS = ("through", "through", "restart", "get x", "get y", "get z", "set x 5", "set y true", 'set z "q r"', "set x null", "set w 1",
-            "set x 1.5", "set  x 1", "bye", "set x  -3 ", "get  x", 'set y "a\\nb"', "set x")
+            "set x 1.5", "set  x 1", "bye", "set x  -3 ", "get  x", 'set y "a\\nb"', "set x",
+            "visits f", "visits t", "visits h", "visits k", "visits 0", "visits 1", "visits 0.0", "visits 1.k", "visits .0", "visits x..y")
 
 
 def random_text(chance):
@@ -667,7 +837,48 @@ def random_leaf(chance):
         lambda: chance.choice(("~ret", "->->", "thread")),
         lambda: {chance.choice(("f()", "->t->")): chance.choice("xyz"), "var": True},
         lambda: {chance.choice(("f()", "->t->")): WAY},
+        lambda: {"temp=": chance.choice("pqx")},
+        lambda: {"temp=": chance.choice("pqx"), "re": True},
+        lambda: random_pointer(chance),
+        lambda: {"CNT?": WAY},
+        lambda: chance.choice(("visit", "turn", "turns", "readc")),
     ))()
+
+
+def random_pointer(chance):
+    name = {"^var": chance.choice("pqxyz")}
+    return dict(name, ci=chance.choice((-1, 0, 1, 2, 3))) if chance.random() < 0.3 else name
+
+
+def random_variable(chance):
+    """Content that declares, assigns or reads what may be a temporary, or a pointer."""
+    name = chance.choice("pqxyz")
+    return chance.choice((
+        lambda: [random_value(chance), {"temp=": name}],
+        lambda: [random_value(chance), {"temp=": name}, {"VAR?": name}, "out"],
+        lambda: [random_value(chance), {"temp=": name}, {"VAR?": name}, 1, "+", {chance.choice(("VAR=", "temp=")): name, "re": True}],
+        lambda: [random_pointer(chance), {"temp=": name}],
+        lambda: [random_value(chance), {"temp=": name}, {"^var": name}, {"temp=": chance.choice("pq")}],
+        lambda: [random_pointer(chance), {"temp=": name}, {"VAR?": name}, "out"],
+        lambda: [3, {"temp=": "p"}, {"^var": "p"}, {"temp=": "q"}, 4, {"temp=": "q", "re": True}, {"VAR?": "p"}, "out"],
+        lambda: [{"VAR?": name}, "out"],
+    ))()
+
+
+def random_question(chance):
+    """Content that asks for visits or turns."""
+    return chance.choice((
+        lambda: [{"CNT?": WAY}, "out"],
+        lambda: [{"CNT?": WAY}, {"VAR=": chance.choice("xyz")}],
+        lambda: ["visit", "out"],
+        lambda: ["turn", "out"],
+        lambda: [{"^->": WAY}, chance.choice(("turns", "readc")), "out"],
+    ))()
+
+
+def random_loop(chance):
+    """Content that may lead back, so often at most as the global `n` allows."""
+    return ["ev", {"VAR?": "n"}, 1, "+", "du", {"VAR=": "n", "re": True}, chance.choice((2, 3, 4)), "<", "/ev", {"->": BACK, "c": True}]
 
 
 def random_value(chance):
@@ -687,8 +898,10 @@ def random_group(chance):
         inside = [chance.choice(("\n", "<>", random_text(chance), random_text(chance))) for _ in range(chance.randrange(4))]
         tag = ["#", random_text(chance), "/#"] if chance.random() < 0.2 else []
         return ["ev", "str"] + inside + tag + ["/str"] + chance.choice((["out"], [{"VAR=": chance.choice("xyz")}])) + ["/ev"]
-    if kind < 0.64:
+    if kind < 0.63:
         return [{"->": WAY}]
+    if kind < 0.64:
+        return random_loop(chance)
     if kind < 0.65:
         return random_call(chance)
     if kind < 0.72:
@@ -696,6 +909,10 @@ def random_group(chance):
     if kind < 0.75:
         name = chance.choice("xyz")
         return ["ev", {"^->": WAY}, {"VAR=": name}, "/ev", {"->": name, "var": True}]
+    if kind < 0.81:
+        return ["ev"] + random_variable(chance) + ["/ev"]
+    if kind < 0.86:
+        return ["ev"] + random_question(chance) + ["/ev"]
     operator = chance.choice(OPERATORS)
     values = [random_value(chance) for _ in range(1 if operator in SINGLE else 2)]
     end = chance.choice((["out"], ["out"], ["du", "out", "out"], ["pop"], [{"VAR=": chance.choice("xyz")}],
@@ -722,7 +939,9 @@ def random_call(chance, names="fgtuh"):
     if functions and kind < 0.6:
         end = chance.choice((["out"], ["out"], ["pop"], [{"VAR=": chance.choice("xyz")}], ["str", "^(", "/str", "+", "out"]))
         return ["ev"] + value + [dict({"f()": chance.choice(functions)}, **condition)] + end + ["/ev"]
-    if functions and kind < 0.65:
+    if functions and kind < 0.66:
+        return ["ev", random_pointer(chance), {"f()": chance.choice("rs")}, chance.choice(("out", "pop")), "/ev"]
+    if functions and kind < 0.68:
         return ["ev", "str", random_text(chance), {"f()": chance.choice(functions)}, random_text(chance), "/str", "out", "/ev"]
     if functions and kind < 0.7:
         name = chance.choice("xyz")
@@ -737,12 +956,24 @@ def random_call(chance, names="fgtuh"):
 def random_knot(chance, name):
     """A function, a tunnel or a thread that ends in its way, mostly."""
     content = []
+    if chance.random() < 0.3:
+        content += ["ev", 7, {"temp=": "p"}, {"^var": "p"}, {"temp=": "q"}, {"VAR?": "q"}, 1, "+", {"temp=": "q", "re": True}, "/ev"]
     for _ in range(chance.randrange(6)):
         content += random_call(chance, KNOTS[name]) if chance.random() < 0.25 and KNOTS[name] else random_plain(chance)
     functions = (["ev", random_value(chance), "/ev", "~ret"], ["ev", random_value(chance), "/ev", "~ret"], ["\n"], [], ["~ret"])
     tunnels = (["ev", "void", "/ev", "->->"],) * 4 + (["ev", {"^->": WAY}, "/ev", "->->"], [])
     threads = (["done"], ["done"], [], ["end"])
-    return content + chance.choice(functions if name in "fg" else tunnels if name in "tu" else threads) + [None]
+    last = {"#f": chance.choice((1, 3, 5, 7))} if chance.random() < 0.5 else None
+    return content + chance.choice(functions if name in "fg" else tunnels if name in "tu" else threads) + [last]
+
+
+def reference_knots(chance):
+    """Functions that take a pointer: one changes what it leads to, and one hands it on."""
+    last = {"#f": chance.choice((1, 3, 5))}
+    change = chance.choice(([{"VAR?": "p"}, 1, "+"], [{"VAR?": "p"}, 2, "MAX"], [9]))
+    end = chance.choice((["/ev"], [{"VAR?": "p"}, "/ev", "~ret"]))
+    return {"r": [{"temp=": "p"}, "ev"] + change + [{"temp=": "p", "re": True}] + end + [last],
+            "s": [{"temp=": "q"}, "ev", {"^var": "q"}, {"f()": "r"}, {"VAR?": "q"}, "+", "/ev", "~ret", last]}
 
 
 def random_plain(chance):
@@ -761,7 +992,7 @@ def random_container(chance, depth):
         else:
             content += [random_leaf(chance)] if chance.random() < 0.03 else random_group(chance)
     content += [chance.choice(("done", "end"))] * (chance.random() < 0.15)
-    last = {"#f": chance.randrange(8)} if chance.random() < 0.2 else {}
+    last = {"#f": chance.choice((1, 1, 3, 3, 5, 7, chance.randrange(8)))} if chance.random() < 0.4 else {}
     if chance.random() < 0.2:
         last["#n"] = "n%d" % chance.randrange(10 ** 9)
     if depth and chance.random() < 0.2:
@@ -776,6 +1007,7 @@ def random_story(chance):
     declarations = ["ev"]
     for name in chance.sample("xyz", chance.randrange(4)):
         declarations += [chance.choice((1, True, "^t", "void", -5)), {"VAR=": name}]
+    declarations += [0, {"VAR=": "n"}]
     declarations += chance.choice((["/ev", "end"],) * 4 + (["/ev"],) * 4 + ([], ["+"]))
     where = chance.random()
     if where < 0.5:
@@ -785,12 +1017,18 @@ def random_story(chance):
     for place in list(places(root)):
         content = found(root, place)
         if isinstance(content, dict):
-            for head in ("->", "^->", "f()", "->t->"):
-                if content.get(head) == WAY:
+            for head in ("->", "^->", "f()", "->t->", "CNT?"):
+                if content.get(head) in (WAY, BACK):
                     content[head] = random_path(chance, root, place, head)
     if chance.random() < 0.05:
         add_unsupported(chance, root)
     return {"inkVersion": 21, "root": root, "listDefs": {}}
+
+
+def counted(root):
+    """The root, whose visits are counted from now on."""
+    root[-1] = dict(root[-1] or {}, **{"#f": 1})
+    return []
 
 
 def random_path(chance, root, place, head):
@@ -798,11 +1036,19 @@ def random_path(chance, root, place, head):
     if chance.random() < 0.004:
         return chance.choice(("m", "0.0.0.0.0.0", "a..b", ".", "", ".^.^.^.^.^.^", "99", ".0", "2147483648", "k.k.k.k.k"))
     order = list(places(root))
-    onward = order[order.index(place) + 1:] + [p + [width(found(root, p))] for p in order[order.index(place) + 1:] if isinstance(found(root, p), list)]
+    if head == "CNT?":
+        order = [p for p in order if (flags_at(root, p) or 0) & 1] or [counted(root)]
+        onward = order
+    elif head == "^->" and chance.random() < 0.7:
+        onward = [p for p in order if isinstance(found(root, p), list) and p] or order
+    elif found(root, place).get(head) == BACK:
+        onward = order
+    else:
+        onward = order[order.index(place) + 1:] + [p + [width(found(root, p))] for p in order[order.index(place) + 1:] if isinstance(found(root, p), list)]
     end = chance.choice(onward if onward and chance.random() < 0.999 else order)
     named_end = [own(found(root, end[:i + 1])).get("#n", part) if isinstance(found(root, end[:i + 1]), list) and chance.random() < 0.5 else part
                  for i, part in enumerate(end)]
-    if head == "^->" or chance.random() < 0.5:
+    if head == "^->" or (end and chance.random() < 0.5):
         return ".".join(map(str, named_end)) if end else ".^"
     common = 0
     while common < min(len(place), len(end)) - 1 and place[common] == end[common]:
@@ -825,7 +1071,7 @@ def between(container):
 
 def add_calls(chance, root):
     """Knots at the root, and calls of them here and there."""
-    root[-1] = dict(root[-1] or {}, **{name: random_knot(chance, name) for name in KNOTS})
+    root[-1] = dict(root[-1] or {}, **{name: random_knot(chance, name) for name in KNOTS}, **reference_knots(chance))
     containers = [found(root, place) for place in places(root) if place[:1] == [] or isinstance(place[0], int)]
     for container in [c for c in containers if isinstance(c, list)]:
         for _ in range(chance.choice((0, 1, 1, 2, 3))):
@@ -835,7 +1081,7 @@ def add_calls(chance, root):
 
 def add_unsupported(chance, root):
     container = chance.choice([found(root, place) for place in places(root) if isinstance(found(root, place), list)])
-    content = chance.choice(("visit", "turns", {"x()": "f"}, {"temp=": "t"}, {"^var": "x"}, {"temp=": "x", "re": True}))
+    content = chance.choice(("choiceCnt", {"x()": "f"}))
     container.insert(chance.randrange(len(container)), content)
 
 
@@ -851,10 +1097,12 @@ def expected(story, commands):
     return [json.dumps(a, separators=(",", ":"), sort_keys=True, ensure_ascii=False) for a in answers], "", 0
 
 
-def random_commands(chance):
+def random_commands(chance, root):
     """Command lines that mostly begin by running the story."""
     first = ["through"] if chance.random() < 0.85 else []
-    return first + [chance.choice(COMMANDS) for _ in range(chance.randrange(1, 8))]
+    counted_ones = [place for place in places(root) if (flags_at(root, place) or 0) & 1 and place]
+    asked = ["visits " + ".".join(map(str, chance.choice(counted_ones))) for _ in range(chance.randrange(4)) if counted_ones]
+    return first + asked + [chance.choice(COMMANDS) for _ in range(chance.randrange(1, 8))]
 
 
 def kind_of(wanted):
@@ -878,7 +1126,7 @@ def main():
     for number in range(words.runs):
         chance = random.Random("%d.%d" % (words.seed, number))
         story = random_story(chance)
-        commands = random_commands(chance)
+        commands = random_commands(chance, story["root"])
         text = "\n".join([json.dumps(story, ensure_ascii=chance.random() < 0.5)] + commands) + "\n"
         try:
             wanted = expected(story, commands)

@@ -95,6 +95,16 @@ STORIES = (
      ("through", "get x", "restart", "get x")),
     ('{"inkVersion":21,"root":[[{"f()":"f"},"^b",null],"done",{"f":["ev",{"VAR?":"n"},1,"-",{"VAR=":"n","re":true},{"VAR?":"n"},"/ev",{"f()":"f","c":true},{"f()":"r"},null],"r":["~ret",null],"global decl":["ev",9,{"VAR=":"n"},"/ev","end",null]}]}',
      ("through", "through", "restart", "get n")),
+    ('{"inkVersion":21,"root":[["ev",5,{"temp=":"t"},{"^var":"t"},{"f()":"f"},"pop",{"VAR?":"t"},"out",{"VAR?":"t"},{"VAR=":"x"},"/ev","\\n","end",null],"done",{"f":[{"temp=":"r"},"ev",{"^var":"r"},{"f()":"g"},"/ev",null],"g":[{"temp=":"q"},"ev",{"VAR?":"q"},1,"+",{"temp=":"q","re":true},"str","^s","/str",{"temp=":"u"},{"VAR?":"u"},"out","/ev",null]}]}',
+     ("through", "get x", "restart", "get x")),
+    ('{"inkVersion":21,"root":[["ev",{"^var":"x"},{"VAR=":"p"},{"^var":"p"},{"VAR=":"q"},4,{"VAR=":"q","re":true},{"f()":"f"},{"VAR=":"gone"},{"VAR?":"gone"},"/ev",null],"done",{"f":["ev",1,{"temp=":"t"},{"^var":"t"},"/ev","~ret",null],"global decl":["ev",3,{"VAR=":"x"},"/ev","end",null]}]}',
+     ("get x", "through", "get x", "get p", "get gone", "visits f", "restart", "get p")),
+    ('{"inkVersion":21,"root":[["ev",{"VAR?":"n"},1,"+",{"VAR=":"n","re":true},"/ev",{"->":"k.a"},null],"done",{"k":["^x",{"a":["ev",{"CNT?":"k"},"out",{"CNT?":".^"},"out",{"VAR?":"n"},3,"<","/ev",{"->":"0","c":true},["^e","end",{"#f":3}],{"#f":7}],"#f":1}],"global decl":["ev",0,{"VAR=":"n"},{"f()":"c"},"/ev","end",null],"c":["nop",{"#f":3}]}]}',
+     ("visits k", "through", "visits k", "visits k.a", "visits k.a.10", "visits .k", "visits c", "restart", "visits k.a")),
+    ('{"inkVersion":21,"root":[[{"f()":"s"},{"f()":"s"},{"f()":"s"},"ev",{"^->":"s"},"du","readc","out","turns","out","turn","out","/ev","end",null],"done",{"s":["ev","visit",1,"MIN","/ev",{"->":".^.b","c":true},"^first","ev","void","/ev","~ret",{"b":["^later ",{"#f":1}],"#f":7}]}]}',
+     ("through", "visits s", "visits s.b", "visits nowhere")),
+    ('{"inkVersion":21,"root":[["ev",{"^->":"k.1"},{"temp=":"t"},"/ev",{"->":"t","var":true},null],"done",{"k":["^a",["^b","ev",{"^->":"k"},"readc","turn",{"VAR=":"v"},"visit","/ev",{"#f":1}],"^c",{"#f":3}]}]}',
+     ("through", "get v", "visits k", "restart", "visits k", "get v")),
 )
 
 BROKEN = b'{"fault":"OutOfMemory","refused":"Broken"}'
@@ -134,7 +144,7 @@ def is_run(program, story, commands, ample_lines, lines):
             before, command, after = commands[:k], commands[k], commands[k + 1:]
             if line == FAULT and command == "through":
                 rest = broken_from(program, story, before, after)
-            elif line == NO_MEMORY and command.split()[0] in ("set", "get", "restart"):
+            elif line == NO_MEMORY and command.split()[0] in ("set", "get", "restart", "visits"):
                 rest = [(line,) for line in answers(program, story, before + after)[k:]]
             else:
                 return False
@@ -157,7 +167,7 @@ def broken_from(program, story, before, after):
         if word == "get":
             rest.append((answers(program, story, before + (command,))[-1], answers(program, story, before + ("through", command))[-1]))
         else:
-            rest.append((BROKEN,) if word in ("through", "set") else (BAD_COMMAND,))
+            rest.append((BROKEN,) if word in ("through", "set", "visits") else (BAD_COMMAND,))
     return rest
 
 

@@ -30,7 +30,7 @@ use table::run_table;
 use tally::Tally;
 
 /// The tables that are read where none are named.
-const TABLES: [&str; 17] = [
+const TABLES: [&str; 20] = [
     "operators.txt",
     "operators_large.txt",
     "output.txt",
@@ -42,10 +42,13 @@ const TABLES: [&str; 17] = [
     "sessions.txt",
     "sessions_calls.txt",
     "sessions_calls_large.txt",
+    "sessions_counts.txt",
+    "sessions_counts_large.txt",
     "sessions_cut.txt",
     "sessions_large.txt",
     "sessions_limits.txt",
     "sessions_refused.txt",
+    "sessions_variables.txt",
     "stories.txt",
     "stories_large.txt",
 ];
