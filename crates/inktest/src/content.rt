@@ -18,6 +18,18 @@ pub(crate) fn shown_content(alloc: Global, content: Option<&Content>) -> Answer 
     }
 }
 
+/// Content that holds no other.
+pub(crate) fn shown_leaf(alloc: Global, leaf: Option<&Leaf>) -> Answer {
+    match leaf {
+        None => text(alloc, "nothing"),
+        Some(leaf) => {
+            let mut text = String::new(alloc);
+            show_leaf(&mut text, leaf)?;
+            Ok(text)
+        }
+    }
+}
+
 /// Writes content behind a text.
 pub(crate) fn show_content(text: &mut String, content: &Content) -> Result<(), AllocError> {
     match content {

@@ -4,7 +4,7 @@
 //! - `supported`: the place of the first content that is not supported yet, or `all`
 //! - `opened`: `Player::open`, which hands back a story whose declarations fault
 //! - `through`: the passage's text, ` #TAG` for each tag, ` more` and ` loose`
-//! - `restart`, `can_continue`, `get NAME`, `set NAME VALUE`
+//! - `restart`, `can_continue`, `get NAME`, `set NAME VALUE`, `visits PATH`
 //!
 //! A fault or a refusal is told by its name. Where memory is refused, the calls up to the next story are not made.
 
@@ -149,6 +149,7 @@ fn said(alloc: Global, player: &mut Player, call: &str) -> Answer {
         ),
         "get" => got(alloc, player, rest),
         "set" => set(alloc, player, rest),
+        "visits" => visits(alloc, player, rest),
         _ => Err(NoAnswer::NoQuestion),
     }
 }
@@ -190,6 +191,11 @@ fn done(alloc: Global, outcome: Result<Seq<Event>, Halt>) -> Answer {
 fn got(alloc: Global, player: &Player, name: &str) -> Answer {
     let value = player.get(name)?;
     shown_value(alloc, &value)
+}
+
+fn visits(alloc: Global, player: &Player, path: &str) -> Answer {
+    let visits = player.visits(path)?;
+    Ok(format!(in alloc; "{visits}")?)
 }
 
 fn set(alloc: Global, player: &mut Player, rest: &str) -> Answer {

@@ -1,12 +1,12 @@
 //! A story's content and places by calls of its tree, and where its paths lead.
 
 use crate::answer::{Answer, NoAnswer, append, counted, first_word, text};
-use crate::content::{show_content, shown_content};
+use crate::content::{shown_content, shown_leaf};
 use crate::expansion::expanded;
 use crate::words::{number, parts_of, show_parts, shown_parts};
 use ink_check::{Story, check};
 use ink_json::{RawStory, read_story};
-use ink_tree::{NodeId, Spot, Tree, read_path};
+use ink_tree::{NodeId, Spot, Tree, print_path, read_path};
 use std::alloc::{AllocError, Global};
 
 /// The most containers that are told one by one.
@@ -22,7 +22,10 @@ const MOST_TOLD: usize = 20;
 ///   `nowhere`; only their number, if they are more than 20
 /// - `resolve PLACE PATH`: where a path of the content there leads
 /// - `first PLACE`: where a step there performs, and the content
-/// - `target NODE`: where the written path of a content leads; `counted NODE`: the container whose visits it asks for
+/// - `number NODE`, `holder NODE`, `inside NODE`, `leaf NODE`: a node's own number, the container that holds it, the first
+///   content in it, and the content where it holds no other
+/// - `target NODE`: where the written path of a content leads; `counted NODE`: the container whose visits it asks for;
+///   `pushed NODE`: the path that it pushes
 ///
 /// A node is a number, a spot a node, and behind a colon perhaps an index.
 pub(crate) fn answer(alloc: Global, story: &str, question: &str) -> Answer {
@@ -33,6 +36,7 @@ pub(crate) fn answer(alloc: Global, story: &str, question: &str) -> Answer {
         "at" => content_at(alloc, &raw, rest),
         "target" => target(alloc, &check(alloc, raw)?, rest),
         "counted" => counted_container(alloc, &check(alloc, raw)?, rest),
+        "pushed" => pushed(alloc, &check(alloc, raw)?, rest),
         _ => of_tree(alloc, &Tree::build(alloc, raw)?, word, rest),
     }
 }
@@ -53,6 +57,16 @@ fn counted_container(alloc: Global, story: &Story, node: &str) -> Answer {
     }
 }
 
+fn pushed(alloc: Global, story: &Story, node: &str) -> Answer {
+    match story.pushed(node_of(node)?) {
+        Some(path) => {
+            let path = print_path(alloc, path.get())?;
+            text(alloc, path.as_str())
+        }
+        None => text(alloc, "nothing"),
+    }
+}
+
 fn of_tree(alloc: Global, tree: &Tree, word: &str, rest: &str) -> Answer {
     match word {
         "len" => counted(alloc, tree.len()),
@@ -62,6 +76,7 @@ fn of_tree(alloc: Global, tree: &Tree, word: &str, rest: &str) -> Answer {
         "entered" => entered(alloc, tree, rest),
         "resolve" => resolved(alloc, tree, rest),
         "content" | "place" | "node" => of_spot(alloc, tree, word, spot_of(rest)?),
+        "number" | "holder" | "inside" | "leaf" => of_node(alloc, tree, word, node_of(rest)?),
         _ => of_place(alloc, tree, word, spot_at(alloc, tree, rest)?),
     }
 }
@@ -71,6 +86,15 @@ fn of_spot(alloc: Global, tree: &Tree, word: &str, spot: Spot) -> Answer {
         "content" => shown_content(alloc, tree.content(spot)),
         "place" => shown_place(alloc, tree, spot),
         _ => shown_node(alloc, tree.node(spot)),
+    }
+}
+
+fn of_node(alloc: Global, tree: &Tree, word: &str, node: NodeId) -> Answer {
+    match word {
+        "number" => counted(alloc, tree.number_of(node)),
+        "holder" => shown_node(alloc, tree.holder(node)),
+        "inside" => shown_node(alloc, tree.first(node)),
+        _ => shown_leaf(alloc, tree.leaf(node)),
     }
 }
 
