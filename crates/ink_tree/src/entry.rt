@@ -11,7 +11,7 @@ use crate::tree::Tree;
 use ink_model::Content;
 
 impl Tree {
-    ghost use Rattle.ink_tree.specs.Nodes.{story_tree, node_place, place_of};
+    ghost use Rattle.ink_tree.specs.Nodes.{story_tree, node_place, place_of, MayBeNode};
 
     /// Where a step at a place performs: down from what stands there to its first content that holds no other by index. And
     /// that content, none where nothing stands there. Takes no memory.
@@ -39,9 +39,11 @@ impl Tree {
         here
     }
 
-    /// The first content by index in a node.
-    pub(crate) fn first(&self, node: NodeId) -> Option<NodeId>
-        ensures { option_map (node_place (story_tree self.now)) result ≡ first_inside (story_tree self.now) (node_place (story_tree self.now) node) }
+    /// The first content by index in a node, none where it holds none. Takes no memory.
+    #[tactic(auto, using(crate::proofs::Kept::first_is_node))]
+    pub fn first(&self, node: NodeId) -> Option<NodeId>
+        ensures place { option_map (node_place (story_tree self.now)) result ≡ first_inside (story_tree self.now) (node_place (story_tree self.now) node) }
+        ensures inside { MayBeNode (story_tree self.now) result }
     {
         match self.linked(node) {
             Some(links) => links.first,
