@@ -1,11 +1,11 @@
 -- The containers that a landing enters, one further up.
-use Rattle.std.proofs.Common.{◌≡◌, ◌∙◌, ap, sym, refl, List, [], ◌∷◌, ◌++◌, map, reverse, Bool, true, false, true≢false, not, ◌&&◌, ◌||◌, Option, Some, None, is_some, cond, append_assoc}
+use Rattle.std.proofs.Common.{◌≡◌, ◌∙◌, ap, sym, refl, List, [], ◌∷◌, ◌++◌, map, reverse, Bool, true, false, true≢false, ◌&&◌, Option, Some, None, is_some, append_assoc}
 use Rattle.std.proofs.lemmas.List.{reverse-append, reverse-reverse, map-append}
-use Rattle.ink_model.specs.Entered.{was_inside, starts_only, is_first, listed_if, entered_above, entered_around, entered_places}
+use Rattle.ink_model.specs.Entered.{was_inside, starts_only, is_first, entered_above, entered_around, entered_places}
 use Rattle.ink_model.specs.Tree.{StoryTree, at}
 use Rattle.ink_model.specs.declared.place.Part.{Part}
 use Rattle.ink_tree.specs.Nodes.{node_place, IsNode, AreNodes}
-use Rattle.ink_tree.specs.Upwards.{with_container}
+use Rattle.ink_tree.specs.Walks.{with_container}
 use Rattle.ink_tree.specs.declared.spot.NodeId.{NodeId}
 
 abbrev Places : Type 0

@@ -5,6 +5,8 @@ use Rattle.std.proofs.lemmas.List.{append-nil, length-append}
 use Rattle.std.proofs.lemmas.Bool.{cases_lt}
 use Rattle.std.proofs.lemmas.Option.{cond_some, none-some, same_Some, slice_get_past}
 use Rattle.std.specs.Option.{unwrap_or}
+use Rattle.ink_model.specs.Entered.{listed_if, passed_at, passed_places}
+use Rattle.ink_model.specs.Path.{is_container}
 use Rattle.ink_model.specs.Place.{entered, first_content_at, landed, next_place}
 use Rattle.ink_model.specs.Places.{places}
 use Rattle.ink_model.specs.Tree.{StoryTree, leaf, container, no_trees, tree, at, down, width}
@@ -12,6 +14,7 @@ use Rattle.ink_model.specs.declared.place.Part.{Part}
 use Rattle.ink_model.specs.declared.place.Part.TheVariants.{Index, Name}
 use Rattle.ink_tree.specs.Kept.{AreLinked, IsLinked, Keeps, first_inside, way_to}
 use Rattle.ink_tree.specs.Nodes.{Finds, IsNode, MayBeNode, index_part, node_place, place_of}
+use Rattle.ink_tree.specs.Walks.{GoesIn}
 use Rattle.ink_tree.specs.declared.node.Links.{Links}
 use Rattle.ink_tree.specs.declared.node.Node.{Node}
 use Rattle.ink_tree.specs.declared.spot.NodeId.{NodeId}
@@ -99,6 +102,30 @@ module _ (s : StoryTree) (p : List Part) (none : None ≡ first_inside s p) wher
 
   pub lands_there : p ≡ landed s p
   lands_there = landed_on s p (none_first s p none)
+
+-- ---- containers on the way
+
+passed_here : (p : List Part) (o : Option StoryTree) → width o ≤ 0 → passed_at p o ≡ listed_if (is_container o) p []
+passed_here p None h = refl
+passed_here p (Some (leaf l)) h = refl
+passed_here p (Some (container name flags no_trees named)) h = refl
+passed_here p (Some (container name flags (tree t ts) named)) h = absurd (omega arith)
+
+passed_on : (p : List Part) (o : Option StoryTree) → 0 < width o → passed_at p o ≡ p ∷ passed_at (p ++ Index 0 ∷ []) (option_and_then (down (Index 0)) o)
+passed_on p None h = absurd (omega arith)
+passed_on p (Some (leaf l)) h = absurd (omega arith)
+passed_on p (Some (container name flags no_trees named)) h = absurd (omega arith)
+passed_on p (Some (container name flags (tree t ts) named)) h = refl
+
+pub goes_in : (s : StoryTree) (p : List Part) (r : Option NodeId) → option_map (node_place s) r ≡ first_inside s p → GoesIn s p r
+unfolding passed_places
+goes_in s p None e = (sym (is_there s p e), passed_here p (at s p) (none_first s p e))
+goes_in s p (Some n) e =
+    let (some, same) = first_at s p (node_place s n) e in (
+      sym (same_way s p (node_place s n) e),
+      passed_on p (at s p) some ∙ ap (λ o. p ∷ passed_at (p ++ Index 0 ∷ []) o) (below s p (Index 0) (at s p) refl)
+          ∙ ap (λ q. p ∷ passed_at q (at s q)) same,
+    )
 
 -- ---- spots
 

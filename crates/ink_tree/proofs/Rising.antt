@@ -1,16 +1,17 @@
 -- The places of a story rise in reading order.
-use Rattle.std.proofs.Common.{◌≡◌, ◌∙◌, ℕ, zero, suc, ◌+◌, ◌<◌, List, [], ◌∷◌, ◌++◌, map, Some, slice_get, Bool, true, false, ◌&&◌, Ordering, Less, Equal, Greater, nat_cmp, refl, sym, ap, subst, append_assoc, arith}
+use Rattle.std.proofs.Common.{◌≡◌, ◌∙◌, ℕ, zero, suc, ◌+◌, ◌<◌, List, [], ◌∷◌, ◌++◌, map, Some, slice_get, Bool, true, false, ◌&&◌, Ordering, Less, Equal, Greater, nat_cmp, refl, sym, ap, subst, append_assoc, arith, length, unwrap_or}
 use Rattle.std.proofs.lemmas.Cmp.{nat_cmp_total, nat_list_cmp_total, lists_total, tied_itself}
-use Rattle.std.proofs.lemmas.Option.{none-some, same_Some}
-use Rattle.std.specs.Cmp.{IsTotalOrder, nat_cmp_is}
+use Rattle.std.proofs.lemmas.Option.{none-some, same_Some, slice_get-get_or, unwrap_or-slice_get}
+use Rattle.std.specs.Cmp.{IsTotalOrder, nat_cmp_is, ranked}
 use Rattle.std.specs.Cmp.Lexicographic.{slice_cmp}
 use Rattle.std.specs.FinMap.{nat_cmp-IsAntisymmetric, slice_cmp-IsAntisymmetric}
 use Rattle.std.specs.List.{AllByRecursion}
-use Rattle.std.specs.Ordering.{is_lt, ordering_reverse}
+use Rattle.std.specs.Ordering.{MatchOrdering, is_lt, ordering_reverse}
 use Rattle.ink_model.specs.Places.{places, places_from, places_by_key}
 use Rattle.ink_model.specs.Tree.{StoryTree, leaf, container, Trees, no_trees, tree, Keyed, no_keys, key}
 use Rattle.ink_model.specs.declared.place.Part.{Part}
 use Rattle.ink_model.specs.declared.place.Part.TheVariants.{Index, Name}
+use Rattle.ink_tree.specs.Numbers.{NumbersInOrder, node_place}
 use Rattle.ink_tree.specs.Order.{part_order, place_order, keys_rise, keys_rise_in, keys_rise_by_key, is_below}
 
 -- ---- the order of parts and of places
@@ -203,3 +204,29 @@ one_place (y ∷ ys) (suc i) (suc j) x up a b = ap suc (one_place ys i j x up.1 
 -- two numbers at one place of a story are one
 pub one_number : (s : StoryTree) (i j : ℕ) (x : List Part) → keys_rise s ≡ true → slice_get (places s) i ≡ Some x → slice_get (places s) j ≡ Some x → i ≡ j
 one_number s i j x h = one_place (places s) i j x (rises s h)
+
+-- ---- numbers in the order of places
+
+one_on : (i j : ℕ) (o : Ordering) → MatchOrdering o (i < j) (i ≡ j) (j < i) → o ≡ nat_cmp (suc i) (suc j)
+one_on i j Less h = nat_cmp_is (suc i) (suc j) Less (omega (arith, h))
+one_on i j Equal h = nat_cmp_is (suc i) (suc j) Equal (ap suc h)
+one_on i j Greater h = nat_cmp_is (suc i) (suc j) Greater (omega (arith, h))
+
+in_order : (xs : List (List Part)) (i j : ℕ) (x y : List Part) → Rises xs → slice_get xs i ≡ Some x → slice_get xs j ≡ Some y → place_order x y ≡ nat_cmp i j
+in_order [] i j x y up a b = absurd (none-some x a)
+in_order (z ∷ zs) zero zero x y up a b = ap (place_order x) (sym (same_Some z y b) ∙ same_Some z x a) ∙ place_tied x
+in_order (z ∷ zs) zero (suc j) x y up a b =
+    ap (λ w. place_order w y) (sym (same_Some z x a)) ∙ at_one (λ w. place_order z w ≡ Less) zs j y up.0 b ∙ nat_cmp_is zero (suc j) Less (omega arith)
+in_order (z ∷ zs) (suc i) zero x y up a b =
+    place_total.antisymm x y ∙ ap (λ w. ordering_reverse (place_order w x)) (sym (same_Some z y b))
+    ∙ ap ordering_reverse (at_one (λ w. place_order z w ≡ Less) zs i x up.0 a) ∙ nat_cmp_is (suc i) zero Greater (omega arith)
+in_order (z ∷ zs) (suc i) (suc j) x y up a b = in_order zs i j x y up.1 a b ∙ one_on i j (nat_cmp i j) (ranked i j (nat_cmp i j) refl)
+
+stands_at : (xs : List (List Part)) (i : ℕ) → i < length xs → slice_get xs i ≡ Some (unwrap_or (slice_get xs i) [])
+stands_at xs i below = slice_get-get_or xs i [] below ∙ ap Some (sym (unwrap_or-slice_get xs i []))
+
+-- the numbers of a story's contents are in the order of their places
+pub numbered_in_order : (s : StoryTree) → keys_rise s ≡ true → NumbersInOrder s
+numbered_in_order s h = λ m n is_m is_n.
+    in_order (places s) m.number n.number (node_place s m) (node_place s n) (rises s h)
+    (stands_at (places s) m.number is_m) (stands_at (places s) n.number is_n)

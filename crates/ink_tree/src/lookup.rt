@@ -19,7 +19,7 @@ use ink_model::{Content, Part};
 use std::collections::BTreeMap;
 
 impl Tree {
-    ghost use Rattle.ink_tree.specs.Nodes.{story_tree, node_place, Finds, IsAbove};
+    ghost use Rattle.ink_tree.specs.Nodes.{story_tree, node_place, Finds, IsAbove, NumbersInOrder};
 
     /// A node of the story: the root in place of a number beyond the story's content.
     pub(crate) fn own(&self, node: NodeId) -> NodeId
@@ -30,6 +30,16 @@ impl Tree {
         } else {
             NodeId { number: 0 }
         }
+    }
+
+    /// The number of a content: the root's in place of a number beyond the story's content. Numbers are in the order of places.
+    /// Takes no memory.
+    #[tactic(auto, using(crate::proofs::Rising::numbered_in_order))]
+    pub fn number_of(&self, node: NodeId) -> usize
+        ensures found { Finds (story_tree self.now) (node_place (story_tree self.now) node) (Some (record { number = result })) }
+        ensures order { NumbersInOrder (story_tree self.now) }
+    {
+        self.own(node).number
     }
 
     /// What is kept of a node.
