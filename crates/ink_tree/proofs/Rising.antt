@@ -42,7 +42,7 @@ part_congr (Name l) (Name m) (Name n) h = nat_list_cmp_total.congr l m n h
 pub part_total : IsTotalOrder part_order
 part_total = record { antisymm = part_antisymm; trans = part_trans; congr = part_congr }
 
-place_total : IsTotalOrder place_order
+pub place_total : IsTotalOrder place_order
 place_total = lists_total part_total
 
 pub name_same : (m n : List ℕ) → slice_cmp nat_cmp m n ≡ Equal → m ≡ n
