@@ -15,3 +15,4 @@ pub mod Turns
 pub mod Calling
 pub mod Keys
 pub mod Visits
+pub mod Goings

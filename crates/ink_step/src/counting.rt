@@ -137,10 +137,11 @@ impl Machine {
         ensures memory { let s = story_tree tree.now in OnErr result (going_in_asks s (place_of s place) (config_of s self.old) ≡ true) }
         ensures globals { self.new.globals ≡ self.old.globals }
     {
-        let (here, found) = match tree.node(place) {
-            Some(node) => enter_passed(tree, &mut self.counts, node)?,
-            None => (place, None),
+        let Some(node) = tree.node(place) else {
+            self.threads.put(Some(place));
+            return Ok((place, None));
         };
+        let (here, found) = enter_passed(tree, &mut self.counts, node)?;
         self.threads.put(Some(here));
         Ok((here, found))
     }
