@@ -13,3 +13,6 @@ pub mod Unnumbered
 pub mod Passing
 pub mod Turns
 pub mod Calling
+pub mod Keys
+pub mod Visits
+pub mod Goings

@@ -3,14 +3,15 @@
 ghost use Rattle.std.specs.Prelude.{◌≡◌, ◌&&◌, true, IfOk, IfErr, OnOk, OnErr, option_map, if◌then◌else◌};
 ghost use Rattle.ink_check.specs.Words as check;
 ghost use Rattle.ink_model.specs.Counts as rules;
-ghost use Rattle.ink_model.specs.Entered.{flags_at};
-ghost use Rattle.ink_model.specs.Memory.{going_in_asks};
+ghost use Rattle.ink_model.specs.Entered.{entered_places, flags_at, passed_places};
+ghost use Rattle.ink_model.specs.Asks.{going_in_asks};
+ghost use Rattle.ink_model.specs.Path.{is_container};
 ghost use Rattle.ink_model.specs.Place.{entered};
 ghost use Rattle.ink_model.specs.Rows.{place_order};
 ghost use Rattle.ink_model.specs.Step.{gone_in};
 ghost use Rattle.ink_model.specs.Tree.{at};
 ghost use Rattle.ink_model.specs.View.{view};
-ghost use Rattle.ink_model.specs.Visits.{adds_rows, around, entering_around};
+ghost use Rattle.ink_model.specs.Visits.{adds_rows, all_visited, around, entering_around};
 ghost use Rattle.ink_step.specs.Words.{config_of, counts_in};
 ghost use Rattle.ink_tree.specs.Nodes.{node_place, place_of, story_tree};
 
@@ -28,8 +29,7 @@ pub(crate) fn visits_of(tree: &Tree, counts: &Counts, container: NodeId) -> Resu
     ensures { let s = story_tree tree.now in let q = node_place s container in
         result ≡ rules.visits_of place_order q (flags_at (at s q)) (counts_in s counts.now) }
 {
-    let container = own(tree, container);
-    counts.visits_of(container.number, tree.flags(container))
+    counts.visits_of(tree.number_of(container), tree.flags(container))
 }
 
 /// How many turns ago a container was entered last, -1 where it never was. `NotCounted` where its turns are not noted. Takes no
@@ -38,8 +38,7 @@ pub(crate) fn turns_since(tree: &Tree, counts: &Counts, container: NodeId) -> Re
     ensures { let s = story_tree tree.now in let q = node_place s container in
         result ≡ rules.turns_since place_order q (flags_at (at s q)) 0 (counts_in s counts.now) }
 {
-    let container = own(tree, container);
-    counts.turns_since(container.number, tree.flags(container), TURN)
+    counts.turns_since(tree.number_of(container), tree.flags(container), TURN)
 }
 
 // A container is entered, as at its start. The one error is a refused request for memory, which is made only for a row that is
@@ -51,17 +50,66 @@ fn enter(tree: &Tree, counts: &mut Counts, container: NodeId) -> Result<(), Faul
     ensures memory { let s = story_tree tree.now in let q = node_place s container in
         OnErr result (rules.adds_row place_order q (flags_at (at s q)) (counts_in s counts.old) ≡ true) }
 {
-    let container = own(tree, container);
-    counts.visit(container.number, tree.flags(container), true, TURN)
+    counts.visit(tree.number_of(container), tree.flags(container), true, TURN)
 }
 
-// The node itself; a number beyond the story's content stands for the root.
-fn own(tree: &Tree, node: NodeId) -> NodeId {
-    if node.number < tree.len() {
-        node
-    } else {
-        NodeId { number: 0 }
+// The containers on the way down from a content are entered, to the first content that holds no other, which is given. The one
+// error is a refused request for memory.
+fn enter_passed<'a>(
+    tree: &'a Tree,
+    counts: &mut Counts,
+    node: NodeId,
+) -> Result<(Spot, Option<&'a Content>), Fault>
+    ensures here { let s = story_tree tree.now in IfOk result (λ r. place_of s r.0 ≡ entered s (node_place s node)) }
+    ensures found { let s = story_tree tree.now in IfOk result (λ r. option_map (λ c. view c.now) r.1 ≡ at s (place_of s r.0)) }
+    ensures ok { let s = story_tree tree.now in OnOk result (counts_in s counts.new ≡ all_visited s 0 (passed_places s (node_place s node)) (counts_in s counts.old)) }
+    ensures fault { IfErr result (λ f. f ≡ Fault.OutOfMemory) }
+    ensures memory { let s = story_tree tree.now in OnErr result (adds_rows s (passed_places s (node_place s node)) (counts_in s counts.old) ≡ true) }
+{
+    let mut last = node;
+    while let Some(first) = tree.first(last) {
+        enter(tree, counts, last)?;
+        last = first;
     }
+    let here = Spot {
+        holder: last,
+        index: None,
+    };
+    let found = tree.content(here);
+    if is_container(found) {
+        enter(tree, counts, last)?;
+    }
+    Ok((here, found))
+}
+
+fn is_container(found: Option<&Content>) -> bool
+    ensures { result ≡ is_container (option_map (λ c. view c.now) found.entry) }
+{
+    match found {
+        Some(Content::Container { .. }) => true,
+        Some(Content::Leaf(_)) => false,
+        None => false,
+    }
+}
+
+// The containers around a place are entered where flow lands there from another place. The one error is a refused request for
+// memory.
+fn enter_landed(
+    tree: &Tree,
+    counts: &mut Counts,
+    previous: Option<Spot>,
+    place: Spot,
+) -> Result<(), Fault>
+    ensures ok { let s = story_tree tree.now in OnOk result (counts_in s counts.new ≡ all_visited s 0 (entered_places s (option_map (place_of s) previous) (place_of s place)) (counts_in s counts.old)) }
+    ensures fault { IfErr result (λ f. f ≡ Fault.OutOfMemory) }
+    ensures memory { let s = story_tree tree.now in OnErr result (adds_rows s (entered_places s (option_map (place_of s) previous) (place_of s place)) (counts_in s counts.old) ≡ true) }
+{
+    let mut rest = tree.upward(place);
+    while let Some(next) = tree.next_entered(previous, rest) {
+        enter(tree, counts, next.node)?;
+        rest = next;
+    }
+    Ok(())
 }
 
 impl Machine {
@@ -89,7 +137,13 @@ impl Machine {
         ensures memory { let s = story_tree tree.now in OnErr result (going_in_asks s (place_of s place) (config_of s self.old) ≡ true) }
         ensures globals { self.new.globals ≡ self.old.globals }
     {
-        todo
+        let Some(node) = tree.node(place) else {
+            self.threads.put(Some(place));
+            return Ok((place, None));
+        };
+        let (here, found) = enter_passed(tree, &mut self.counts, node)?;
+        self.threads.put(Some(here));
+        Ok((here, found))
     }
 
     /// Flow has landed: the containers around are entered, where the landing enters any. The one error is a refused request for
@@ -101,6 +155,11 @@ impl Machine {
             OnErr result ((enters && adds_rows s (around s c.flow.threads) c.shared.counts) ≡ true) }
         ensures globals { self.new.globals ≡ self.old.globals }
     {
-        todo
+        match self.threads.place() {
+            Some(place) if enters => {
+                enter_landed(tree, &mut self.counts, self.threads.top().previous(), place)
+            }
+            _ => Ok(()),
+        }
     }
 }

@@ -9,7 +9,7 @@ use Rattle.ink_model.specs.declared.place.Part.TheVariants.{Index}
 use Rattle.ink_tree.specs.Contents.{reaches_in}
 use Rattle.ink_tree.specs.Kept.{Keeps, leaf_in}
 use Rattle.ink_tree.specs.Nodes.{node_place, IsNode}
-use Rattle.ink_tree.specs.Order.{keys_rise, part_cmp}
+use Rattle.ink_tree.specs.Order.{keys_rise, part_order}
 use Rattle.ink_tree.specs.declared.node.Node.{Node}
 use Rattle.ink_tree.specs.declared.spot.NodeId.{NodeId}
 use Rattle.ink_tree.proofs.Absent.{one_node}
@@ -24,11 +24,11 @@ is_equal Less h = absurd cc
 is_equal Equal h = refl
 is_equal Greater h = absurd cc
 
-pub equal_parts : (x y : Part) → is_eq (part_cmp x y) ≡ true → x ≡ y
-equal_parts x y h = part_same x y (is_equal (part_cmp x y) h)
+pub equal_parts : (x y : Part) → is_eq (part_order x y) ≡ true → x ≡ y
+equal_parts x y h = part_same x y (is_equal (part_order x y) h)
 
-pub other_parts : (x y : Part) → is_eq (part_cmp x y) ≡ false → x ≡ y → ⊥
-other_parts x y h e = true≢false (sym (ap is_eq (ap (part_cmp x) (sym e) ∙ tied_itself part_total x)) ∙ h)
+pub other_parts : (x y : Part) → is_eq (part_order x y) ≡ false → x ≡ y → ⊥
+other_parts x y h e = true≢false (sym (ap is_eq (ap (part_order x) (sym e) ∙ tied_itself part_total x)) ∙ h)
 
 pub last_same : (p q : List Part) (x y : Part) → p ++ x ∷ [] ≡ q ++ y ∷ [] → (p ≡ q) × (x ≡ y)
 last_same [] [] x y e = let same : x ≡ y = cc in (refl, same)

@@ -1,30 +1,15 @@
 -- The containers that a landing enters, one further up.
-use Rattle.std.proofs.Common.{◌≡◌, ◌∙◌, ap, sym, refl, List, [], ◌∷◌, ◌++◌, map, reverse, Bool, true, false, true≢false, not, ◌&&◌, ◌||◌, Option, Some, None, is_some, cond, append_assoc}
+use Rattle.std.proofs.Common.{◌≡◌, ◌∙◌, ap, sym, refl, List, [], ◌∷◌, ◌++◌, map, reverse, Bool, true, false, true≢false, ◌&&◌, Option, Some, None, is_some, append_assoc}
 use Rattle.std.proofs.lemmas.List.{reverse-append, reverse-reverse, map-append}
-use Rattle.ink_model.specs.Entered.{was_inside, starts_only, is_first, listed_if, entered_above, entered_around, entered_places}
+use Rattle.ink_model.specs.Entered.{was_inside, starts_only, is_first, entered_above, entered_around, entered_places}
 use Rattle.ink_model.specs.Tree.{StoryTree, at}
 use Rattle.ink_model.specs.declared.place.Part.{Part}
 use Rattle.ink_tree.specs.Nodes.{node_place, IsNode, AreNodes}
+use Rattle.ink_tree.specs.Walks.{with_container}
 use Rattle.ink_tree.specs.declared.spot.NodeId.{NodeId}
 
 abbrev Places : Type 0
 Places = List (List Part)
-
--- what a container adds to what those around it are
-abbrev added : Bool → Bool → Bool → List Part → Places → Places
-added inside starts at_start up rest = cond (inside && not starts) [] (listed_if (not starts || at_start) up rest)
-
-always : (at_start : Bool) (up : List Part) (rest : Places) → up ∷ rest ≡ added false false at_start up rest
-always true up rest = refl
-always false up rest = refl
-
-at_its_start : (inside : Bool) (up : List Part) (rest : Places) → up ∷ rest ≡ added inside true true up rest
-at_its_start true up rest = refl
-at_its_start false up rest = refl
-
-not_at_its_start : (inside : Bool) (up : List Part) (rest : Places) → rest ≡ added inside true false up rest
-not_at_its_start true up rest = refl
-not_at_its_start false up rest = refl
 
 module _ (s : StoryTree) (o : Option (List Part)) where
   around_some : (n : List Part) (t : Option StoryTree) → is_some t ≡ true → entered_above s o true (reverse n) ≡ entered_around t s o n
@@ -45,26 +30,11 @@ module _ (s : StoryTree) (o : Option (List Part)) where
   entered_nowhere n h = around_none n (at s n) h
 
   module _ (at_start : Bool) (x : Part) (up rest : List Part) (e : rest ≡ up ++ x ∷ []) where
-    one_up : entered_above s o at_start (reverse rest)
-        ≡ added (was_inside up o) (starts_only s up) (at_start && is_first x) up (entered_above s o (at_start && is_first x) (reverse up))
+    pub one_up : entered_above s o at_start (reverse rest)
+        ≡ with_container (was_inside up o) (starts_only s up) (at_start && is_first x) up (entered_above s o (at_start && is_first x) (reverse up))
     one_up =
         ap (λ r. entered_above s o at_start (reverse r)) e ∙ ap (entered_above s o at_start) (reverse-append up (x ∷ []))
-        ∙ ap (λ q. added (was_inside q o) (starts_only s q) (at_start && is_first x) q (entered_above s o (at_start && is_first x) (reverse up))) (reverse-reverse up)
-
-    module _ (now : Bool) (is_now : now ≡ (at_start && is_first x)) where
-      -- a container that counts always, and that flow was not in
-      pub enters : starts_only s up ≡ false → was_inside up o ≡ false → entered_above s o at_start (reverse rest) ≡ up ∷ entered_above s o now (reverse up)
-      enters a i = one_up ∙ rw (sym is_now, a, i) (sym (always now up (entered_above s o now (reverse up))))
-
-      -- a container that counts at its start alone, which is where flow lands
-      pub enters_at_start : starts_only s up ≡ true → now ≡ true → entered_above s o at_start (reverse rest) ≡ up ∷ entered_above s o now (reverse up)
-      enters_at_start a i =
-          one_up ∙ rw (sym is_now, a, i) (sym (at_its_start (was_inside up o) up (entered_above s o true (reverse up))))
-
-      -- a container that counts at its start alone, which is not where flow lands
-      pub passes : starts_only s up ≡ true → now ≡ false → entered_above s o at_start (reverse rest) ≡ entered_above s o now (reverse up)
-      passes a i =
-          one_up ∙ rw (sym is_now, a, i) (sym (not_at_its_start (was_inside up o) up (entered_above s o false (reverse up))))
+        ∙ ap (λ q. with_container (was_inside q o) (starts_only s q) (at_start && is_first x) q (entered_above s o (at_start && is_first x) (reverse up))) (reverse-reverse up)
 
 -- one container more
 one_more : (s : StoryTree) (ns : List NodeId) (n : NodeId) (up : List Part) (rest : Places) → node_place s n ≡ up

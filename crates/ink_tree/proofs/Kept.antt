@@ -1,16 +1,20 @@
 -- What is kept of contents, and what is read of it.
-use Rattle.std.proofs.Common.{◌≡◌, ◌∙◌, ap, sym, refl, subst, ℕ, zero, suc, ◌+◌, ◌<◌, ◌≤◌, List, [], ◌∷◌, ◌++◌, length, Bool, true, false, cond, Option, Some, None, option_map, option_and_then, nat_lt, slice_get, append_assoc, arith}
+use Rattle.std.proofs.Common.{◌≡◌, ◌∙◌, ap, sym, refl, subst, ℕ, zero, suc, ◌+◌, ◌<◌, ◌≤◌, List, [], ◌∷◌, ◌++◌, length, Bool, true, false, cond, Option, Some, None, option_map, option_and_then, nat_lt, slice_get, append_assoc, arith, inl, inr}
 use Rattle.std.proofs.lemmas.Bool.Decides.{nat_tests}
 use Rattle.std.proofs.lemmas.List.{append-nil, length-append}
+use Rattle.std.proofs.lemmas.Bool.{cases_lt}
 use Rattle.std.proofs.lemmas.Option.{cond_some, none-some, same_Some, slice_get_past}
 use Rattle.std.specs.Option.{unwrap_or}
+use Rattle.ink_model.specs.Entered.{listed_if, passed_at, passed_places}
+use Rattle.ink_model.specs.Path.{is_container}
 use Rattle.ink_model.specs.Place.{entered, first_content_at, landed, next_place}
 use Rattle.ink_model.specs.Places.{places}
 use Rattle.ink_model.specs.Tree.{StoryTree, leaf, container, no_trees, tree, at, down, width}
 use Rattle.ink_model.specs.declared.place.Part.{Part}
 use Rattle.ink_model.specs.declared.place.Part.TheVariants.{Index, Name}
 use Rattle.ink_tree.specs.Kept.{AreLinked, IsLinked, Keeps, first_inside, way_to}
-use Rattle.ink_tree.specs.Nodes.{Finds, index_part, node_place, place_of}
+use Rattle.ink_tree.specs.Nodes.{Finds, IsNode, MayBeNode, index_part, node_place, place_of}
+use Rattle.ink_tree.specs.Walks.{GoesIn}
 use Rattle.ink_tree.specs.declared.node.Links.{Links}
 use Rattle.ink_tree.specs.declared.node.Node.{Node}
 use Rattle.ink_tree.specs.declared.spot.NodeId.{NodeId}
@@ -41,6 +45,20 @@ module _ (s : StoryTree) (p : List Part) where
   first_at q e =
       let (any, same) = cond_some (nat_lt 0 (width (at s p))) (p ++ Index 0 ∷ []) q (sym e) in
       (grind (arith, nat_tests, any), same)
+
+-- what stands one part down from a place has a number of its own
+under_is_node : (s : StoryTree) (n : NodeId) (p : List Part) (x : Part) → p ++ x ∷ [] ≡ node_place s n → IsNode s n
+under_is_node s n p x e =
+    elim (cases_lt n.number (length (places s))) [
+      | inl below ↦ below
+      | inr past ↦
+          let nowhere : node_place s n ≡ [] = ap (λ o. unwrap_or o []) (slice_get_past (places s) n.number past) in
+          absurd (omega (arith, sym (length-append p (x ∷ [])), ap length e, ap length nowhere))
+    ]
+
+pub first_is_node : (s : StoryTree) (p : List Part) (r : Option NodeId) → option_map (node_place s) r ≡ first_inside s p → MayBeNode s r
+first_is_node s p None e = tt
+first_is_node s p (Some n) e = under_is_node s n p (Index 0) (first_at s p (node_place s n) e).1
 
 no_first : (b : Bool) (n : ℕ) (p : List Part) → nat_lt 0 n ≡ b → None ≡ cond b (Some p) None → n ≤ 0
 no_first true n p is e = absurd (none-some p e)
@@ -84,6 +102,30 @@ module _ (s : StoryTree) (p : List Part) (none : None ≡ first_inside s p) wher
 
   pub lands_there : p ≡ landed s p
   lands_there = landed_on s p (none_first s p none)
+
+-- ---- containers on the way
+
+passed_here : (p : List Part) (o : Option StoryTree) → width o ≤ 0 → passed_at p o ≡ listed_if (is_container o) p []
+passed_here p None h = refl
+passed_here p (Some (leaf l)) h = refl
+passed_here p (Some (container name flags no_trees named)) h = refl
+passed_here p (Some (container name flags (tree t ts) named)) h = absurd (omega arith)
+
+passed_on : (p : List Part) (o : Option StoryTree) → 0 < width o → passed_at p o ≡ p ∷ passed_at (p ++ Index 0 ∷ []) (option_and_then (down (Index 0)) o)
+passed_on p None h = absurd (omega arith)
+passed_on p (Some (leaf l)) h = absurd (omega arith)
+passed_on p (Some (container name flags no_trees named)) h = absurd (omega arith)
+passed_on p (Some (container name flags (tree t ts) named)) h = refl
+
+pub goes_in : (s : StoryTree) (p : List Part) (r : Option NodeId) → option_map (node_place s) r ≡ first_inside s p → GoesIn s p r
+unfolding passed_places
+goes_in s p None e = (sym (is_there s p e), passed_here p (at s p) (none_first s p e))
+goes_in s p (Some n) e =
+    let (some, same) = first_at s p (node_place s n) e in (
+      sym (same_way s p (node_place s n) e),
+      passed_on p (at s p) some ∙ ap (λ o. p ∷ passed_at (p ++ Index 0 ∷ []) o) (below s p (Index 0) (at s p) refl)
+          ∙ ap (λ q. p ∷ passed_at q (at s q)) same,
+    )
 
 -- ---- spots
 

@@ -1,27 +1,28 @@
 -- The places of a story rise in reading order.
-use Rattle.std.proofs.Common.{◌≡◌, ◌∙◌, ℕ, zero, suc, ◌+◌, ◌<◌, List, [], ◌∷◌, ◌++◌, map, Some, slice_get, Bool, true, false, ◌&&◌, Ordering, Less, Equal, Greater, nat_cmp, refl, sym, ap, subst, append_assoc, arith}
+use Rattle.std.proofs.Common.{◌≡◌, ◌∙◌, ℕ, zero, suc, ◌+◌, ◌<◌, List, [], ◌∷◌, ◌++◌, map, Some, slice_get, Bool, true, false, ◌&&◌, Ordering, Less, Equal, Greater, nat_cmp, refl, sym, ap, subst, append_assoc, arith, length, unwrap_or}
 use Rattle.std.proofs.lemmas.Cmp.{nat_cmp_total, nat_list_cmp_total, lists_total, tied_itself}
-use Rattle.std.proofs.lemmas.Option.{none-some, same_Some}
-use Rattle.std.specs.Cmp.{IsTotalOrder, nat_cmp_is}
+use Rattle.std.proofs.lemmas.Option.{none-some, same_Some, slice_get-get_or, unwrap_or-slice_get}
+use Rattle.std.specs.Cmp.{IsTotalOrder, nat_cmp_is, ranked}
 use Rattle.std.specs.Cmp.Lexicographic.{slice_cmp}
 use Rattle.std.specs.FinMap.{nat_cmp-IsAntisymmetric, slice_cmp-IsAntisymmetric}
 use Rattle.std.specs.List.{AllByRecursion}
-use Rattle.std.specs.Ordering.{is_lt, ordering_reverse}
+use Rattle.std.specs.Ordering.{MatchOrdering, is_lt, ordering_reverse}
 use Rattle.ink_model.specs.Places.{places, places_from, places_by_key}
 use Rattle.ink_model.specs.Tree.{StoryTree, leaf, container, Trees, no_trees, tree, Keyed, no_keys, key}
 use Rattle.ink_model.specs.declared.place.Part.{Part}
 use Rattle.ink_model.specs.declared.place.Part.TheVariants.{Index, Name}
-use Rattle.ink_tree.specs.Order.{part_cmp, place_cmp, keys_rise, keys_rise_in, keys_rise_by_key, is_below}
+use Rattle.ink_tree.specs.Numbers.{NumbersInOrder, node_place}
+use Rattle.ink_tree.specs.Order.{part_order, place_order, keys_rise, keys_rise_in, keys_rise_by_key, is_below}
 
 -- ---- the order of parts and of places
 
-part_antisymm : (x y : Part) → part_cmp x y ≡ ordering_reverse (part_cmp y x)
+part_antisymm : (x y : Part) → part_order x y ≡ ordering_reverse (part_order y x)
 part_antisymm (Index i) (Index j) = nat_cmp_total.antisymm i j
 part_antisymm (Index i) (Name n) = refl
 part_antisymm (Name m) (Index j) = refl
 part_antisymm (Name m) (Name n) = nat_list_cmp_total.antisymm m n
 
-part_trans : (x y z : Part) → part_cmp x y ≡ Less → part_cmp y z ≡ Less → part_cmp x z ≡ Less
+part_trans : (x y z : Part) → part_order x y ≡ Less → part_order y z ≡ Less → part_order x z ≡ Less
 part_trans (Index i) (Index j) (Index k) h g = nat_cmp_total.trans i j k h g
 part_trans (Index i) (Index j) (Name n) h g = refl
 part_trans (Index i) (Name m) (Index k) h g = absurd cc
@@ -30,7 +31,7 @@ part_trans (Name l) (Index j) z h g = absurd cc
 part_trans (Name l) (Name m) (Index k) h g = absurd cc
 part_trans (Name l) (Name m) (Name n) h g = nat_list_cmp_total.trans l m n h g
 
-part_congr : (x y z : Part) → part_cmp x y ≡ Equal → part_cmp x z ≡ part_cmp y z
+part_congr : (x y z : Part) → part_order x y ≡ Equal → part_order x z ≡ part_order y z
 part_congr (Index i) (Index j) (Index k) h = nat_cmp_total.congr i j k h
 part_congr (Index i) (Index j) (Name n) h = refl
 part_congr (Index i) (Name m) z h = absurd cc
@@ -38,10 +39,10 @@ part_congr (Name l) (Index j) z h = absurd cc
 part_congr (Name l) (Name m) (Index k) h = refl
 part_congr (Name l) (Name m) (Name n) h = nat_list_cmp_total.congr l m n h
 
-pub part_total : IsTotalOrder part_cmp
+pub part_total : IsTotalOrder part_order
 part_total = record { antisymm = part_antisymm; trans = part_trans; congr = part_congr }
 
-place_total : IsTotalOrder place_cmp
+pub place_total : IsTotalOrder place_order
 place_total = lists_total part_total
 
 pub name_same : (m n : List ℕ) → slice_cmp nat_cmp m n ≡ Equal → m ≡ n
@@ -50,16 +51,16 @@ name_same = slice_cmp-IsAntisymmetric nat_cmp-IsAntisymmetric
 pub nat_list_tied : (n : List ℕ) → slice_cmp nat_cmp n n ≡ Equal
 nat_list_tied n = tied_itself nat_list_cmp_total n
 
-pub part_same : (x y : Part) → part_cmp x y ≡ Equal → x ≡ y
+pub part_same : (x y : Part) → part_order x y ≡ Equal → x ≡ y
 part_same (Index i) (Index j) h = ap Index (nat_cmp-IsAntisymmetric i j h)
 part_same (Index i) (Name n) h = absurd cc
 part_same (Name m) (Index j) h = absurd cc
 part_same (Name m) (Name n) h = ap Name (name_same m n h)
 
-pub place_same : (p q : List Part) → place_cmp p q ≡ Equal → p ≡ q
+pub place_same : (p q : List Part) → place_order p q ≡ Equal → p ≡ q
 place_same = slice_cmp-IsAntisymmetric part_same
 
-pub place_tied : (p : List Part) → place_cmp p p ≡ Equal
+pub place_tied : (p : List Part) → place_order p p ≡ Equal
 place_tied p = tied_itself place_total p
 
 -- ---- lists that rise
@@ -80,7 +81,7 @@ all_seen P Q [] f h = tt
 all_seen P Q (x ∷ xs) f h = (f x h.0, all_seen P Q xs f h.1)
 
 abbrev Below : List Part → List (List Part) → Type 0
-Below x = All' (λ y. place_cmp x y ≡ Less)
+Below x = All' (λ y. place_order x y ≡ Less)
 
 abbrev Rises : List (List Part) → Type 0
 Rises [] = Unit {0}
@@ -92,9 +93,9 @@ Begins R [] = ⊥
 Begins R (p ∷ ps) = R p
 
 abbrev After : Part → List (List Part) → Type 0
-After p = All' (Begins (λ q. part_cmp p q ≡ Less))
+After p = All' (Begins (λ q. part_order p q ≡ Less))
 
-begins_below : (p : Part) (x y : List Part) → Begins (λ q. part_cmp p q ≡ Less) y → place_cmp (p ∷ x) y ≡ Less
+begins_below : (p : Part) (x y : List Part) → Begins (λ q. part_order p q ≡ Less) y → place_order (p ∷ x) y ≡ Less
 begins_below p x [] h = absurd h
 begins_below p x (q ∷ y) h = rw h refl
 
@@ -117,7 +118,7 @@ IsName (Name n) = Unit {0}
 index_before : (i j : ℕ) → i < j → nat_cmp i j ≡ Less
 index_before i j h = sym (nat_cmp_is i j Less h)
 
-name_after : (i : ℕ) (p : List Part) → Begins IsName p → Begins (λ q. part_cmp (Index i) q ≡ Less) p
+name_after : (i : ℕ) (p : List Part) → Begins IsName p → Begins (λ q. part_order (Index i) q ≡ Less) p
 name_after i [] h = h
 name_after i (Index j ∷ p) h = absurd h
 name_after i (Name n ∷ p) h = refl
@@ -147,7 +148,7 @@ above k (key l t ks) h =
 
 all_any : (R : Part → Type 0) (xs : List (List Part)) → All' (Begins R) xs → Below [] xs
 all_any R xs = all_seen _ _ xs (begun R) where
-  begun : (S : Part → Type 0) (x : List Part) → Begins S x → place_cmp [] x ≡ Less
+  begun : (S : Part → Type 0) (x : List Part) → Begins S x → place_order [] x ≡ Less
   begun S [] h = absurd h
   begun S (p ∷ x) h = refl
 
@@ -186,8 +187,8 @@ at_one P [] i x h e = absurd (none-some x e)
 at_one P (y ∷ ys) zero x h e = subst P (same_Some y x e) h.0
 at_one P (y ∷ ys) (suc i) x h e = at_one P ys i x h.1 e
 
-not_itself : (x y : List Part) → place_cmp x y ≡ Less → x ≡ y → ⊥
-not_itself x y h e = let tied = place_tied x in let less : place_cmp x x ≡ Less = ap (place_cmp x) e ∙ h in absurd (less_equal (place_cmp x x) less tied) where
+not_itself : (x y : List Part) → place_order x y ≡ Less → x ≡ y → ⊥
+not_itself x y h e = let tied = place_tied x in let less : place_order x x ≡ Less = ap (place_order x) e ∙ h in absurd (less_equal (place_order x x) less tied) where
   less_equal : (o : Ordering) → o ≡ Less → o ≡ Equal → ⊥
   less_equal Less a b = cc
   less_equal Equal a b = cc
@@ -196,10 +197,36 @@ not_itself x y h e = let tied = place_tied x in let less : place_cmp x x ≡ Les
 one_place : (xs : List (List Part)) (i j : ℕ) (x : List Part) → Rises xs → slice_get xs i ≡ Some x → slice_get xs j ≡ Some x → i ≡ j
 one_place [] i j x up a b = absurd (none-some x a)
 one_place (y ∷ ys) zero zero x up a b = refl
-one_place (y ∷ ys) zero (suc j) x up a b = absurd (not_itself y x (at_one (λ z. place_cmp y z ≡ Less) ys j x up.0 b) (same_Some y x a))
-one_place (y ∷ ys) (suc i) zero x up a b = absurd (not_itself y x (at_one (λ z. place_cmp y z ≡ Less) ys i x up.0 a) (same_Some y x b))
+one_place (y ∷ ys) zero (suc j) x up a b = absurd (not_itself y x (at_one (λ z. place_order y z ≡ Less) ys j x up.0 b) (same_Some y x a))
+one_place (y ∷ ys) (suc i) zero x up a b = absurd (not_itself y x (at_one (λ z. place_order y z ≡ Less) ys i x up.0 a) (same_Some y x b))
 one_place (y ∷ ys) (suc i) (suc j) x up a b = ap suc (one_place ys i j x up.1 a b)
 
 -- two numbers at one place of a story are one
 pub one_number : (s : StoryTree) (i j : ℕ) (x : List Part) → keys_rise s ≡ true → slice_get (places s) i ≡ Some x → slice_get (places s) j ≡ Some x → i ≡ j
 one_number s i j x h = one_place (places s) i j x (rises s h)
+
+-- ---- numbers in the order of places
+
+one_on : (i j : ℕ) (o : Ordering) → MatchOrdering o (i < j) (i ≡ j) (j < i) → o ≡ nat_cmp (suc i) (suc j)
+one_on i j Less h = nat_cmp_is (suc i) (suc j) Less (omega (arith, h))
+one_on i j Equal h = nat_cmp_is (suc i) (suc j) Equal (ap suc h)
+one_on i j Greater h = nat_cmp_is (suc i) (suc j) Greater (omega (arith, h))
+
+in_order : (xs : List (List Part)) (i j : ℕ) (x y : List Part) → Rises xs → slice_get xs i ≡ Some x → slice_get xs j ≡ Some y → place_order x y ≡ nat_cmp i j
+in_order [] i j x y up a b = absurd (none-some x a)
+in_order (z ∷ zs) zero zero x y up a b = ap (place_order x) (sym (same_Some z y b) ∙ same_Some z x a) ∙ place_tied x
+in_order (z ∷ zs) zero (suc j) x y up a b =
+    ap (λ w. place_order w y) (sym (same_Some z x a)) ∙ at_one (λ w. place_order z w ≡ Less) zs j y up.0 b ∙ nat_cmp_is zero (suc j) Less (omega arith)
+in_order (z ∷ zs) (suc i) zero x y up a b =
+    place_total.antisymm x y ∙ ap (λ w. ordering_reverse (place_order w x)) (sym (same_Some z y b))
+    ∙ ap ordering_reverse (at_one (λ w. place_order z w ≡ Less) zs i x up.0 a) ∙ nat_cmp_is (suc i) zero Greater (omega arith)
+in_order (z ∷ zs) (suc i) (suc j) x y up a b = in_order zs i j x y up.1 a b ∙ one_on i j (nat_cmp i j) (ranked i j (nat_cmp i j) refl)
+
+stands_at : (xs : List (List Part)) (i : ℕ) → i < length xs → slice_get xs i ≡ Some (unwrap_or (slice_get xs i) [])
+stands_at xs i below = slice_get-get_or xs i [] below ∙ ap Some (sym (unwrap_or-slice_get xs i []))
+
+-- the numbers of a story's contents are in the order of their places
+pub numbered_in_order : (s : StoryTree) → keys_rise s ≡ true → NumbersInOrder s
+numbered_in_order s h = λ m n is_m is_n.
+    in_order (places s) m.number n.number (node_place s m) (node_place s n) (rises s h)
+    (stands_at (places s) m.number is_m) (stands_at (places s) n.number is_n)

@@ -4,3 +4,4 @@ pub mod Laws
 pub mod Nodes
 pub mod Numbers
 pub mod Order
+pub mod Walks

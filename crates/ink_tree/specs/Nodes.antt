@@ -5,7 +5,7 @@ use Rattle.ink_json.specs.Story.{tree}
 use Rattle.ink_model.specs.Tree.{StoryTree, at}
 use Rattle.ink_model.specs.declared.place.Part.{Part}
 use Rattle.ink_model.specs.declared.place.Part.TheVariants.{Index}
-pub use Rattle.ink_tree.specs.Numbers.{node_place, IsNode}
+pub use Rattle.ink_tree.specs.Numbers.{node_place, IsNode, NumbersInOrder}
 use Rattle.ink_tree.specs.declared.spot.NodeId.{NodeId}
 use Rattle.ink_tree.specs.declared.spot.Spot.{Spot}
 use Rattle.ink_tree.specs.declared.tree.Tree.{Tree}

@@ -2,28 +2,16 @@
 use Rattle.std.specs.Prelude.{ℕ, List, Bool, true, ◌&&◌}
 use Rattle.std.specs.Cmp.Lexicographic.{slice_cmp}
 use Rattle.std.specs.Ordering.{nat_cmp, is_lt}
-use Rattle.std.specs.declared.cmp.Ordering.{Ordering}
-use Rattle.std.specs.declared.cmp.Ordering.TheVariants.{Less, Greater}
+pub use Rattle.ink_model.specs.Rows.{part_order, place_order}
 use Rattle.ink_model.specs.Tree.{StoryTree, leaf, container, Trees, no_trees, tree, Keyed, no_keys, key}
 use Rattle.ink_model.specs.declared.place.Part.{Part}
 use Rattle.ink_model.specs.declared.place.Part.TheVariants.{Index, Name}
 use Rattle.ink_tree.specs.declared.order.Key.{Key}
 
--- indexes by their number, names by their bytes, and an index before a name
-abbrev pub part_cmp : Part → Part → Ordering
-part_cmp (Index i) (Index j) = nat_cmp i j
-part_cmp (Index i) (Name n) = Less
-part_cmp (Name m) (Index j) = Greater
-part_cmp (Name m) (Name n) = slice_cmp nat_cmp m n
-
 -- the part that a key is
 abbrev pub key_part : Key → Part
 key_part (Key.Index i) = Index i
 key_part (Key.Name n) = Name n.now
-
--- part by part, and a place before those inside it
-abbrev pub place_cmp : List Part → List Part → Ordering
-place_cmp = slice_cmp part_cmp
 
 -- a key comes before all of these
 abbrev pub is_below : List ℕ → Keyed → Bool

@@ -5,13 +5,14 @@ ghost use Rattle.ink_model.specs.Place.{entered};
 ghost use Rattle.ink_model.specs.Tree.{at};
 ghost use Rattle.ink_model.specs.View.{view};
 ghost use Rattle.ink_tree.specs.Kept.{first_inside};
+ghost use Rattle.ink_tree.specs.Walks.{GoesIn};
 
 use crate::spot::{NodeId, Spot};
 use crate::tree::Tree;
 use ink_model::Content;
 
 impl Tree {
-    ghost use Rattle.ink_tree.specs.Nodes.{story_tree, node_place, place_of};
+    ghost use Rattle.ink_tree.specs.Nodes.{story_tree, node_place, place_of, MayBeNode};
 
     /// Where a step at a place performs: down from what stands there to its first content that holds no other by index. And
     /// that content, none where nothing stands there. Takes no memory.
@@ -39,9 +40,12 @@ impl Tree {
         here
     }
 
-    /// The first content by index in a node.
-    pub(crate) fn first(&self, node: NodeId) -> Option<NodeId>
-        ensures { option_map (node_place (story_tree self.now)) result ≡ first_inside (story_tree self.now) (node_place (story_tree self.now) node) }
+    /// The first content by index in a node, none where it holds none. Takes no memory.
+    #[tactic(auto, using(crate::proofs::Kept::first_is_node, crate::proofs::Kept::goes_in))]
+    pub fn first(&self, node: NodeId) -> Option<NodeId>
+        ensures place { option_map (node_place (story_tree self.now)) result ≡ first_inside (story_tree self.now) (node_place (story_tree self.now) node) }
+        ensures inside { MayBeNode (story_tree self.now) result }
+        ensures goes_in { GoesIn (story_tree self.now) (node_place (story_tree self.now) node) result }
     {
         match self.linked(node) {
             Some(links) => links.first,

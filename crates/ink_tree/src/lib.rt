@@ -15,7 +15,9 @@ mod path;
 mod resolving;
 mod spot;
 mod tree;
+mod upward;
 
 pub use path::{print_path, read_path};
 pub use spot::{NodeId, Spot};
 pub use tree::Tree;
+pub use upward::Upward;

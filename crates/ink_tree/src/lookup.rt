@@ -19,7 +19,7 @@ use ink_model::{Content, Part};
 use std::collections::BTreeMap;
 
 impl Tree {
-    ghost use Rattle.ink_tree.specs.Nodes.{story_tree, node_place, Finds, IsAbove};
+    ghost use Rattle.ink_tree.specs.Nodes.{story_tree, node_place, Finds, IsAbove, NumbersInOrder};
 
     /// A node of the story: the root in place of a number beyond the story's content.
     pub(crate) fn own(&self, node: NodeId) -> NodeId
@@ -32,6 +32,16 @@ impl Tree {
         }
     }
 
+    /// The number of a content: the root's in place of a number beyond the story's content. Numbers are in the order of places.
+    /// Takes no memory.
+    #[tactic(auto, using(crate::proofs::Rising::numbered_in_order))]
+    pub fn number_of(&self, node: NodeId) -> usize
+        ensures found { Finds (story_tree self.now) (node_place (story_tree self.now) node) (Some (record { number = result })) }
+        ensures order { NumbersInOrder (story_tree self.now) }
+    {
+        self.own(node).number
+    }
+
     /// What is kept of a node.
     pub(crate) fn kept(&self, node: NodeId) -> &Node
         ensures { Keeps (story_tree self.now) (node_place (story_tree self.now) node) result.now }
@@ -40,8 +50,8 @@ impl Tree {
         &self.nodes[own.number]
     }
 
-    /// The content around a node, none around the root.
-    pub(crate) fn holder(&self, node: NodeId) -> Option<NodeId>
+    /// The container that holds a content, none for the root. Takes no memory.
+    pub fn holder(&self, node: NodeId) -> Option<NodeId>
         ensures { option_map (node_place (story_tree self.now)) result ≡ above (reverse (node_place (story_tree self.now) node)) }
     {
         let kept = self.kept(node);

@@ -1,7 +1,7 @@
 //! The order of places.
 
 ghost use Rattle.std.specs.Prelude.{◌≡◌};
-ghost use Rattle.ink_tree.specs.Order.{part_cmp, key_part};
+ghost use Rattle.ink_tree.specs.Order.{part_order, key_part};
 
 use ink_model::Part;
 use std::cmp::Ordering;
@@ -25,7 +25,7 @@ pub(crate) fn key_of(part: &Part) -> Key<'_>
 
 /// How a part stands to another.
 pub(crate) fn compare_parts(part: &Part, other: Key<'_>) -> Ordering
-    ensures { result ≡ part_cmp part.now (key_part other.entry) }
+    ensures { result ≡ part_order part.now (key_part other.entry) }
 {
     match (part, other) {
         (Part::Index(index), Key::Index(other)) => (*index).cmp(&other),

@@ -6,14 +6,14 @@ use Rattle.ink_tree.proofs.tree.Tree.first_in.Goals as goal
 pub loop-first-preserved : goal.loop-first-preserved
 loop-first-preserved c =
     let s = story_tree c.args.self.now in
-    same_way s (node_place s c.loop-first.here) (node_place s c.in-Some.first) c.in-Some.ensures ∙ c.loop-first.invariant
+    same_way s (node_place s c.loop-first.here) (node_place s c.in-Some.first) c.in-Some.ensures.place ∙ c.loop-first.invariant
 
 pub loop-first-smaller : goal.loop-first-smaller
 loop-first-smaller c =
     let s = story_tree c.args.self.now in
-    let less = ap length (shorter s (node_place s c.loop-first.here) (node_place s c.in-Some.first) c.in-Some.ensures) in omega (arith, less)
+    let less = ap length (shorter s (node_place s c.loop-first.here) (node_place s c.in-Some.first) c.in-Some.ensures.place) in omega (arith, less)
 
 pub returns : goal.returns
 returns c =
     let s = story_tree c.args.self.now in
-    is_there s (node_place s c.loop-first.here) c.in_default.ensures ∙ c.loop-first.invariant
+    is_there s (node_place s c.loop-first.here) c.in_default.ensures.place ∙ c.loop-first.invariant

@@ -15,10 +15,10 @@ pub returns-in-Some-first : goal.returns-in-Some-first
 returns-in-Some-first c =
     let s = story_tree c.args.self.now in
     on_node s c.of.result c.in-Some-first.first c.of.ensures.holder c.of.ensures.index
-    ∙ lands_first s (node_place s c.in-Some.node) (node_place s c.in-Some-first.first) c.in-Some-first.ensures
+    ∙ lands_first s (node_place s c.in-Some.node) (node_place s c.in-Some-first.first) c.in-Some-first.ensures.place
     ∙ ap (landed s) c.in-Some.ensures.1
 
 pub returns-in-None : goal.returns-in-None
 returns-in-None c =
     let s = story_tree c.args.self.now in
-    sym c.in-Some.ensures.1 ∙ lands_there s (node_place s c.in-Some.node) c.in-None.ensures ∙ ap (landed s) c.in-Some.ensures.1
+    sym c.in-Some.ensures.1 ∙ lands_there s (node_place s c.in-Some.node) c.in-None.ensures.place ∙ ap (landed s) c.in-Some.ensures.1
