@@ -15,3 +15,4 @@ pub mod Turns
 pub mod Calling
 pub mod Places
 pub mod Stored
+pub mod Unstored

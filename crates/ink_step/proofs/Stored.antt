@@ -2,8 +2,9 @@
 use Rattle.std.proofs.Common.{◌≡◌, ◌∙◌, ℕ, List, Bool, true, false, not, ◌&&◌, ◌||◌, Option, Some, None, Result, Ok, Err, OnOk, ap, inl, inr, is_ok, is_some, refl, subst, sym}
 use Rattle.ink_model.specs.Counts.{CountsOf}
 use Rattle.ink_model.specs.Effect.{Fields, Effect, Stores, Fails, or_fault, pushing}
-use Rattle.ink_model.specs.Frames.{ThreadOf, ThreadsOf, map_thread}
+use Rattle.ink_model.specs.Frames.{ThreadOf, ThreadsOf, fresh_depth, map_thread}
 use Rattle.ink_model.specs.Memory.{Leaves}
+use Rattle.ink_model.specs.Page.{Page}
 use Rattle.ink_model.specs.Stack.{popped, pushed}
 use Rattle.ink_model.specs.Step.Variables as effects
 use Rattle.ink_model.specs.Step.Variables.{storing}
@@ -17,7 +18,7 @@ use Rattle.ink_model.specs.declared.place.Part.{Part}
 use Rattle.ink_model.specs.declared.scope.Scope.{Scope}
 use Rattle.ink_model.specs.declared.scope.Scope.TheVariants.{Global, Temporary}
 use Rattle.ink_model.specs.declared.value.Value.{Value}
-use Rattle.ink_step.specs.Performs.{Changes, Keeps, Performs}
+use Rattle.ink_step.specs.Performs.{Changes, Keeps, Performs, fields}
 use Rattle.ink_step.specs.Words.{seen_by}
 use Rattle.ink_step.specs.declared.transfer.Transfer.{Transfer}
 use Rattle.ink_step.specs.declared.transfer.Transfer.TheVariants as transfer
@@ -182,3 +183,10 @@ module _ (s : StoryTree) (ts : ThreadsOf Spot) (counts : CountsOf ℕ) (f : Fiel
             subst (λ x. Performs s declaring_asks declaring (record f { stack = left }) (Err x)) (sym k.0)
             (short s declaring_asks (record f { stack = left }) declaring (asks_to_declare w is (or_first _ _ k.1)))
         by (Err x) is k = subst (λ e. Performs s declaring_asks e (record f { stack = left }) (Err g)) (sym (declares (Err x) is)) (inl k)
+
+-- ---- fields
+
+-- a thread of which only temporaries are others gives the same fields
+pub fields_kept : (old new : ThreadsOf Spot) (stack : List Value) (page : Page) (globals : Values) → new.thread.frame ≡ record old.thread.frame { temps = new.thread.frame.temps }
+    → fields old.thread.frame.evaluating (fresh_depth old.thread.frame) stack page globals ≡ fields new.thread.frame.evaluating (fresh_depth new.thread.frame) stack page globals
+fields_kept old new stack page globals kept = sym (ap (λ f. fields f.evaluating (fresh_depth f) stack page globals) kept)

@@ -80,6 +80,7 @@ pub(crate) fn declare<'a>(
             (effects.declare scope name.now seen (fields evaluating fresh stack.old.items page globals.now)) (fields evaluating fresh stack.new.items page globals.now) result }
     ensures threads { (s : StoryTree) (counts : CountsOf ℕ) (evaluating : Bool) (fresh : Option ℕ) (page : Page)
         → OnOk result (Keeps s (effects.declare scope name.now (seen_by s threads.old counts) (fields evaluating fresh stack.old.items page globals.now)) threads.old threads.new) }
+    ensures frame { threads.new.thread.frame ≡ record threads.old.thread.frame { temps = threads.new.thread.frame.temps } }
 {
     let Some(value) = top(stack) else {
         return Err(Fault::StackEmpty);
@@ -106,6 +107,7 @@ pub(crate) fn assign<'a>(
             (effects.assign name.now seen (fields evaluating fresh stack.old.items page globals.now)) (fields evaluating fresh stack.new.items page globals.now) result }
     ensures threads { (s : StoryTree) (counts : CountsOf ℕ) (evaluating : Bool) (fresh : Option ℕ) (page : Page)
         → OnOk result (Keeps s (effects.assign name.now (seen_by s threads.old counts) (fields evaluating fresh stack.old.items page globals.now)) threads.old threads.new) }
+    ensures frame { threads.new.thread.frame ≡ record threads.old.thread.frame { temps = threads.new.thread.frame.temps } }
 {
     let Some(value) = top(stack) else {
         return Err(Fault::StackEmpty);
@@ -127,6 +129,7 @@ fn store<'a>(
     ensures effect { (s : StoryTree) (f : Fields) → let w = with_variable f.globals threads.old.thread variable.entry value in
         Performs s (not (is_some (held_by f.globals threads.old.thread variable.entry))) (Stores (map_thread (place_of s) w.1) (record f { globals = w.0 })) f result }
     ensures threads { (globals : Values) → OnOk result (threads.new ≡ record threads.old { thread = (with_variable globals threads.old.thread variable.entry value).1 }) }
+    ensures frame { threads.new.thread.frame ≡ record threads.old.thread.frame { temps = threads.new.thread.frame.temps } }
 {
     if variable.frame == 0 {
         return Ok(Transfer::Store(variable.name, value));
