@@ -16,3 +16,6 @@ pub mod Calling
 pub mod Keys
 pub mod Visits
 pub mod Goings
+pub mod Places
+pub mod Stored
+pub mod Unstored
