@@ -19,3 +19,4 @@ pub mod Goings
 pub mod Places
 pub mod Stored
 pub mod Unstored
+pub mod Asked
