@@ -1,7 +1,7 @@
 //! Accepting a story (docs/STORY_FORMAT.md, "Paths").
 
 ghost use Rattle.std.specs.Prelude.{◌≡◌, ◌⊎◌, [], map, Some, IfOk, IfErr, Ok, Err};
-ghost use Rattle.ink_check.specs.Links.{counted_place, target_place};
+ghost use Rattle.ink_check.specs.Links.{counted_place, pushed_of, pushed_path, target_place};
 ghost use Rattle.ink_check.specs.Outcome.{Follows, IsFirstBad, IsRefusedFor};
 ghost use Rattle.ink_check.specs.Words.{story_tree};
 ghost use Rattle.ink_json.specs.Story.{tree};
@@ -42,6 +42,8 @@ fn written_links(alloc: Global, tree: &Tree) -> Result<Vec<Link>, Failure<NodeId
         IfOk result (λ links. map (target_place s) links.items ≡ map (written_target s) (places s)) }
     ensures counting { let s = nodes.story_tree tree.now in
         IfOk result (λ links. map (counted_place s) links.items ≡ map (counted_container s) (places s)) }
+    ensures pushing { let s = nodes.story_tree tree.now in
+        IfOk result (λ links. map pushed_of links.items ≡ map (λ p. pushed_path (at s p)) (places s)) }
     ensures err { IfErr result (λ failure. IsFirstBad (nodes.story_tree tree.now) failure) }
 {
     let mut links = Vec::with_capacity(alloc, tree.len())?;
@@ -58,7 +60,7 @@ fn node_link(alloc: Global, tree: &Tree, node: NodeId) -> Result<Link, Failure<N
 {
     match tree.leaf(node) {
         Some(leaf) => leaf_link(alloc, tree, node, leaf),
-        None => Ok(Link::none()),
+        None => Ok(Link::Nothing),
     }
 }
 
