@@ -1,5 +1,6 @@
 -- What the check of a story comes to, place by place.
 use Rattle.std.proofs.Common.{◌≡◌, ℕ, suc, ◌+◌, ◌-◌, ◌<◌, Bool, true, false, List, [], ◌∷◌, ◌++◌, map, length, take, drop, refl, sym, ap, ◌∙◌, arith, Option, Some, None, Ok, Err}
+use Rattle.std.specs.Borrow.{Bor}
 use Rattle.std.specs.List.{filter, slice_get}
 use Rattle.std.specs.Option.{option_map, option_or, unwrap_or}
 use Rattle.std.proofs.Math.Seq.{drop-cons}
@@ -86,7 +87,7 @@ root_place (leaf l) = refl
 root_place (container name flags content named) = refl
 
 -- what is kept of each node's link, and what the definition says of its place
-module _ (s : StoryTree) (kept : Link → Option (List Part)) (said : List Part → Option (List Part)) where
+module _ {X : Type 0} (s : StoryTree) (kept : Link → X) (said : List Part → X) where
   pub link_next : (n : ℕ) (ls new : List Link) (l : Link) → n < length (places s) → kept l ≡ said (node_place s (node n)) → new ≡ ls ++ l ∷ []
       → map kept ls ≡ map said (take n (places s)) → map kept new ≡ map said (take (n + 1) (places s))
   link_next n ls new l h is more so_far =
@@ -111,3 +112,9 @@ module _ (s : StoryTree) (kept : Link → Option (List Part)) (said : List Part 
 
     pub link_of : (n : NodeId) → option_map kept (option_or (slice_get ls n.number) (slice_get ls 0)) ≡ Some (said (node_place s n))
     link_of n = link_or (slice_get ls n.number) (slice_get ls 0) (slice_get (places s) n.number) (link_at n.number) (link_at 0 ∙ ap (option_map said) (root_place s))
+
+-- of links that are lent
+pub lent : {X : Type 0} (kept : Link → X) (a b : Option (Bor Link)) → option_map (λ l. kept l.now) (option_or a b) ≡ option_map kept (option_or (option_map (λ l. l.now) a) (option_map (λ l. l.now) b))
+lent kept None None = refl
+lent kept None (Some l) = refl
+lent kept (Some l) b = refl

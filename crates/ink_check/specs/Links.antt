@@ -12,7 +12,10 @@ use Rattle.ink_model.specs.declared.content.Leaf.TheVariants as leaves
 use Rattle.ink_model.specs.declared.place.Part.{Part}
 use Rattle.ink_model.specs.declared.place.Path.{Path}
 use Rattle.ink_tree.specs.Nodes.{node_place, place_of}
+use Rattle.ink_tree.specs.declared.spot.NodeId.{NodeId}
+use Rattle.ink_tree.specs.declared.spot.Spot.{Spot}
 use Rattle.ink_check.specs.declared.link.Link.{Link}
+use Rattle.ink_check.specs.declared.link.Link.TheVariants.{Nothing, Flows, Counts, Pushes}
 use Rattle.ink_check.specs.declared.link.Purpose.{Purpose}
 use Rattle.ink_check.specs.declared.link.Purpose.TheVariants.{Value, Count, Flow, OnceOnly}
 
@@ -68,15 +71,44 @@ counted_for Count p = Some p
 counted_for Flow p = None
 counted_for OnceOnly p = Some p
 
+-- the path that is pushed
+abbrev pub pushed_for : Purpose → Path → Option Path
+pushed_for Value path = Some path
+pushed_for u path = None
+
+-- the path that content pushes
+abbrev pub pushed_path : Option StoryTree → Option Path
+pushed_path (Some (leaf (leaves.Target text))) = read_path text
+pushed_path t = None
+
 -- ---- links
 
+abbrev pub target_of : Link → Option Spot
+target_of Nothing = None
+target_of (Flows target) = Some target
+target_of (Counts target n) = Some target
+target_of (Pushes target path) = Some target
+
+abbrev pub counted_of : Link → Option NodeId
+counted_of (Counts target n) = Some n
+counted_of l = None
+
+abbrev pub pushed_of : Link → Option Path
+pushed_of (Pushes target path) = Some path
+pushed_of l = None
+
 abbrev pub target_place : StoryTree → Link → Option (List Part)
-target_place s l = option_map (place_of s) l.target
+target_place s l = option_map (place_of s) (target_of l)
 
 abbrev pub counted_place : StoryTree → Link → Option (List Part)
-counted_place s l = option_map (node_place s) l.counted
+counted_place s l = option_map (node_place s) (counted_of l)
 
 -- what a path comes to for its purpose; nothing where it is bad for it
 abbrev pub IsLinkFor : StoryTree → Purpose → Path → List Part → Option Link → Type 0
 IsLinkFor s u path p None = is_good_for s u path p ≡ false
-IsLinkFor s u path p (Some l) = (is_good_for s u path p ≡ true) × (target_place s l ≡ Some (target_for s u path p)) × (counted_place s l ≡ counted_for u p)
+IsLinkFor s u path p (Some l) = (is_good_for s u path p ≡ true) × (target_place s l ≡ Some (target_for s u path p)) × (counted_place s l ≡ counted_for u p) × (pushed_of l ≡ pushed_for u path)
+
+-- a place with the container to which a path leads; nothing where its visits are not counted
+abbrev pub IsCountOf : StoryTree → List Part → List Part → Option Link → Type 0
+IsCountOf s p target None = is_counted s (Some p) ≡ false
+IsCountOf s p target (Some l) = (is_counted s (Some p) ≡ true) × (target_place s l ≡ Some target) × (counted_place s l ≡ Some p) × (pushed_of l ≡ None)

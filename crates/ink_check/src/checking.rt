@@ -1,7 +1,7 @@
 //! Accepting a story (docs/STORY_FORMAT.md, "Paths").
 
-ghost use Rattle.std.specs.Prelude.{◌≡◌, ◌⊎◌, [], map, option_map, Some, IfOk, IfErr, Ok, Err};
-ghost use Rattle.ink_check.specs.Links.{counted_place, target_place};
+ghost use Rattle.std.specs.Prelude.{◌≡◌, ◌⊎◌, [], map, Some, IfOk, IfErr, Ok, Err};
+ghost use Rattle.ink_check.specs.Links.{counted_place, pushed_of, pushed_path, target_place};
 ghost use Rattle.ink_check.specs.Outcome.{Follows, IsFirstBad, IsRefusedFor};
 ghost use Rattle.ink_check.specs.Words.{story_tree};
 ghost use Rattle.ink_json.specs.Story.{tree};
@@ -9,7 +9,6 @@ ghost use Rattle.ink_model.specs.Acceptance.{accepted, bad_places, counted_conta
 ghost use Rattle.ink_model.specs.Grammar.{here};
 ghost use Rattle.ink_model.specs.Places.{places};
 ghost use Rattle.ink_model.specs.Tree.{StoryTree, at};
-ghost use Rattle.ink_model.specs.View.{view};
 ghost use Rattle.ink_model.specs.declared.fault.Cause.TheVariants.{OutOfMemory};
 ghost use Rattle.ink_tree.specs.Nodes as nodes;
 
@@ -17,7 +16,7 @@ use crate::forms::leaf_link;
 use crate::link::Link;
 use crate::story::Story;
 use ink_json::RawStory;
-use ink_model::{Cause, Content, Failure, ReadRefusal};
+use ink_model::{Cause, Failure, ReadRefusal};
 use ink_tree::{NodeId, Spot, Tree};
 use std::alloc::Global;
 
@@ -43,6 +42,8 @@ fn written_links(alloc: Global, tree: &Tree) -> Result<Vec<Link>, Failure<NodeId
         IfOk result (λ links. map (target_place s) links.items ≡ map (written_target s) (places s)) }
     ensures counting { let s = nodes.story_tree tree.now in
         IfOk result (λ links. map (counted_place s) links.items ≡ map (counted_container s) (places s)) }
+    ensures pushing { let s = nodes.story_tree tree.now in
+        IfOk result (λ links. map pushed_of links.items ≡ map (λ p. pushed_path (at s p)) (places s)) }
     ensures err { IfErr result (λ failure. IsFirstBad (nodes.story_tree tree.now) failure) }
 {
     let mut links = Vec::with_capacity(alloc, tree.len())?;
@@ -57,30 +58,10 @@ fn written_links(alloc: Global, tree: &Tree) -> Result<Vec<Link>, Failure<NodeId
 fn node_link(alloc: Global, tree: &Tree, node: NodeId) -> Result<Link, Failure<NodeId>>
     ensures { let s = nodes.story_tree tree.now in Follows s node (at s (nodes.node_place s node)) result }
 {
-    match node_content(tree, node) {
-        Some(content) => content_link(alloc, tree, node, content),
-        None => Ok(Link::none()),
+    match tree.leaf(node) {
+        Some(leaf) => leaf_link(alloc, tree, node, leaf),
+        None => Ok(Link::Nothing),
     }
-}
-
-fn content_link(
-    alloc: Global,
-    tree: &Tree,
-    node: NodeId,
-    content: &Content,
-) -> Result<Link, Failure<NodeId>>
-    ensures { Follows (nodes.story_tree tree.now) node (Some (view content.now)) result }
-{
-    match content {
-        Content::Leaf(leaf) => leaf_link(alloc, tree, node, leaf),
-        Content::Container { .. } => Ok(Link::none()),
-    }
-}
-
-fn node_content(tree: &Tree, node: NodeId) -> Option<&Content>
-    ensures { let s = nodes.story_tree tree.now in option_map (λ c. view c.now) result ≡ at s (nodes.node_place s node) }
-{
-    tree.content(spot_of(node))
 }
 
 // The refusal, at the place of the bad path.

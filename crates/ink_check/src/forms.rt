@@ -23,12 +23,13 @@ pub(crate) fn leaf_link(
     ensures { Follows (story_tree tree.now) node (Some (trees.leaf leaf.now)) result }
 {
     let Some((text, purpose)) = written(leaf) else {
-        return Ok(Link::none());
+        return Ok(Link::Nothing);
     };
     let lead = follow(alloc, tree, node, text)?;
-    match lead.link(tree, purpose) {
-        Some(link) => Ok(link),
-        None => Err(Failure::Refused(node)),
+    match lead.link(alloc, tree, purpose) {
+        Ok(Some(link)) => Ok(link),
+        Ok(None) => Err(Failure::Refused(node)),
+        Err(_) => Err(Failure::OutOfMemory),
     }
 }
 

@@ -1,17 +1,18 @@
 //! Where a written path leads.
 
-ghost use Rattle.std.specs.Prelude.{◌≡◌, Some, None, if◌then◌else◌, option_map};
-ghost use Rattle.ink_check.specs.Links.{IsLinkFor};
+ghost use Rattle.std.specs.Prelude.{◌≡◌, Some, None, IfOk, if◌then◌else◌, option_map};
+ghost use Rattle.ink_check.specs.Links.{IsCountOf, IsLinkFor};
 ghost use Rattle.ink_check.specs.Outcome.{Leads, Reads};
 ghost use Rattle.ink_model.specs.Acceptance.{is_counted};
 ghost use Rattle.ink_model.specs.Path as paths;
+ghost use Rattle.ink_model.specs.Tree.{StoryTree};
 ghost use Rattle.ink_tree.specs.Nodes.{node_place, place_of, story_tree};
 
 use crate::link::{Link, Purpose};
 use ink_model::flags::counts_visits;
-use ink_model::{Cause, Failure, Part, Path};
+use ink_model::{Cause, Failure, Part, Path, Shared};
 use ink_tree::{NodeId, Spot, Tree, read_path};
-use std::alloc::Global;
+use std::alloc::{AllocError, Global};
 
 /// A path that was read, and where it leads.
 #[derive(Drop)]
@@ -49,28 +50,42 @@ fn path_of(alloc: Global, node: NodeId, text: &str) -> Result<Path, Failure<Node
 }
 
 impl Lead {
-    /// What the path comes to; none where it is bad for that purpose.
-    pub(crate) fn link(&self, tree: &Tree, purpose: Purpose) -> Option<Link>
-        ensures { let s = story_tree tree.now in IsLinkFor s purpose self.now.path (place_of s self.now.spot) result }
+    /// What the path comes to; none where it is bad for that purpose. The one error is a refused request for memory.
+    pub(crate) fn link(
+        self,
+        alloc: Global,
+        tree: &Tree,
+        purpose: Purpose,
+    ) -> Result<Option<Link>, AllocError>
+        ensures { let s = story_tree tree.now in IfOk result (λ link. IsLinkFor s purpose self.path (place_of s self.spot) link) }
     {
         match purpose {
-            Purpose::Value if self.path.relative => None,
-            Purpose::Value => Some(Link {
-                target: Some(self.spot),
-                counted: None,
-            }),
-            Purpose::Flow => Some(Link {
-                target: Some(self.landing(tree)),
-                counted: None,
-            }),
-            Purpose::Count => Some(Link {
-                target: Some(self.spot),
-                counted: Some(self.counted(tree)?),
-            }),
-            Purpose::OnceOnly => Some(Link {
-                target: Some(self.landing(tree)),
-                counted: Some(self.counted(tree)?),
-            }),
+            Purpose::Value => self.value(alloc),
+            Purpose::Flow => Ok(Some(Link::Flows(self.landing(tree)))),
+            Purpose::Count => Ok(self.counting(tree, self.spot)),
+            Purpose::OnceOnly => Ok(self.counting(tree, self.landing(tree))),
+        }
+    }
+
+    // The path itself, unless it is relative.
+    fn value(self, alloc: Global) -> Result<Option<Link>, AllocError>
+        ensures { (s : StoryTree) → IfOk result (λ link. IsLinkFor s Purpose.Value self.path (place_of s self.spot) link) }
+    {
+        if self.path.relative {
+            return Ok(None);
+        }
+        let Lead { path, spot } = self;
+        let path = Shared::new(alloc, path)?;
+        Ok(Some(Link::Pushes(spot, path)))
+    }
+
+    // A place, with the container to which the path leads, where visits are counted there.
+    fn counting(&self, tree: &Tree, target: Spot) -> Option<Link>
+        ensures { let s = story_tree tree.now in IsCountOf s (place_of s self.now.spot) (place_of s target) result }
+    {
+        match self.counted(tree) {
+            Some(container) => Some(Link::Counts(target, container)),
+            None => None,
         }
     }
 

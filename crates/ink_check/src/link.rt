@@ -1,25 +1,54 @@
 //! What the written path of a content comes to.
 
-ghost use Rattle.std.specs.Prelude.{◌≡◌, None};
+ghost use Rattle.std.specs.Prelude.{◌≡◌, option_map};
+ghost use Rattle.ink_check.specs.Links as links;
 
+use ink_model::{Path, Shared};
 use ink_tree::{NodeId, Spot};
 
-/// Where the written path of a content leads or lands, and the container whose visits the content asks for.
-#[derive(Clone, Copy)]
-pub(crate) struct Link {
-    pub target: Option<Spot>,
-    pub counted: Option<NodeId>,
+/// What the written path of a content comes to.
+#[derive(Drop)]
+pub(crate) enum Link {
+    /// There is none.
+    Nothing,
+    /// A place to which flow goes.
+    Flows(Spot),
+    /// The same, or a place that is asked about, with the container whose visits the content asks for.
+    Counts(Spot, NodeId),
+    /// A value, and where it leads.
+    Pushes(Spot, Shared<Path>),
 }
 
 impl Link {
-    /// That of content without a written path.
-    pub(crate) fn none() -> Link
-        ensures target { result.target ≡ None }
-        ensures counted { result.counted ≡ None }
+    /// Where the path leads or lands.
+    pub(crate) fn target(&self) -> Option<Spot>
+        ensures { result ≡ links.target_of self.now }
     {
-        Link {
-            target: None,
-            counted: None,
+        match self {
+            Link::Nothing => None,
+            Link::Flows(target) | Link::Counts(target, _) | Link::Pushes(target, _) => Some(
+                *target,
+            ),
+        }
+    }
+
+    /// The container whose visits the content asks for.
+    pub(crate) fn counted(&self) -> Option<NodeId>
+        ensures { result ≡ links.counted_of self.now }
+    {
+        match self {
+            Link::Counts(_, container) => Some(*container),
+            Link::Nothing | Link::Flows(_) | Link::Pushes(..) => None,
+        }
+    }
+
+    /// The path that is pushed.
+    pub(crate) fn pushed(&self) -> Option<&Shared<Path>>
+        ensures { option_map (λ path. path.now) result ≡ links.pushed_of self.now }
+    {
+        match self {
+            Link::Pushes(_, path) => Some(path),
+            Link::Nothing | Link::Flows(_) | Link::Counts(..) => None,
         }
     }
 }

@@ -1,13 +1,15 @@
 //! Accepted stories (docs/STORY_FORMAT.md, "Paths").
 
 ghost use Rattle.std.specs.Prelude.{◌≡◌, Some, [], map, option_map, slice_get};
-ghost use Rattle.ink_check.specs.Links.{counted_place, target_place};
+ghost use Rattle.ink_check.specs.Links.{counted_place, pushed_of, pushed_path, target_place};
 ghost use Rattle.ink_model.specs.Acceptance.{bad_places, counted_container, written_target};
 ghost use Rattle.ink_model.specs.Grammar.{IsSpelled};
 ghost use Rattle.ink_model.specs.Places.{places};
+ghost use Rattle.ink_model.specs.Tree.{at};
 ghost use Rattle.ink_tree.specs.Nodes as nodes;
 
 use crate::link::Link;
+use ink_model::{Path, Shared};
 use ink_tree::{NodeId, Spot, Tree};
 
 /// An accepted story: each written path in it leads somewhere. It never changes.
@@ -19,6 +21,7 @@ pub struct Story {
     ghost spelled: { IsSpelled (nodes.story_tree tree) },
     ghost leading: { let s = nodes.story_tree tree in map (target_place s) links.items ≡ map (written_target s) (places s) },
     ghost counting: { let s = nodes.story_tree tree in map (counted_place s) links.items ≡ map (counted_container s) (places s) },
+    ghost pushing: { let s = nodes.story_tree tree in map pushed_of links.items ≡ map (λ p. pushed_path (at s p)) (places s) },
 }
 
 impl Story {
@@ -39,7 +42,7 @@ impl Story {
         ensures { option_map (nodes.place_of (story_tree self.now)) result
             ≡ written_target (story_tree self.now) (nodes.node_place (story_tree self.now) node) }
     {
-        self.link(node)?.target
+        self.link(node)?.target()
     }
 
     /// The container whose visits a content asks for: a count, or a choice that is offered once only; none for other content.
@@ -48,21 +51,29 @@ impl Story {
         ensures { option_map (nodes.node_place (story_tree self.now)) result
             ≡ counted_container (story_tree self.now) (nodes.node_place (story_tree self.now) node) }
     {
-        self.link(node)?.counted
+        self.link(node)?.counted()
+    }
+
+    /// The path that a content pushes, read and shared; none for content that pushes none. Takes no memory.
+    pub fn pushed(&self, node: NodeId) -> Option<&Shared<Path>>
+        ensures { let s = story_tree self.now in option_map (λ path. path.now) result ≡ pushed_path (at s (nodes.node_place s node)) }
+    {
+        self.link(node)?.pushed()
     }
 
     // What the written path of a content comes to; a number beyond the story's content stands for the root.
-    fn link(&self, node: NodeId) -> Option<Link>
-        ensures target { let s = story_tree self.now in option_map (target_place s) result ≡ Some (written_target s (nodes.node_place s node)) }
-        ensures counted { let s = story_tree self.now in option_map (counted_place s) result ≡ Some (counted_container s (nodes.node_place s node)) }
+    fn link(&self, node: NodeId) -> Option<&Link>
+        ensures target { let s = story_tree self.now in option_map (λ l. target_place s l.now) result ≡ Some (written_target s (nodes.node_place s node)) }
+        ensures counted { let s = story_tree self.now in option_map (λ l. counted_place s l.now) result ≡ Some (counted_container s (nodes.node_place s node)) }
+        ensures pushed { let s = story_tree self.now in option_map (λ l. pushed_of l.now) result ≡ Some (pushed_path (at s (nodes.node_place s node))) }
     {
         let root = NodeId { number: 0 };
         self.entry(node).or(self.entry(root))
     }
 
-    fn entry(&self, node: NodeId) -> Option<Link>
-        ensures { result ≡ slice_get self.now.links.items node.number }
+    fn entry(&self, node: NodeId) -> Option<&Link>
+        ensures { option_map (λ l. l.now) result ≡ slice_get self.now.links.items node.number }
     {
-        self.links.get(node.number).copied()
+        self.links.get(node.number)
     }
 }

@@ -6,7 +6,7 @@ ghost use Rattle.ink_model.specs.View.{view};
 ghost use Rattle.ink_tree.specs.Kept.{kept_leaf};
 
 use crate::spot::NodeId;
-use ink_model::{Content, Part};
+use ink_model::{Content, Leaf, Part};
 
 /// A content: a copy of it where it holds no other, the content around it and the part that leads from there to it (the root has
 /// none), how many contents it holds by index, the flags of a container, and the number behind its own and those of all that is
@@ -22,6 +22,16 @@ pub(crate) struct Node {
 }
 
 impl Node {
+    /// The content itself, where it holds no other.
+    pub(crate) fn leaf(&self) -> Option<&Leaf>
+        ensures { option_map (λ l. l.now) result ≡ kept_leaf self.now.leaf }
+    {
+        match &self.leaf {
+            Some(Content::Leaf(leaf)) => Some(leaf),
+            _ => None,
+        }
+    }
+
     /// The content itself, where it is kept.
     pub(crate) fn content(&self) -> Option<&Content>
         ensures { option_map (λ c. view c.now) result ≡ option_map trees.leaf (kept_leaf self.now.leaf) }

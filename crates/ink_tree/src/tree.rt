@@ -14,7 +14,7 @@ ghost use Rattle.ink_model.specs.View.{view, trees_view};
 ghost use Rattle.ink_model.specs.declared.fault.Cause.TheVariants.{OutOfMemory};
 ghost use Rattle.ink_model.specs.declared.place.Part.TheVariants.{Index};
 ghost use Rattle.ink_tree.specs.Contents.{has_name};
-ghost use Rattle.ink_tree.specs.Kept.{KeepsAll, AreLinked};
+ghost use Rattle.ink_tree.specs.Kept.{KeepsAll, AreLinked, leaf_in};
 ghost use Rattle.ink_tree.specs.Order.{keys_rise};
 
 use crate::children::Children;
@@ -22,7 +22,7 @@ use crate::listing::list_story;
 use crate::node::{Links, Node};
 use crate::spot::{NodeId, Spot};
 use ink_json::RawStory;
-use ink_model::{Cause, Content, Part, Place, ReadRefusal};
+use ink_model::{Cause, Content, Leaf, Part, Place, ReadRefusal};
 use std::alloc::{AllocError, Global};
 
 /// A story's content, and a node for each content in reading order, with what a step asks of it. It never changes.
@@ -101,6 +101,13 @@ impl Tree {
             Some(index) => self.content_in(spot.holder, index),
             None => self.content_of(spot.holder),
         }
+    }
+
+    /// The content of a node, where it holds no other. Takes no memory.
+    pub fn leaf(&self, node: NodeId) -> Option<&Leaf>
+        ensures { option_map (λ l. l.now) result ≡ leaf_in (at (story_tree self.now) (node_place (story_tree self.now) node)) }
+    {
+        self.kept(node).leaf()
     }
 
     /// The content of a node.

@@ -1,7 +1,8 @@
 use Rattle.std.proofs.Common.{◌∙◌, arith, rules}
 use Rattle.std.proofs.lemmas.Result.{err_from_is_err_and}
 use Rattle.ink_model.specs.Acceptance.{counted_container, written_target}
-use Rattle.ink_check.specs.Links.{counted_place, target_place}
+use Rattle.ink_model.specs.Tree.{at}
+use Rattle.ink_check.specs.Links.{counted_place, pushed_of, pushed_path, target_place}
 use Rattle.ink_check.proofs.Checked.{all_bad, first_bad, good_next, link_next}
 use Rattle.ink_check.proofs.checking.written_links.Goals as goal
 
@@ -10,6 +11,7 @@ loop-number-init c = record {
   good = all_bad _;
   leading = search rules;
   counting = search rules;
+  pushing = search rules;
 }
 
 pub returns-in_err-link-clause-err : goal.returns-in_err-link-clause-err
@@ -23,4 +25,5 @@ loop-number-preserved c = record {
   good = c.loop-number.invariant.good ∙ good_next _ c.loop-number.number (omega arith) c.in_ok-link.ensures.0;
   leading = link_next _ (target_place _) (written_target _) c.loop-number.number c.loop-number.links.items _ c.in_ok-link.link (omega arith) c.in_ok-link.ensures.1 c.in_ok-push.ensures.items c.loop-number.invariant.leading;
   counting = link_next _ (counted_place _) (counted_container _) c.loop-number.number c.loop-number.links.items _ c.in_ok-link.link (omega arith) c.in_ok-link.ensures.2 c.in_ok-push.ensures.items c.loop-number.invariant.counting;
+  pushing = link_next _ pushed_of (λ p. pushed_path (at _ p)) c.loop-number.number c.loop-number.links.items _ c.in_ok-link.link (omega arith) c.in_ok-link.ensures.3 c.in_ok-push.ensures.items c.loop-number.invariant.pushing;
 }

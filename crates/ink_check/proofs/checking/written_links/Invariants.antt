@@ -2,7 +2,8 @@ use Rattle.std.proofs.Common.{◌≡◌, map, take}
 use Rattle.ink_model.specs.Acceptance.{bad_places, counted_container, written_target}
 use Rattle.ink_model.specs.Places.{places}
 use Rattle.ink_tree.specs.Nodes as nodes
-use Rattle.ink_check.specs.Links.{counted_place, target_place}
+use Rattle.ink_check.specs.Links.{counted_place, pushed_of, pushed_path, target_place}
+use Rattle.ink_model.specs.Tree.{at}
 use Rattle.ink_check.proofs.Checked.{bad_from}
 use Rattle.ink_check.proofs.checking.written_links.Given as goal
 
@@ -11,4 +12,5 @@ invariant-loop-number l = record {
   good : bad_places (nodes.story_tree l.tree) ≡ bad_from (nodes.story_tree l.tree) l.number;
   leading : map (target_place (nodes.story_tree l.tree)) l.links.items ≡ map (written_target (nodes.story_tree l.tree)) (take l.number (places (nodes.story_tree l.tree)));
   counting : map (counted_place (nodes.story_tree l.tree)) l.links.items ≡ map (counted_container (nodes.story_tree l.tree)) (take l.number (places (nodes.story_tree l.tree)));
+  pushing : map pushed_of l.links.items ≡ map (λ p. pushed_path (at (nodes.story_tree l.tree) p)) (take l.number (places (nodes.story_tree l.tree)));
 }
