@@ -332,3 +332,12 @@ left before n reach s settled e t =
       ends = λ after. t.ends (Leave n ∷ after) ∙ rw e (left_waiting n before after s s.newline t.fits).0;
       some = λ after. t.some (Leave n ∷ after) ∙ ap (λ b. s.text || b) (rw e (left_stays n before after s s.blank t.first));
     }
+
+-- where nothing waits the end leaves all as it is
+left_quiet : (before : List Mark) (n : Option ℕ) (text glue broken : Bool) (newline : Option Waiting) (blank : Option First) (settled : List ℕ) → (is_some newline || is_some blank) ≡ false → Tracks before record { text = text; glue = glue; broken = broken; newline = newline; blank = blank } settled → Tracks (Leave n ∷ before) record { text = text; glue = glue; broken = broken; newline = newline; blank = blank } settled
+left_quiet before n text glue broken None None settled h t = left before n (reach_of n before) record { text = text; glue = glue; broken = broken; newline = None; blank = None } settled refl t
+left_quiet before n text glue broken None (Some b) settled h t = cc
+left_quiet before n text glue broken (Some w) blank settled h t = cc
+
+pub left_as_is : (before : List Mark) (n : Option ℕ) (s : Tracker) (settled : List ℕ) → (is_some s.newline || is_some s.blank) ≡ false → Tracks before s settled → Tracks (Leave n ∷ before) s settled
+left_as_is before n s settled h t = left_quiet before n s.text s.glue s.broken s.newline s.blank settled h t

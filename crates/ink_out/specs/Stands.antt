@@ -1,10 +1,9 @@
 -- What is known of the marks of a section.
-use Rattle.std.specs.Prelude.{◌≡◌, ℕ, ◌<◌, nat_le, List, [], ◌∷◌, length, reverse, Option, None, Some, Bool, false}
-use Rattle.std.specs.Ordering.{nat_cmp}
-use Rattle.std.specs.BTreeMap.{get}
+use Rattle.std.specs.Prelude.{◌≡◌, ℕ, ◌<◌, nat_le, List, [], ◌∷◌, length, reverse, Option, None, Some, Bool, false, ◌==◌, if◌then◌else◌}
 use Rattle.ink_model.specs.declared.mark.Mark.{Mark}
 use Rattle.ink_model.specs.declared.mark.Mark.TheVariants.{Text, Tag}
 use Rattle.ink_out.specs.declared.enters.Enters.{Enters}
+use Rattle.ink_out.specs.declared.enters.Start.{Start}
 use Rattle.ink_out.specs.declared.state.State.{State}
 use Rattle.ink_out.specs.Tracks.{Tracks, enter_at}
 
@@ -31,9 +30,14 @@ pub record Stands (before : List Mark) (settled : List ℕ) (s : State) : Type 0
   pub tracks : Tracks before s.tracker settled
   pub more : s.more ≡ more_at before
 
+-- the index of the nearest start of a number
+abbrev pub started : ℕ → List Start → Option ℕ
+started n [] = None
+started n (s ∷ starts) = if n == s.number then Some s.at else started n starts
+
 -- the numbers entered
 pub record Knows (enters : Enters) (before : List Mark) : Type 0 where
-  pub at : (n : ℕ) → get nat_cmp enters.at n ≡ enter_at n before
+  pub at : (n : ℕ) → started n (reverse enters.starts.items) ≡ enter_at n before
 
 -- a section's marks and its settled newlines, both the oldest first
 pub record Sees (marks : List Mark) (settled : List ℕ) (state : State) (enters : Enters) : Type 0 where

@@ -1,19 +1,25 @@
 //! Where functions' texts start in a section.
 
-ghost use Rattle.std.specs.Prelude.{◌≡◌, List, [], ◌∷◌, length, OnOk, OnErr};
+ghost use Rattle.std.specs.Prelude.{◌≡◌, List, [], ◌∷◌, length, reverse, OnOk, OnErr};
 ghost use Rattle.ink_model.specs.declared.mark.Mark.{Mark};
 ghost use Rattle.ink_model.specs.declared.mark.Mark.TheVariants as kinds;
-ghost use Rattle.ink_out.specs.Stands.{Knows};
+ghost use Rattle.ink_out.specs.Stands.{Knows, started};
 ghost use Rattle.ink_out.specs.Tracks.{reach_of};
 
 use ink_model::Mark;
 use std::alloc::{AllocError, Global};
-use std::collections::BTreeMap;
 
-/// The index of the last start of each number.
+/// A number, and the index of its start.
+#[derive(Clone, Copy)]
+struct Start {
+    number: u64,
+    at: usize,
+}
+
+/// The starts so far, in order.
 #[derive(Drop)]
 pub(crate) struct Enters {
-    at: BTreeMap<u64, usize>,
+    starts: Vec<Start>,
 }
 
 impl Enters {
@@ -22,7 +28,7 @@ impl Enters {
         ensures { Knows result [] }
     {
         Enters {
-            at: BTreeMap::new(alloc),
+            starts: Vec::new(alloc),
         }
     }
 
@@ -30,7 +36,7 @@ impl Enters {
     pub(crate) fn clear(&mut self)
         ensures { Knows self.new [] }
     {
-        self.at.clear();
+        self.starts.clear();
     }
 
     /// Notes a mark at an index. The one error is a refused request for memory, and leaves the numbers as they were.
@@ -45,25 +51,40 @@ impl Enters {
         }
     }
 
-    // Notes that a number starts at an index. Few marks are starts, so that the map's code stands apart.
+    // Notes that a number starts at an index. Few marks are starts, so that this stands apart.
     #[inline(never)]
     fn start(&mut self, number: u64, at: usize) -> Result<(), AllocError>
         ensures ok { OnOk result ((before : List Mark) → at ≡ length before → Knows self.old before → Knows self.new (kinds.Enter number ∷ before)) }
         ensures err { OnErr result ((before : List Mark) → Knows self.old before → Knows self.new before) }
     {
-        self.at.insert(number, at)?;
+        self.starts.push(Start { number, at })?;
         Ok(())
     }
 
     /// How far back the end of a function's text reaches: to the start of its number, and past all marks where there is
     /// none.
-    #[inline(never)]
+    #[inline(always)]
     pub(crate) fn reach(&self, number: Option<u64>) -> Option<usize>
         ensures { (before : List Mark) → Knows self.now before → result ≡ reach_of number before }
     {
         match number {
-            Some(number) => self.at.get(&number).copied(),
+            Some(number) => last_start(self.starts.as_slice(), number),
             None => None,
         }
     }
+}
+
+// The index of the last start of a number. It is looked for from the end on: behind it are the starts of the functions that
+// it called, and of none besides.
+fn last_start(starts: &[Start], number: u64) -> Option<usize>
+    ensures { result ≡ started number (reverse starts.now) }
+{
+    let mut rest = starts;
+    while let Some((last, before)) = rest.split_last() {
+        if last.number == number {
+            return Some(last.at);
+        }
+        rest = before;
+    }
+    None
 }

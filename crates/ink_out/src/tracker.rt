@@ -1,6 +1,6 @@
 //! What decides which newlines are shown, kept up to date by each mark (docs/TEXT.md, "What is shown").
 
-ghost use Rattle.std.specs.Prelude.{◌≡◌, ℕ, List, [], ◌∷◌, Option, length};
+ghost use Rattle.std.specs.Prelude.{◌≡◌, ℕ, List, [], ◌∷◌, ◌||◌, Option, is_some, length};
 ghost use Rattle.ink_model.specs.declared.mark.Mark.{Mark};
 ghost use Rattle.ink_model.specs.declared.mark.Mark.TheVariants as mark;
 ghost use Rattle.ink_out.specs.Next.{blank_left, hides_next, newline_left};
@@ -70,7 +70,7 @@ impl Tracker {
             Mark::Glue => self.glue(),
             Mark::Tag(_) => self.tag(),
             Mark::Enter(_) => self.enter(),
-            Mark::Leave(number) => self.leave(enters.reach(*number)),
+            Mark::Leave(number) => self.end(*number, enters),
         }
     }
 
@@ -187,6 +187,24 @@ impl Tracker {
     pub(crate) fn enter(&mut self)
         ensures { (before : List Mark) (n : ℕ) (settled : List ℕ) → Tracks before self.old settled → Tracks (mark.Enter n ∷ before) self.new settled }
     {}
+
+    /// Goes past the end of a function's text. How far it reaches back matters only where something waits.
+    #[inline(always)]
+    fn end(&mut self, number: Option<u64>, enters: &Enters)
+        ensures { (before : List Mark) (settled : List ℕ) → Knows enters.now before → Tracks before self.old settled → Tracks (mark.Leave number ∷ before) self.new settled }
+    {
+        if self.waits() {
+            self.leave(enters.reach(number));
+        }
+    }
+
+    /// Something waits that the end of a function's text may hide.
+    #[inline(always)]
+    fn waits(&self) -> bool
+        ensures { result ≡ (is_some self.now.newline || is_some self.now.blank) }
+    {
+        self.newline.is_some() || self.blank.is_some()
+    }
 
     /// Goes past the end of a function's text, which reaches back to an index, or to the start.
     #[inline(always)]

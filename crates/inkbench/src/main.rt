@@ -1,6 +1,7 @@
 //! Work to be timed: bench/bench.py runs this program and takes the time. `json` parses what standard input holds, `story`
 //! reads and checks it; `marks COUNT ROUNDS` writes so many marks and shows them, so many times, and `asked` asks after each
-//! mark whether the line ends; `strings` and `tags` open, write and close so many. It exits with 0 where the work was done.
+//! mark whether the line ends; `strings` and `tags` open, write and close so many; `functions COUNT LINES` begins, writes and
+//! ends so many on each of so many lines. It exits with 0 where the work was done.
 #![tactic(auto)]
 
 use ink_check::check;
@@ -26,6 +27,7 @@ fn main(rt: HostRuntime) -> ExitCode {
         "asked" => repeats(alloc, &words, Work::Asked),
         "strings" => repeats(alloc, &words, Work::Strings),
         "tags" => repeats(alloc, &words, Work::Tags),
+        "functions" => writes_functions(alloc, number(&words, 2), number(&words, 3)).is_ok(),
         _ => true,
     };
     if done {
@@ -146,6 +148,21 @@ fn writes_tags(alloc: Global, count: u32) -> Result<usize, Fault> {
         let _ = output.close_tag()?;
     }
     Ok(output.tags()?.as_slice().len())
+}
+
+/// Begins functions, writes a text in each and ends it, line after line.
+fn writes_functions(alloc: Global, count: u32, lines: u32) -> Result<(), Fault> {
+    let mut output = Output::new(alloc);
+    let value = Value::Text(shared(alloc, "word")?);
+    for _line in 0..lines {
+        for _function in 0..count {
+            let number = output.enter()?;
+            output.write(&value, false)?;
+            output.leave(Some(number))?;
+        }
+        output.clear();
+    }
+    Ok(())
 }
 
 fn shared(alloc: Global, text: &str) -> Result<Shared<Text>, AllocError> {

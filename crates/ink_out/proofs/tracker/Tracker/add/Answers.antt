@@ -30,4 +30,4 @@ started n enters before k = record { at = k.at }
 pub returns-in-Leave : goal.returns-in-Leave
 returns-in-Leave c before settled at knows t =
     let known : Knows c.args.enters.now (Leave c.in-Leave.number ∷ before) = rw c.in-Leave.is at knows in
-    rw c.in-Leave.is (c.leave.ensures before _ settled (c.reach.ensures before (started c.in-Leave.number c.args.enters.now before known)) t)
+    rw c.in-Leave.is (c.end.ensures before settled (started c.in-Leave.number c.args.enters.now before known) t)
