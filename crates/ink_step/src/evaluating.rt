@@ -1,6 +1,7 @@
 //! Values, operators and evaluation mode (docs/RUNNING.md, "Evaluation").
 
-ghost use Rattle.std.specs.Prelude.{ℕ, List, [], ◌∷◌, Bool, true, false, Option, IfOk, ◌≡◌};
+ghost use Rattle.std.specs.Prelude.{ℕ, List, [], ◌∷◌, Bool, true, false, Option, Some, IfOk, ◌≡◌};
+ghost use Rattle.ink_check.specs.Words.{story_tree};
 ghost use Rattle.ink_model.specs.Effect.{pushing};
 ghost use Rattle.ink_model.specs.Memory.{has_top, operator_asks};
 ghost use Rattle.ink_model.specs.Operator.{takes};
@@ -9,13 +10,17 @@ ghost use Rattle.ink_model.specs.Stack.{popped, taken};
 ghost use Rattle.ink_model.specs.Step.Diverts as rules;
 ghost use Rattle.ink_model.specs.Step.Evaluation.{push_value, begin_eval, end_eval, pop, duplicate, operate};
 ghost use Rattle.ink_model.specs.Store.{Values};
+ghost use Rattle.ink_model.specs.Tree.{at, leaf};
+ghost use Rattle.ink_model.specs.declared.content.Leaf.TheVariants.{Target};
 ghost use Rattle.ink_model.specs.declared.value.Value.{Value as Data};
 ghost use Rattle.ink_model.specs.declared.value.Value.TheVariants as value;
 ghost use Rattle.ink_step.specs.Performs.{Changes, fields};
+ghost use Rattle.ink_tree.specs.Nodes.{place_of};
 
 use crate::operands::{push, top, top_copy};
-use ink_model::{Cause, Fault, Op, Path, Seq, Shared, Text, Value};
-use ink_tree::read_path;
+use ink_check::Story;
+use ink_model::{Fault, Op, Path, Shared, Text, Value};
+use ink_tree::Spot;
 use ink_value::EvalStack;
 use std::alloc::{AllocError, Global};
 
@@ -30,21 +35,38 @@ pub(crate) fn push_value(stack: &mut EvalStack, evaluating: bool, value: Value) 
     push(stack, value)
 }
 
-/// The path that a text spells is pushed in evaluation mode. Outside it nothing is done.
+/// The path that a content spells is pushed in evaluation mode. Outside it nothing is done.
 pub(crate) fn push_target(
-    alloc: Global,
+    story: &Story,
+    here: Spot,
     stack: &mut EvalStack,
     evaluating: bool,
     text: &Text,
 ) -> Result<(), Fault>
+    requires { let s = story_tree story.now in at s (place_of s here) ≡ Some (leaf (Target text.now)) }
     ensures { (fresh : Option ℕ) (page : Page) (globals : Values)
         → Changes evaluating (push_value (value.Target (rules.path_of text.now)) (fields evaluating fresh stack.old.items page globals)) (fields evaluating fresh stack.new.items page globals) result }
 {
     if !evaluating {
         return Ok(());
     }
-    let path = path_of(alloc, text.as_str())?;
-    push(stack, Value::Target(Shared::new(alloc, path)?))
+    let path = path_at(story, here, text)?;
+    push(stack, Value::Target(path))
+}
+
+/// The path that a content spells, which the story keeps read: an accepted one has it for each. The one error is a count of its
+/// owners that is full.
+fn path_at(story: &Story, here: Spot, text: &Text) -> Result<Shared<Path>, AllocError>
+    requires { let s = story_tree story.now in at s (place_of s here) ≡ Some (leaf (Target text.now)) }
+    ensures { IfOk result (λ path. path ≡ rules.path_of text.now) }
+{
+    let Some(node) = story.tree().node(here) else {
+        return Err(AllocError);
+    };
+    match story.pushed(node) {
+        Some(path) => path.share(),
+        None => Err(AllocError),
+    }
 }
 
 /// Evaluation mode begins. `BadMode` where it has begun.
@@ -95,18 +117,4 @@ pub(crate) fn operate(alloc: Global, stack: &mut EvalStack, operator: Op) -> Res
         → Changes (operator_asks operator (taken (takes operator) stack.old.items [])) (operate operator (fields evaluating fresh stack.old.items page globals)) (fields evaluating fresh stack.new.items page globals) result }
 {
     stack.apply_top(alloc, operator)
-}
-
-/// The path that a text spells; in an accepted story it spells one. The one error is a refused request for memory.
-fn path_of(alloc: Global, text: &str) -> Result<Path, AllocError>
-    ensures { IfOk result (λ path. path ≡ rules.path_of text.now) }
-{
-    match read_path(alloc, text) {
-        Ok(path) => Ok(path),
-        Err(refusal) if refusal.cause == Cause::OutOfMemory => Err(AllocError),
-        Err(_) => Ok(Path {
-            relative: false,
-            parts: Seq::new(alloc),
-        }),
-    }
 }

@@ -129,7 +129,8 @@ impl Machine {
             )),
             Leaf::Void => moving(push_value(&mut self.stack, evaluating, Value::Void)),
             Leaf::Target(text) => moving(push_target(
-                self.alloc,
+                story,
+                here,
                 &mut self.stack,
                 evaluating,
                 text,
