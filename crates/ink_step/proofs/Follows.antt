@@ -1,23 +1,22 @@
 -- Where flow goes after a content, and so how a step ends.
 use Rattle.std.proofs.Common.{◌≡◌, ◌∙◌, ◌||◌, ap, sym, refl, subst, inl, inr, ℕ, List, [], Bool, true, false, Option, Some, None, option_map, Result, Ok, Err}
-use Rattle.ink_model.specs.Configuration.{Configuration, current_place, ended, put_at, with_globals, with_safe, with_threads}
+use Rattle.ink_model.specs.Configuration.{Configuration, current_place, ended, put_at, with_threads}
 use Rattle.ink_model.specs.Counts.{CountsOf}
 use Rattle.ink_model.specs.Effect.{Fields, Effect, Moves, Stores, Lands, Calls, Returns, Forks, Done, Ends, Fails, fields_of, with_fields, with_thread}
-use Rattle.ink_model.specs.Flow.{Written, Reached, Reaches, Halts, Breaks, called, depth_of, done, forked, halt, is_last, moved_on, reach, returned}
+use Rattle.ink_model.specs.Flow.{Written, Reached, Reaches, Halts, Breaks, called, depth_of, forked, halt, moved_on, reach, returned}
 use Rattle.ink_model.specs.Frames.{ThreadOf, ThreadsOf, base_threads, map_threads, mode_in, on_top}
 use Rattle.ink_model.specs.Memory.{asks, asks_at, content_asks}
 use Rattle.ink_model.specs.Move.{Outcome, Next, Stop, Wants, Faults, end_all, finish, going, landing, may_enter, move, place_to, reached_in, with_flow, written_in}
 use Rattle.ink_model.specs.MoveMemory.{flow_asks, move_asks, moved_asks, returned_asks}
 use Rattle.ink_model.specs.Place.{entered, next_place}
 use Rattle.ink_model.specs.Step.{effect, nothing_bound, step, step_at}
-use Rattle.ink_model.specs.Store.{Values, store}
+use Rattle.ink_model.specs.Store.{Values}
 use Rattle.ink_model.specs.Threads.{staled}
 use Rattle.ink_model.specs.Tree.{StoryTree, at}
 use Rattle.ink_model.specs.declared.fault.Fault.{Fault}
 use Rattle.ink_model.specs.declared.fault.Fault.TheVariants.{OutOfMemory}
 use Rattle.ink_model.specs.declared.frame.FrameKind.{FrameKind}
 use Rattle.ink_model.specs.declared.place.Part.{Part}
-use Rattle.ink_model.specs.declared.value.Value.{Value}
 use Rattle.ink_step.specs.Performs.{Keeps, Performs, stored_by}
 use Rattle.ink_step.specs.Reaches.{ReachesAs}
 use Rattle.ink_step.specs.Steps.{StepEnds}
@@ -28,8 +27,6 @@ use Rattle.ink_step.specs.declared.machine.Machine.{Machine}
 use Rattle.ink_step.specs.declared.transfer.Transfer.TheVariants as transfer
 use Rattle.ink_tree.specs.Nodes.{place_of}
 use Rattle.ink_tree.specs.declared.spot.Spot.{Spot}
-use Rattle.ink_vars.specs.Words.{name_of}
-use Rattle.ink_vars.specs.declared.places.Name.{Name}
 
 -- ---- by cases
 
@@ -93,37 +90,6 @@ ends_reached asking c reached ts w (Err f) h = ends_broken asking c (with_flow t
 module _ (s : StoryTree) (asking : Bool) (c d : Configuration) (r : Result StepEnd Fault) where
   abbrev Follows : Effect → Type 0
   Follows e = StepEnds (asking || move_asks s e c) (move s e c) c.shared.globals d r
-
-  -- the thread has the temporaries that the effect stores already
-  abbrev HasStored : Effect → Type 0
-  HasStored e = c.flow.threads ≡ on_top (mode_in c.flow.threads.thread.frame.evaluating) (on_top (stored_by e) c.flow.threads)
-
-  pub goes_on : (e : Effect) → Performs s asking e (fields_of c) (Ok transfer.Next) → HasStored e
-      → StepEnds (moved_asks (next_place s) c.flow.threads (written_in c)) (going (moved_on (next_place s)) c) c.shared.globals d r → Follows e
-  goes_on (Moves f) h has go = subst (λ g. Follows (Moves g)) h (ends_more asking _ _ _ _ r go)
-  goes_on (Stores t f) h has go = subst (λ g. Follows (Stores t g)) h
-      (ends_more asking _ _ _ _ r (subst (λ ts. let e = with_threads ts c in StepEnds (moved_asks (next_place s) ts (written_in e)) (going (moved_on (next_place s)) e) c.shared.globals d r) has go))
-  goes_on (Lands p f) h has go = absurd h
-  goes_on (Calls k p f) h has go = absurd h
-  goes_on (Returns k to f) h has go = absurd h
-  goes_on (Forks f) h has go = absurd h
-  goes_on (Done f) h has go = absurd h
-  goes_on (Ends f) h has go = absurd h
-  goes_on (Fails f) h has go = absurd h
-
-  -- a global is stored
-  pub goes_storing : (name : Name) (v : Value) (e : Effect) → Performs s asking e (fields_of c) (Ok (transfer.Store name v)) → HasStored e
-      → (let after = with_globals (store (name_of name) v c.shared.globals) c in StepEnds (asking || moved_asks (next_place s) c.flow.threads (written_in c)) (going (moved_on (next_place s)) after) c.shared.globals d r) → Follows e
-  goes_storing name v (Moves f) h has go = absurd h
-  goes_storing name v (Stores t f) h has go = subst (λ g. Follows (Stores t g)) (sym h.0)
-      (subst (λ ts. let e = with_globals (store (name_of name) v c.shared.globals) (with_threads ts c) in StepEnds (asking || moved_asks (next_place s) ts (written_in e)) (going (moved_on (next_place s)) e) c.shared.globals d r) has go)
-  goes_storing name v (Lands p f) h has go = absurd h
-  goes_storing name v (Calls k p f) h has go = absurd h
-  goes_storing name v (Returns k to f) h has go = absurd h
-  goes_storing name v (Forks f) h has go = absurd h
-  goes_storing name v (Done f) h has go = absurd h
-  goes_storing name v (Ends f) h has go = absurd h
-  goes_storing name v (Fails f) h has go = absurd h
 
   abbrev stale_now : Configuration
   stale_now = with_threads (on_top (staled (depth_of (written_in c))) c.flow.threads) c

@@ -1,7 +1,7 @@
 -- What reading, declaring and assigning do, by the variable that is read or written.
-use Rattle.std.proofs.Common.{◌≡◌, ◌∙◌, ℕ, List, Bool, true, false, not, ◌&&◌, ◌||◌, Option, Some, None, Result, Ok, Err, OnOk, ap, inl, inr, is_ok, is_some, refl, subst, sym}
+use Rattle.std.proofs.Common.{◌≡◌, ◌∙◌, ℕ, List, Bool, true, false, not, ◌||◌, Some, Result, Ok, Err, OnOk, ap, inl, inr, is_ok, is_some, refl, subst, sym}
 use Rattle.ink_model.specs.Counts.{CountsOf}
-use Rattle.ink_model.specs.Effect.{Fields, Effect, Stores, Fails, or_fault, pushing}
+use Rattle.ink_model.specs.Effect.{Fields, Effect, Stores, or_fault, pushing}
 use Rattle.ink_model.specs.Frames.{ThreadOf, ThreadsOf, fresh_depth, map_thread}
 use Rattle.ink_model.specs.Memory.{Leaves}
 use Rattle.ink_model.specs.Page.{Page}
@@ -11,9 +11,8 @@ use Rattle.ink_model.specs.Step.Variables.{storing}
 use Rattle.ink_model.specs.Store.{Values}
 use Rattle.ink_model.specs.Tree.{StoryTree}
 use Rattle.ink_model.specs.VariableMemory.{assign_asks, declare_asks, is_pointer, is_there, on_popped}
-use Rattle.ink_model.specs.Variables.{assign, declare, declared, kept, named, read, with_declared}
+use Rattle.ink_model.specs.Variables.{assign, declare, declared, kept, read}
 use Rattle.ink_model.specs.declared.fault.Fault.{Fault}
-use Rattle.ink_model.specs.declared.fault.Fault.TheVariants.{OutOfMemory}
 use Rattle.ink_model.specs.declared.place.Part.{Part}
 use Rattle.ink_model.specs.declared.scope.Scope.{Scope}
 use Rattle.ink_model.specs.declared.scope.Scope.TheVariants.{Global, Temporary}

@@ -1,6 +1,6 @@
 -- Content that stores no temporary.
 use Rattle.std.proofs.Common.{◌≡◌, ◌∙◌, ℤ, List, Bool, true, false, Option, Some, None, Result, Ok, Err, OnOk, ap, if◌then◌else◌, refl, reverse, sym}
-use Rattle.ink_model.specs.Effect.{Context, Effect, Fields, Moves, or_else, or_fault, pushing, writing, writing_text}
+use Rattle.ink_model.specs.Effect.{Context, Effect, Fields, or_else, or_fault, pushing, writing, writing_text}
 use Rattle.ink_model.specs.Frames.{ThreadOf, ThreadsOf, map_threads, mode_in, on_top}
 use Rattle.ink_model.specs.Output.{closes_string, opens}
 use Rattle.ink_model.specs.Page.{Page, tag_section}

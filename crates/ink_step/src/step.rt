@@ -26,8 +26,8 @@ use crate::flow;
 use crate::flow::{StepEnd, done, end, fork, give_back, land, move_on};
 use crate::frames::{call, return_tunnel};
 use crate::machine::Machine;
-use crate::sections::{begin_string, begin_tag, end_string, end_tag};
 use crate::questions::{push_count, push_read_count, push_turn, push_turns, push_visit};
+use crate::sections::{begin_string, begin_tag, end_string, end_tag};
 use crate::storing::{assign, declare, push_pointer, push_variable};
 use crate::transfer::{Landing, Transfer, after_text, moving};
 use crate::writing::{output_top, write_glue, write_newline, write_text};
@@ -342,7 +342,12 @@ impl Machine {
     }
 
     /// Flow goes on after the content, and then a global is stored.
-    fn go_on_storing(&mut self, story: &Story, name: Name<'_>, value: Value) -> Result<StepEnd, Fault>
+    fn go_on_storing(
+        &mut self,
+        story: &Story,
+        name: Name<'_>,
+        value: Value,
+    ) -> Result<StepEnd, Fault>
         ensures { let s = story_tree story.now in let c = with_globals (store (name_of name.entry) value self.old.globals) (config_of s self.old) in (asks : Bool) → is_some (stored (name_of name.entry) self.old.globals) || asks ≡ true
             → StepEnds (asks || moved_asks (next_place s) c.flow.threads (written_in c)) (going (moved_on (next_place s)) c) self.old.globals (config_of s self.new) result }
     {

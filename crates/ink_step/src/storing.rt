@@ -36,7 +36,7 @@ pub(crate) fn push_variable(
 ) -> Result<(), Fault>
     ensures { (s : StoryTree) (counts : CountsOf ℕ) (evaluating : Bool) (fresh : Option ℕ) (page : Page)
         → let seen = seen_by s threads.now counts in Changes (is_ok (rules.read globals.now seen.thread name.now))
-            (effects.push_variable name.now seen (fields evaluating fresh stack.old.items page globals.now)) (fields evaluating fresh stack.new.items page globals.now) result }
+        (effects.push_variable name.now seen (fields evaluating fresh stack.old.items page globals.now)) (fields evaluating fresh stack.new.items page globals.now) result }
 {
     match read(alloc, globals, threads, name.as_str()) {
         Ok(value) => push(stack, value),
@@ -55,7 +55,7 @@ pub(crate) fn push_pointer(
 ) -> Result<(), Fault>
     ensures { (s : StoryTree) (counts : CountsOf ℕ) (fresh : Option ℕ) (page : Page) (globals : Values)
         → Changes evaluating (effects.push_pointer name.now frame (seen_by s threads.now counts) (fields evaluating fresh stack.old.items page globals))
-            (fields evaluating fresh stack.new.items page globals) result }
+        (fields evaluating fresh stack.new.items page globals) result }
 {
     if !evaluating {
         return Ok(());
@@ -77,7 +77,7 @@ pub(crate) fn declare<'a>(
 ) -> Result<Transfer<'a>, Fault>
     ensures effect { (s : StoryTree) (counts : CountsOf ℕ) (evaluating : Bool) (fresh : Option ℕ) (page : Page)
         → let seen = seen_by s threads.old counts in Performs s (on_popped (popped stack.old.items) (declare_asks globals.now seen.thread scope name.now))
-            (effects.declare scope name.now seen (fields evaluating fresh stack.old.items page globals.now)) (fields evaluating fresh stack.new.items page globals.now) result }
+        (effects.declare scope name.now seen (fields evaluating fresh stack.old.items page globals.now)) (fields evaluating fresh stack.new.items page globals.now) result }
     ensures threads { (s : StoryTree) (counts : CountsOf ℕ) (evaluating : Bool) (fresh : Option ℕ) (page : Page)
         → OnOk result (Keeps s (effects.declare scope name.now (seen_by s threads.old counts) (fields evaluating fresh stack.old.items page globals.now)) threads.old threads.new) }
     ensures frame { threads.new.thread.frame ≡ record threads.old.thread.frame { temps = threads.new.thread.frame.temps } }
@@ -104,7 +104,7 @@ pub(crate) fn assign<'a>(
 ) -> Result<Transfer<'a>, Fault>
     ensures effect { (s : StoryTree) (counts : CountsOf ℕ) (evaluating : Bool) (fresh : Option ℕ) (page : Page)
         → let seen = seen_by s threads.old counts in Performs s (on_popped (popped stack.old.items) (assign_asks globals.now seen.thread name.now))
-            (effects.assign name.now seen (fields evaluating fresh stack.old.items page globals.now)) (fields evaluating fresh stack.new.items page globals.now) result }
+        (effects.assign name.now seen (fields evaluating fresh stack.old.items page globals.now)) (fields evaluating fresh stack.new.items page globals.now) result }
     ensures threads { (s : StoryTree) (counts : CountsOf ℕ) (evaluating : Bool) (fresh : Option ℕ) (page : Page)
         → OnOk result (Keeps s (effects.assign name.now (seen_by s threads.old counts) (fields evaluating fresh stack.old.items page globals.now)) threads.old threads.new) }
     ensures frame { threads.new.thread.frame ≡ record threads.old.thread.frame { temps = threads.new.thread.frame.temps } }

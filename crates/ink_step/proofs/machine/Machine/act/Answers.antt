@@ -1,4 +1,4 @@
-use Rattle.std.proofs.Common.{◌≡◌, ◌||◌, option_map, rules, sym, subst, Err, Ok}
+use Rattle.std.proofs.Common.{◌≡◌, ◌||◌, option_map, rules, sym, subst, Err}
 use Rattle.ink_check.specs.Words.{story_tree}
 use Rattle.ink_model.specs.Effect.{context_of, fields_of}
 use Rattle.ink_model.specs.Memory.{content_asks}

@@ -11,32 +11,32 @@ returns-clause-effect c =
     let old = c.args.self.now in
     let f = fields_of (config_of s old) in
     elim c.match-control.branch [
-  | in-BeginEval w ↦ search rules
-  | in-EndEval w ↦ search rules
-  | in-Out w ↦ search rules
-  | in-Pop w ↦ search rules
-  | in-Duplicate w ↦ search rules
-  | in-Nop w ↦ search rules
-  | in-BeginString w ↦ search rules
-  | in-EndString w ↦ search rules
-  | in-BeginTag w ↦ search rules
-  | in-EndTag w ↦ search rules
-  | in-Done w ↦ search rules
-  | in-End w ↦ search rules
-  | in-Return w ↦ search rules
-  | in-ReturnTunnel w ↦ search rules
-  | in-Thread w ↦ search rules
-  | in-Turn w ↦
-      let pushed = w.push_turn.ensures s old.threads old.counts f.evaluating f.fresh f.page f.globals s in
-      search (rules, pushed)
-  | in-Turns w ↦
-      let pushed = w.push_turns.ensures old.threads f.evaluating f.fresh f.page f.globals s in
-      search (rules, pushed)
-  | in-ReadCount w ↦
-      let pushed = w.push_read_count.ensures old.threads f.evaluating f.fresh f.page f.globals s in
-      search (rules, pushed)
-  | in-Visit w ↦
-      let pushed = w.push_visit.ensures old.threads f.evaluating f.fresh f.page f.globals s in
-      search (rules, pushed)
-  | in-ChoiceCount w ↦ search rules
-]
+      | in-BeginEval w ↦ search rules
+      | in-EndEval w ↦ search rules
+      | in-Out w ↦ search rules
+      | in-Pop w ↦ search rules
+      | in-Duplicate w ↦ search rules
+      | in-Nop w ↦ search rules
+      | in-BeginString w ↦ search rules
+      | in-EndString w ↦ search rules
+      | in-BeginTag w ↦ search rules
+      | in-EndTag w ↦ search rules
+      | in-Done w ↦ search rules
+      | in-End w ↦ search rules
+      | in-Return w ↦ search rules
+      | in-ReturnTunnel w ↦ search rules
+      | in-Thread w ↦ search rules
+      | in-Turn w ↦
+          let pushed = w.push_turn.ensures s old.threads old.counts f.evaluating f.fresh f.page f.globals s in
+          search (rules, pushed)
+      | in-Turns w ↦
+          let pushed = w.push_turns.ensures old.threads f.evaluating f.fresh f.page f.globals s in
+          search (rules, pushed)
+      | in-ReadCount w ↦
+          let pushed = w.push_read_count.ensures old.threads f.evaluating f.fresh f.page f.globals s in
+          search (rules, pushed)
+      | in-Visit w ↦
+          let pushed = w.push_visit.ensures old.threads f.evaluating f.fresh f.page f.globals s in
+          search (rules, pushed)
+      | in-ChoiceCount w ↦ search rules
+    ]
