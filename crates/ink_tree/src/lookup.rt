@@ -40,8 +40,8 @@ impl Tree {
         &self.nodes[own.number]
     }
 
-    /// The content around a node, none around the root.
-    pub(crate) fn holder(&self, node: NodeId) -> Option<NodeId>
+    /// The container that holds a content, none for the root. Takes no memory.
+    pub fn holder(&self, node: NodeId) -> Option<NodeId>
         ensures { option_map (node_place (story_tree self.now)) result ≡ above (reverse (node_place (story_tree self.now) node)) }
     {
         let kept = self.kept(node);
