@@ -13,3 +13,5 @@ pub mod Unnumbered
 pub mod Passing
 pub mod Turns
 pub mod Calling
+pub mod Places
+pub mod Asked

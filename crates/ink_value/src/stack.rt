@@ -87,6 +87,7 @@ impl EvalStack {
         ensures err { OnErr result (popped self.old.items ≡ None) }
         ensures kept { OnErr result (self.new.items ≡ self.old.items) }
         ensures handed_back { IfErr result (λ handed_back. handed_back ≡ value) }
+        ensures within { length self.new.items ≤ MAX_STACK }
     {
         match self.items.last_mut() {
             Some(top) => {
