@@ -100,7 +100,8 @@ impl Lead {
     }
 }
 
-fn ends_in_index(parts: &[Part]) -> bool
+/// Whether the last component of a path is an index. Takes no memory.
+pub fn ends_in_index(parts: &[Part]) -> bool
     ensures { result ≡ paths.ends_in_index parts.now }
 {
     match parts.last() {

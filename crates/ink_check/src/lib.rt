@@ -8,4 +8,5 @@ mod link;
 mod story;
 
 pub use checking::check;
+pub use leading::ends_in_index;
 pub use story::Story;

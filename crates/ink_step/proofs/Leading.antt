@@ -1,25 +1,23 @@
 -- Content that leads elsewhere: diverts, calls, and the returns of tunnels.
 use Rattle.std.proofs.Common.{◌≡◌, refl, subst, sym, inl, ℕ, List, [], Bool, true, false, Option, Some, None, ok_or, option_map, Result, Ok, Err}
-use Rattle.ink_model.specs.Effect.{Fields, Effect, Lands, Calls, Returns, or_else, or_fault}
+use Rattle.ink_model.specs.Effect.{Fields, Effect, Landing as Goal, Lands, Calls, Returns, or_else, or_fault}
 use Rattle.ink_model.specs.Page.{Page}
-use Rattle.ink_model.specs.Path.{target}
 use Rattle.ink_model.specs.Stack.{popped}
 use Rattle.ink_model.specs.Step.Calls.{led_back, return_tunnel}
+use Rattle.ink_model.specs.Step.Diverts.{landing_by}
 use Rattle.ink_model.specs.Store.{Values}
 use Rattle.ink_model.specs.Tree.{StoryTree}
 use Rattle.ink_model.specs.declared.fault.Fault.{Fault}
 use Rattle.ink_model.specs.declared.fault.Fault.TheVariants.{BadTarget, StackEmpty}
 use Rattle.ink_model.specs.declared.frame.FrameKind.{FrameKind}
 use Rattle.ink_model.specs.declared.frame.FrameKind.TheVariants.{Tunnel}
-use Rattle.ink_model.specs.declared.place.Part.{Part}
 use Rattle.ink_model.specs.declared.place.Path.{Path}
 use Rattle.ink_model.specs.declared.value.Value.{Value}
 use Rattle.ink_model.specs.declared.value.Value.TheVariants as value
-use Rattle.ink_step.specs.Performs.{Decides, Performs, fields}
+use Rattle.ink_step.specs.Performs.{Decides, Performs, fields, landing_of}
+use Rattle.ink_step.specs.declared.transfer.Landing.{Landing}
 use Rattle.ink_step.specs.declared.transfer.Transfer.{Transfer}
 use Rattle.ink_step.specs.declared.transfer.Transfer.TheVariants as transfer
-use Rattle.ink_tree.specs.Nodes.{place_of}
-use Rattle.ink_tree.specs.declared.spot.Spot.{Spot}
 
 module _ (s : StoryTree) (asks : Bool) (new : Fields) where
   -- ---- conditions
@@ -32,15 +30,15 @@ module _ (s : StoryTree) (asks : Bool) (new : Fields) where
 
   -- ---- where content leads
 
-  pub lands_there : (spot : Spot) (led : Option (List Part)) → Some (place_of s spot) ≡ led → Performs s asks (or_else BadTarget led (λ q. Lands q new)) new (Ok (transfer.Land spot))
-  lands_there spot led h = subst (λ o. Performs s asks (or_else BadTarget o (λ q. Lands q new)) new (Ok (transfer.Land spot))) h (refl, refl)
+  pub lands_there : (to : Landing) (led : Result Goal Fault) → Ok (landing_of s to) ≡ led → Performs s asks (or_fault led (λ l. Lands l new)) new (Ok (transfer.Land to))
+  lands_there to led h = subst (λ o. Performs s asks (or_fault o (λ l. Lands l new)) new (Ok (transfer.Land to))) h (refl, refl)
 
-  pub calls_there : (k : FrameKind) (spot : Spot) (led : Option (List Part)) → Some (place_of s spot) ≡ led
-      → Performs s asks (or_else BadTarget led (λ q. Calls k q new)) new (Ok (transfer.Call k spot))
-  calls_there k spot led h = subst (λ o. Performs s asks (or_else BadTarget o (λ q. Calls k q new)) new (Ok (transfer.Call k spot))) h (refl, refl, refl)
+  pub calls_there : (k : FrameKind) (to : Landing) (led : Result Goal Fault) → Ok (landing_of s to) ≡ led
+      → Performs s asks (or_fault led (λ l. Calls k l new)) new (Ok (transfer.Call k to))
+  calls_there k to led h = subst (λ o. Performs s asks (or_fault o (λ l. Calls k l new)) new (Ok (transfer.Call k to))) h (refl, refl, refl)
 
-  pub leads_nowhere : (led : Option (List Part)) (so : List Part → Effect) → None ≡ led → Performs s asks (or_else BadTarget led so) new (Err BadTarget)
-  leads_nowhere led so h = subst (λ o. Performs s asks (or_else BadTarget o so) new (Err BadTarget)) h (inl refl)
+  pub leads_nowhere : (f : Fault) (led : Result Goal Fault) (so : Goal → Effect) → Err f ≡ led → Performs s asks (or_fault led so) new (Err f)
+  leads_nowhere f led so h = subst (λ o. Performs s asks (or_fault o so) new (Err f)) h (inl refl)
 
 -- ---- a tunnel goes back to a target
 
@@ -57,11 +55,11 @@ module _ (s : StoryTree) (asks evaluating : Bool) (fresh : Option ℕ) (page : P
       let by_value = subst (λ w. Performs s asks (or_fault (led_back s w) (λ to. Returns Tunnel to left)) left r) (sym is) h in
       subst (λ o. Performs s asks (or_else StackEmpty o (λ t. or_fault (led_back s t.0) (λ to. Returns Tunnel to (record before { stack = t.1 })))) left r) (sym pops) by_value
 
-  abbrev back_where : Option (List Part) → Effect
-  back_where o = or_fault (ok_or (option_map (λ q. Some q) o) BadTarget) (λ to. Returns Tunnel to left)
+  abbrev back_where : Option Goal → Effect
+  back_where o = or_fault (ok_or (option_map (λ l. Some l) o) BadTarget) (λ to. Returns Tunnel to left)
 
-  pub back_there : (spot : Spot) → Some (place_of s spot) ≡ target s [] path → Performs s asks (return_tunnel s before) left (Ok (transfer.Return Tunnel (Some spot)))
-  back_there spot h = back_by _ (subst (λ o. Performs s asks (back_where o) left (Ok (transfer.Return Tunnel (Some spot)))) h (refl, refl, refl))
+  pub back_there : (to : Landing) → Some (landing_of s to) ≡ landing_by s (value.Target path) → Performs s asks (return_tunnel s before) left (Ok (transfer.Return Tunnel (Some to)))
+  back_there to h = back_by _ (subst (λ o. Performs s asks (back_where o) left (Ok (transfer.Return Tunnel (Some to)))) h (refl, refl, refl))
 
-  pub back_nowhere : None ≡ target s [] path → Performs s asks (return_tunnel s before) left (Err BadTarget)
+  pub back_nowhere : None ≡ landing_by s (value.Target path) → Performs s asks (return_tunnel s before) left (Err BadTarget)
   back_nowhere h = back_by _ (subst (λ o. Performs s asks (back_where o) left (Err BadTarget)) h (inl refl))

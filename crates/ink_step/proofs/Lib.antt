@@ -17,3 +17,5 @@ pub mod Calling
 pub mod Keys
 pub mod Visits
 pub mod Goings
+pub mod Places
+pub mod Asked

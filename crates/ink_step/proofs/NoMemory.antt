@@ -1,11 +1,14 @@
 -- No rule faults with OutOfMemory: who is told so was refused memory.
-use Rattle.std.proofs.Common.{◌≡◌, ◌≢◌, ◌∙◌, ◌^◌, ap, refl, subst, sym, ℕ, zero, suc, ℤ, List, [], ◌∷◌, ◌++◌, ◌||◌, Bool, true, false, if◌then◌else◌, Option, Some, None, Result, Ok, Err, is_some, nat_eq, nat_lt, ok_or, option_and_then, option_map}
+use Rattle.std.proofs.Common.{◌≡◌, ◌≢◌, ◌∙◌, ◌^◌, ap, refl, subst, sym, ℕ, zero, suc, ℤ, List, [], ◌∷◌, ◌++◌, ◌||◌, Bool, true, false, if◌then◌else◌, Option, Some, None, Result, Ok, Err, is_some, nat_eq, nat_lt, ok_or, option_and_then, option_map, reverse}
+use Rattle.ink_model.specs.Acceptance.{lands, leads}
 use Rattle.ink_model.specs.Bytes.{fits_text}
 use Rattle.ink_model.specs.Configuration.{Configuration, begun, current_place, ended, with_safe}
-use Rattle.ink_model.specs.Effect.{Fields, Effect, Moves, Lands, Calls, Returns, Forks, Done, Ends, Fails, fields_of, is_fresh, or_else, or_fault, pushing, with_fields, writing, writing_text}
+use Rattle.ink_model.specs.Effect.{Context, Fields, Effect, Moves, Stores, Lands, Calls, Returns, Forks, Done, Ends, Fails, context_of, fields_of, is_fresh, or_else, or_fault, pushing, with_fields, with_thread, writing, writing_text}
+use Rattle.ink_model.specs.Entered.{flags_at}
+use Rattle.ink_model.specs.Flags.{counts_visits, notes_turns}
 use Rattle.ink_model.specs.Flow.{Written, Reached, Reaches, Halts, Breaks, Ending, Continues, Finishes, Collapses, called, done_by, doubled_in, enter_for, frames_on, halt, is_last, leave_for, moved_on, on_ending, on_page, on_stack, or_breaks, or_end, reach, reach_or_on, returned, thread_of, threads_on, void_for}
 use Rattle.ink_model.specs.Frames.{FrameOf, ThreadOf, ThreadsOf, base_threads, is_function}
-use Rattle.ink_model.specs.Move.{Outcome, Next, Stop, Wants, Faults, move, reached_in, written_in}
+use Rattle.ink_model.specs.Move.{Outcome, Next, Stop, Wants, Faults, landed_in, may_enter, move, place_to, reached_in, written_in}
 use Rattle.ink_model.specs.Opening.{Unopened, declaring, opening, opened_by, opened_from}
 use Rattle.ink_model.specs.Operator.{Operand, number, Operands, numbers, texts, targets, unlike, both, operand, can_divide, of_numbers, of_texts, of_targets, of_one, of_two, apply, takes}
 use Rattle.ink_model.specs.Output.{closes_string_of, closes_tag_of, begins_function, is_line, with_next, writes_value}
@@ -13,24 +16,29 @@ use Rattle.ink_model.specs.Page.{Page, Section, SectionKind, string_section, tag
 use Rattle.ink_model.specs.Place.{entered, next_place}
 use Rattle.ink_model.specs.Run as running
 use Rattle.ink_model.specs.Run.{Moment, At, Faulted, Waits, Made, answered, answered_at, came, cut_off, moment, moment_after, next, push_answer, run, value_given, fits_value}
-use Rattle.ink_model.specs.Path.{target}
+use Rattle.ink_model.specs.Path.{above, is_container}
 use Rattle.ink_model.specs.Stack.{applied_to, on_top, popped, taken}
 use Rattle.ink_model.specs.Threads as threads
-use Rattle.ink_model.specs.Step.{Bound, control_effect, effect, leaf_effect, nothing_bound, step, step_at}
+use Rattle.ink_model.specs.Step.{Bound, control_effect, effect, gone_in, leaf_effect, nothing_bound, step, step_at}
 use Rattle.ink_model.specs.Step.Calls.{call_to, led_back}
-use Rattle.ink_model.specs.Step.Diverts.{divert_to, led_to, where_true}
+use Rattle.ink_model.specs.Step.Counts.{asking, less_one, pushing_count, turns_at, turns_there, visits_at, visits_there}
+use Rattle.ink_model.specs.Step.Diverts.{divert_to, landing_by, led_by, led_to, where_true}
 use Rattle.ink_model.specs.Step.Evaluation.{output_popped, push_value}
 use Rattle.ink_model.specs.Step.Text.{closed_tag, in_tag, keeps_tag}
-use Rattle.ink_model.specs.Store.{Values, stored}
+use Rattle.ink_model.specs.Step.Variables.{assign, declare, storing}
+use Rattle.ink_model.specs.Store.{Values}
 use Rattle.ink_model.specs.Tree.{StoryTree, leaf, container, at}
 use Rattle.ink_model.specs.Value.{printed, is_true}
+use Rattle.ink_model.specs.Variables as variables
+use Rattle.ink_model.specs.Variables.{assign_at, chain_end, declared, held, kept, kept_pointer, named, on_pointer, read, stands, value_at}
 use Rattle.ink_model.specs.declared.content.Control.{Control}
 use Rattle.ink_model.specs.declared.content.Control.TheVariants as control
 use Rattle.ink_model.specs.declared.content.Destination.{Destination}
+use Rattle.ink_model.specs.declared.content.Destination.TheVariants as destination
 use Rattle.ink_model.specs.declared.content.Leaf.{Leaf}
 use Rattle.ink_model.specs.declared.content.Leaf.TheVariants as leaves
 use Rattle.ink_model.specs.declared.fault.Fault.{Fault}
-use Rattle.ink_model.specs.declared.fault.Fault.TheVariants.{BadMode, BadPop, BadTarget, Divide, HostRefused, NoTemp, OutOfMemory, OutOfSteps, StackEmpty, StopInString, TooDeep}
+use Rattle.ink_model.specs.declared.fault.Fault.TheVariants.{BadMode, BadPointer, BadPop, BadTarget, Divide, HostRefused, NoTemp, NotCounted, OutOfMemory, OutOfSteps, StackEmpty, StopInString, TooDeep}
 use Rattle.ink_model.specs.declared.frame.FrameKind.{FrameKind}
 use Rattle.ink_model.specs.declared.frame.FrameKind.TheVariants.{Base, Function, Tunnel}
 use Rattle.ink_model.specs.declared.host.Given.{Given}
@@ -41,6 +49,8 @@ use Rattle.ink_model.specs.declared.operator.Op.{Op}
 use Rattle.ink_model.specs.declared.operator.Op.TheVariants as op
 use Rattle.ink_model.specs.declared.place.Part.{Part}
 use Rattle.ink_model.specs.declared.place.Path.{Path}
+use Rattle.ink_model.specs.declared.scope.Scope.{Scope}
+use Rattle.ink_model.specs.declared.scope.Scope.TheVariants.{Global, Temporary}
 use Rattle.ink_model.specs.declared.value.Value.{Value}
 use Rattle.ink_model.specs.declared.value.Value.TheVariants as value
 use Rattle.ink_step.proofs.Limits.{Deep, keeps_deep, marks_deep, opens_deep, pushed_deep, string_deep, tag_deep}
@@ -169,10 +179,55 @@ opened_sound : (b : Bool) (vs : List Value) (page : Page) → Sound (if b then c
 opened_sound true vs page = closed_sound vs page
 opened_sound false vs page = λ h. absurd (cc)
 
+-- ---- variables
+
+pointer_sound : {A : Type 0} (v : Option Value) (so : ℤ → List ℕ → Result A Fault) (otherwise : Result A Fault) → ((i : ℤ) (m : List ℕ) → Sound (so i m)) → Sound otherwise
+    → Sound (on_pointer v so otherwise)
+pointer_sound None so otherwise h k = k
+pointer_sound (Some (value.Int z)) so otherwise h k = k
+pointer_sound (Some (value.Bool b)) so otherwise h k = k
+pointer_sound (Some (value.Text t)) so otherwise h k = k
+pointer_sound (Some (value.Target p)) so otherwise h k = k
+pointer_sound (Some (value.Pointer i m)) so otherwise h k = h i m
+pointer_sound (Some value.Void) so otherwise h k = k
+pointer_sound (Some (value.Tag t)) so otherwise h k = k
+
+module _ (globals : Values) (t : ThreadOf (List Part)) where
+  value_at_sound : (o : Option (ℤ × List ℕ)) → Sound (value_at globals t o)
+  value_at_sound None = fault_sound BadPointer (λ h. absurd (cc))
+  value_at_sound (Some p) = result_or (stands globals t p.0 p.1) _ BadPointer (λ h. absurd (cc))
+
+  read_sound : (name : List ℕ) → Sound (read globals t name)
+  read_sound name = pointer_sound (named globals t name) _ _ (λ i m. value_at_sound (chain_end globals t i m)) (λ h. absurd (cc))
+
+  assign_at_sound : (v : Value) (o : Option (ℤ × List ℕ)) → Sound (assign_at globals t v o)
+  assign_at_sound v None = fault_sound BadPointer (λ h. absurd (cc))
+  assign_at_sound v (Some p) = result_if (stands globals t p.0 p.1) _ _ (result_or (is_some (held globals t p.0 p.1)) _ NoTemp (λ h. absurd (cc))) (fault_sound BadPointer (λ h. absurd (cc)))
+
+  assign_sound : (name : List ℕ) (v : Value) → Sound (variables.assign globals t name v)
+  assign_sound name v = pointer_sound (named globals t name) _ _ (λ i m. assign_at_sound v (chain_end globals t i m)) (result_or (is_some (named globals t name)) _ NoTemp (λ h. absurd (cc)))
+
+  kept_pointer_sound : (o : Option (ℤ × List ℕ)) → Sound (kept_pointer o)
+  kept_pointer_sound None = fault_sound BadPointer (λ h. absurd (cc))
+  kept_pointer_sound (Some p) = λ h. absurd (cc)
+
+  kept_sound : (v : Value) → Sound (kept globals t v)
+  kept_sound v = pointer_sound (Some v) _ _ (λ i m. kept_pointer_sound (chain_end globals t i m)) (λ h. absurd (cc))
+
+  declared_sound : (scope : Scope) (name : List ℕ) (r : Result Value Fault) → Sound r → Sound (declared globals t scope name r)
+  declared_sound scope name (Ok v) sound = λ h. absurd (cc)
+  declared_sound scope name (Err f) sound = λ h. sound (cc)
+
+  declare_sound : (scope : Scope) (name : List ℕ) (v : Value) → Sound (variables.declare globals t scope name v)
+  declare_sound scope name v = declared_sound scope name _ (kept_sound v)
+
 -- ---- effects
 
 push_acts : (v : Value) (f : Fields) → Acts (pushing v f)
 push_acts v f = acts_or _ _ (deep _ (pushed_deep v f.stack)) (λ vs. moves_act _)
+
+storing_acts : (r : Result (Values × ThreadOf (List Part)) Fault) (f : Fields) → Sound r → Acts (storing r f)
+storing_acts r f sound = acts_or r _ sound (λ w. λ h. absurd (cc))
 
 write_acts : (r : Result Page Fault) (f : Fields) → Sound r → Acts (writing r f)
 write_acts r f sound = acts_or r _ sound (λ page. moves_act _)
@@ -187,37 +242,73 @@ output_acts : (top : Option (Value × List Value)) (f : Fields) → Acts (output
 output_acts None f = moves_act f
 output_acts (Some r) f = text_acts _ _ (record f { stack = r.1 }) (printed_sound (is_fresh f) r.0 f.page)
 
+-- ---- where content leads
+
+found_sound : {A : Type 0} (o : Option A) (f : Fault) → f ≢ OutOfMemory → Sound (ok_or o f)
+found_sound None f own = fault_sound f own
+found_sound (Some a) f own = λ h. absurd (cc)
+
+led_by_sound : (s : StoryTree) (r : Result Value Fault) → Sound r → Sound (led_by s r)
+led_by_sound s (Ok v) sound = found_sound (landing_by s v) BadTarget (λ h. absurd (cc))
+led_by_sound s (Err f) sound = λ h. sound (cc)
+
+led_to_sound : (s : StoryTree) (p : List Part) (seen : Context) (to : Destination) (globals : Values) → Sound (led_to s p seen to globals)
+led_to_sound s p seen (destination.Path text) globals = found_sound (option_map _ (lands s p text)) BadTarget (λ h. absurd (cc))
+led_to_sound s p seen (destination.Variable name) globals = led_by_sound s _ (read_sound globals seen.thread name)
+
 led_back_sound : (s : StoryTree) (v : Value) → Sound (led_back s v)
 led_back_sound s value.Void = λ h. absurd (cc)
-led_back_sound s (value.Target path) = by (target s [] path)
-  where
-    by : (o : Option (List Part)) → Sound (ok_or (option_map (λ q. Some q) o) BadTarget)
-    by None = λ h. absurd (cc)
-    by (Some q) = λ h. absurd (cc)
+led_back_sound s (value.Target path) = found_sound (option_map _ (landing_by s (value.Target path))) BadTarget (λ h. absurd (cc))
 led_back_sound s v = λ h. absurd (cc)
 
-control_acts : (s : StoryTree) (o : Control) (f : Fields) → Acts (control_effect s o f)
-control_acts s control.BeginEval f = effect_if f.evaluating _ _ (fails_act BadMode (λ h. absurd (cc))) (moves_act _)
-control_acts s control.EndEval f = effect_if f.evaluating _ _ (moves_act _) (fails_act BadMode (λ h. absurd (cc)))
-control_acts s control.Out f = output_acts (popped f.stack) f
-control_acts s control.Pop f = acts_else StackEmpty (popped f.stack) _ (λ h. absurd (cc)) (λ r. moves_act _)
-control_acts s control.Duplicate f = acts_else StackEmpty (popped f.stack) _ (λ h. absurd (cc)) (λ r. push_acts r.0 f)
-control_acts s control.BeginString f = effect_if f.evaluating _ _ (write_acts _ (record f { evaluating = false }) (deep _ (opens_deep string_section f.page))) (fails_act BadMode (λ h. absurd (cc)))
-control_acts s control.EndString f = acts_or _ _ (string_sound f.page f.page.sections) (λ r. push_acts _ _)
-control_acts s control.BeginTag f = acts_or _ _ (opened_sound (in_tag f.page.sections) f.stack f.page) (λ r. write_acts _ (record f { stack = r.0 }) (deep _ (opens_deep tag_section r.1)))
-control_acts s control.EndTag f = acts_or _ _ (closed_sound f.stack f.page) (λ r. moves_act _)
-control_acts s control.Done f = λ h. absurd (cc)
-control_acts s control.End f = λ h. absurd (cc)
-control_acts s control.Return f = λ h. absurd (cc)
-control_acts s control.ReturnTunnel f = acts_else StackEmpty (popped f.stack) _ (λ h. absurd (cc)) (λ r. acts_or (led_back s r.0) _ (led_back_sound s r.0) (λ to. λ h. absurd (cc)))
-control_acts s control.Thread f = λ h. absurd (cc)
-control_acts s o f = moves_act f
+-- ---- counts
 
-divert_acts : (s : StoryTree) (p : List Part) (to : Destination) (f : Fields) → Acts (divert_to s p to f)
-divert_acts s p to f = acts_else BadTarget (led_to s p to f.globals) _ (λ h. absurd (cc)) (λ q. λ h. absurd (cc))
+module _ (s : StoryTree) (seen : Context) where
+  visits_sound : (q : List Part) → Sound (visits_at s seen q)
+  visits_sound q = result_or (counts_visits (flags_at (at s q))) _ NotCounted (λ h. absurd (cc))
 
-call_acts : (k : FrameKind) (s : StoryTree) (p : List Part) (to : Destination) (f : Fields) → Acts (call_to k s p to f)
-call_acts k s p to f = acts_else BadTarget (led_to s p to f.globals) _ (λ h. absurd (cc)) (λ q. λ h. absurd (cc))
+  turns_sound : (q : List Part) → Sound (turns_at s seen q)
+  turns_sound q = result_or (notes_turns (flags_at (at s q))) _ NotCounted (λ h. absurd (cc))
+
+  less_sound : (r : Result ℤ Fault) → Sound r → Sound (less_one s seen r)
+  less_sound (Ok z) sound = λ h. absurd (cc)
+  less_sound (Err f) sound = λ h. sound (cc)
+
+  count_acts : (r : Result ℤ Fault) (f : Fields) → Sound r → Acts (pushing_count s seen r f)
+  count_acts r f sound = acts_or r _ sound (λ z. push_acts (value.Int z) f)
+
+  asking_acts : (so : List Part → Result ℤ Fault) (f : Fields) → ((q : List Part) → Sound (so q)) → Acts (asking s seen so f)
+  asking_acts so f sound = acts_else StackEmpty (popped f.stack) _ (λ h. absurd (cc))
+      (λ r. acts_else BadTarget (landing_by s r.0) _ (λ h. absurd (cc)) (λ to. count_acts (so to.place) _ (sound to.place)))
+
+-- ---- content
+
+control_acts : (s : StoryTree) (p : List Part) (seen : Context) (o : Control) (f : Fields) → Acts (control_effect s p seen o f)
+control_acts s p seen control.BeginEval f = effect_if f.evaluating _ _ (fails_act BadMode (λ h. absurd (cc))) (moves_act _)
+control_acts s p seen control.EndEval f = effect_if f.evaluating _ _ (moves_act _) (fails_act BadMode (λ h. absurd (cc)))
+control_acts s p seen control.Out f = output_acts (popped f.stack) f
+control_acts s p seen control.Pop f = acts_else StackEmpty (popped f.stack) _ (λ h. absurd (cc)) (λ r. moves_act _)
+control_acts s p seen control.Duplicate f = acts_else StackEmpty (popped f.stack) _ (λ h. absurd (cc)) (λ r. push_acts r.0 f)
+control_acts s p seen control.BeginString f = effect_if f.evaluating _ _ (write_acts _ (record f { evaluating = false }) (deep _ (opens_deep string_section f.page))) (fails_act BadMode (λ h. absurd (cc)))
+control_acts s p seen control.EndString f = acts_or _ _ (string_sound f.page f.page.sections) (λ r. push_acts _ _)
+control_acts s p seen control.BeginTag f = acts_or _ _ (opened_sound (in_tag f.page.sections) f.stack f.page) (λ r. write_acts _ (record f { stack = r.0 }) (deep _ (opens_deep tag_section r.1)))
+control_acts s p seen control.EndTag f = acts_or _ _ (closed_sound f.stack f.page) (λ r. moves_act _)
+control_acts s p seen control.Done f = λ h. absurd (cc)
+control_acts s p seen control.End f = λ h. absurd (cc)
+control_acts s p seen control.Return f = λ h. absurd (cc)
+control_acts s p seen control.ReturnTunnel f = acts_else StackEmpty (popped f.stack) _ (λ h. absurd (cc)) (λ r. acts_or (led_back s r.0) _ (led_back_sound s r.0) (λ to. λ h. absurd (cc)))
+control_acts s p seen control.Thread f = λ h. absurd (cc)
+control_acts s p seen control.Turn f = push_acts _ f
+control_acts s p seen control.Turns f = asking_acts s seen (turns_there s seen) f (λ q. result_if (is_container (at s q)) _ _ (turns_sound s seen q) (λ h. absurd (cc)))
+control_acts s p seen control.ReadCount f = asking_acts s seen (visits_there s seen) f (λ q. result_if (is_container (at s q)) _ _ (visits_sound s seen q) (λ h. absurd (cc)))
+control_acts s p seen control.Visit f = acts_else NotCounted (above (reverse p)) _ (λ h. absurd (cc)) (λ q. count_acts s seen _ f (less_sound s seen _ (visits_sound s seen q)))
+control_acts s p seen o f = moves_act f
+
+divert_acts : (s : StoryTree) (p : List Part) (seen : Context) (to : Destination) (f : Fields) → Acts (divert_to s p seen to f)
+divert_acts s p seen to f = acts_or (led_to s p seen to f.globals) _ (led_to_sound s p seen to f.globals) (λ l. λ h. absurd (cc))
+
+call_acts : (k : FrameKind) (s : StoryTree) (p : List Part) (seen : Context) (to : Destination) (f : Fields) → Acts (call_to k s p seen to f)
+call_acts k s p seen to f = acts_or (led_to s p seen to f.globals) _ (led_to_sound s p seen to f.globals) (λ l. λ h. absurd (cc))
 
 true_sound : (v : Value) → Sound (is_true v)
 unfolding is_true
@@ -231,29 +322,38 @@ where_acts : (conditional : Bool) (f : Fields) (so : Fields → Effect) → ((g 
 where_acts conditional f so acts = effect_if conditional _ _
     (acts_else StackEmpty (popped f.stack) _ (λ h. absurd (cc)) (λ r. acts_or (is_true r.0) _ (true_sound r.0) (λ b. effect_if b _ _ (acts _) (moves_act _)))) (acts f)
 
-leaf_acts : (s : StoryTree) (p : List Part) (l : Leaf) (f : Fields) → Acts (leaf_effect s p l f)
-leaf_acts s p (leaves.Text t) f = effect_if f.evaluating _ _ (push_acts _ f) (text_acts _ _ f (deep _ (marks_deep _ f.page)))
-leaf_acts s p leaves.Newline f = effect_if f.evaluating _ _ (push_acts _ f) (write_acts _ f (deep _ (marks_deep _ f.page)))
-leaf_acts s p leaves.Glue f = effect_if f.evaluating _ _ (fails_act BadMode (λ h. absurd (cc))) (write_acts _ f (deep _ (marks_deep (mark.Glue ∷ []) f.page)))
-leaf_acts s p (leaves.Int z) f = value_acts _ f
-leaf_acts s p (leaves.Bool t) f = value_acts _ f
-leaf_acts s p leaves.Void f = value_acts _ f
-leaf_acts s p (leaves.Target text) f = value_acts _ f
-leaf_acts s p (leaves.Control o) f = control_acts s o f
-leaf_acts s p (leaves.Op o) f = acts_or _ _ (applied_sound o (taken (takes o) f.stack [])) (λ vs. moves_act _)
-leaf_acts s p (leaves.Divert to conditional) f = where_acts conditional f _ (divert_acts s p to)
-leaf_acts s p (leaves.Call to conditional) f = where_acts conditional f _ (call_acts Function s p to)
-leaf_acts s p (leaves.Tunnel to conditional) f = where_acts conditional f _ (call_acts Tunnel s p to)
-leaf_acts s p (leaves.Declare name) f = acts_else StackEmpty (popped f.stack) _ (λ h. absurd (cc)) (λ r. moves_act _)
-leaf_acts s p (leaves.Assign name) f = acts_else StackEmpty (popped f.stack) _ (λ h. absurd (cc))
-    (λ r. effect_if (is_some (stored name f.globals)) _ _ (moves_act _) (fails_act NoTemp (λ h. absurd (cc))))
-leaf_acts s p (leaves.Variable name) f = push_acts _ f
-leaf_acts s p l f = moves_act f
+declare_acts : (scope : Scope) (name : List ℕ) (seen : Context) (f : Fields) → Acts (declare scope name seen f)
+declare_acts scope name seen f = acts_else StackEmpty (popped f.stack) _ (λ h. absurd (cc)) (λ r. storing_acts _ (record f { stack = r.1 }) (declare_sound f.globals seen.thread scope name r.0))
 
-effect_acts : (s : StoryTree) (p : List Part) (found : Option StoryTree) (f : Fields) → Acts (effect s p found f)
-effect_acts s p None f = moves_act f
-effect_acts s p (Some (container name flags content named)) f = moves_act f
-effect_acts s p (Some (leaf l)) f = leaf_acts s p l f
+assign_acts : (name : List ℕ) (seen : Context) (f : Fields) → Acts (assign name seen f)
+assign_acts name seen f = acts_else StackEmpty (popped f.stack) _ (λ h. absurd (cc)) (λ r. storing_acts _ (record f { stack = r.1 }) (assign_sound f.globals seen.thread name r.0))
+
+leaf_acts : (s : StoryTree) (p : List Part) (seen : Context) (l : Leaf) (f : Fields) → Acts (leaf_effect s p seen l f)
+leaf_acts s p seen (leaves.Text t) f = effect_if f.evaluating _ _ (push_acts _ f) (text_acts _ _ f (deep _ (marks_deep _ f.page)))
+leaf_acts s p seen leaves.Newline f = effect_if f.evaluating _ _ (push_acts _ f) (write_acts _ f (deep _ (marks_deep _ f.page)))
+leaf_acts s p seen leaves.Glue f = effect_if f.evaluating _ _ (fails_act BadMode (λ h. absurd (cc))) (write_acts _ f (deep _ (marks_deep (mark.Glue ∷ []) f.page)))
+leaf_acts s p seen (leaves.Int z) f = value_acts _ f
+leaf_acts s p seen (leaves.Bool t) f = value_acts _ f
+leaf_acts s p seen leaves.Void f = value_acts _ f
+leaf_acts s p seen (leaves.Target text) f = value_acts _ f
+leaf_acts s p seen (leaves.Control o) f = control_acts s p seen o f
+leaf_acts s p seen (leaves.Op o) f = acts_or _ _ (applied_sound o (taken (takes o) f.stack [])) (λ vs. moves_act _)
+leaf_acts s p seen (leaves.Divert to conditional) f = where_acts conditional f _ (divert_acts s p seen to)
+leaf_acts s p seen (leaves.Call to conditional) f = where_acts conditional f _ (call_acts Function s p seen to)
+leaf_acts s p seen (leaves.Tunnel to conditional) f = where_acts conditional f _ (call_acts Tunnel s p seen to)
+leaf_acts s p seen (leaves.Declare name) f = declare_acts Global name seen f
+leaf_acts s p seen (leaves.DeclareTemp name) f = declare_acts Temporary name seen f
+leaf_acts s p seen (leaves.Assign name) f = assign_acts name seen f
+leaf_acts s p seen (leaves.AssignTemp name) f = assign_acts name seen f
+leaf_acts s p seen (leaves.Variable name) f = acts_or (read f.globals seen.thread name) _ (read_sound f.globals seen.thread name) (λ v. push_acts v f)
+leaf_acts s p seen (leaves.Pointer name frame) f = value_acts _ f
+leaf_acts s p seen (leaves.Count text) f = acts_else NotCounted (leads s p text) _ (λ h. absurd (cc)) (λ q. count_acts s seen _ f (visits_sound s seen q))
+leaf_acts s p seen l f = moves_act f
+
+effect_acts : (s : StoryTree) (p : List Part) (found : Option StoryTree) (seen : Context) (f : Fields) → Acts (effect s p found seen f)
+effect_acts s p None seen f = moves_act f
+effect_acts s p (Some (container name flags content named)) seen f = moves_act f
+effect_acts s p (Some (leaf l)) seen f = leaf_acts s p seen l f
 
 -- ---- frames and threads, and what is written to where they are pushed and popped
 
@@ -383,12 +483,21 @@ reached_goes c (Reaches ts w) stays = λ h. absurd (cc)
 reached_goes c (Halts ts w) stays = λ h. absurd (cc)
 reached_goes c (Breaks f) stays = λ h. stays (cc)
 
+landed_goes : (s : StoryTree) (enters : Bool) (c : Configuration) (r : Reached (List Part)) → Stays r → Goes (landed_in s enters c r)
+landed_goes s true c (Reaches ts w) stays = λ h. absurd (cc)
+landed_goes s false c (Reaches ts w) stays = λ h. absurd (cc)
+landed_goes s true c (Halts ts w) stays = λ h. absurd (cc)
+landed_goes s false c (Halts ts w) stays = λ h. absurd (cc)
+landed_goes s true c (Breaks f) stays = λ h. stays (cc)
+landed_goes s false c (Breaks f) stays = λ h. stays (cc)
+
 module _ (s : StoryTree) where
   move_goes : (e : Effect) (c : Configuration) → Acts e → Goes (move s e c)
   move_goes (Moves f) c acts = let d = with_fields f c in reached_goes d _ (moved_stays (next_place s) d.flow.threads (written_in d))
-  move_goes (Lands q f) c acts = λ h. absurd (cc)
-  move_goes (Calls k q f) c acts = let d = with_fields f c in reached_goes d _ (called_stays k q d.flow.threads (written_in d))
-  move_goes (Returns k to f) c acts = let d = with_fields f c in reached_goes d _ (returned_stays (next_place s) k to d.flow.threads (written_in d))
+  move_goes (Stores t f) c acts = let d = with_fields f (with_thread t c) in reached_goes d _ (moved_stays (next_place s) d.flow.threads (written_in d))
+  move_goes (Lands to f) c acts = let d = with_fields f c in landed_goes s to.enters d _ (reach_stays to.place d.flow.threads (written_in d))
+  move_goes (Calls k to f) c acts = let d = with_fields f c in landed_goes s to.enters d _ (called_stays k to.place d.flow.threads (written_in d))
+  move_goes (Returns k to f) c acts = let d = with_fields f c in landed_goes s (may_enter to) d _ (returned_stays (next_place s) k (place_to to) d.flow.threads (written_in d))
   move_goes (Forks f) c acts = let d = with_fields f c in reached_goes d _ (forked_stays (next_place s) _ (moved_stays (next_place s) d.flow.threads (written_in d)))
   move_goes (Done f) c acts = let d = with_fields f c in reached_goes (with_safe (d.flow.safe || is_last d.flow.threads) d) _ (done_stays (next_place s) (threads.dropped d.flow.threads) d.flow.threads (written_in d))
   move_goes (Ends f) c acts = let d = with_fields f c in reached_goes (ended d) _ (halt_stays (base_threads None) (written_in d))
@@ -400,7 +509,7 @@ module _ (s : StoryTree) where
     where
       at_place : (place : Option (List Part)) → Goes (step_at s b place c)
       at_place None = λ h. absurd (cc)
-      at_place (Some p) = move_goes _ _ (effect_acts s (entered s p) (at s (entered s p)) (fields_of c))
+      at_place (Some p) = let d = gone_in s p c in move_goes _ d (effect_acts s (entered s p) (at s (entered s p)) (context_of d) (fields_of d))
 
   answered_goes : (c : Configuration) (g : Option Given) → Goes (answered s c g)
   answered_goes c None = λ h. absurd (cc)

@@ -24,7 +24,7 @@ top_turned (u ∷ us) v h = (reverse us, ap popped (reverse_onto us u []) ∙ to
     some_same : Some u ≡ Some v → u ≡ v
     some_same e = cc
 
-top_seen : (vs : List Value) (v : Value) → slice_get (reverse vs) 0 ≡ Some v → (rest : List Value) × (popped vs ≡ Some (v, rest))
+pub top_seen : (vs : List Value) (v : Value) → slice_get (reverse vs) 0 ≡ Some v → (rest : List Value) × (popped vs ≡ Some (v, rest))
 top_seen vs v h = let t = top_turned (reverse vs) v h in (t.0, ap popped (sym (reverse-reverse vs)) ∙ t.1)
 
 module _ (vs : List Value) (v : Value) (seen : slice_get (reverse vs) 0 ≡ Some v) where

@@ -3,3 +3,4 @@ pub mod Performs
 pub mod Stacks
 pub mod Reaches
 pub mod Steps
+pub mod Asked

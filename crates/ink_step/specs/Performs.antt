@@ -28,6 +28,11 @@ with_text f = record f { wrote = Some (length f.page.sections) }
 abbrev pub landing_of : StoryTree → Landing → Goal
 landing_of s to = record { place = place_of s to.place; enters = to.enters }
 
+-- where content leads, in the same way
+abbrev pub led_as : StoryTree → Result Landing Fault → Result Goal Fault
+led_as s (Ok to) = Ok (landing_of s to)
+led_as s (Err f) = Err f
+
 -- Performing has an effect: it leaves the effect's fields, but for the end of freshness that a text makes, and for a global that
 -- is stored last, which asks for memory where it is not there; or it is its fault. Where it asks for memory it may be OutOfMemory
 -- instead. Temporaries are stored at once (`stored_by`).

@@ -22,7 +22,7 @@ use ink_tree::{NodeId, Spot, Tree};
 use ink_vars::Counts;
 
 // The turn in which everything happens: no choice is made yet, which begins another.
-const TURN: u32 = 0;
+pub(crate) const TURN: u32 = 0;
 
 /// How often a container was visited. `NotCounted` where its visits are not counted. Takes no memory.
 pub(crate) fn visits_of(tree: &Tree, counts: &Counts, container: NodeId) -> Result<i32, Fault>

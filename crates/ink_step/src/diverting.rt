@@ -3,26 +3,31 @@
 ghost use Rattle.std.specs.Prelude.{◌≡◌, ℕ, Bool, false, Option, option_map};
 ghost use Rattle.ink_check.specs.Words.{story_tree};
 ghost use Rattle.ink_model.specs.Acceptance.{lands_to, written_target};
+ghost use Rattle.ink_model.specs.Counts.{CountsOf};
 ghost use Rattle.ink_model.specs.Effect.{Fields, Effect};
 ghost use Rattle.ink_model.specs.Page.{Page};
-ghost use Rattle.ink_model.specs.Step.Diverts.{divert, led_by, led_to, where_true};
-ghost use Rattle.ink_model.specs.Step.Variables.{read_global};
+ghost use Rattle.ink_model.specs.Step.Diverts as rules;
+ghost use Rattle.ink_model.specs.Step.Diverts.{divert, led_to, where_true};
 ghost use Rattle.ink_model.specs.Store.{Values};
-ghost use Rattle.ink_step.specs.Performs.{Decides, Performs, fields};
+ghost use Rattle.ink_model.specs.Variables.{read};
+ghost use Rattle.ink_model.specs.declared.value.Value.TheVariants.{Target};
+ghost use Rattle.ink_step.specs.Performs.{Decides, Performs, fields, landing_of, led_as};
+ghost use Rattle.ink_step.specs.Words.{seen_by};
 ghost use Rattle.ink_tree.specs.Nodes.{place_of};
 
 use crate::operands::top;
-use crate::transfer::Transfer;
-use ink_check::Story;
-use ink_model::{Destination, Fault, Text, Value};
+use crate::transfer::{Landing, Transfer};
+use ink_check::{Story, ends_in_index};
+use ink_model::{Destination, Fault, Path, Value};
+use ink_stack::Threads;
 use ink_tree::{NodeId, Spot};
 use ink_value::{EvalStack, is_true};
-use ink_vars::Globals;
+use ink_vars::{Globals, look};
 
-pub(crate) const ROOT: NodeId = NodeId { number: 0 };
+const ROOT: NodeId = NodeId { number: 0 };
 
-/// Flow lands where a divert leads, `BadTarget` where that is nowhere. A condition is popped and looked at before all else;
-/// where it is false flow goes on.
+/// Flow lands where a divert leads, `BadTarget` where that is nowhere, and before that `BadPointer` where its variable holds a
+/// pointer that leads nowhere. A condition is popped and looked at before all else; where it is false flow goes on.
 pub(crate) fn divert<'a>(
     story: &Story,
     here: Spot,
@@ -30,15 +35,16 @@ pub(crate) fn divert<'a>(
     conditional: bool,
     stack: &mut EvalStack,
     globals: &Globals,
+    threads: &Threads<Spot>,
 ) -> Result<Transfer<'a>, Fault>
     requires { let s = story_tree story.now in written_target s (place_of s here) ≡ lands_to s (place_of s here) to.now }
-    ensures { let s = story_tree story.now in (evaluating : Bool) (fresh : Option ℕ) (page : Page)
-        → Performs s false (divert s (place_of s here) to.now conditional (fields evaluating fresh stack.old.items page globals.now)) (fields evaluating fresh stack.new.items page globals.now) result }
+    ensures { let s = story_tree story.now in (evaluating : Bool) (fresh : Option ℕ) (page : Page) (counts : CountsOf ℕ)
+        → Performs s false (divert s (place_of s here) (seen_by s threads.now counts) to.now conditional (fields evaluating fresh stack.old.items page globals.now)) (fields evaluating fresh stack.new.items page globals.now) result }
 {
     match is_wanted(conditional, stack) {
-        Ok(true) => match destination(story, here, to, globals) {
-            Some(place) => Ok(Transfer::Land(place)),
-            None => Err(Fault::BadTarget),
+        Ok(true) => match destination(story, here, to, globals, threads) {
+            Ok(landing) => Ok(Transfer::Land(landing)),
+            Err(fault) => Err(fault),
         },
         Ok(false) => Ok(Transfer::Next),
         Err(fault) => Err(fault),
@@ -60,30 +66,68 @@ pub(crate) fn is_wanted(conditional: bool, stack: &mut EvalStack) -> Result<bool
     }
 }
 
-/// Where a divert, a call or a tunnel leads: by a written path, or by what a variable holds.
+/// Where a divert, a call or a tunnel leads: by a written path, or by what a variable is read as. `BadTarget` where that is
+/// nowhere, and before that `BadPointer` where the variable holds a pointer that leads nowhere.
 pub(crate) fn destination(
     story: &Story,
     here: Spot,
     to: &Destination,
     globals: &Globals,
-) -> Option<Spot>
+    threads: &Threads<Spot>,
+) -> Result<Landing, Fault>
     requires { let s = story_tree story.now in written_target s (place_of s here) ≡ lands_to s (place_of s here) to.now }
-    ensures { let s = story_tree story.now in option_map (place_of s) result ≡ led_to s (place_of s here) to.now globals.now }
+    ensures { let s = story_tree story.now in (counts : CountsOf ℕ)
+        → led_as s result ≡ led_to s (place_of s here) (seen_by s threads.now counts) to.now globals.now }
 {
     match to {
-        Destination::Path(_) => written_landing(story, here),
-        Destination::Variable(name) => target_in(story, globals, name),
+        Destination::Path(_) => match written_landing(story, here) {
+            Some(place) => Ok(Landing {
+                place,
+                enters: true,
+            }),
+            None => Err(Fault::BadTarget),
+        },
+        Destination::Variable(name) => landing_in(story, globals, threads, name.as_str()),
     }
 }
 
-/// Where the target that a global holds leads, none where it holds no target or the target leads nowhere.
-fn target_in(story: &Story, globals: &Globals, name: &Text) -> Option<Spot>
-    ensures { let s = story_tree story.now in option_map (place_of s) result ≡ led_by s (read_global name.now globals.now) }
+/// Where the target leads that a variable is read as. `BadPointer` where the pointer that it holds leads nowhere; `BadTarget`
+/// where it is no target, or the target leads nowhere.
+fn landing_in(
+    story: &Story,
+    globals: &Globals,
+    threads: &Threads<Spot>,
+    name: &str,
+) -> Result<Landing, Fault>
+    ensures { let s = story_tree story.now in led_as s result ≡ rules.led_by s (read globals.now threads.now.thread name.now) }
 {
-    match globals.get(name.as_str()) {
-        Some(Value::Target(path)) => story.tree().resolve(ROOT, path.get()),
+    match look(globals, threads, name) {
+        Ok(Some(value)) => landing_by(story, value).ok_or(Fault::BadTarget),
+        Ok(None) => Err(Fault::BadTarget),
+        Err(fault) => Err(fault),
+    }
+}
+
+/// Where a value leads that was read from a variable, or popped: a target to the very place that it names, none where that is
+/// nowhere; another value leads nowhere.
+pub(crate) fn landing_by(story: &Story, value: &Value) -> Option<Landing>
+    ensures { let s = story_tree story.now in option_map (landing_of s) result ≡ rules.landing_by s value.now }
+{
+    match value {
+        Value::Target(path) => landing_on(story, path.get()),
         _ => None,
     }
+}
+
+/// Where a target leads: to the very place that its path names. It enters containers around only where that ends in an index.
+pub(crate) fn landing_on(story: &Story, path: &Path) -> Option<Landing>
+    ensures { let s = story_tree story.now in option_map (landing_of s) result ≡ rules.landing_by s (Target path.now) }
+{
+    let place = story.tree().resolve(ROOT, path)?;
+    Some(Landing {
+        place,
+        enters: ends_in_index(path.parts.as_slice()),
+    })
 }
 
 /// Where the written path of the content at a place leads.

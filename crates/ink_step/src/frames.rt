@@ -3,23 +3,27 @@
 ghost use Rattle.std.specs.Prelude.{◌≡◌, ℕ, Bool, false, Option};
 ghost use Rattle.ink_check.specs.Words.{story_tree};
 ghost use Rattle.ink_model.specs.Acceptance.{lands_to, written_target};
+ghost use Rattle.ink_model.specs.Counts.{CountsOf};
 ghost use Rattle.ink_model.specs.Page.{Page};
 ghost use Rattle.ink_model.specs.Step.Calls.{call, return_tunnel};
 ghost use Rattle.ink_model.specs.Store.{Values};
 ghost use Rattle.ink_step.specs.Performs.{Performs, fields};
+ghost use Rattle.ink_step.specs.Words.{seen_by};
 ghost use Rattle.ink_tree.specs.Nodes.{place_of};
 
-use crate::diverting::{ROOT, destination, is_wanted};
+use crate::diverting::{destination, is_wanted, landing_on};
 use crate::operands::top;
 use crate::transfer::Transfer;
 use ink_check::Story;
 use ink_model::{Destination, Fault, FrameKind, Value};
+use ink_stack::Threads;
 use ink_tree::Spot;
 use ink_value::EvalStack;
 use ink_vars::Globals;
 
-/// Flow lands, in a frame of this kind, where a call or a tunnel leads, `BadTarget` where that is nowhere. A condition is popped
-/// and looked at before all else; where it is false flow goes on.
+/// Flow lands, in a frame of this kind, where a call or a tunnel leads, `BadTarget` where that is nowhere, and before that
+/// `BadPointer` where its variable holds a pointer that leads nowhere. A condition is popped and looked at before all else;
+/// where it is false flow goes on.
 pub(crate) fn call<'a>(
     story: &Story,
     here: Spot,
@@ -28,15 +32,16 @@ pub(crate) fn call<'a>(
     conditional: bool,
     stack: &mut EvalStack,
     globals: &Globals,
+    threads: &Threads<Spot>,
 ) -> Result<Transfer<'a>, Fault>
     requires { let s = story_tree story.now in written_target s (place_of s here) ≡ lands_to s (place_of s here) to.now }
-    ensures { let s = story_tree story.now in (evaluating : Bool) (fresh : Option ℕ) (page : Page)
-        → Performs s false (call kind s (place_of s here) to.now conditional (fields evaluating fresh stack.old.items page globals.now)) (fields evaluating fresh stack.new.items page globals.now) result }
+    ensures { let s = story_tree story.now in (evaluating : Bool) (fresh : Option ℕ) (page : Page) (counts : CountsOf ℕ)
+        → Performs s false (call kind s (place_of s here) (seen_by s threads.now counts) to.now conditional (fields evaluating fresh stack.old.items page globals.now)) (fields evaluating fresh stack.new.items page globals.now) result }
 {
     match is_wanted(conditional, stack) {
-        Ok(true) => match destination(story, here, to, globals) {
-            Some(place) => Ok(Transfer::Call(kind, place)),
-            None => Err(Fault::BadTarget),
+        Ok(true) => match destination(story, here, to, globals, threads) {
+            Ok(landing) => Ok(Transfer::Call(kind, landing)),
+            Err(fault) => Err(fault),
         },
         Ok(false) => Ok(Transfer::Next),
         Err(fault) => Err(fault),
@@ -51,8 +56,8 @@ pub(crate) fn return_tunnel<'a>(story: &Story, stack: &mut EvalStack) -> Result<
 {
     match top(stack) {
         Some(Value::Void) => Ok(Transfer::Return(FrameKind::Tunnel, None)),
-        Some(Value::Target(path)) => match story.tree().resolve(ROOT, path.get()) {
-            Some(place) => Ok(Transfer::Return(FrameKind::Tunnel, Some(place))),
+        Some(Value::Target(path)) => match landing_on(story, path.get()) {
+            Some(landing) => Ok(Transfer::Return(FrameKind::Tunnel, Some(landing))),
             None => Err(Fault::BadTarget),
         },
         Some(_) => Err(Fault::BadPop),

@@ -1,5 +1,5 @@
 -- The values at the top of a stack.
-use Rattle.std.proofs.Common.{◌≡◌, ◌≢◌, ◌∙◌, ℕ, zero, suc, ◌+◌, ◌-◌, ◌<◌, ◌≤◌, Bool, true, false, ap, sym, subst, refl, inl, inr, List, [], ◌∷◌, ◌++◌, length, take, drop, Option, Some, None, option_map, option_and_then, Result, Ok, Err, arith}
+use Rattle.std.proofs.Common.{◌≡◌, ◌≢◌, ◌∙◌, slice_set, ℕ, zero, suc, ◌+◌, ◌-◌, ◌<◌, ◌≤◌, Bool, true, false, ap, sym, subst, refl, inl, inr, List, [], ◌∷◌, ◌++◌, length, take, drop, Option, Some, None, option_map, option_and_then, Result, Ok, Err, arith}
 use Rattle.std.proofs.Math.Seq.{append_snoc, drop-length, take-length}
 use Rattle.std.proofs.lemmas.List.{append-nil, drop-append-le, length-drop, take-append-le}
 use Rattle.ink_model.specs.Asks.{operator_asks}
@@ -7,6 +7,7 @@ use Rattle.ink_model.specs.Joining.{makes_text}
 use Rattle.ink_model.specs.Memory.{Gives}
 use Rattle.ink_model.specs.Operator.{apply, takes}
 use Rattle.ink_model.specs.Stack.{applied, applied_to, on_top, popped, taken}
+use Rattle.ink_value.specs.Stack.{with_top}
 use Rattle.ink_model.specs.declared.fault.Fault.{Fault}
 use Rattle.ink_model.specs.declared.fault.Fault.TheVariants.{StackEmpty}
 use Rattle.ink_model.specs.declared.operator.Op.{Op}
@@ -86,3 +87,19 @@ module _ (o : Op) (vs : List Value) (below : ℕ) (enough : length vs ≡ below 
       set : (b : Bool) → b ≢ false → b ≡ true
       set true k = refl
       set false k = absurd (k refl)
+
+-- ---- another value in the place of the one on top
+
+with_top_under : (w v : Value) (r : Option (Value × List Value)) → with_top v (option_map (λ t. (t.0, w ∷ t.1)) r) ≡ option_map (λ us. w ∷ us) (with_top v r)
+with_top_under w v None = refl
+with_top_under w v (Some t) = refl
+
+pub top_set : (vs : List Value) (n : ℕ) (v : Value) → length vs ≡ suc n → Some (slice_set vs n v) ≡ with_top v (popped vs)
+top_set [] n v h = absurd (cc)
+top_set (w ∷ []) zero v h = refl
+top_set (w ∷ []) (suc n) v h = absurd (omega arith)
+top_set (w ∷ x ∷ vs) zero v h = absurd (omega arith)
+top_set (w ∷ x ∷ vs) (suc n) v h = ap (option_map (λ us. w ∷ us)) (top_set (x ∷ vs) n v (omega arith)) ∙ sym (with_top_under w v (popped (x ∷ vs)))
+
+pub last_set : (vs : List Value) (v : Value) → 0 < length vs → Some (slice_set vs (length vs - 1) v) ≡ with_top v (popped vs)
+last_set vs v h = top_set vs (length vs - 1) v (omega arith)

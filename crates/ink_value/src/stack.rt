@@ -1,10 +1,11 @@
 //! The evaluation stack.
 
-ghost use Rattle.std.specs.Prelude.{◌≡◌, ◌≢◌, ◌≤◌, ◌↔◌, ◌⊎◌, [], ◌∷◌, ◌++◌, true, length, reverse, slice_get, OnOk, OnErr, IfOk, IfErr, MatchResult};
+ghost use Rattle.std.specs.Prelude.{◌≡◌, ◌≢◌, ◌≤◌, ◌↔◌, ◌⊎◌, [], ◌∷◌, ◌++◌, true, Some, None, length, reverse, slice_get, OnOk, OnErr, IfOk, IfErr, MatchResult};
 ghost use Rattle.ink_model.specs.Asks.{operator_asks};
 ghost use Rattle.ink_model.specs.Memory.{Leaves};
 ghost use Rattle.ink_model.specs.Operator as rules;
-ghost use Rattle.ink_model.specs.Stack.{applied, taken};
+ghost use Rattle.ink_model.specs.Stack.{applied, popped, taken};
+ghost use Rattle.ink_value.specs.Stack.{with_top};
 
 use crate::operate::apply;
 use ink_model::{Fault, MAX_STACK, Op, Value};
@@ -77,6 +78,24 @@ impl EvalStack {
         ensures memory { result ≢ Err Fault.OutOfMemory }
     {
         self.items.pop().ok_or(Fault::StackEmpty)
+    }
+
+    /// Puts a value in the place of the one on top, without memory. Where there is none nothing has changed, and the value is
+    /// handed back.
+    pub fn replace_top(&mut self, value: Value) -> Result<(), Value>
+        ensures ok { OnOk result (Some self.new.items ≡ with_top value (popped self.old.items)) }
+        ensures err { OnErr result (popped self.old.items ≡ None) }
+        ensures kept { OnErr result (self.new.items ≡ self.old.items) }
+        ensures handed_back { IfErr result (λ handed_back. handed_back ≡ value) }
+        ensures within { length self.new.items ≤ MAX_STACK }
+    {
+        match self.items.last_mut() {
+            Some(top) => {
+                *top = value;
+                Ok(())
+            }
+            None => Err(value),
+        }
     }
 
     /// The value that lies so deep: 0 is the top. `StackEmpty` where there is none so deep.

@@ -1,15 +1,15 @@
 -- What calls on variables do, by what the rules give.
-use Rattle.std.specs.Prelude.{◌≡◌, ◌⊎◌, ℕ, ℤ, List, Bool, true, false, not, ◌||◌, Option, Some, None, is_some, Result, Ok, Err}
+use Rattle.std.specs.Borrow.{Bor}
+use Rattle.std.specs.Prelude.{◌≡◌, ◌⊎◌, ℕ, ℤ, pos, List, Bool, true, false, Option, Some, None, is_some, Result, Ok, Err}
 use Rattle.ink_model.specs.Frames.{ThreadOf, ThreadsOf}
 use Rattle.ink_model.specs.Memory.{holds_memory}
-use Rattle.ink_model.specs.Rows.{name_order, row}
-use Rattle.ink_model.specs.Store.{Values, stored}
-use Rattle.ink_model.specs.Variables.{assign, assign_at, held, named, on_pointer, stands, with_held, with_named}
+use Rattle.ink_model.specs.Store.{Values}
+use Rattle.ink_model.specs.VariableMemory.{is_pointer}
+use Rattle.ink_model.specs.Variables.{assign, assign_at, held, named, stands, with_held, with_named}
 use Rattle.ink_model.specs.declared.fault.Fault.{Fault}
 use Rattle.ink_model.specs.declared.fault.Fault.TheVariants.{OutOfMemory}
-use Rattle.ink_model.specs.declared.scope.Scope.{Scope}
-use Rattle.ink_model.specs.declared.scope.Scope.TheVariants.{Global, Temporary}
 use Rattle.ink_model.specs.declared.value.Value.{Value}
+use Rattle.ink_model.specs.declared.value.Value.TheVariants.{Int}
 
 -- A call hands out what the rule gives, or the rule's fault; where it asks for memory it may be refused that.
 abbrev pub HandsOut : {A : Type 0} → Bool → Result A Fault → Result A Fault → Type 0
@@ -31,6 +31,12 @@ module _ {P : Type 0} where
   Writes asks (Err g) old new before after (Ok u) = ⊥
   Writes asks (Err g) old new before after (Err f) = (f ≡ g) × (new ≡ old) × (after ≡ before)
 
+-- what a variable is read as, without a copy; nothing reads 0
+abbrev pub looked : Result (Option (Bor Value)) Fault → Result Value Fault
+looked (Ok (Some v)) = Ok v.now
+looked (Ok None) = Ok (Int (pos 0))
+looked (Err f) = Err f
+
 -- ---- where memory is asked for
 
 -- a copy of what is handed out
@@ -42,19 +48,7 @@ copy_asks (Err f) = false
 abbrev pub Copies : Result Value Fault → Result Value Fault → Type 0
 Copies rule result = HandsOut (copy_asks rule) rule result
 
-abbrev pub is_pointer : Option Value → Bool
-is_pointer v = on_pointer v (λ frame name. true) false
-
 module _ {P : Type 0} (globals : Values) (thread : ThreadOf P) where
-  -- there is a variable of that name where one is declared
-  abbrev pub is_there : Scope → List ℕ → Bool
-  is_there Global name = is_some (stored name globals)
-  is_there Temporary name = is_some (row name_order name thread.frame.temps)
-
-  -- a pointer that is kept, or a name that is new
-  abbrev pub declare_asks : Scope → List ℕ → Value → Bool
-  declare_asks scope name v = is_pointer (Some v) || not (is_there scope name)
-
   -- ---- what an assigned name leads to
 
   -- It leads to what has the name, or to where the pointer that it holds leads; or assigning to it is a fault. The name of

@@ -9,4 +9,4 @@ mod variables;
 
 pub use counts::Counts;
 pub use globals::Globals;
-pub use variables::{assign, declare, point, read};
+pub use variables::{assign, declare, look, point, read};

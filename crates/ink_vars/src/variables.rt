@@ -3,8 +3,9 @@
 ghost use Rattle.std.specs.Prelude.{◌≡◌, pos, false, true, is_some, Ok, Some, IfErr, OnOk, OnErr, if◌then◌else◌};
 ghost use Rattle.ink_model.specs.Rows.{name_order, row};
 ghost use Rattle.ink_model.specs.Threads.{frame_count};
+ghost use Rattle.ink_model.specs.VariableMemory.{declare_asks, is_pointer, is_there};
 ghost use Rattle.ink_model.specs.Variables as rules;
-ghost use Rattle.ink_vars.specs.Words.{Are, Copies, HandsOut, LeadsInto, LeadsTo, Writes, declare_asks, is_pointer, is_there};
+ghost use Rattle.ink_vars.specs.Words.{Are, Copies, HandsOut, LeadsInto, LeadsTo, Writes, looked};
 
 use crate::globals::Globals;
 use crate::pointers::{chain_end, held, named, stands};
@@ -24,23 +25,38 @@ pub fn read<P: Copy>(
 ) -> Result<Value, Fault>
     ensures { Copies (rules.read globals.now threads.now.thread name.now) result }
 {
+    match look(globals, threads, name) {
+        Ok(Some(value)) => copied(alloc, value),
+        Ok(None) => Ok(Value::Int(0)),
+        Err(fault) => Err(fault),
+    }
+}
+
+/// What a variable is read as, without a copy; none where nothing has it, which reads 0. The one error is `BadPointer`, as of
+/// `read`. Takes no memory.
+pub fn look<'a, P: Copy>(
+    globals: &'a Globals,
+    threads: &'a Threads<P>,
+    name: &str,
+) -> Result<Option<&'a Value>, Fault>
+    ensures { looked result ≡ rules.read globals.now threads.now.thread name.now }
+{
     match named(globals, threads, name) {
-        None => Ok(Value::Int(0)),
-        Some(Value::Pointer(frame, to)) => read_at(alloc, globals, threads, *frame, to),
-        Some(value) => copied(alloc, value),
+        None => Ok(None),
+        Some(Value::Pointer(frame, to)) => look_at(globals, threads, *frame, to),
+        Some(value) => Ok(Some(value)),
     }
 }
 
 // What a pointer leads to.
-fn read_at<P: Copy>(
-    alloc: Global,
-    globals: &Globals,
-    threads: &Threads<P>,
+fn look_at<'a, P: Copy>(
+    globals: &'a Globals,
+    threads: &'a Threads<P>,
     frame: i32,
-    name: &Shared<Text>,
-) -> Result<Value, Fault>
+    name: &'a Shared<Text>,
+) -> Result<Option<&'a Value>, Fault>
     ensures { let end = rules.chain_end globals.now threads.now.thread frame name.now in
-        Copies (rules.value_at globals.now threads.now.thread end) result }
+        looked result ≡ rules.value_at globals.now threads.now.thread end }
 {
     let Some((frame, name)) = chain_end(globals, threads, frame, name) else {
         return Err(Fault::BadPointer);
@@ -49,10 +65,7 @@ fn read_at<P: Copy>(
     if !stands(globals, threads, frame, name) {
         return Err(Fault::BadPointer);
     }
-    match held(globals, threads, frame, name) {
-        Some(value) => copied(alloc, value),
-        None => Ok(Value::Int(0)),
-    }
+    Ok(held(globals, threads, frame, name))
 }
 
 fn copied(alloc: Global, value: &Value) -> Result<Value, Fault>

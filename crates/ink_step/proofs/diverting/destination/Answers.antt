@@ -1,5 +1,14 @@
-use Rattle.ink_step.proofs.Landings.{written_to}
+use Rattle.std.proofs.Common.{◌∙◌, ap, refl}
+use Rattle.ink_check.specs.Words.{story_tree}
+use Rattle.ink_model.specs.Step.Diverts.{led_by}
+use Rattle.ink_model.specs.Variables.{read}
+use Rattle.ink_step.proofs.Landings.{held_to}
 use Rattle.ink_step.proofs.diverting.destination.Goals as goal
+use Rattle.ink_step.specs.Words.{seen_by}
 
-pub returns-in-Path : goal.returns-in-Path
-returns-in-Path c = written_to _ _ _ _ _ _ c.in-Path.is c.requires c.written_landing.ensures
+pub returns-in-Variable : goal.returns-in-Variable
+returns-in-Variable c counts =
+    let s = story_tree c.args.story.now in
+    let globals = c.args.globals.now in
+    let thread = c.args.threads.now.thread in
+    held_to s _ (seen_by s c.args.threads.now counts) _ globals _ thread _ c.in-Variable.is refl (c.landing_in.ensures ∙ ap (λ name. led_by s (read globals thread name)) c.as_str.ensures)

@@ -1,27 +1,28 @@
 use Rattle.ink_check.specs.Words.{story_tree}
 use Rattle.ink_model.specs.Step.Diverts.{divert_to}
 use Rattle.ink_step.specs.Performs.{fields}
+use Rattle.ink_step.specs.Words.{seen_by}
 use Rattle.ink_step.proofs.Leading.{lands_there, leads_nowhere, passed, performed}
 use Rattle.ink_step.proofs.diverting.divert.Goals as goal
 use Rattle.ink_tree.specs.Nodes.{place_of}
 
-pub returns-in-Some : goal.returns-in-Some
-returns-in-Some c evaluating fresh page =
+pub returns-in-Ok : goal.returns-in-Ok
+returns-in-Ok c evaluating fresh page counts =
     let s = story_tree c.args.story.now in
-    let so = divert_to s (place_of s c.args.here) c.args.to.now in
+    let so = divert_to s (place_of s c.args.here) (seen_by s c.args.threads.now counts) c.args.to.now in
     let new = fields evaluating fresh c.is_wanted.new.stack.items page c.args.globals.now in
-    performed s _ new _ so _ _ c.in-Ok-true.field-0-test (c.in-Ok-true.ensures evaluating fresh page c.args.globals.now so) (lands_there s _ new _ _ c.in-Some.ensures)
+    performed s _ new _ so _ _ c.in-Ok-true.field-0-test (c.in-Ok-true.ensures evaluating fresh page c.args.globals.now so) (lands_there s _ new c.in-Ok.landing _ (c.in-Ok.ensures counts))
 
-pub returns-in-None : goal.returns-in-None
-returns-in-None c evaluating fresh page =
+pub returns-in-Err-destination : goal.returns-in-Err-destination
+returns-in-Err-destination c evaluating fresh page counts =
     let s = story_tree c.args.story.now in
-    let so = divert_to s (place_of s c.args.here) c.args.to.now in
+    let so = divert_to s (place_of s c.args.here) (seen_by s c.args.threads.now counts) c.args.to.now in
     let new = fields evaluating fresh c.is_wanted.new.stack.items page c.args.globals.now in
-    performed s _ new _ so _ _ c.in-Ok-true.field-0-test (c.in-Ok-true.ensures evaluating fresh page c.args.globals.now so) (leads_nowhere s _ new _ _ c.in-None.ensures)
+    performed s _ new _ so _ _ c.in-Ok-true.field-0-test (c.in-Ok-true.ensures evaluating fresh page c.args.globals.now so) (leads_nowhere s _ new _ _ _ (c.in-Err-destination.ensures counts))
 
 pub returns-in-Ok-false : goal.returns-in-Ok-false
-returns-in-Ok-false c evaluating fresh page =
+returns-in-Ok-false c evaluating fresh page counts =
     let s = story_tree c.args.story.now in
-    let so = divert_to s (place_of s c.args.here) c.args.to.now in
+    let so = divert_to s (place_of s c.args.here) (seen_by s c.args.threads.now counts) c.args.to.now in
     let new = fields evaluating fresh c.is_wanted.new.stack.items page c.args.globals.now in
     passed s _ new _ so _ c.in-Ok-false.field-0-test (c.in-Ok-false.ensures evaluating fresh page c.args.globals.now so)

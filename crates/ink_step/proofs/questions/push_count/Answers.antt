@@ -1,0 +1,34 @@
+use Rattle.std.proofs.Common.{◌≡◌, ◌∙◌, ap, refl, sym, Err, Ok, option_map, rules, subst}
+use Rattle.ink_check.specs.Words.{story_tree}
+use Rattle.ink_model.specs.Acceptance.{leads}
+use Rattle.ink_model.specs.Memory.{Leaves}
+use Rattle.ink_model.specs.Stack.{pushed}
+use Rattle.ink_model.specs.declared.value.Value.TheVariants as value
+use Rattle.ink_step.proofs.Asked.{visits_fail, visits_pushed}
+use Rattle.ink_step.proofs.Landings.{count_leads}
+use Rattle.ink_step.proofs.questions.push_count.Goals as goal
+use Rattle.ink_step.specs.Asked.{visits_in}
+use Rattle.ink_step.specs.Words.{seen_by}
+use Rattle.ink_tree.specs.Nodes.{node_place, place_of}
+
+pub returns-in_err-visits : goal.returns-in_err-visits
+returns-in_err-visits c threads evaluating fresh page globals =
+    let s = story_tree c.args.story.now in
+    let p = place_of s c.args.here in
+    let seen = seen_by s threads c.args.counts.now in
+    let there : option_map (node_place s) c.counted.result ≡ leads s p c.args.path.now = c.counted.ensures ∙ count_leads s p c.args.path.now c.requires in
+    let is : c.from_residual.result ≡ Err c.in_err-visits.field-0.0 = search rules in
+    rw is (visits_fail s seen (λ r. r) (λ f. refl) evaluating fresh page globals c.args.stack.now.items c.args.stack.now.items (leads s p c.args.path.now) c.in_err-visits.field-0.0
+    (c.in_err-visits.ensures ∙ ap (visits_in s seen.counts) there))
+
+pub returns : goal.returns
+returns c threads evaluating fresh page globals =
+    let s = story_tree c.args.story.now in
+    let p = place_of s c.args.here in
+    let seen = seen_by s threads c.args.counts.now in
+    let there : option_map (node_place s) c.counted.result ≡ leads s p c.args.path.now = c.counted.ensures ∙ count_leads s p c.args.path.now c.requires in
+    let old = c.args.stack.now.items in
+    let new = c.push.new.stack.items in
+    let z = c.in_ok-visits.visits in
+    let pushes : Leaves (pushed (value.Int z) old) old new c.push.result = search rules in
+    visits_pushed s seen (λ r. r) (λ f. refl) evaluating fresh page globals old new (leads s p c.args.path.now) z z (c.in_ok-visits.ensures ∙ ap (visits_in s seen.counts) there) refl c.push.result pushes
