@@ -1,11 +1,12 @@
 -- Where flow goes after a content, and so how a step ends.
-use Rattle.std.proofs.Common.{◌≡◌, ◌∙◌, ◌||◌, ap, sym, refl, subst, inl, inr, ℕ, List, Bool, true, false, Option, Some, None, option_map, Result, Ok, Err}
-use Rattle.ink_model.specs.Configuration.{Configuration, current_place, ended, put_at, with_safe, with_threads}
-use Rattle.ink_model.specs.Effect.{Fields, Effect, Moves, Lands, Calls, Returns, Forks, Done, Ends, Fails, fields_of, with_fields}
-use Rattle.ink_model.specs.Flow.{Written, Reached, Reaches, Halts, Breaks, called, depth_of, done, forked, halt, is_last, moved_on, reach, returned}
-use Rattle.ink_model.specs.Frames.{ThreadsOf, base_threads, mode_in, on_top}
+use Rattle.std.proofs.Common.{◌≡◌, ◌∙◌, ◌||◌, ap, sym, refl, subst, inl, inr, ℕ, List, [], Bool, true, false, Option, Some, None, option_map, Result, Ok, Err}
+use Rattle.ink_model.specs.Configuration.{Configuration, current_place, ended, put_at, with_threads}
+use Rattle.ink_model.specs.Counts.{CountsOf}
+use Rattle.ink_model.specs.Effect.{Fields, Effect, Moves, Stores, Lands, Calls, Returns, Forks, Done, Ends, Fails, fields_of, with_fields, with_thread}
+use Rattle.ink_model.specs.Flow.{Written, Reached, Reaches, Halts, Breaks, called, depth_of, forked, halt, moved_on, reach, returned}
+use Rattle.ink_model.specs.Frames.{ThreadOf, ThreadsOf, base_threads, map_threads, mode_in, on_top}
 use Rattle.ink_model.specs.Memory.{asks, asks_at, content_asks}
-use Rattle.ink_model.specs.Move.{Outcome, Next, Stop, Wants, Faults, going, move, reached_in, with_flow, written_in}
+use Rattle.ink_model.specs.Move.{Outcome, Next, Stop, Wants, Faults, end_all, finish, going, landing, may_enter, move, place_to, reached_in, with_flow, written_in}
 use Rattle.ink_model.specs.MoveMemory.{flow_asks, move_asks, moved_asks, returned_asks}
 use Rattle.ink_model.specs.Place.{entered, next_place}
 use Rattle.ink_model.specs.Step.{effect, nothing_bound, step, step_at}
@@ -16,10 +17,10 @@ use Rattle.ink_model.specs.declared.fault.Fault.{Fault}
 use Rattle.ink_model.specs.declared.fault.Fault.TheVariants.{OutOfMemory}
 use Rattle.ink_model.specs.declared.frame.FrameKind.{FrameKind}
 use Rattle.ink_model.specs.declared.place.Part.{Part}
-use Rattle.ink_step.specs.Performs.{Performs}
+use Rattle.ink_step.specs.Performs.{Keeps, Performs, stored_by}
 use Rattle.ink_step.specs.Reaches.{ReachesAs}
 use Rattle.ink_step.specs.Steps.{StepEnds}
-use Rattle.ink_step.specs.Words.{config_of}
+use Rattle.ink_step.specs.Words.{config_of, counts_in}
 use Rattle.ink_step.specs.declared.flow.StepEnd.{StepEnd}
 use Rattle.ink_step.specs.declared.flow.StepEnd.TheVariants as ends
 use Rattle.ink_step.specs.declared.machine.Machine.{Machine}
@@ -96,6 +97,7 @@ module _ (s : StoryTree) (asking : Bool) (c d : Configuration) (r : Result StepE
   pub goes_after_text : (e : Effect) → Performs s asking e (fields_of c) (Ok transfer.Wrote)
       → StepEnds (moved_asks (next_place s) stale_now.flow.threads (written_in c)) (going (moved_on (next_place s)) stale_now) c.shared.globals d r → Follows e
   goes_after_text (Moves f) h go = subst (λ g. Follows (Moves g)) (sym h) (ends_more asking _ _ _ _ r go)
+  goes_after_text (Stores t f) h go = absurd h
   goes_after_text (Lands p f) h go = absurd h
   goes_after_text (Calls k p f) h go = absurd h
   goes_after_text (Returns k to f) h go = absurd h
@@ -107,6 +109,7 @@ module _ (s : StoryTree) (asking : Bool) (c d : Configuration) (r : Result StepE
   pub goes_nowhere : (e : Effect) → Performs s asking e (fields_of c) (Ok transfer.End)
       → StepEnds false (reached_in (ended c) (halt (base_threads None) (written_in c))) c.shared.globals d r → Follows e
   goes_nowhere (Moves f) h go = absurd h
+  goes_nowhere (Stores t f) h go = absurd h
   goes_nowhere (Lands p f) h go = absurd h
   goes_nowhere (Calls k p f) h go = absurd h
   goes_nowhere (Returns k to f) h go = absurd h
@@ -127,6 +130,7 @@ ends_unperformed s asking more e new c d globals f h same = by e h
 
     by : (e : Effect) → Performs s asking e new (Err f) → StepEnds (asking || more) (move s e c) globals d (Err f)
     by (Moves g) k = short (move s (Moves g) c) k
+    by (Stores t g) k = short (move s (Stores t g) c) k
     by (Lands p g) k = short (move s (Lands p g) c) k
     by (Calls kind p g) k = short (move s (Calls kind p g) c) k
     by (Returns kind to g) k = short (move s (Returns kind to g) c) k
@@ -135,45 +139,76 @@ ends_unperformed s asking more e new c d globals f h same = by e h
     by (Ends g) k = short (move s (Ends g) c) k
     by (Fails g) k = (elim k [ inl is ↦ inl is | inr refused ↦ inr (refused.0, or_first asking more refused.1) ], same)
 
--- performing changes the fields alone, which a move takes from the effect
-module _ (s : StoryTree) (old mid : Machine) (changes : mid.threads ≡ on_top (mode_in mid.threads.thread.frame.evaluating) old.threads) (safely : mid.safe ≡ old.safe) where
-  abbrev changed : Bool → Machine
-  changed b = record mid { threads = on_top (mode_in mid.threads.thread.frame.evaluating) old.threads; safe = b }
+-- performing changes the fields and temporaries alone, which a move takes from the effect
+module _ (s : StoryTree) (old mid : Machine) (safely : mid.safe ≡ old.safe) (counted : mid.counts ≡ old.counts) where
+  abbrev over : ThreadsOf (List Part) → Bool → CountsOf ℕ → Configuration
+  over ts b counts = record {
+    flow = record { threads = ts; stack = mid.stack.items; choices = []; safe = b };
+    shared = record { globals = mid.globals; counts = counts_in s counts; turn = 0 };
+    page = mid.output.page;
+  }
 
-  over : (f : Fields) (o : Option ℕ) → with_fields (record f { wrote = o }) (config_of s (changed old.safe)) ≡ with_fields (record f { wrote = o }) (config_of s old)
-  over f None = refl
-  over f (Some depth) = refl
+  abbrev kept : Effect → Configuration
+  kept e = over (on_top (mode_in mid.threads.thread.frame.evaluating) (on_top (stored_by e) (map_threads (place_of s) old.threads))) old.safe old.counts
 
-  goes_alike : (e : Effect) → move s e (config_of s (changed old.safe)) ≡ move s e (config_of s old)
-  goes_alike (Moves f) = ap (going (moved_on (next_place s))) (over f f.wrote)
-  goes_alike (Lands p f) = ap (going (reach p)) (over f f.wrote)
-  goes_alike (Calls k p f) = ap (going (called k p)) (over f f.wrote)
-  goes_alike (Returns k to f) = ap (going (returned (next_place s) k to)) (over f f.wrote)
-  goes_alike (Forks f) = ap (going (forked (next_place s))) (over f f.wrote)
-  goes_alike (Done f) = ap (λ c. going (done (next_place s)) (with_safe (c.flow.safe || is_last c.flow.threads) c)) (over f f.wrote)
-  goes_alike (Ends f) = ap (λ c. reached_in (ended c) (halt (base_threads None) (written_in c))) (over f f.wrote)
-  goes_alike (Fails f) = refl
+  is_kept : (e : Effect) → Keeps s e old.threads mid.threads → config_of s mid ≡ kept e
+  is_kept e keeps =
+      ap (λ ts. over ts mid.safe mid.counts) keeps ∙ ap (λ b. over (on_top (mode_in mid.threads.thread.frame.evaluating) (on_top (stored_by e) (map_threads (place_of s) old.threads))) b mid.counts) safely
+      ∙ ap (over (on_top (mode_in mid.threads.thread.frame.evaluating) (on_top (stored_by e) (map_threads (place_of s) old.threads))) old.safe) counted
 
-  asks_alike : (e : Effect) → move_asks s e (config_of s (changed old.safe)) ≡ move_asks s e (config_of s old)
-  asks_alike (Moves f) = ap (λ c. flow_asks s (Moves f) c.flow.threads (written_in c)) (over f f.wrote)
-  asks_alike (Lands p f) = refl
-  asks_alike (Calls k p f) = ap (λ c. flow_asks s (Calls k p f) c.flow.threads (written_in c)) (over f f.wrote)
-  asks_alike (Returns k to f) = ap (λ c. flow_asks s (Returns k to f) c.flow.threads (written_in c)) (over f f.wrote)
-  asks_alike (Forks f) = ap (λ c. flow_asks s (Forks f) c.flow.threads (written_in c)) (over f f.wrote)
-  asks_alike (Done f) = ap (λ c. flow_asks s (Done f) c.flow.threads (written_in c)) (over f f.wrote)
+  -- with the effect's fields, whether it stores temporaries or not
+  moving_alike : (f g : Fields) (o : Option ℕ) → with_fields (record f { wrote = o }) (kept (Moves g)) ≡ with_fields (record f { wrote = o }) (config_of s old)
+  moving_alike f g None = refl
+  moving_alike f g (Some depth) = refl
+
+  storing_alike : (t : ThreadOf (List Part)) (f g : Fields) (o : Option ℕ)
+      → with_fields (record f { wrote = o }) (with_thread t (kept (Stores t g))) ≡ with_fields (record f { wrote = o }) (with_thread t (config_of s old))
+  storing_alike t f g None = refl
+  storing_alike t f g (Some depth) = refl
+
+  goes_alike : (e : Effect) → move s e (kept e) ≡ move s e (config_of s old)
+  goes_alike (Moves f) = ap (going (moved_on (next_place s))) (moving_alike f f f.wrote)
+  goes_alike (Stores t f) = ap (going (moved_on (next_place s))) (storing_alike t f f f.wrote)
+  goes_alike (Lands to f) = ap (landing s to.enters (reach to.place)) (moving_alike f f f.wrote)
+  goes_alike (Calls k to f) = ap (landing s to.enters (called k to.place)) (moving_alike f f f.wrote)
+  goes_alike (Returns k to f) = ap (landing s (may_enter to) (returned (next_place s) k (place_to to))) (moving_alike f f f.wrote)
+  goes_alike (Forks f) = ap (going (forked (next_place s))) (moving_alike f f f.wrote)
+  goes_alike (Done f) = ap (finish s) (moving_alike f f f.wrote)
+  goes_alike (Ends f) = ap end_all (moving_alike f f f.wrote)
+  goes_alike (Fails g) = refl
+
+  asks_alike : (e : Effect) → move_asks s e (kept e) ≡ move_asks s e (config_of s old)
+  asks_alike (Moves f) = ap (λ c. flow_asks s (Moves f) (counts_in s old.counts) c.flow.threads (written_in c)) (moving_alike f f f.wrote)
+  asks_alike (Stores t f) = ap (λ c. flow_asks s (Stores t f) (counts_in s old.counts) c.flow.threads (written_in c)) (storing_alike t f f f.wrote)
+  asks_alike (Lands to f) = ap (λ c. flow_asks s (Lands to f) (counts_in s old.counts) c.flow.threads (written_in c)) (moving_alike f f f.wrote)
+  asks_alike (Calls k to f) = ap (λ c. flow_asks s (Calls k to f) (counts_in s old.counts) c.flow.threads (written_in c)) (moving_alike f f f.wrote)
+  asks_alike (Returns k to f) = ap (λ c. flow_asks s (Returns k to f) (counts_in s old.counts) c.flow.threads (written_in c)) (moving_alike f f f.wrote)
+  asks_alike (Forks f) = ap (λ c. flow_asks s (Forks f) (counts_in s old.counts) c.flow.threads (written_in c)) (moving_alike f f f.wrote)
+  asks_alike (Done f) = ap (λ c. flow_asks s (Done f) (counts_in s old.counts) c.flow.threads (written_in c)) (moving_alike f f f.wrote)
   asks_alike (Ends f) = refl
-  asks_alike (Fails f) = refl
+  asks_alike (Fails g) = refl
 
-  is_changed : mid ≡ changed old.safe
-  is_changed = ap (λ ts. record mid { threads = ts }) changes ∙ ap changed safely
-
-  -- and so a step that follows it ends as one from before it
-  pub ends_after : (asking : Bool) (e : Effect) (globals : Values) (d : Configuration) (r : Result StepEnd Fault)
+  pub ends_after : (asking : Bool) (e : Effect) (globals : Values) (d : Configuration) (r : Result StepEnd Fault) → Keeps s e old.threads mid.threads
       → StepEnds (asking || move_asks s e (config_of s mid)) (move s e (config_of s mid)) globals d r → StepEnds (asking || move_asks s e (config_of s old)) (move s e (config_of s old)) globals d r
-  ends_after asking e globals d r h =
-      let alike = subst (λ m. StepEnds (asking || move_asks s e (config_of s m)) (move s e (config_of s m)) globals d r) is_changed h in
-      let moves = subst (λ o. StepEnds (asking || move_asks s e (config_of s (changed old.safe))) o globals d r) (goes_alike e) alike in
+  ends_after asking e globals d r keeps h =
+      let alike = subst (λ c. StepEnds (asking || move_asks s e c) (move s e c) globals d r) (is_kept e keeps) h in
+      let moves = subst (λ o. StepEnds (asking || move_asks s e (kept e)) o globals d r) (goes_alike e) alike in
       subst (λ b. StepEnds (asking || b) (move s e (config_of s old)) globals d r) (asks_alike e) moves
+
+-- after performing, the thread has the temporaries that the effect stores
+pub kept_stays : (s : StoryTree) (e : Effect) (old new : ThreadsOf Spot) → Keeps s e old new → Keeps s e new new
+kept_stays s e old new keeps = by e keeps
+  where
+    by : (e : Effect) → Keeps s e old new → Keeps s e new new
+    by (Moves f) k = refl
+    by (Stores t f) k = k ∙ ap (λ u. record { thread = mode_in new.thread.frame.evaluating t; below = u.below }) (sym k)
+    by (Lands to f) k = refl
+    by (Calls kind to f) k = refl
+    by (Returns kind to f) k = refl
+    by (Forks f) k = refl
+    by (Done f) k = refl
+    by (Ends f) k = refl
+    by (Fails g) k = refl
 
 -- where flow has stopped it stays stopped
 pub ends_still : (s : StoryTree) (c : Configuration) (globals : Values) → current_place c ≡ None → StepEnds (asks s c) (step s nothing_bound c) globals c (Ok ends.Stopped)

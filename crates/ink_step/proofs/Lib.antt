@@ -19,3 +19,6 @@ pub mod Visits
 pub mod Goings
 pub mod Places
 pub mod Asked
+pub mod Stored
+pub mod Unstored
+

@@ -14,6 +14,7 @@ use Rattle.ink_step.specs.declared.transfer.Transfer.{Transfer}
 use Rattle.ink_step.specs.declared.transfer.Transfer.TheVariants as transfer
 use Rattle.ink_tree.specs.Nodes.{place_of}
 use Rattle.ink_tree.specs.declared.spot.Spot.{Spot}
+use Rattle.ink_vars.specs.Words.{name_of}
 
 -- where no text was written
 abbrev pub fields : Bool → Option ℕ → List Value → Page → Values → Fields
@@ -40,7 +41,7 @@ abbrev pub Performs : StoryTree → Bool → Effect → Fields → Result Transf
 Performs s asks (Moves f) new (Ok transfer.Next) = new ≡ f
 Performs s asks (Moves f) new (Ok transfer.Wrote) = f ≡ with_text new
 Performs s asks (Stores t f) new (Ok transfer.Next) = new ≡ f
-Performs s asks (Stores t f) new (Ok (transfer.Store name v)) = (f ≡ record new { globals = store name.now v new.globals }) × (is_some (stored name.now new.globals) || asks ≡ true)
+Performs s asks (Stores t f) new (Ok (transfer.Store name v)) = (f ≡ record new { globals = store (name_of name) v new.globals }) × (is_some (stored (name_of name) new.globals) || asks ≡ true)
 Performs s asks (Lands l f) new (Ok (transfer.Land to)) = (l ≡ landing_of s to) × (new ≡ f)
 Performs s asks (Calls k l f) new (Ok (transfer.Call kind to)) = (k ≡ kind) × (l ≡ landing_of s to) × (new ≡ f)
 Performs s asks (Returns k to f) new (Ok (transfer.Return kind back)) = (k ≡ kind) × (to ≡ option_map (landing_of s) back) × (new ≡ f)

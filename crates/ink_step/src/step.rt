@@ -20,6 +20,7 @@ ghost use Rattle.ink_step.specs.Performs.{Keeps, Performs, landing_of};
 ghost use Rattle.ink_step.specs.Steps.{StepEnds};
 ghost use Rattle.ink_step.specs.Words.{config_of};
 ghost use Rattle.ink_tree.specs.Nodes.{place_of};
+ghost use Rattle.ink_vars.specs.Words.{name_of};
 
 use crate::diverting::divert;
 use crate::evaluating::{begin_eval, duplicate, end_eval, operate, pop, push_target, push_value};
@@ -27,14 +28,15 @@ use crate::flow;
 use crate::flow::{StepEnd, done, end, fork, give_back, land, move_on};
 use crate::frames::{call, return_tunnel};
 use crate::machine::Machine;
-use crate::sections::{begin_string, begin_tag, end_string, end_tag};
 use crate::questions::{push_count, push_read_count, push_turn, push_turns, push_visit};
+use crate::sections::{begin_string, begin_tag, end_string, end_tag};
 use crate::storing::{assign, declare, push_pointer, push_variable};
 use crate::transfer::{Landing, Transfer, after_text, moving};
 use crate::writing::{output_top, write_glue, write_newline, write_text};
 use ink_check::Story;
-use ink_model::{Content, Control, Fault, FrameKind, Leaf, Scope, Text, Value};
+use ink_model::{Content, Control, Fault, FrameKind, Leaf, Scope, Value};
 use ink_tree::Spot;
+use ink_vars::Name;
 
 impl Machine {
     /// One step: goes down to the first content, performs it and moves. Where flow has stopped it stays stopped. After a fault
@@ -255,9 +257,9 @@ impl Machine {
         transfer
     }
 
-    /// Flow goes where a content sends it, and then a global is stored.
+    /// Flow goes where a content sends it, and then a global is stored. Temporaries that the content stores are set already.
     fn follow(&mut self, story: &Story, transfer: Transfer<'_>) -> Result<StepEnd, Fault>
-        ensures { let s = story_tree story.now in (asks : Bool) (e : Effect) → Performs s asks e (fields_of (config_of s self.old)) (Ok transfer.entry)
+        ensures { let s = story_tree story.now in (asks : Bool) (e : Effect) → Performs s asks e (fields_of (config_of s self.old)) (Ok transfer.entry) → Keeps s e self.old.threads self.old.threads
             → StepEnds (asks || move_asks s e (config_of s self.old)) (moved s e (config_of s self.old)) self.old.globals (config_of s self.new) result }
     {
         match transfer {
@@ -355,8 +357,13 @@ impl Machine {
     }
 
     /// Flow goes on after the content, and then a global is stored.
-    fn go_on_storing(&mut self, story: &Story, name: &Text, value: Value) -> Result<StepEnd, Fault>
-        ensures { let s = story_tree story.now in let c = with_globals (store name.now value self.old.globals) (config_of s self.old) in (asks : Bool) → is_some (stored name.now self.old.globals) || asks ≡ true
+    fn go_on_storing(
+        &mut self,
+        story: &Story,
+        name: Name<'_>,
+        value: Value,
+    ) -> Result<StepEnd, Fault>
+        ensures { let s = story_tree story.now in let c = with_globals (store (name_of name.entry) value self.old.globals) (config_of s self.old) in (asks : Bool) → is_some (stored (name_of name.entry) self.old.globals) || asks ≡ true
             → StepEnds (asks || moved_asks (next_place s) c.flow.threads (written_in c)) (going (moved_on (next_place s)) c) self.old.globals (config_of s self.new) result }
     {
         match move_on(

@@ -1,66 +1,139 @@
-//! Globals are read and changed (docs/RUNNING.md, "Globals").
+//! Variables are read, declared and assigned (docs/VARIABLES.md).
 
-ghost use Rattle.std.specs.Prelude.{◌≡◌, ℕ, Bool, true, false, Option, IfOk};
-ghost use Rattle.ink_model.specs.Memory.{has_top};
+ghost use Rattle.std.specs.Prelude.{◌≡◌, ◌≤◌, ℕ, Bool, not, Option, OnOk, is_ok, is_some};
+ghost use Rattle.ink_model.specs.Counts.{CountsOf};
+ghost use Rattle.ink_model.specs.Effect.{Fields, Stores};
+ghost use Rattle.ink_model.specs.Frames.{map_thread};
 ghost use Rattle.ink_model.specs.Page.{Page};
 ghost use Rattle.ink_model.specs.Stack.{popped};
-ghost use Rattle.ink_model.specs.Step.Variables.{assign, declare, push_global, read_global};
+ghost use Rattle.ink_model.specs.Step.Variables as effects;
 ghost use Rattle.ink_model.specs.Store.{Values};
+ghost use Rattle.ink_model.specs.Threads.{frame_count};
 ghost use Rattle.ink_model.specs.Tree.{StoryTree};
-ghost use Rattle.ink_step.specs.Performs.{Changes, Performs, fields};
+ghost use Rattle.ink_model.specs.VariableMemory.{assign_asks, declare_asks, on_popped};
+ghost use Rattle.ink_model.specs.Variables as rules;
+ghost use Rattle.ink_step.specs.Performs.{Changes, Keeps, Performs, fields};
+ghost use Rattle.ink_step.specs.Words.{seen_by};
+ghost use Rattle.ink_tree.specs.Nodes.{place_of};
+ghost use Rattle.ink_vars.specs.Words.{held_by, with_variable};
 
 use crate::operands::{push, top};
 use crate::transfer::Transfer;
-use ink_model::{Fault, Text, Value};
+use ink_model::{Fault, Scope, Shared, Text, Value};
+use ink_stack::Threads;
+use ink_tree::Spot;
 use ink_value::EvalStack;
-use ink_vars::Globals;
-use std::alloc::{AllocError, Global};
+use ink_vars::{Globals, Variable, assigned, declared, kept, point, read};
+use std::alloc::Global;
 
-/// What is popped becomes the value of a global, which need not be there.
-pub(crate) fn declare<'a>(stack: &mut EvalStack, name: &'a Text) -> Result<Transfer<'a>, Fault>
-    ensures { (s : StoryTree) (evaluating : Bool) (fresh : Option ℕ) (page : Page) (globals : Values)
-        → Performs s (has_top (popped stack.old.items)) (declare name.now (fields evaluating fresh stack.old.items page globals)) (fields evaluating fresh stack.new.items page globals) result }
-{
-    let value = top(stack).ok_or(Fault::StackEmpty)?;
-    Ok(Transfer::Store(name, value))
-}
-
-/// What is popped becomes the value of a global that has to be there. `NoTemp` where it is not.
-pub(crate) fn assign<'a>(
-    stack: &mut EvalStack,
-    globals: &Globals,
-    name: &'a Text,
-) -> Result<Transfer<'a>, Fault>
-    ensures { (s : StoryTree) (evaluating : Bool) (fresh : Option ℕ) (page : Page)
-        → Performs s false (assign name.now (fields evaluating fresh stack.old.items page globals.now)) (fields evaluating fresh stack.new.items page globals.now) result }
-{
-    let value = top(stack).ok_or(Fault::StackEmpty)?;
-    if !globals.contains(name.as_str()) {
-        return Err(Fault::NoTemp);
-    }
-    Ok(Transfer::Store(name, value))
-}
-
-/// The value of a global is pushed, 0 where there is no such global.
-pub(crate) fn push_global(
+/// What a variable is read as is pushed. `BadPointer` where the pointer that it holds leads nowhere.
+pub(crate) fn push_variable(
     alloc: Global,
     stack: &mut EvalStack,
     globals: &Globals,
+    threads: &Threads<Spot>,
     name: &Text,
 ) -> Result<(), Fault>
-    ensures { (evaluating : Bool) (fresh : Option ℕ) (page : Page)
-        → Changes true (push_global name.now (fields evaluating fresh stack.old.items page globals.now)) (fields evaluating fresh stack.new.items page globals.now) result }
+    ensures { (s : StoryTree) (counts : CountsOf ℕ) (evaluating : Bool) (fresh : Option ℕ) (page : Page)
+        → let seen = seen_by s threads.now counts in Changes (is_ok (rules.read globals.now seen.thread name.now))
+        (effects.push_variable name.now seen (fields evaluating fresh stack.old.items page globals.now)) (fields evaluating fresh stack.new.items page globals.now) result }
 {
-    let value = value_of(alloc, globals, name.as_str())?;
-    push(stack, value)
+    match read(alloc, globals, threads, name.as_str()) {
+        Ok(value) => push(stack, value),
+        Err(fault) => Err(fault),
+    }
 }
 
-/// The value of a global, 0 where there is no such global. The one error is a refused request for memory.
-fn value_of(alloc: Global, globals: &Globals, name: &str) -> Result<Value, AllocError>
-    ensures { IfOk result (λ value. value ≡ read_global name.now globals.now) }
+/// A pointer is pushed in evaluation mode; where its frame is not known, that is found now. Outside evaluation mode nothing is
+/// done.
+pub(crate) fn push_pointer(
+    stack: &mut EvalStack,
+    threads: &Threads<Spot>,
+    evaluating: bool,
+    name: &Shared<Text>,
+    frame: i32,
+) -> Result<(), Fault>
+    ensures { (s : StoryTree) (counts : CountsOf ℕ) (fresh : Option ℕ) (page : Page) (globals : Values)
+        → Changes evaluating (effects.push_pointer name.now frame (seen_by s threads.now counts) (fields evaluating fresh stack.old.items page globals))
+        (fields evaluating fresh stack.new.items page globals) result }
 {
-    match globals.get(name) {
-        Some(value) => value.clone_in(alloc),
-        None => Ok(Value::Int(0)),
+    if !evaluating {
+        return Ok(());
     }
+    match point(threads, frame, name) {
+        Ok(pointer) => push(stack, pointer),
+        Err(fault) => Err(fault),
+    }
+}
+
+/// What is popped becomes the value of a variable in a scope, which need not be there. `StackEmpty` where nothing is there to be
+/// popped, `BadPointer` for a pointer whose chain is too long.
+pub(crate) fn declare<'a>(
+    stack: &mut EvalStack,
+    globals: &Globals,
+    threads: &mut Threads<Spot>,
+    scope: Scope,
+    name: &'a Text,
+) -> Result<Transfer<'a>, Fault>
+    ensures effect { (s : StoryTree) (counts : CountsOf ℕ) (evaluating : Bool) (fresh : Option ℕ) (page : Page)
+        → let seen = seen_by s threads.old counts in Performs s (on_popped (popped stack.old.items) (declare_asks globals.now seen.thread scope name.now))
+        (effects.declare scope name.now seen (fields evaluating fresh stack.old.items page globals.now)) (fields evaluating fresh stack.new.items page globals.now) result }
+    ensures threads { (s : StoryTree) (counts : CountsOf ℕ) (evaluating : Bool) (fresh : Option ℕ) (page : Page)
+        → OnOk result (Keeps s (effects.declare scope name.now (seen_by s threads.old counts) (fields evaluating fresh stack.old.items page globals.now)) threads.old threads.new) }
+    ensures frame { threads.new.thread.frame ≡ record threads.old.thread.frame { temps = threads.new.thread.frame.temps } }
+{
+    let Some(value) = top(stack) else {
+        return Err(Fault::StackEmpty);
+    };
+    match kept(globals, threads, value) {
+        Ok(value) => {
+            let variable = declared(threads, scope, name.as_str());
+            store(threads, variable, value)
+        }
+        Err(fault) => Err(fault),
+    }
+}
+
+/// What is popped becomes the value of the variable to which a name leads. `StackEmpty` where nothing is there to be popped;
+/// `NoTemp` where there is no such variable, `BadPointer` where a pointer leads nowhere.
+pub(crate) fn assign<'a>(
+    stack: &mut EvalStack,
+    globals: &Globals,
+    threads: &mut Threads<Spot>,
+    name: &'a Text,
+) -> Result<Transfer<'a>, Fault>
+    ensures effect { (s : StoryTree) (counts : CountsOf ℕ) (evaluating : Bool) (fresh : Option ℕ) (page : Page)
+        → let seen = seen_by s threads.old counts in Performs s (on_popped (popped stack.old.items) (assign_asks globals.now seen.thread name.now))
+        (effects.assign name.now seen (fields evaluating fresh stack.old.items page globals.now)) (fields evaluating fresh stack.new.items page globals.now) result }
+    ensures threads { (s : StoryTree) (counts : CountsOf ℕ) (evaluating : Bool) (fresh : Option ℕ) (page : Page)
+        → OnOk result (Keeps s (effects.assign name.now (seen_by s threads.old counts) (fields evaluating fresh stack.old.items page globals.now)) threads.old threads.new) }
+    ensures frame { threads.new.thread.frame ≡ record threads.old.thread.frame { temps = threads.new.thread.frame.temps } }
+{
+    let Some(value) = top(stack) else {
+        return Err(Fault::StackEmpty);
+    };
+    match assigned(globals, threads, name.as_str()) {
+        Ok(variable) => store(threads, variable, value),
+        Err(fault) => Err(fault),
+    }
+}
+
+/// A temporary is set at once; a global is handed on, to be stored after flow has moved. The one error is `OutOfMemory` for a
+/// refused request for memory, which is made only for a temporary that is not there, and leaves all as it was.
+fn store<'a>(
+    threads: &mut Threads<Spot>,
+    variable: Variable<'a>,
+    value: Value,
+) -> Result<Transfer<'a>, Fault>
+    requires { variable.frame ≤ frame_count threads.old.thread }
+    ensures effect { (s : StoryTree) (f : Fields) → let w = with_variable f.globals threads.old.thread variable.entry value in
+        Performs s (not (is_some (held_by f.globals threads.old.thread variable.entry))) (Stores (map_thread (place_of s) w.1) (record f { globals = w.0 })) f result }
+    ensures threads { (globals : Values) → OnOk result (threads.new ≡ record threads.old { thread = (with_variable globals threads.old.thread variable.entry value).1 }) }
+    ensures frame { threads.new.thread.frame ≡ record threads.old.thread.frame { temps = threads.new.thread.frame.temps } }
+{
+    if variable.frame == 0 {
+        return Ok(Transfer::Store(variable.name, value));
+    }
+    threads.set_temp(variable.frame, variable.name.as_str(), value)?;
+    Ok(Transfer::Next)
 }

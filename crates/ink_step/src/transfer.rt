@@ -3,8 +3,9 @@
 ghost use Rattle.std.specs.Prelude.{◌≡◌};
 ghost use Rattle.ink_step.specs.Performs.{after_text, moving};
 
-use ink_model::{Fault, FrameKind, Text, Value};
+use ink_model::{Fault, FrameKind, Value};
 use ink_tree::Spot;
+use ink_vars::Name;
 
 /// Where flow lands, and whether that enters containers around the place.
 #[derive(Clone, Copy)]
@@ -22,7 +23,7 @@ pub(crate) enum Transfer<'a> {
     /// On, after the content, which has written a text: freshness ends in the open section.
     Wrote,
     /// On, after the content, which stores a value in the global of that name.
-    Store(&'a Text, Value),
+    Store(Name<'a>, Value),
     /// To another place.
     Land(Landing),
     /// To another place, in a frame of its own.

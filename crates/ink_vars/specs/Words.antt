@@ -1,15 +1,25 @@
 -- What calls on variables do, by what the rules give.
 use Rattle.std.specs.Borrow.{Bor}
-use Rattle.std.specs.Prelude.{◌≡◌, ◌⊎◌, ℕ, ℤ, pos, List, Bool, true, false, Option, Some, None, is_some, Result, Ok, Err}
+use Rattle.std.specs.Prelude.{◌≡◌, ◌≤◌, ◌⊎◌, ℕ, ℤ, pos, List, Bool, true, false, Option, Some, None, is_some, Result, Ok, Err}
 use Rattle.ink_model.specs.Frames.{ThreadOf, ThreadsOf}
 use Rattle.ink_model.specs.Memory.{holds_memory}
 use Rattle.ink_model.specs.Store.{Values}
-use Rattle.ink_model.specs.VariableMemory.{is_pointer}
-use Rattle.ink_model.specs.Variables.{assign, assign_at, held, named, stands, with_held, with_named}
+use Rattle.ink_model.specs.Threads.{frame_count}
+use Rattle.ink_model.specs.VariableMemory.{is_pointer, is_there}
+use Rattle.ink_model.specs.Variables.{assign, assign_at, held, named, with_declared, with_held}
 use Rattle.ink_model.specs.declared.fault.Fault.{Fault}
 use Rattle.ink_model.specs.declared.fault.Fault.TheVariants.{OutOfMemory}
+use Rattle.ink_model.specs.declared.scope.Scope.{Scope}
 use Rattle.ink_model.specs.declared.value.Value.{Value}
 use Rattle.ink_model.specs.declared.value.Value.TheVariants.{Int}
+use Rattle.ink_vars.specs.declared.places.Name.{Name}
+use Rattle.ink_vars.specs.declared.places.Name.TheVariants.{Given, Pointed}
+use Rattle.ink_vars.specs.declared.places.Variable.{Variable}
+
+-- the text of a variable's name
+abbrev pub name_of : Name → List ℕ
+name_of (Given name) = name.now
+name_of (Pointed name) = name
 
 -- A call hands out what the rule gives, or the rule's fault; where it asks for memory it may be refused that.
 abbrev pub HandsOut : {A : Type 0} → Bool → Result A Fault → Result A Fault → Type 0
@@ -49,22 +59,34 @@ abbrev pub Copies : Result Value Fault → Result Value Fault → Type 0
 Copies rule result = HandsOut (copy_asks rule) rule result
 
 module _ {P : Type 0} (globals : Values) (thread : ThreadOf P) where
-  -- ---- what an assigned name leads to
+  -- ---- what is written to
 
-  -- It leads to what has the name, or to where the pointer that it holds leads; or assigning to it is a fault. The name of
-  -- what a pointer leads to is copied, for which memory may be refused.
-  abbrev pub LeadsTo : List ℕ → Result (Option (ℤ × List ℕ)) Fault → Type 0
-  LeadsTo name (Ok None) = (is_some (named globals thread name) ≡ true) × ((v : Value) → assign globals thread name v ≡ Ok (with_named globals thread name v))
-  LeadsTo name (Ok (Some p)) =
-      (stands globals thread p.0 p.1 ≡ true) × (is_some (held globals thread p.0 p.1) ≡ true) × ((v : Value) → assign globals thread name v ≡ Ok (with_held globals thread p.0 p.1 v))
+  -- a variable by the number of its frame and its name
+  abbrev pub held_by : Variable → Option Value
+  held_by x = held globals thread (pos x.frame) (name_of x.name)
+
+  abbrev pub with_variable : Variable → Value → Values × ThreadOf P
+  with_variable x v = with_held globals thread (pos x.frame) (name_of x.name) v
+
+  -- Assigning to a name writes this variable, which is there, or is a fault. The name of what a pointer leads to gets one more
+  -- owner, which may be refused.
+  abbrev pub LeadsTo : List ℕ → Result Variable Fault → Type 0
+  LeadsTo name (Ok x) =
+      (x.frame ≤ frame_count thread) × (is_some (held_by x) ≡ true) × ((v : Value) → assign globals thread name v ≡ Ok (with_variable x v))
   LeadsTo name (Err f) =
       ((v : Value) → assign globals thread name v ≡ Err f)
       ⊎ ((f ≡ OutOfMemory) × (is_pointer (named globals thread name) ≡ true)
-      × ((p : ℤ × List ℕ) × ((v : Value) → assign globals thread name v ≡ Ok (with_held globals thread p.0 p.1 v))))
+      × ((x : Variable) × ((v : Value) → assign globals thread name v ≡ Ok (with_variable x v))))
 
   -- The same of a pointer, by the end of its chain.
-  abbrev pub LeadsInto : Option (ℤ × List ℕ) → Result (ℤ × List ℕ) Fault → Type 0
-  LeadsInto end (Ok p) = (end ≡ Some p) × (stands globals thread p.0 p.1 ≡ true) × (is_some (held globals thread p.0 p.1) ≡ true)
+  abbrev pub LeadsInto : Option (ℤ × List ℕ) → Result Variable Fault → Type 0
+  LeadsInto end (Ok x) =
+      (x.frame ≤ frame_count thread) × (is_some (held_by x) ≡ true) × ((v : Value) → assign_at globals thread v end ≡ Ok (with_variable x v))
   LeadsInto end (Err f) =
       ((v : Value) → assign_at globals thread v end ≡ Err f)
-      ⊎ ((f ≡ OutOfMemory) × ((p : ℤ × List ℕ) × ((v : Value) → assign_at globals thread v end ≡ Ok (with_held globals thread p.0 p.1 v))))
+      ⊎ ((f ≡ OutOfMemory) × ((x : Variable) × ((v : Value) → assign_at globals thread v end ≡ Ok (with_variable x v))))
+
+  -- Declaring a name in a scope writes this variable.
+  abbrev pub Declares : Scope → List ℕ → Variable → Type 0
+  Declares scope name x =
+      (is_some (held_by x) ≡ is_there globals thread scope name) × ((v : Value) → with_declared globals thread scope name v ≡ with_variable x v)

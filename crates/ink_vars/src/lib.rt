@@ -3,10 +3,12 @@
 
 mod counts;
 mod globals;
+mod places;
 mod pointers;
 mod slots;
 mod variables;
 
 pub use counts::Counts;
 pub use globals::Globals;
-pub use variables::{assign, declare, look, point, read};
+pub use places::{Name, Variable};
+pub use variables::{assign, assigned, declare, declared, kept, look, point, read};

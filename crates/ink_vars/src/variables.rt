@@ -1,13 +1,16 @@
 //! Variables that are read, assigned and declared.
 
-ghost use Rattle.std.specs.Prelude.{◌≡◌, pos, false, true, is_some, Ok, Some, IfErr, OnOk, OnErr, if◌then◌else◌};
+ghost use Rattle.std.specs.Prelude.{◌≡◌, ◌≤◌, pos, false, true, is_some, Ok, Some, IfErr, OnOk, OnErr, if◌then◌else◌};
 ghost use Rattle.ink_model.specs.Rows.{name_order, row};
+ghost use Rattle.ink_model.specs.Store.{Values};
 ghost use Rattle.ink_model.specs.Threads.{frame_count};
-ghost use Rattle.ink_model.specs.VariableMemory.{declare_asks, is_pointer, is_there};
+ghost use Rattle.ink_model.specs.VariableMemory.{declare_asks, is_pointer};
 ghost use Rattle.ink_model.specs.Variables as rules;
-ghost use Rattle.ink_vars.specs.Words.{Are, Copies, HandsOut, LeadsInto, LeadsTo, Writes, looked};
+ghost use Rattle.ink_model.specs.declared.value.Value.{Value as Data};
+ghost use Rattle.ink_vars.specs.Words.{Are, Copies, Declares, HandsOut, LeadsInto, LeadsTo, Writes, held_by, looked, with_variable};
 
 use crate::globals::Globals;
+use crate::places::{Name, Variable};
 use crate::pointers::{chain_end, held, named, stands};
 use ink_model::{Fault, Scope, Shared, Text, Value};
 use ink_stack::Threads;
@@ -93,39 +96,60 @@ pub fn assign<P: Copy>(
         Writes asks rule globals.old globals.new threads.old threads.new result }
 {
     match assigned(globals, threads, name) {
-        Ok(None) => write_named(globals, threads, name, value),
-        Ok(Some((frame, to))) => write_held(globals, threads, frame, to.get().as_str(), value),
+        Ok(variable) => write(globals, threads, variable, value),
         Err(fault) => Err(fault),
     }
 }
 
-// What assigning to a name writes: none where it is what has the name, else a name in the frame of a number.
-fn assigned<P: Copy>(
+/// The variable that is written where something is assigned to a name: what has that name, or what the pointer leads to that it
+/// holds. The errors are those of `assign`.
+pub fn assigned<'a, P: Copy>(
     globals: &Globals,
     threads: &Threads<P>,
-    name: &str,
-) -> Result<Option<(i32, Shared<Text>)>, Fault>
+    name: &'a str,
+) -> Result<Variable<'a>, Fault>
     ensures { LeadsTo globals.now threads.now.thread name.now result }
 {
-    match named(globals, threads, name) {
+    if let Some(value) = globals.get(name) {
+        return assigned_in(globals, threads, 0, name, value);
+    }
+    let frame = threads.top().frames();
+    match threads.temp(frame, name) {
+        Some(value) => assigned_in(globals, threads, frame, name, value),
         None => Err(Fault::NoTemp),
-        Some(Value::Pointer(frame, to)) => {
-            match written_at(globals, threads, *frame, to) {
-                Ok(end) => Ok(Some(end)),
-                Err(fault) => Err(fault),
-            }
-        }
-        Some(_) => Ok(None),
     }
 }
 
-// Where a pointer leads that something is assigned to.
-fn written_at<P: Copy>(
+// The same of a name that has a value in the frame of a number.
+fn assigned_in<'a, P: Copy>(
+    globals: &Globals,
+    threads: &Threads<P>,
+    frame: usize,
+    name: &'a str,
+    value: &Value,
+) -> Result<Variable<'a>, Fault>
+    requires named { rules.named globals.now threads.now.thread name.now ≡ Some value.now }
+    requires there { is_some (rules.held globals.now threads.now.thread (pos frame) name.now) ≡ true }
+    requires within { frame ≤ frame_count threads.now.thread }
+    requires same { (v : Data) → rules.with_named globals.now threads.now.thread name.now v ≡ rules.with_held globals.now threads.now.thread (pos frame) name.now v }
+    ensures { LeadsTo globals.now threads.now.thread name.now result }
+{
+    match value {
+        Value::Pointer(frame, to) => pointed(globals, threads, *frame, to),
+        _ => Ok(Variable {
+            frame,
+            name: Name::Given(name),
+        }),
+    }
+}
+
+// The variable that is written where something is assigned to what a pointer leads to.
+fn pointed<'a, P: Copy>(
     globals: &Globals,
     threads: &Threads<P>,
     frame: i32,
     name: &Shared<Text>,
-) -> Result<(i32, Shared<Text>), Fault>
+) -> Result<Variable<'a>, Fault>
     ensures { let end = rules.chain_end globals.now threads.now.thread frame name.now in
         LeadsInto globals.now threads.now.thread end result }
 {
@@ -138,57 +162,37 @@ fn written_at<P: Copy>(
     if held(globals, threads, frame, name.get().as_str()).is_none() {
         return Err(Fault::NoTemp);
     }
+    let Ok(frame) = usize::try_from(frame) else {
+        return Err(Fault::BadPointer);
+    };
     match name.share() {
-        Ok(name) => Ok((frame, name)),
+        Ok(name) => Ok(Variable {
+            frame,
+            name: Name::Pointed(name),
+        }),
         Err(_) => Err(Fault::OutOfMemory),
     }
 }
 
-// Gives what has a name a value, which asks for memory only where nothing has it.
-fn write_named<P: Copy>(
+// Gives a variable a value, which asks for memory only where it has none.
+fn write<P: Copy>(
     globals: &mut Globals,
     threads: &mut Threads<P>,
-    name: &str,
+    variable: Variable<'_>,
     value: Value,
 ) -> Result<(), Fault>
-    ensures ok { OnOk result (Are (rules.with_named globals.old threads.old.thread name.now value) globals.new threads.old threads.new) }
+    requires { variable.frame ≤ frame_count threads.old.thread }
+    ensures ok { OnOk result (Are (with_variable globals.old threads.old.thread variable.entry value) globals.new threads.old threads.new) }
     ensures fault { IfErr result (λ f. f ≡ Fault.OutOfMemory) }
     ensures globals_kept { OnErr result (globals.new ≡ globals.old) }
     ensures threads_kept { OnErr result (threads.new ≡ threads.old) }
-    ensures memory { OnErr result (is_some (rules.named globals.old threads.old.thread name.now) ≡ false) }
+    ensures memory { OnErr result (is_some (held_by globals.old threads.old.thread variable.entry) ≡ false) }
 {
-    match globals.replace(name, value) {
-        Ok(()) => Ok(()),
-        Err(value) => {
-            let frame = threads.top().frames();
-            threads.set_temp(frame, name, value)
-        }
+    if variable.frame == 0 {
+        globals.put(variable.name.as_str(), value)?;
+        return Ok(());
     }
-}
-
-// Gives a name in the frame of a number a value, which asks for memory only where it has none.
-fn write_held<P: Copy>(
-    globals: &mut Globals,
-    threads: &mut Threads<P>,
-    frame: i32,
-    name: &str,
-    value: Value,
-) -> Result<(), Fault>
-    requires { rules.stands globals.old threads.old.thread frame name.now ≡ true }
-    ensures ok { OnOk result (Are (rules.with_held globals.old threads.old.thread frame name.now value) globals.new threads.old threads.new) }
-    ensures fault { IfErr result (λ f. f ≡ Fault.OutOfMemory) }
-    ensures globals_kept { OnErr result (globals.new ≡ globals.old) }
-    ensures threads_kept { OnErr result (threads.new ≡ threads.old) }
-    ensures memory { OnErr result (is_some (rules.held globals.old threads.old.thread frame name.now) ≡ false) }
-{
-    match usize::try_from(frame) {
-        Ok(0) => {
-            globals.put(name, value)?;
-            Ok(())
-        }
-        Ok(number) => threads.set_temp(number, name, value),
-        Err(_) => Err(Fault::OutOfMemory),
-    }
+    threads.set_temp(variable.frame, variable.name.as_str(), value)
 }
 
 /// Declares a variable in a scope, whether there is one of that name or not; a global that is there keeps its place in their
@@ -207,13 +211,33 @@ pub fn declare<P: Copy>(
         Writes asks rule globals.old globals.new threads.old threads.new result }
 {
     match kept(globals, threads, value) {
-        Ok(value) => put(globals, threads, scope, name, value),
+        Ok(value) => {
+            let variable = declared(threads, scope, name);
+            write(globals, threads, variable, value)
+        }
         Err(fault) => Err(fault),
     }
 }
 
-// What a variable keeps of a value: of a pointer the last of its chain.
-fn kept<P: Copy>(globals: &Globals, threads: &Threads<P>, value: Value) -> Result<Value, Fault>
+/// The variable that is written where a name is declared in a scope, whether it is there or not: a global, or a temporary of the
+/// current frame. Takes no memory.
+pub fn declared<'a, P: Copy>(threads: &Threads<P>, scope: Scope, name: &'a str) -> Variable<'a>
+    ensures within { result.frame ≤ frame_count threads.now.thread }
+    ensures variable { (globals : Values) → Declares globals threads.now.thread scope name.now result }
+{
+    let frame = match scope {
+        Scope::Global => 0,
+        Scope::Temporary => threads.top().frames(),
+    };
+    Variable {
+        frame,
+        name: Name::Given(name),
+    }
+}
+
+/// What a variable keeps of a value: of a pointer the last of its chain. `BadPointer` where that chain is too long;
+/// `OutOfMemory` where the name of what the pointer leads to has as many owners as can be.
+pub fn kept<P: Copy>(globals: &Globals, threads: &Threads<P>, value: Value) -> Result<Value, Fault>
     ensures { HandsOut (is_pointer (Some value)) (rules.kept globals.now threads.now.thread value) result }
 {
     match &value {
@@ -236,32 +260,6 @@ fn kept_pointer<P: Copy>(
     };
     let name = name.share()?;
     Ok(Value::Pointer(frame, name))
-}
-
-// Puts a value where a variable is declared.
-fn put<P: Copy>(
-    globals: &mut Globals,
-    threads: &mut Threads<P>,
-    scope: Scope,
-    name: &str,
-    value: Value,
-) -> Result<(), Fault>
-    ensures ok { OnOk result (Are (rules.with_declared globals.old threads.old.thread scope name.now value) globals.new threads.old threads.new) }
-    ensures fault { IfErr result (λ f. f ≡ Fault.OutOfMemory) }
-    ensures globals_kept { OnErr result (globals.new ≡ globals.old) }
-    ensures threads_kept { OnErr result (threads.new ≡ threads.old) }
-    ensures memory { OnErr result (is_there globals.old threads.old.thread scope name.now ≡ false) }
-{
-    match scope {
-        Scope::Global => {
-            globals.put(name, value)?;
-            Ok(())
-        }
-        Scope::Temporary => {
-            let frame = threads.top().frames();
-            threads.set_temp(frame, name, value)
-        }
-    }
 }
 
 /// The pointer that is pushed for one of the story: where its frame is not known (a number below 0), it leads to the current

@@ -1,0 +1,191 @@
+-- What reading, declaring and assigning do, by the variable that is read or written.
+use Rattle.std.proofs.Common.{◌≡◌, ◌∙◌, ℕ, List, Bool, true, false, not, ◌||◌, Some, Result, Ok, Err, OnOk, ap, inl, inr, is_ok, is_some, refl, subst, sym}
+use Rattle.ink_model.specs.Counts.{CountsOf}
+use Rattle.ink_model.specs.Effect.{Fields, Effect, Stores, or_fault, pushing}
+use Rattle.ink_model.specs.Frames.{ThreadOf, ThreadsOf, fresh_depth, map_thread}
+use Rattle.ink_model.specs.Memory.{Leaves}
+use Rattle.ink_model.specs.Page.{Page}
+use Rattle.ink_model.specs.Stack.{popped, pushed}
+use Rattle.ink_model.specs.Step.Variables as effects
+use Rattle.ink_model.specs.Step.Variables.{storing}
+use Rattle.ink_model.specs.Store.{Values}
+use Rattle.ink_model.specs.Tree.{StoryTree}
+use Rattle.ink_model.specs.VariableMemory.{assign_asks, declare_asks, is_pointer, is_there, on_popped}
+use Rattle.ink_model.specs.Variables.{assign, declare, declared, kept, read}
+use Rattle.ink_model.specs.declared.fault.Fault.{Fault}
+use Rattle.ink_model.specs.declared.place.Part.{Part}
+use Rattle.ink_model.specs.declared.scope.Scope.{Scope}
+use Rattle.ink_model.specs.declared.scope.Scope.TheVariants.{Global, Temporary}
+use Rattle.ink_model.specs.declared.value.Value.{Value}
+use Rattle.ink_step.specs.Performs.{Changes, Keeps, Performs, fields}
+use Rattle.ink_step.specs.Words.{seen_by}
+use Rattle.ink_step.specs.declared.transfer.Transfer.{Transfer}
+use Rattle.ink_step.specs.declared.transfer.Transfer.TheVariants as transfer
+use Rattle.ink_step.proofs.Effects.{operated, short}
+use Rattle.ink_step.proofs.Places.{assign_renamed, declare_renamed, left_as, read_renamed}
+use Rattle.ink_tree.specs.Nodes.{place_of}
+use Rattle.ink_tree.specs.declared.spot.Spot.{Spot}
+use Rattle.ink_vars.specs.Words.{Declares, HandsOut, LeadsTo, copy_asks, held_by, with_variable}
+use Rattle.ink_vars.specs.declared.places.Variable.{Variable}
+
+-- ---- by cases
+
+or_too : (a b c : Bool) → (b ≡ true → c ≡ true) → a || b ≡ true → a || c ≡ true
+or_too true b c so h = refl
+or_too false b c so h = so h
+
+or_first : (a b : Bool) → a ≡ true → a || b ≡ true
+or_first a b h = subst (λ x. x || b ≡ true) (sym h) refl
+
+or_second : (a b : Bool) → b ≡ true → a || b ≡ true
+or_second true b h = refl
+or_second false b h = h
+
+handed : {A : Type 0} (asks : Bool) (rule : Result A Fault) (a : A) → HandsOut asks rule (Ok a) → rule ≡ Ok a
+handed asks (Ok b) a h = ap Ok (sym h)
+handed asks (Err f) a h = absurd h
+
+never_none : (b c : Bool) → b ≡ true → not b ≡ true → c ≡ true
+never_none true c is h = absurd (cc)
+never_none false c is h = absurd (cc)
+
+there_renamed : (s : StoryTree) (globals : Values) (t : ThreadOf Spot) (scope : Scope) (name : List ℕ) → is_there globals (map_thread (place_of s) t) scope name ≡ is_there globals t scope name
+there_renamed s globals t Global name = refl
+there_renamed s globals t Temporary name = refl
+
+-- what is stored, where more asks for memory
+stored_more : (s : StoryTree) (less asks : Bool) (t : ThreadOf (List Part)) (f new : Fields) (result : Result Transfer Fault) → (less ≡ true → asks ≡ true)
+    → Performs s less (Stores t f) new result → Performs s asks (Stores t f) new result
+stored_more s less asks t f new (Ok transfer.Next) so h = h
+stored_more s less asks t f new (Ok transfer.Wrote) so h = h
+stored_more s less asks t f new (Ok (transfer.Store name v)) so h = (h.0, or_too _ less asks so h.1)
+stored_more s less asks t f new (Ok (transfer.Land to)) so h = h
+stored_more s less asks t f new (Ok (transfer.Call k to)) so h = h
+stored_more s less asks t f new (Ok (transfer.Return k to)) so h = h
+stored_more s less asks t f new (Ok transfer.Fork) so h = h
+stored_more s less asks t f new (Ok transfer.Done) so h = h
+stored_more s less asks t f new (Ok transfer.End) so h = h
+stored_more s less asks t f new (Err g) so h = (h.0, so h.1)
+
+on_ok : {A : Type 0} (r : Result A Fault) (B C : Type 0) → (B → C) → OnOk r B → OnOk r C
+on_ok (Ok a) B C so h = so h
+on_ok (Err f) B C so h = h
+
+module _ (s : StoryTree) (ts : ThreadsOf Spot) (counts : CountsOf ℕ) (f : Fields) where
+  -- ---- reading
+
+  abbrev reading : List ℕ → Bool
+  reading name = is_ok (read f.globals (map_thread (place_of s) ts.thread) name)
+
+  pub pushes_read : (name : List ℕ) (v : Value) (new : List Value) (result : Result (Unit {0}) Fault)
+      → HandsOut (copy_asks (read f.globals ts.thread name)) (read f.globals ts.thread name) (Ok v) → Leaves (pushed v f.stack) f.stack new result
+      → Changes (reading name) (effects.push_variable name (seen_by s ts counts) f) (record f { stack = new }) result
+  pushes_read name v new result is pushes t =
+      let reads : read f.globals (map_thread (place_of s) ts.thread) name ≡ Ok v = read_renamed (place_of s) f.globals ts.thread name ∙ handed _ _ v is in
+      rw reads (operated true (pushed v f.stack) (λ vs. record f { stack = vs }) f.stack new result pushes (λ h. refl) t)
+
+  pub reads_nothing : (name : List ℕ) (g : Fault) → HandsOut (copy_asks (read f.globals ts.thread name)) (read f.globals ts.thread name) (Err g)
+      → Changes (reading name) (effects.push_variable name (seen_by s ts counts) f) f (Err g)
+  reads_nothing name g h t =
+      let reads : read f.globals (map_thread (place_of s) ts.thread) name ≡ read f.globals ts.thread name = read_renamed (place_of s) f.globals ts.thread name in
+      rw reads (by (read f.globals ts.thread name) h)
+    where
+      by : (rule : Result Value Fault) → HandsOut (copy_asks rule) rule (Err g) → Performs t (is_ok rule) (or_fault rule (λ v. pushing v f)) f (Err g)
+      by (Ok v) k = subst (λ x. Performs t true (pushing v f) f (Err x)) (sym k.0) (short t true f (pushing v f) refl)
+      by (Err x) k = inl k
+
+  -- ---- a variable is written
+
+  abbrev pub wrote : List Value → Variable → Value → Effect
+  wrote left x v = let w = with_variable f.globals ts.thread x v in Stores (map_thread (place_of s) w.1) (record f { stack = left; globals = w.0 })
+
+  keeps : (e : Effect) (left : List Value) (x : Variable) (v : Value) (new : ThreadsOf Spot) → e ≡ wrote left x v
+      → new ≡ record ts { thread = (with_variable f.globals ts.thread x v).1 } → Keeps s e ts new
+  keeps e left x v new is h = subst (λ d. Keeps s d ts new) (sym is) (subst (Keeps s (wrote left x v) ts) (sym h) refl)
+
+  -- ---- assigning
+
+  module _ (name : List ℕ) (left : List Value) (v : Value) (pops : popped f.stack ≡ Some (v, left)) where
+    abbrev assigning : Effect
+    assigning = effects.assign name (seen_by s ts counts) f
+
+    abbrev assigning_asks : Bool
+    assigning_asks = on_popped (popped f.stack) (assign_asks f.globals (map_thread (place_of s) ts.thread) name)
+
+    assigns : (r : Result (Values × ThreadOf Spot) Fault) → assign f.globals ts.thread name v ≡ r → assigning ≡ storing (left_as (place_of s) f.globals ts.thread r) (record f { stack = left })
+    assigns r is =
+        rw pops (ap (λ q. storing q (record f { stack = left })) (assign_renamed (place_of s) f.globals ts.thread name v ∙ ap (left_as (place_of s) f.globals ts.thread) is))
+
+    pub assigns_there : (x : Variable) (result : Result Transfer Fault) → LeadsTo f.globals ts.thread name (Ok x)
+        → Performs s (not (is_some (held_by f.globals ts.thread x))) (wrote left x v) (record f { stack = left }) result
+        → Performs s assigning_asks assigning (record f { stack = left }) result
+    assigns_there x result leads h =
+        subst (λ e. Performs s assigning_asks e (record f { stack = left }) result) (sym (assigns _ (leads.2 v)))
+        (stored_more s _ assigning_asks (map_thread (place_of s) (with_variable f.globals ts.thread x v).1) _ _ result (never_none _ assigning_asks leads.1) h)
+
+    pub assigns_keeping : (x : Variable) (new : ThreadsOf Spot) (result : Result Transfer Fault) → LeadsTo f.globals ts.thread name (Ok x)
+        → OnOk result (new ≡ record ts { thread = (with_variable f.globals ts.thread x v).1 }) → OnOk result (Keeps s assigning ts new)
+    assigns_keeping x new result leads = on_ok result _ _ (keeps assigning left x v new (assigns _ (leads.2 v)))
+
+    pub assigns_nowhere : (g : Fault) → LeadsTo f.globals ts.thread name (Err g) → Performs s assigning_asks assigning (record f { stack = left }) (Err g)
+    assigns_nowhere g leads = elim leads [
+      | inl faults ↦ subst (λ e. Performs s assigning_asks e (record f { stack = left }) (Err g)) (sym (assigns _ (faults v))) (inl refl)
+      | inr refused ↦
+          let so : assign f.globals (map_thread (place_of s) ts.thread) name v ≡ left_as (place_of s) f.globals ts.thread (Ok (with_variable f.globals ts.thread refused.2.0 v)) =
+          assign_renamed (place_of s) f.globals ts.thread name v ∙ ap (left_as (place_of s) f.globals ts.thread) (refused.2.1 v) in
+          let asking : assigning_asks ≡ true = rw (pops, so, refused.1) refl in
+          subst (λ x. Performs s assigning_asks assigning (record f { stack = left }) (Err x)) (sym refused.0) (short s assigning_asks (record f { stack = left }) assigning asking)
+    ]
+
+  -- ---- declaring
+
+  module _ (scope : Scope) (name : List ℕ) (left : List Value) (v : Value) (pops : popped f.stack ≡ Some (v, left)) where
+    abbrev declaring : Effect
+    declaring = effects.declare scope name (seen_by s ts counts) f
+
+    abbrev declaring_asks : Bool
+    declaring_asks = on_popped (popped f.stack) (declare_asks f.globals (map_thread (place_of s) ts.thread) scope name)
+
+    declares : (r : Result Value Fault) → kept f.globals ts.thread v ≡ r
+        → declaring ≡ storing (left_as (place_of s) f.globals ts.thread (declared f.globals ts.thread scope name r)) (record f { stack = left })
+    declares r is =
+        rw pops (ap (λ q. storing q (record f { stack = left })) (declare_renamed (place_of s) f.globals ts.thread scope name v ∙ ap (λ k. left_as (place_of s) f.globals ts.thread (declared f.globals ts.thread scope name k)) is))
+
+    -- where a value is kept, and so all is well
+    asks_to_declare : (w : Value) → kept f.globals ts.thread v ≡ Ok w → is_pointer (Some v) || not (is_there f.globals ts.thread scope name) ≡ true → declaring_asks ≡ true
+    asks_to_declare w is asking =
+        let so : declare f.globals (map_thread (place_of s) ts.thread) scope name v ≡ left_as (place_of s) f.globals ts.thread (declared f.globals ts.thread scope name (Ok w)) =
+        declare_renamed (place_of s) f.globals ts.thread scope name v ∙ ap (λ k. left_as (place_of s) f.globals ts.thread (declared f.globals ts.thread scope name k)) is in
+        rw (pops, so, there_renamed s f.globals ts.thread scope name) asking
+
+    wrote_there : (w : Value) (x : Variable) → HandsOut (is_pointer (Some v)) (kept f.globals ts.thread v) (Ok w) → Declares f.globals ts.thread scope name x → declaring ≡ wrote left x w
+    wrote_there w x keeping there = declares (Ok w) (handed _ _ w keeping) ∙ ap (λ q. storing (left_as (place_of s) f.globals ts.thread (Ok q)) (record f { stack = left })) (there.1 w)
+
+    pub declares_there : (w : Value) (x : Variable) (result : Result Transfer Fault) → HandsOut (is_pointer (Some v)) (kept f.globals ts.thread v) (Ok w) → Declares f.globals ts.thread scope name x
+        → Performs s (not (is_some (held_by f.globals ts.thread x))) (wrote left x w) (record f { stack = left }) result
+        → Performs s declaring_asks declaring (record f { stack = left }) result
+    declares_there w x result keeping there h =
+        let asking : not (is_some (held_by f.globals ts.thread x)) ≡ true → declaring_asks ≡ true =
+        λ new. asks_to_declare w (handed _ _ w keeping) (or_second (is_pointer (Some v)) _ (ap not (sym there.0) ∙ new)) in
+        subst (λ e. Performs s declaring_asks e (record f { stack = left }) result) (sym (wrote_there w x keeping there))
+        (stored_more s _ declaring_asks (map_thread (place_of s) (with_variable f.globals ts.thread x w).1) _ _ result asking h)
+
+    pub declares_keeping : (w : Value) (x : Variable) (new : ThreadsOf Spot) (result : Result Transfer Fault) → HandsOut (is_pointer (Some v)) (kept f.globals ts.thread v) (Ok w)
+        → Declares f.globals ts.thread scope name x → OnOk result (new ≡ record ts { thread = (with_variable f.globals ts.thread x w).1 }) → OnOk result (Keeps s declaring ts new)
+    declares_keeping w x new result keeping there = on_ok result _ _ (keeps declaring left x w new (wrote_there w x keeping there))
+
+    pub declares_nowhere : (g : Fault) → HandsOut (is_pointer (Some v)) (kept f.globals ts.thread v) (Err g) → Performs s declaring_asks declaring (record f { stack = left }) (Err g)
+    declares_nowhere g h = by (kept f.globals ts.thread v) refl h
+      where
+        by : (rule : Result Value Fault) → kept f.globals ts.thread v ≡ rule → HandsOut (is_pointer (Some v)) rule (Err g) → Performs s declaring_asks declaring (record f { stack = left }) (Err g)
+        by (Ok w) is k =
+            subst (λ x. Performs s declaring_asks declaring (record f { stack = left }) (Err x)) (sym k.0)
+            (short s declaring_asks (record f { stack = left }) declaring (asks_to_declare w is (or_first _ _ k.1)))
+        by (Err x) is k = subst (λ e. Performs s declaring_asks e (record f { stack = left }) (Err g)) (sym (declares (Err x) is)) (inl k)
+
+-- ---- fields
+
+-- a thread of which only temporaries are others gives the same fields
+pub fields_kept : (old new : ThreadsOf Spot) (stack : List Value) (page : Page) (globals : Values) → new.thread.frame ≡ record old.thread.frame { temps = new.thread.frame.temps }
+    → fields old.thread.frame.evaluating (fresh_depth old.thread.frame) stack page globals ≡ fields new.thread.frame.evaluating (fresh_depth new.thread.frame) stack page globals
+fields_kept old new stack page globals kept = sym (ap (λ f. fields f.evaluating (fresh_depth f) stack page globals) kept)
