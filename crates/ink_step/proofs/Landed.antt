@@ -1,16 +1,16 @@
 -- Flow lands, and the containers around are entered; a step goes in before it performs.
-use Rattle.std.proofs.Common.{◌≡◌, ◌∙◌, ◌||◌, ◌&&◌, ap, sym, refl, subst, inl, inr, ℕ, List, Bool, true, false, true≢false, cond, nat_lt, Option, Some, None, option_map, Result, Ok, Err}
+use Rattle.std.proofs.Common.{◌≡◌, ◌∙◌, ◌||◌, ◌&&◌, ap, sym, refl, subst, inl, inr, ℕ, List, Bool, true, false, true≢false, cond, nat_lt, Option, Some, None, is_some, option_map, Result, Ok, Err}
 use Rattle.ink_model.specs.Asks.{going_in_asks}
-use Rattle.ink_model.specs.Configuration.{Configuration, current_place}
+use Rattle.ink_model.specs.Configuration.{Configuration, current_place, with_globals, with_threads}
 use Rattle.ink_model.specs.Effect.{Effect, Moves, Stores, Lands, Calls, Returns, Forks, Done, Ends, Fails, context_of, fields_of}
-use Rattle.ink_model.specs.Flow.{Written, Reached, Reaches, Halts, Breaks, called, depth_of, enter_for, leave_for, number_for, or_breaks, reach, returned}
-use Rattle.ink_model.specs.Frames.{ThreadOf, ThreadsOf}
+use Rattle.ink_model.specs.Flow.{Written, moved_on, Reached, Reaches, Halts, Breaks, called, depth_of, enter_for, leave_for, number_for, or_breaks, reach, returned}
+use Rattle.ink_model.specs.Frames.{ThreadOf, ThreadsOf, mode_in, on_top}
 use Rattle.ink_model.specs.Memory.{asks, asks_at, content_asks}
-use Rattle.ink_model.specs.Move.{landed_in, landing, may_enter, move, place_to, with_flow, written_in}
-use Rattle.ink_model.specs.MoveMemory.{landed_asks, move_asks, returned_asks}
+use Rattle.ink_model.specs.Move.{going, landed_in, landing, may_enter, move, place_to, with_flow, written_in}
+use Rattle.ink_model.specs.MoveMemory.{landed_asks, move_asks, moved_asks, returned_asks}
 use Rattle.ink_model.specs.Place.{entered, next_place}
 use Rattle.ink_model.specs.Step.{effect, gone_in, nothing_bound, step, step_at}
-use Rattle.ink_model.specs.Store.{Values}
+use Rattle.ink_model.specs.Store.{Values, store, stored}
 use Rattle.ink_model.specs.Threads.{frame_count, popped, pushed}
 use Rattle.ink_model.specs.Tree.{StoryTree, at}
 use Rattle.ink_model.specs.Visits.{adds_rows, around, entering_around}
@@ -19,7 +19,8 @@ use Rattle.ink_model.specs.declared.fault.Fault.TheVariants.{OutOfMemory}
 use Rattle.ink_model.specs.declared.frame.FrameKind.{FrameKind}
 use Rattle.ink_model.specs.declared.limits.TheConstants.{MAX_FRAMES}
 use Rattle.ink_model.specs.declared.place.Part.{Part}
-use Rattle.ink_step.specs.Performs.{Performs, landing_of}
+use Rattle.ink_model.specs.declared.value.Value.{Value}
+use Rattle.ink_step.specs.Performs.{Performs, landing_of, stored_by}
 use Rattle.ink_step.specs.Reaches.{ReachesAs}
 use Rattle.ink_step.specs.Steps.{StepEnds}
 use Rattle.ink_step.specs.declared.flow.StepEnd.{StepEnd}
@@ -28,6 +29,8 @@ use Rattle.ink_step.specs.declared.transfer.Landing.{Landing}
 use Rattle.ink_step.specs.declared.transfer.Transfer.TheVariants as transfer
 use Rattle.ink_step.proofs.Follows.{ends_more, ends_short, or_first, or_more}
 use Rattle.ink_tree.specs.Nodes.{place_of}
+use Rattle.ink_vars.specs.Words.{name_of}
+use Rattle.ink_vars.specs.declared.places.Name.{Name}
 
 -- ---- a landing never stops flow
 
@@ -98,6 +101,40 @@ module _ (s : StoryTree) (asking : Bool) (c d : Configuration) (globals : Values
 module _ (s : StoryTree) (asking : Bool) (c d : Configuration) (r : Result StepEnd Fault) where
   abbrev Follows : Effect → Type 0
   Follows e = StepEnds (asking || move_asks s e c) (move s e c) c.shared.globals d r
+
+  -- the thread has the temporaries that the effect stores
+  abbrev HasStored : Effect → Type 0
+  HasStored e = c.flow.threads ≡ on_top (mode_in c.flow.threads.thread.frame.evaluating) (on_top (stored_by e) c.flow.threads)
+
+  abbrev GoesOn : Bool → Configuration → Type 0
+  GoesOn more from = StepEnds (more || moved_asks (next_place s) from.flow.threads (written_in from)) (going (moved_on (next_place s)) from) c.shared.globals d r
+
+  pub goes_on : (e : Effect) → Performs s asking e (fields_of c) (Ok transfer.Next) → HasStored e → GoesOn asking c → Follows e
+  goes_on (Moves f) h has go = subst (λ g. Follows (Moves g)) h go
+  goes_on (Stores t f) h has go = subst (λ g. Follows (Stores t g)) h (subst (λ ts. GoesOn asking (with_threads ts c)) has go)
+  goes_on (Lands l f) h has go = absurd h
+  goes_on (Calls k l f) h has go = absurd h
+  goes_on (Returns k l f) h has go = absurd h
+  goes_on (Forks f) h has go = absurd h
+  goes_on (Done f) h has go = absurd h
+  goes_on (Ends f) h has go = absurd h
+  goes_on (Fails f) h has go = absurd h
+
+  module _ (name : Name) (v : Value) where
+    abbrev after_storing : Configuration
+    after_storing = with_globals (store (name_of name) v c.shared.globals) c
+
+    pub goes_storing : (e : Effect) → Performs s asking e (fields_of c) (Ok (transfer.Store name v)) → HasStored e
+        → (is_some (stored (name_of name) c.shared.globals) || asking ≡ true → GoesOn asking after_storing) → Follows e
+    goes_storing (Moves f) h has go = absurd h
+    goes_storing (Stores t f) h has go = subst (λ g. Follows (Stores t g)) (sym h.0) (subst (λ ts. GoesOn asking (with_threads ts after_storing)) has (go h.1))
+    goes_storing (Lands l f) h has go = absurd h
+    goes_storing (Calls k l f) h has go = absurd h
+    goes_storing (Returns k l f) h has go = absurd h
+    goes_storing (Forks f) h has go = absurd h
+    goes_storing (Done f) h has go = absurd h
+    goes_storing (Ends f) h has go = absurd h
+    goes_storing (Fails f) h has go = absurd h
 
   pub goes_there : (to : Landing) (e : Effect) → Performs s asking e (fields_of c) (Ok (transfer.Land to))
       → StepEnds (landed_asks s to.enters c.shared.counts (reach (place_of s to.place) c.flow.threads (written_in c))) (landing s to.enters (reach (place_of s to.place)) c) c.shared.globals d r

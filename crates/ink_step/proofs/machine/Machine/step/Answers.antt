@@ -16,16 +16,16 @@ use Rattle.ink_tree.specs.Nodes.{place_of}
 pub returns-in_default : goal.returns-in_default
 returns-in_default c = ends_still _ _ _ (ap (option_map (place_of (story_tree c.args.story.now))) (sym c.place.ensures ∙ c.in_default.is))
 
-pub returns-in_err-go_in : goal.returns-in_err-go_in
-returns-in_err-go_in c =
+pub returns-in_err-here : goal.returns-in_err-here
+returns-in_err-here c =
     let s = story_tree c.args.story.now in
     let machine = c.args.self.now in
     let old = config_of s machine in
     let new = config_of s c.go_in.new.self in
     let place = c.in-Some.place in
-    let short = c.in_err-go_in.ensures in
+    let short = c.in_err-here.ensures in
     let adds = subst (λ t. going_in_asks t (place_of t place) (config_of t machine) ≡ true) c.tree.ensures.tree short.memory in
-    let is : c.from_residual.result ≡ Err c.in_err-go_in.field-0.0 = search rules in
+    let is : c.from_residual.result ≡ Err c.in_err-here.field-0.0 = search rules in
     subst (λ r. StepEnds (asks s old) (step s nothing_bound old) machine.globals new r) (sym is)
     (ends_outside s (place_of s place) old new (ap (option_map (place_of s)) (sym c.place.ensures ∙ c.in-Some.is)) _ short.fault adds short.globals)
 
@@ -35,9 +35,9 @@ returns c =
     let machine = c.args.self.now in
     let place = c.in-Some.place in
     let inside = c.go_in.new.self in
-    let spot = c.in_ok-go_in.field-0.0 in
-    let found = option_map (λ x. view x.now) c.in_ok-go_in.field-0.1 in
-    let went = c.in_ok-go_in.ensures in
+    let spot = c.in_ok-here.here in
+    let found = option_map (λ x. view x.now) c.in_ok-here.found in
+    let went = c.in_ok-here.ensures in
     let is_here = subst (λ t. place_of t spot ≡ entered t (place_of t place)) c.tree.ensures.tree went.here in
     let is_found = subst (λ t. found ≡ at t (place_of t spot)) c.tree.ensures.tree went.found in
     let is_in = subst (λ t. config_of t inside ≡ gone_in t (place_of t place) (config_of t machine)) c.tree.ensures.tree went.ok in
