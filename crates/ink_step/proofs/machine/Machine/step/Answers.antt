@@ -1,9 +1,12 @@
-use Rattle.std.proofs.Common.{◌≡◌, ◌∙◌, ap, option_map, rules, subst, sym, true, Err}
+use Rattle.std.proofs.Common.{◌≡◌, ◌∙◌, ◌||◌, ap, option_map, rules, subst, sym, true, Err}
 use Rattle.ink_check.specs.Words.{story_tree}
 use Rattle.ink_model.specs.Asks.{going_in_asks}
-use Rattle.ink_model.specs.Memory.{asks}
+use Rattle.ink_model.specs.Effect.{context_of, fields_of}
+use Rattle.ink_model.specs.Memory.{asks, content_asks}
+use Rattle.ink_model.specs.Move.{move}
+use Rattle.ink_model.specs.MoveMemory.{move_asks}
 use Rattle.ink_model.specs.Place.{entered}
-use Rattle.ink_model.specs.Step.{gone_in, nothing_bound, step}
+use Rattle.ink_model.specs.Step.{effect, gone_in, nothing_bound, step}
 use Rattle.ink_model.specs.Tree.{at}
 use Rattle.ink_model.specs.View.{view}
 use Rattle.ink_step.specs.Steps.{StepEnds}
@@ -41,5 +44,9 @@ returns c =
     let is_here = subst (λ t. place_of t spot ≡ entered t (place_of t place)) c.tree.ensures.tree went.here in
     let is_found = subst (λ t. found ≡ at t (place_of t spot)) c.tree.ensures.tree went.found in
     let is_in = subst (λ t. config_of t inside ≡ gone_in t (place_of t place) (config_of t machine)) c.tree.ensures.tree went.ok in
-    ends_performed s (place_of s place) (config_of s machine) (config_of s c.act.new.self) (ap (option_map (place_of s)) (sym c.place.ensures ∙ c.in-Some.is)) (place_of s spot) found (config_of s inside)
-    c.act.result is_here is_found is_in c.act.ensures
+    let mid = config_of s inside in
+    let new = config_of s c.act.new.self in
+    let e = effect s (place_of s spot) found (context_of mid) (fields_of mid) in
+    let performed = subst (λ vs. StepEnds (content_asks s (place_of s spot) found (context_of mid) (fields_of mid) || move_asks s e mid) (move s e mid) vs new c.act.result) went.globals c.act.ensures in
+    ends_performed s (place_of s place) (config_of s machine) new (ap (option_map (place_of s)) (sym c.place.ensures ∙ c.in-Some.is)) (place_of s spot) found mid
+    c.act.result is_here is_found is_in performed
