@@ -5,6 +5,7 @@ pub mod Landings
 pub mod Leading
 pub mod Staled
 pub mod Follows
+pub mod Landed
 pub mod Moments
 pub mod Passages
 pub mod Openings
@@ -20,3 +21,4 @@ pub mod Places
 pub mod Stored
 pub mod Unstored
 pub mod Asked
+
