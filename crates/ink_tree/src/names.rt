@@ -52,13 +52,13 @@ impl Names {
     {
         let mut names = Names::none(alloc);
         for (index, content) in contents.iter().enumerate() {
-            names.add(alloc, index as u32, content)?;
+            names.add(alloc, content, index as u32)?;
         }
         Ok(names)
     }
 
     // With the name of one content more, where it gives itself one that is new.
-    fn add(&mut self, alloc: Global, index: u32, content: &Content) -> Result<(), AllocError>
+    fn add(&mut self, alloc: Global, content: &Content, index: u32) -> Result<(), AllocError>
         ensures { OnOk result ((name : List ℕ) → named_at name self.new ≡ first_of (named_at name self.old) (given name index (view content.now))) }
     {
         match content {

@@ -1,4 +1,3 @@
-use Rattle.std.proofs.Common.{◌≡◌}
 use Rattle.ink_tree.specs.Names.{AreNamed}
 use Rattle.ink_tree.specs.Nodes.{story_tree}
 use Rattle.ink_tree.proofs.tree.Tree.list_names.Given as goal
