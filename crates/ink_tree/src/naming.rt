@@ -10,7 +10,7 @@ use crate::spot::NodeId;
 use crate::tree::{Tree, index_in};
 use std::alloc::AllocError;
 
-/// A list of so many is looked through.
+/// A list of at most so many contents is looked through each time.
 const FEW: u32 = 8;
 
 impl Tree {
@@ -66,7 +66,7 @@ impl Tree {
         ensures { MayShowNames (at (story_tree self.now) (node_place (story_tree self.now) here)) result }
     {
         let own = self.own(here);
-        match listed_at(&self.lists, place(&self.lists, own.number)) {
+        match listed_at(&self.lists, position(&self.lists, own.number)) {
             Some(listed) if listed.holder.number == own.number => Some(&listed.names),
             _ => None,
         }
@@ -82,13 +82,13 @@ impl Tree {
 }
 
 // Where the names of a container are kept, if they are. Nothing rests on it: what is found there is looked at again.
-fn place(lists: &Vec<Listed>, number: usize) -> usize {
+fn position(lists: &Vec<Listed>, number: usize) -> usize {
     lists.partition_point(|listed| listed.holder.number < number)
 }
 
-// What is kept at a place.
-fn listed_at(lists: &Vec<Listed>, place: usize) -> Option<&Listed>
-    ensures { option_map (λ l. l.now) result ≡ slice_get lists.now.items place }
+// What is kept there.
+fn listed_at(lists: &Vec<Listed>, position: usize) -> Option<&Listed>
+    ensures { option_map (λ l. l.now) result ≡ slice_get lists.now.items position }
 {
-    lists.get(place)
+    lists.get(position)
 }
