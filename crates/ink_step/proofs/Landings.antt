@@ -1,5 +1,5 @@
 -- Where diverts land.
-use Rattle.std.proofs.Common.{◌≡◌, ◌∙◌, ap, sym, refl, ℕ, List, [], Option, Some, None, Result, option_map}
+use Rattle.std.proofs.Common.{◌≡◌, ◌∙◌, ap, sym, refl, ℕ, List, [], Some, None, Result, option_map}
 use Rattle.ink_model.specs.Acceptance.{content_counted, content_target, counted_container, leads, leaf_target, written_target}
 use Rattle.ink_model.specs.Effect.{Context, Landing as Goal}
 use Rattle.ink_model.specs.Frames.{ThreadOf, map_thread}

@@ -1,5 +1,5 @@
 -- Content that leads elsewhere: diverts, calls, and the returns of tunnels.
-use Rattle.std.proofs.Common.{◌≡◌, refl, subst, sym, inl, ℕ, List, [], Bool, true, false, Option, Some, None, ok_or, option_map, Result, Ok, Err}
+use Rattle.std.proofs.Common.{◌≡◌, refl, subst, sym, inl, ℕ, List, Bool, true, false, Option, Some, None, ok_or, option_map, Result, Ok, Err}
 use Rattle.ink_model.specs.Effect.{Fields, Effect, Landing as Goal, Lands, Calls, Returns, or_else, or_fault}
 use Rattle.ink_model.specs.Page.{Page}
 use Rattle.ink_model.specs.Stack.{popped}

@@ -21,4 +21,3 @@ pub mod Places
 pub mod Asked
 pub mod Stored
 pub mod Unstored
-

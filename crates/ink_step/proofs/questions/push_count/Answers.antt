@@ -1,4 +1,4 @@
-use Rattle.std.proofs.Common.{◌≡◌, ◌∙◌, ap, refl, sym, Err, Ok, option_map, rules, subst}
+use Rattle.std.proofs.Common.{◌≡◌, ◌∙◌, ap, refl, Err, option_map, rules}
 use Rattle.ink_check.specs.Words.{story_tree}
 use Rattle.ink_model.specs.Acceptance.{leads}
 use Rattle.ink_model.specs.Memory.{Leaves}

@@ -2,7 +2,7 @@ use Rattle.std.proofs.Common.{◌≡◌, Err, rules}
 use Rattle.ink_check.specs.Words.{story_tree}
 use Rattle.ink_model.specs.Stack.{popped}
 use Rattle.ink_model.specs.Step.Counts.{visits_there}
-use Rattle.ink_step.proofs.Asked.{asks_in_vain, asks_nowhere, asks_there}
+use Rattle.ink_step.proofs.Asked.{asks_in_vain, asks_there}
 use Rattle.ink_step.proofs.questions.push_read_count.Goals as goal
 use Rattle.ink_step.specs.Asked.{Answers}
 use Rattle.ink_step.specs.Words.{seen_by}
