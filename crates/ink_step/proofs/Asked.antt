@@ -1,5 +1,5 @@
 -- Questions for visits and turns.
-use Rattle.std.proofs.Common.{◌≡◌, ◌∙◌, ap, sym, subst, refl, inl, arith, ℕ, ◌≤◌, ℤ, List, [], ◌∷◌, ◌++◌, length, reverse, slice_get, nat_lt, if◌then◌else◌, Bool, true, false, Option, Some, None, option_map, ok_or, Result, Ok, Err, is_ok}
+use Rattle.std.proofs.Common.{◌≡◌, ◌∙◌, ap, sym, subst, refl, inl, arith, ℕ, ◌+◌, ◌≤◌, ℤ, List, [], ◌∷◌, ◌++◌, length, reverse, slice_get, nat_lt, if◌then◌else◌, Bool, true, false, Option, Some, None, option_map, ok_or, Result, Ok, Err, is_ok}
 use Rattle.std.proofs.lemmas.List.{length-append}
 use Rattle.ink_model.specs.Effect.{Context, Effect, Fields, Landing as Goal, Moves, or_else, or_fault, pushing}
 use Rattle.ink_model.specs.Memory.{Leaves, visit_asks}
@@ -54,17 +54,6 @@ module _ (s : StoryTree) (seen : Context) (so : List Part → Result ℤ Fault) 
   on_popped o = or_else StackEmpty o (λ r. at_landing r (landing_by s r.0))
 
   module _ (t : StoryTree) where
-    fails_at : (r : Value × List Value) (o : Option Goal) (f : Fault) → Err f ≡ ok_or (option_map (λ l. l.place) o) BadTarget → Performs t false (at_landing r o) (with new) (Err f)
-    fails_at r None f h = inl (err_same f BadTarget h)
-    fails_at r (Some to) f h = absurd (cc)
-
-    fails_on : (o : Option (Value × List Value)) (f : Fault) → Err f ≡ asked_place s o → Performs t false (on_popped o) (with new) (Err f)
-    fails_on None f h = inl (err_same f StackEmpty h)
-    fails_on (Some r) f h = fails_at r (landing_by s r.0) f h
-
-    pub asks_nowhere : (old : List Value) (f : Fault) → Err f ≡ asked_place s (popped old) → Performs t false (asking s seen so (with old)) (with new) (Err f)
-    asks_nowhere old f h = fails_on (popped old) f h
-
     refused_at : (r : Value × List Value) (o : Option Goal) (q : List Part) (f : Fault) → Ok q ≡ ok_or (option_map (λ l. l.place) o) BadTarget → Err f ≡ so q
         → Performs t false (at_landing r o) (with new) (Err f)
     refused_at r None q f h is = absurd (cc)
