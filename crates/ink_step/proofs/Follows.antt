@@ -1,21 +1,20 @@
 -- Where flow goes after a content, and so how a step ends.
-use Rattle.std.proofs.Common.{◌≡◌, ◌∙◌, ◌||◌, ap, sym, refl, subst, inl, inr, ℕ, List, [], Bool, true, false, Option, Some, None, option_map, Result, Ok, Err}
-use Rattle.ink_model.specs.Configuration.{Configuration, current_place, ended, put_at, with_threads}
+use Rattle.std.proofs.Common.{◌≡◌, ◌∙◌, ◌||◌, ap, sym, refl, subst, inl, inr, ℕ, List, [], Bool, true, false, Option, Some, None, Result, Ok, Err}
+use Rattle.ink_model.specs.Configuration.{Configuration, current_place, ended, with_threads}
 use Rattle.ink_model.specs.Counts.{CountsOf}
 use Rattle.ink_model.specs.Effect.{Fields, Effect, Moves, Stores, Lands, Calls, Returns, Forks, Done, Ends, Fails, fields_of, with_fields, with_thread}
 use Rattle.ink_model.specs.Flow.{Written, Reached, Reaches, Halts, Breaks, called, depth_of, forked, halt, moved_on, reach, returned}
 use Rattle.ink_model.specs.Frames.{ThreadOf, ThreadsOf, base_threads, map_threads, mode_in, on_top}
-use Rattle.ink_model.specs.Memory.{asks, asks_at, content_asks}
+use Rattle.ink_model.specs.Memory.{asks}
 use Rattle.ink_model.specs.Move.{Outcome, Next, Stop, Wants, Faults, end_all, finish, going, landing, may_enter, move, place_to, reached_in, with_flow, written_in}
-use Rattle.ink_model.specs.MoveMemory.{flow_asks, move_asks, moved_asks, returned_asks}
-use Rattle.ink_model.specs.Place.{entered, next_place}
-use Rattle.ink_model.specs.Step.{effect, nothing_bound, step, step_at}
+use Rattle.ink_model.specs.MoveMemory.{flow_asks, move_asks, moved_asks}
+use Rattle.ink_model.specs.Place.{next_place}
+use Rattle.ink_model.specs.Step.{nothing_bound, step, step_at}
 use Rattle.ink_model.specs.Store.{Values}
 use Rattle.ink_model.specs.Threads.{staled}
-use Rattle.ink_model.specs.Tree.{StoryTree, at}
+use Rattle.ink_model.specs.Tree.{StoryTree}
 use Rattle.ink_model.specs.declared.fault.Fault.{Fault}
 use Rattle.ink_model.specs.declared.fault.Fault.TheVariants.{OutOfMemory}
-use Rattle.ink_model.specs.declared.frame.FrameKind.{FrameKind}
 use Rattle.ink_model.specs.declared.place.Part.{Part}
 use Rattle.ink_step.specs.Performs.{Keeps, Performs, stored_by}
 use Rattle.ink_step.specs.Reaches.{ReachesAs}

@@ -1,17 +1,17 @@
 -- Flow lands, and the containers around are entered; a step goes in before it performs.
-use Rattle.std.proofs.Common.{◌≡◌, ◌∙◌, ◌||◌, ◌&&◌, ap, sym, refl, subst, inl, inr, ℕ, List, Bool, true, false, true≢false, cond, nat_lt, Option, Some, None, is_some, option_map, Result, Ok, Err}
+use Rattle.std.proofs.Common.{◌≡◌, ◌∙◌, ◌||◌, ◌&&◌, ap, sym, refl, subst, inl, inr, List, Bool, true, false, true≢false, cond, nat_lt, Option, Some, is_some, option_map, Result, Ok, Err}
 use Rattle.ink_model.specs.Asks.{going_in_asks}
 use Rattle.ink_model.specs.Configuration.{Configuration, current_place, with_globals, with_threads}
 use Rattle.ink_model.specs.Effect.{Effect, Moves, Stores, Lands, Calls, Returns, Forks, Done, Ends, Fails, context_of, fields_of}
-use Rattle.ink_model.specs.Flow.{Written, moved_on, Reached, Reaches, Halts, Breaks, called, depth_of, enter_for, leave_for, number_for, or_breaks, reach, returned}
-use Rattle.ink_model.specs.Frames.{ThreadOf, ThreadsOf, mode_in, on_top}
+use Rattle.ink_model.specs.Flow.{Written, moved_on, Reached, Reaches, Halts, Breaks, called, reach, returned}
+use Rattle.ink_model.specs.Frames.{ThreadsOf, mode_in, on_top}
 use Rattle.ink_model.specs.Memory.{asks, asks_at, content_asks}
 use Rattle.ink_model.specs.Move.{going, landed_in, landing, may_enter, move, place_to, with_flow, written_in}
 use Rattle.ink_model.specs.MoveMemory.{landed_asks, move_asks, moved_asks, returned_asks}
 use Rattle.ink_model.specs.Place.{entered, next_place}
 use Rattle.ink_model.specs.Step.{effect, gone_in, nothing_bound, step, step_at}
 use Rattle.ink_model.specs.Store.{Values, store, stored}
-use Rattle.ink_model.specs.Threads.{frame_count, popped, pushed}
+use Rattle.ink_model.specs.Threads.{frame_count}
 use Rattle.ink_model.specs.Tree.{StoryTree, at}
 use Rattle.ink_model.specs.Visits.{adds_rows, around, entering_around}
 use Rattle.ink_model.specs.declared.fault.Fault.{Fault}
@@ -32,28 +32,11 @@ use Rattle.ink_tree.specs.Nodes.{place_of}
 use Rattle.ink_vars.specs.Words.{name_of}
 use Rattle.ink_vars.specs.declared.places.Name.{Name}
 
--- ---- a landing never stops flow
-
+-- flow goes on, or a fault comes
 abbrev pub IsGoing : {P : Type 0} → Reached P → Type 0
 IsGoing (Reaches ts w) = Unit {0}
 IsGoing (Halts ts w) = ⊥
 IsGoing (Breaks f) = Unit {0}
-
-goes_or_breaks : {A P : Type 0} (r : Result A Fault) (so : A → Reached P) → ((a : A) → IsGoing (so a)) → IsGoing (or_breaks r Breaks so)
-goes_or_breaks (Ok a) so h = h a
-goes_or_breaks (Err f) so h = tt
-
-module _ {P : Type 0} (k : FrameKind) (q : P) (ts : ThreadsOf P) (w : Written) where
-  pub called_goes : IsGoing (called k q ts w)
-  called_goes =
-      let so : ThreadOf P → Written → Reached P = λ t v. reach q (record ts { thread = number_for k w t }) v in
-      goes_or_breaks (pushed k (depth_of w) ts.thread) (λ t. or_breaks (enter_for k w) Breaks (so t)) (λ t. goes_or_breaks (enter_for k w) (so t) (λ v. tt))
-
-  pub returned_goes : (after : P → Option P) → IsGoing (returned after k (Some q) ts w)
-  returned_goes after =
-      let leaving = leave_for k ts.thread.frame.enter w in
-      let so : ThreadOf P → Written → Reached P = λ t v. reach q (record ts { thread = t }) v in
-      goes_or_breaks (popped k (depth_of w) ts.thread) (λ t. or_breaks leaving Breaks (so t)) (λ t. goes_or_breaks leaving (so t) (λ v. tt))
 
 -- ---- what is around is entered where flow has landed
 
@@ -152,7 +135,7 @@ module _ (s : StoryTree) (asking : Bool) (c d : Configuration) (r : Result StepE
 
   pub goes_into : (kind : FrameKind) (to : Landing) (e : Effect) → Performs s asking e (fields_of c) (Ok (transfer.Call kind to))
       → StepEnds (nat_lt (frame_count c.flow.threads.thread) MAX_FRAMES || landed_asks s to.enters c.shared.counts (called kind (place_of s to.place) c.flow.threads (written_in c)))
-          (landing s to.enters (called kind (place_of s to.place)) c) c.shared.globals d r
+      (landing s to.enters (called kind (place_of s to.place)) c) c.shared.globals d r
       → Follows e
   goes_into kind to (Moves f) h go = absurd h
   goes_into kind to (Stores t f) h go = absurd h
@@ -167,8 +150,8 @@ module _ (s : StoryTree) (asking : Bool) (c d : Configuration) (r : Result StepE
 
   pub goes_back : (kind : FrameKind) (back : Option Landing) (e : Effect) → Performs s asking e (fields_of c) (Ok (transfer.Return kind back))
       → StepEnds (returned_asks (next_place s) kind (place_to (option_map (landing_of s) back)) c.flow.threads (written_in c)
-          || landed_asks s (may_enter (option_map (landing_of s) back)) c.shared.counts (returned (next_place s) kind (place_to (option_map (landing_of s) back)) c.flow.threads (written_in c)))
-          (landing s (may_enter (option_map (landing_of s) back)) (returned (next_place s) kind (place_to (option_map (landing_of s) back))) c) c.shared.globals d r
+      || landed_asks s (may_enter (option_map (landing_of s) back)) c.shared.counts (returned (next_place s) kind (place_to (option_map (landing_of s) back)) c.flow.threads (written_in c)))
+      (landing s (may_enter (option_map (landing_of s) back)) (returned (next_place s) kind (place_to (option_map (landing_of s) back))) c) c.shared.globals d r
       → Follows e
   goes_back kind back (Moves f) h go = absurd h
   goes_back kind back (Stores t f) h go = absurd h
@@ -188,17 +171,17 @@ module _ (s : StoryTree) (p : List Part) (old new : Configuration) (at_p : curre
   -- a step goes in, performs what stands there and moves
   pub ends_performed : (here : List Part) (found : Option StoryTree) (mid : Configuration) (r : Result StepEnd Fault) → here ≡ entered s p → found ≡ at s here → mid ≡ gone_in s p old
       → StepEnds (content_asks s here found (context_of mid) (fields_of mid) || move_asks s (effect s here found (context_of mid) (fields_of mid)) mid)
-          (move s (effect s here found (context_of mid) (fields_of mid)) mid) old.shared.globals new r
+      (move s (effect s here found (context_of mid) (fields_of mid)) mid) old.shared.globals new r
       → StepEnds (asks s old) (step s nothing_bound old) old.shared.globals new r
   unfolding step asks
   ends_performed here found mid r is stands went h =
       let gone = subst (λ m. StepEnds (content_asks s here found (context_of m) (fields_of m) || move_asks s (effect s here found (context_of m) (fields_of m)) m)
-          (move s (effect s here found (context_of m) (fields_of m)) m) old.shared.globals new r) went h in
+      (move s (effect s here found (context_of m) (fields_of m)) m) old.shared.globals new r) went h in
       let m = gone_in s p old in
       let there = subst (λ f. StepEnds (content_asks s here f (context_of m) (fields_of m) || move_asks s (effect s here f (context_of m) (fields_of m)) m)
-          (move s (effect s here f (context_of m) (fields_of m)) m) old.shared.globals new r) stands gone in
+      (move s (effect s here f (context_of m) (fields_of m)) m) old.shared.globals new r) stands gone in
       let entering = subst (λ q. StepEnds (content_asks s q (at s q) (context_of m) (fields_of m) || move_asks s (effect s q (at s q) (context_of m) (fields_of m)) m)
-          (move s (effect s q (at s q) (context_of m) (fields_of m)) m) old.shared.globals new r) is there in
+      (move s (effect s q (at s q) (context_of m) (fields_of m)) m) old.shared.globals new r) is there in
       let whole = ends_more (going_in_asks s p old) _ (move s (effect s (entered s p) (at s (entered s p)) (context_of m) (fields_of m)) m) _ new r entering in
       subst (λ o. StepEnds (asks_at s o old) (step_at s nothing_bound o old) old.shared.globals new r) (sym at_p) whole
 

@@ -306,15 +306,10 @@ impl Machine {
     }
 
     /// Flow lands in a frame of this kind, which may enter containers around.
-    fn go_into(
-        &mut self,
-        story: &Story,
-        kind: FrameKind,
-        to: Landing,
-    ) -> Result<StepEnd, Fault>
+    fn go_into(&mut self, story: &Story, kind: FrameKind, to: Landing) -> Result<StepEnd, Fault>
         ensures { let s = story_tree story.now in let c = config_of s self.old in let how = called kind (place_of s to.place) in
             StepEnds (nat_lt (frame_count c.flow.threads.thread) MAX_FRAMES || landed_asks s to.enters c.shared.counts (how c.flow.threads (written_in c)))
-                (landing s to.enters how c) self.old.globals (config_of s self.new) result }
+            (landing s to.enters how c) self.old.globals (config_of s self.new) result }
     {
         let end = flow::call(&mut self.threads, &mut self.output, kind, to.place)?;
         self.enter_around(story.tree(), to.enters)?;
@@ -330,7 +325,7 @@ impl Machine {
     ) -> Result<StepEnd, Fault>
         ensures { let s = story_tree story.now in let c = config_of s self.old in let goal = option_map (landing_of s) to in let how = returned (next_place s) kind (place_to goal) in
             StepEnds (returned_asks (next_place s) kind (place_to goal) c.flow.threads (written_in c) || landed_asks s (may_enter goal) c.shared.counts (how c.flow.threads (written_in c)))
-                (landing s (may_enter goal) how c) self.old.globals (config_of s self.new) result }
+            (landing s (may_enter goal) how c) self.old.globals (config_of s self.new) result }
     {
         let end = give_back(
             story.tree(),
