@@ -21,4 +21,3 @@ pub mod Places
 pub mod Stored
 pub mod Unstored
 pub mod Asked
-
