@@ -81,9 +81,13 @@ trimmed_text t = trimmed is_blank (without is_blank t)
 abbrev pub choice_text : Operands → List ℕ
 choice_text o = trimmed_text (o.start.text ++ o.choice_only.text)
 
+-- the tags of both, the start's first
+abbrev pub choice_tags : Operands → List (List ℕ)
+choice_tags o = o.start.tags ++ o.choice_only.tags
+
 -- A choice is made, unless its condition is false, or it is offered once only and its target was visited.
-abbrev pub is_offered : ℕ → Bool → Operands → Bool
-is_offered flags visited o = o.condition && not (is_once_only flags && visited)
+abbrev pub is_offered : ℕ → Bool → Bool → Bool
+is_offered flags visited condition = condition && not (is_once_only flags && visited)
 
 -- there is something in a list
 abbrev pub has_any : {A : Type 0} → List A → Bool
@@ -95,7 +99,7 @@ module _ {P : Type 0} where
   abbrev pub choice : ℕ → P → ThreadOf P → Operands → ChoiceOf P
   choice flags target thread o = record {
     text = choice_text o;
-    tags = o.start.tags ++ o.choice_only.tags;
+    tags = choice_tags o;
     target = target;
     hidden = is_invisible_default flags;
     thread = thread;
@@ -103,7 +107,7 @@ module _ {P : Type 0} where
 
   -- what a choice point makes of its operands, and the stack that it leaves, from the bottom; the text has to be within its limit
   abbrev pub choice_of : ℕ → P → Bool → ThreadOf P → Operands → Result (Option (ChoiceOf P) × List Value) Fault
-  choice_of flags target visited thread o = if is_offered flags visited o
+  choice_of flags target visited thread o = if is_offered flags visited o.condition
       then (if fits_text (choice_text o) then Ok (Some (choice flags target thread o), reverse o.left) else Err TooDeep)
       else Ok (None, reverse o.left)
 
