@@ -1,6 +1,7 @@
 //! The choices that are offered.
 
-ghost use Rattle.std.specs.Prelude.{◌≡◌, ◌≢◌, ◌||◌, [], not, length, map, IfOk, OnErr};
+ghost use Rattle.std.specs.Prelude.{◌≡◌, ◌≢◌, ◌≤◌, ◌||◌, [], not, length, map, IfOk, OnErr};
+ghost use Rattle.ink_model.specs.declared.limits.TheConstants.{MAX_CHOICES};
 ghost use Rattle.ink_choice.specs.Words.{Adds, FindsIndex, Takes};
 ghost use Rattle.ink_model.specs.Choices as rules;
 ghost use Rattle.ink_model.specs.Configuration.{unnumbered_choice};
@@ -17,12 +18,15 @@ pub struct Choices<P> {
 }
 
 impl<P> Model for Choices<P> {
-    ghost use Rattle.std.specs.Prelude.{List};
+    ghost use Rattle.std.specs.Prelude.{◌≤◌, List, length};
     ghost use Rattle.ink_model.specs.Configuration.{ChoiceOf};
+    ghost use Rattle.ink_model.specs.declared.limits.TheConstants.{MAX_CHOICES};
 
     ghost Value = { List (ChoiceOf P) };
 
     ghost view = { λ c. c.items.items };
+
+    ghost invariant = { λ c. length c.items.items ≤ MAX_CHOICES };
 }
 
 impl<P: Copy> Choices<P> {
@@ -44,9 +48,10 @@ impl<P: Copy> Choices<P> {
         Ok(Choices { items })
     }
 
-    /// How many there are, the invisible ones counted. Takes no memory.
+    /// How many there are, the invisible ones counted: 1,000 at the most. Takes no memory.
     pub fn len(&self) -> usize
-        ensures { result ≡ length self.now }
+        ensures count { result ≡ length self.now }
+        ensures most { result ≤ MAX_CHOICES }
     {
         self.items.len()
     }
@@ -56,7 +61,7 @@ impl<P: Copy> Choices<P> {
     pub fn add(&mut self, choice: Choice<P>) -> Result<(), Fault>
         ensures { Adds (rules.added choice self.old) self.old self.new result }
     {
-        if self.items.len() >= MAX_CHOICES {
+        if self.len() >= MAX_CHOICES {
             return Err(Fault::TooDeep);
         }
         if self.items.push(choice).is_err() {
