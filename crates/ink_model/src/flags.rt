@@ -1,4 +1,4 @@
-//! What the flags of containers and choices say (docs/STORY_FORMAT.md, "Containers" and "Content").
+//! What the flags of containers say (docs/STORY_FORMAT.md, "Containers").
 
 ghost use Rattle.std.specs.Prelude.{◌≡◌};
 ghost use Rattle.ink_model.specs.Flags as rules;
@@ -22,11 +22,4 @@ pub fn counts_at_start(flags: u8) -> bool
     ensures { result ≡ rules.counts_at_start flags }
 {
     (flags / 4) % 2 == 1
-}
-
-/// Whether a choice is offered once only, by its flags.
-pub fn is_once_only(flags: u8) -> bool
-    ensures { result ≡ rules.is_once_only flags }
-{
-    (flags / 16) % 2 == 1
 }
