@@ -58,6 +58,7 @@ impl<P: Copy> Choices<P> {
 
     /// Adds a choice behind the others. `TooDeep` where there are 1,000; `OutOfMemory` for a refused request for memory. On an
     /// error nothing has changed (docs/CHOICES.md, "The list").
+    #[tactic(auto, using(crate::proofs::Lists::full))]
     pub fn add(&mut self, choice: Choice<P>) -> Result<(), Fault>
         ensures { Adds (rules.added choice self.old) self.old self.new result }
     {
