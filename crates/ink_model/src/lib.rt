@@ -1,10 +1,10 @@
 //! The plain types of compiled ink stories. The definitions of the rules stand in `specs/`.
 #![tactic(auto)]
 
+pub mod choice_flags;
 mod command;
 mod content;
 mod fault;
-pub mod choice_flags;
 pub mod flags;
 mod frame;
 mod host;
