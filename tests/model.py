@@ -296,8 +296,8 @@ def is_bad(root, place, content):
 
 def is_unsupported(content):
     if isinstance(content, dict):
-        return "x()" in content or "*" in content
-    return content == "choiceCnt"
+        return "x()" in content
+    return False
 
 
 def refusal(root):
@@ -339,6 +339,16 @@ class Thread(list):
         return other
 
 
+class Choice:
+    """What a choice point makes: a text with its tags, where it leads, and a copy of the thread."""
+
+    def __init__(self, text, tags, place, hidden, thread):
+        self.text, self.tags, self.place, self.hidden, self.thread = text, tags, place, hidden, thread
+
+    def shown(self):
+        return {"tags": self.tags, "text": self.text}
+
+
 CALLS = {"f()": "function", "->t->": "tunnel"}
 
 
@@ -346,13 +356,13 @@ class Machine:
     def __init__(self, root, place, global_values):
         self.root, self.globals = root, global_values
         self.threads = [Thread([Frame("base", place, 0)])]
-        self.stack, self.safe = [], False
+        self.stack, self.safe, self.choices = [], False, []
         self.visits, self.turns, self.turn_number = {}, {}, 0
         self.begin()
 
     def begin(self):
         self.marks, self.sections, self.numbers, self.safe = [], [], 0, False
-        for thread in self.threads:
+        for thread in self.threads + [choice.thread for choice in self.choices]:
             for frame in thread:
                 frame.number = None
 
@@ -576,6 +586,51 @@ class Machine:
             self.push(self.asked(word))
         elif word == "turn":
             self.push(self.turn_number)
+        elif word == "choiceCnt":
+            self.push(len(self.choices))
+
+    # ---- choices
+
+    def words(self, are_there):
+        """A text from the stack, and the tags below it as they were written."""
+        if not are_there:
+            return "", []
+        text, tags = self.pop(), []
+        if isinstance(text, (Tag, bool, int)) or not isinstance(text, str):
+            raise Fault("BadOperands")
+        while self.stack and isinstance(self.stack[-1], Tag):
+            tags.append(str(self.stack.pop()))
+        return text, tags[::-1]
+
+    def offer(self, content):
+        flags, path = content.get("flg", 16), path_of(content["*"])
+        end = target(self.root, self.frame.place, path)
+        is_wanted = is_true(self.pop()) if flags & 1 else True
+        only, only_tags = self.words(flags & 4)
+        start, start_tags = self.words(flags & 2)
+        if not is_wanted or (flags & 16 and self.visits_at(end)):
+            return
+        text = (start + only).strip(" \t")
+        if len(text.encode()) > 2 ** 20 or len(self.choices) >= 1000:
+            raise Fault("TooDeep")
+        place = end if isinstance(path[1][-1], int) else landed(self.root, end)
+        self.choices.append(Choice(text, start_tags + only_tags, place, bool(flags & 8), self.frames.again()))
+
+    def visible(self):
+        return [choice for choice in self.choices if not choice.hidden]
+
+    def take_up(self, choice):
+        self.threads, self.choices = [choice.thread], []
+        self.frame.place = choice.place
+        self.enter_around(choice.place)
+
+    def next_turn(self):
+        self.turn_number = min(self.turn_number + 1, -LEAST - 1)
+
+    def jump(self, place):
+        self.threads, self.safe, self.choices = [Thread([Frame("base", place, 0)])], True, []
+        self.next_turn()
+        self.enter_around(place)
 
     # ---- where flow goes
 
@@ -668,10 +723,15 @@ class Machine:
         return self.stop()
 
     def end(self):
-        self.threads, self.safe = [Thread([Frame("base", None, 0)])], True
+        self.threads, self.safe, self.choices = [Thread([Frame("base", None, 0)])], True, []
         self.stop()
 
     def step(self):
+        self.perform()
+        if self.frame.place is None and self.choices and not self.visible():
+            self.take_up(self.choices[0])
+
+    def perform(self):
         while isinstance(found(self.root, self.frame.place), list):
             self.enter(self.frame.place)
             if not width(found(self.root, self.frame.place)):
@@ -697,6 +757,8 @@ class Machine:
         elif isinstance(content, dict) and "^->" in content:
             if self.frame.evaluating:
                 self.push(Target(path_of(content["^->"])[1]))
+        elif isinstance(content, dict) and "*" in content:
+            self.offer(content)
         elif isinstance(content, dict) and "^var" in content:
             if self.frame.evaluating:
                 self.push(self.pointer(content))
@@ -762,7 +824,7 @@ class Player:
         except Fault as fault:
             self.broken = str(fault)
             return {"events": [], "fault": self.broken}
-        return {"choices": [], "events": [], "loose": not machine.safe, "more": False,
+        return {"choices": [choice.shown() for choice in machine.visible()], "events": [], "loose": not machine.safe and not machine.choices, "more": False,
                 "tags": [str(text) for kind, text in machine.marks if kind == "tag"], "text": cleaned(shown(machine.marks))}
 
     def restart(self):
@@ -784,6 +846,26 @@ class Player:
         self.machine.globals[name] = value
         return {"events": []}
 
+    def choose(self, text):
+        machine = self.machine
+        if self.broken:
+            return {"fault": self.broken, "refused": "Broken"}
+        if machine.frame.place is not None or int(text) >= len(machine.visible()):
+            return {"refused": "NotAChoice"}
+        machine.next_turn()
+        machine.take_up(machine.visible()[int(text)])
+        return {"events": []}
+
+    def jump(self, text):
+        if self.broken:
+            return {"fault": self.broken, "refused": "Broken"}
+        path = path_of(text)
+        place = None if path is None or path[0] else target(self.root, [], path)
+        if place is None:
+            return {"refused": "NoSuchPath"}
+        self.machine.jump(place if isinstance(path[1][-1], int) else landed(self.root, place))
+        return {"events": []}
+
     def visits(self, text):
         if self.broken:
             return {"fault": self.broken, "refused": "Broken"}
@@ -801,6 +883,10 @@ class Player:
             return self.get(rest)
         if word == "visits" and rest:
             return self.visits(rest)
+        if word == "choose" and 0 < len(rest) < 10 and all(c in "0123456789" for c in rest):
+            return self.choose(rest)
+        if word == "jump" and rest:
+            return self.jump(rest)
         name, _, text = rest.partition(" ")
         if word == "set" and name and text:
             return self.set(name, text)
@@ -814,7 +900,8 @@ WAY, BACK = "?", "??"
 
 COMMANDS = ("through", "through", "restart", "get x", "get y", "get z", "set x 5", "set y true", 'set z "q r"', "set x null", "set w 1",
             "set x 1.5", "set  x 1", "bye", "set x  -3 ", "get  x", 'set y "a\\nb"', "set x",
-            "visits f", "visits t", "visits h", "visits k", "visits 0", "visits 1", "visits 0.0", "visits 1.k", "visits .0", "visits x..y")
+            "visits f", "visits t", "visits h", "visits k", "visits 0", "visits 1", "visits 0.0", "visits 1.k", "visits .0", "visits x..y",
+            "choose 0", "choose 1", "choose 00", "choose 1234567890", "choose -1", "choose", "jump f", "jump .0", "jump c1", "jump 0", "jump x..y")
 
 
 def random_text(chance):
@@ -876,6 +963,29 @@ def random_question(chance):
     ))()
 
 
+def random_offer(chance):
+    """A choice point, with what it pops."""
+    flags = chance.choice((0, 16)) + chance.choice((2, 4, 4, 6, 0)) + (1 if chance.random() < 0.2 else 0) + (8 if chance.random() < 0.12 else 0)
+    content = ["ev"]
+    for flag in (2, 4):
+        if flags & flag:
+            tags = ["#", random_text(chance), "/#"] * chance.choice((0, 0, 0, 1, 2))
+            content += ["str", random_text(chance)] + tags + ["/str"]
+    if flags & 1:
+        content += [chance.choice((True, True, False, 1, {"VAR?": chance.choice("xyzp")}))]
+    point = {"*": WAY} if flags == 16 and chance.random() < 0.5 else {"*": WAY, "flg": flags}
+    return content + ["/ev", point]
+
+
+def random_offers(chance):
+    content = []
+    for _ in range(chance.choice((1, 1, 2, 3))):
+        content += random_offer(chance)
+        if chance.random() < 0.2:
+            content += ["ev", "choiceCnt", "out", "/ev"]
+    return content + ["done"] * (chance.random() < 0.6)
+
+
 def random_loop(chance):
     """Content that may lead back, so often at most as the global `n` allows."""
     return ["ev", {"VAR?": "n"}, 1, "+", "du", {"VAR=": "n", "re": True}, chance.choice((2, 3, 4)), "<", "/ev", {"->": BACK, "c": True}]
@@ -902,7 +1012,9 @@ def random_group(chance):
         return [{"->": WAY}]
     if kind < 0.64:
         return random_loop(chance)
-    if kind < 0.65:
+    if kind < 0.66:
+        return random_offers(chance)
+    if kind < 0.67:
         return random_call(chance)
     if kind < 0.72:
         return ["ev", random_value(chance), "/ev", {"->": WAY, "c": True}]
@@ -911,7 +1023,7 @@ def random_group(chance):
         return ["ev", {"^->": WAY}, {"VAR=": name}, "/ev", {"->": name, "var": True}]
     if kind < 0.81:
         return ["ev"] + random_variable(chance) + ["/ev"]
-    if kind < 0.86:
+    if kind < 0.85:
         return ["ev"] + random_question(chance) + ["/ev"]
     operator = chance.choice(OPERATORS)
     values = [random_value(chance) for _ in range(1 if operator in SINGLE else 2)]
@@ -962,7 +1074,7 @@ def random_knot(chance, name):
         content += random_call(chance, KNOTS[name]) if chance.random() < 0.25 and KNOTS[name] else random_plain(chance)
     functions = (["ev", random_value(chance), "/ev", "~ret"], ["ev", random_value(chance), "/ev", "~ret"], ["\n"], [], ["~ret"])
     tunnels = (["ev", "void", "/ev", "->->"],) * 4 + (["ev", {"^->": WAY}, "/ev", "->->"], [])
-    threads = (["done"], ["done"], [], ["end"])
+    threads = (["done"], ["done"], [], ["end"], random_offers(chance))
     last = {"#f": chance.choice((1, 3, 5, 7))} if chance.random() < 0.5 else None
     return content + chance.choice(functions if name in "fg" else tunnels if name in "tu" else threads) + [last]
 
@@ -1000,7 +1112,66 @@ def random_container(chance, depth):
     return content + [last or None]
 
 
+# the knots of a story that is played by choices
+SCENES = ("c0", "c1", "c2", "c3")
+
+
+def scene_bits(chance):
+    """Content that seldom faults."""
+    bits = []
+    for _ in range(chance.randrange(4)):
+        bits += chance.choice((
+            lambda: [random_text(chance)],
+            lambda: [chance.choice(("^a ", "^b", "\n", "<>"))],
+            lambda: ["ev", {"CNT?": chance.choice(SCENES)}, "out", "/ev"],
+            lambda: ["ev", {"^->": chance.choice(SCENES)}, chance.choice(("turns", "readc")), "out", "turn", "out", "/ev"],
+            lambda: ["ev", {"VAR?": "n"}, 1, "+", {"VAR=": "n", "re": True}, "/ev"],
+            lambda: ["ev", chance.randrange(9), {"temp=": "p"}, "/ev"],
+            lambda: ["ev", {"VAR?": "p"}, "out", "choiceCnt", "out", "/ev"],
+            lambda: ["ev", {"f()": "f"}, "out", "/ev"],
+            lambda: ["#", random_text(chance), "/#"],
+        ))()
+    return bits
+
+
+def scene(chance, name, inside=True):
+    """A knot that says something, offers choices into itself and elsewhere, and waits."""
+    content, last = scene_bits(chance), {"#f": chance.choice((1, 3, 3, 5, 7))}
+    if inside and chance.random() < 0.3:
+        content += ["thread", {"->": chance.choice(("t0", "t1"))}]
+    if inside and chance.random() < 0.25:
+        content += [{"->t->": "u0"}]
+    for number in range(chance.choice((0, 1, 1, 2, 3))):
+        offer = random_offer(chance)
+        if chance.random() < 0.6:
+            offer[-1]["*"] = "%s.o%d" % (name, number)
+            last["o%d" % number] = scene_bits(chance) + [{"->": chance.choice(SCENES)}] * (chance.random() < 0.7) + [{"#f": chance.choice((1, 5, 3))}]
+        else:
+            offer[-1]["*"] = chance.choice(SCENES + ("%s.0" % chance.choice(SCENES),) * (offer[-1].get("flg", 16) < 16))
+        content += offer
+    return content + chance.choice((["done"], ["done"], ["done"], [])) + [last]
+
+
+def scenes_story(chance):
+    """A story that is played by choices, with threads, a tunnel and a function."""
+    names = {name: scene(chance, name) for name in SCENES}
+    names["t0"], names["t1"] = scene(chance, "t0", False), scene(chance, "t1", False)
+    tunnel = scene(chance, "u0", False)
+    names["u0"] = tunnel[:-1] + chance.choice((["ev", "void", "/ev", "->->"], [])) + tunnel[-1:]
+    for key in [key for key in tunnel[-1] if key.startswith("o") and chance.random() < 0.7]:
+        tunnel[-1][key] = scene_bits(chance) + ["ev", "void", "/ev", "->->", {"#f": 1}]
+    names["f"] = ["^<", "ev", {"CNT?": "f"}, "/ev", "~ret", {"#f": 1}]
+    names["global decl"] = ["ev", 0, {"VAR=": "n"}, "/ev", "end", None]
+    for knot in names.values():
+        if isinstance(knot[-1], dict) and not knot[:-1]:
+            knot.insert(0, "^.")
+    root = [scene_bits(chance) + [{"->": "c0"}, None], "done", names]
+    return {"inkVersion": 21, "root": root, "listDefs": {}}
+
+
 def random_story(chance):
+    if chance.random() < 0.3:
+        return scenes_story(chance)
     root = random_container(chance, 3)
     if chance.random() < 0.6:
         add_calls(chance, root)
@@ -1017,7 +1188,7 @@ def random_story(chance):
     for place in list(places(root)):
         content = found(root, place)
         if isinstance(content, dict):
-            for head in ("->", "^->", "f()", "->t->", "CNT?"):
+            for head in ("->", "^->", "f()", "->t->", "CNT?", "*"):
                 if content.get(head) in (WAY, BACK):
                     content[head] = random_path(chance, root, place, head)
     if chance.random() < 0.05:
@@ -1036,12 +1207,12 @@ def random_path(chance, root, place, head):
     if chance.random() < 0.004:
         return chance.choice(("m", "0.0.0.0.0.0", "a..b", ".", "", ".^.^.^.^.^.^", "99", ".0", "2147483648", "k.k.k.k.k"))
     order = list(places(root))
-    if head == "CNT?":
+    if head == "CNT?" or (head == "*" and found(root, place).get("flg", 16) & 16):
         order = [p for p in order if (flags_at(root, p) or 0) & 1] or [counted(root)]
         onward = order
     elif head == "^->" and chance.random() < 0.7:
         onward = [p for p in order if isinstance(found(root, p), list) and p] or order
-    elif found(root, place).get(head) == BACK:
+    elif head == "*" or found(root, place).get(head) == BACK:
         onward = order
     else:
         onward = order[order.index(place) + 1:] + [p + [width(found(root, p))] for p in order[order.index(place) + 1:] if isinstance(found(root, p), list)]
@@ -1081,7 +1252,7 @@ def add_calls(chance, root):
 
 def add_unsupported(chance, root):
     container = chance.choice([found(root, place) for place in places(root) if isinstance(found(root, place), list)])
-    content = chance.choice(("choiceCnt", {"x()": "f"}))
+    content = {"x()": "f"}
     container.insert(chance.randrange(len(container)), content)
 
 
@@ -1102,7 +1273,12 @@ def random_commands(chance, root):
     first = ["through"] if chance.random() < 0.85 else []
     counted_ones = [place for place in places(root) if (flags_at(root, place) or 0) & 1 and place]
     asked = ["visits " + ".".join(map(str, chance.choice(counted_ones))) for _ in range(chance.randrange(4)) if counted_ones]
-    return first + asked + [chance.choice(COMMANDS) for _ in range(chance.randrange(1, 8))]
+    jumps = ["jump " + ".".join(map(str, chance.choice(list(places(root))[1:])))] if chance.random() < 0.15 and list(places(root))[1:] else []
+    turns = []
+    for _ in range(chance.choice((0, 1, 2, 4, 8)) + (6 if "c0" in own(root) else 0)):
+        turns += ["choose %d" % chance.choice((0, 0, 0, 1, 2)), "through"]
+    rest = asked + jumps + [chance.choice(COMMANDS) for _ in range(chance.randrange(1, 8))]
+    return first + turns + rest
 
 
 def kind_of(wanted):

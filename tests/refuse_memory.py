@@ -105,6 +105,16 @@ STORIES = (
      ("through", "visits s", "visits s.b", "visits nowhere")),
     ('{"inkVersion":21,"root":[["ev",{"^->":"k.1"},{"temp=":"t"},"/ev",{"->":"t","var":true},null],"done",{"k":["^a",["^b","ev",{"^->":"k"},"readc","turn",{"VAR=":"v"},"visit","/ev",{"#f":1}],"^c",{"#f":3}]}]}',
      ("through", "get v", "visits k", "restart", "visits k", "get v")),
+    ('{"inkVersion":21,"root":[["^Q","\\n","ev","str","^ A ","#","^t","/#","/str","str","^ only","/str",true,"/ev",{"*":"0.a","flg":23},"ev","str","^B","/str","/ev",{"*":"k","flg":4},"ev","/ev",{"*":"k","flg":8},"done",{"a":["^chosen","\\n","end",{"#f":1}]}],"done",{"k":["^K",["^in",{"#f":3}],"end",{"#f":7}]}]}',
+     ("choose 0", "through", "choose 2", "choose 0", "visits 0.a", "through", "restart", "through", "choose 1", "through", "visits k")),
+    ('{"inkVersion":21,"root":[[{"->t->":"t"},"^after","end",null],"done",{"t":["ev",4,{"temp=":"x"},"/ev",{"f()":"f"},"done",{"#f":1,"a":["^a","ev",{"VAR?":"x"},"out","void","/ev","->->",{"#f":1}]}],"f":["ev",9,{"temp=":"y"},"str","^go","/str","/ev",{"*":"t.a","flg":4},{"->":"t.a"},null]}]}',
+     ("through", "through", "visits t")),
+    ('{"inkVersion":21,"root":[["thread",{"->":"a"},"thread",{"->":"b"},"^main",{"->":"a"},null],"done",{"a":["ev","str","^x","/str","/ev",{"*":".^.c","flg":4},"done",{"c":["^one","ev","turn","out","/ev","done",{"#f":3}],"#f":3}],"b":["ev","/ev",{"*":"a.c","flg":8},"done",{"#f":1}]}]}',
+     ("through", "choose 1", "through", "visits a.c", "jump b", "through", "visits b", "jump a.c", "through", "visits a")),
+    ('{"inkVersion":21,"root":[[{"->":"k"},null],"done",{"k":["^k","ev","/ev",{"*":"k.in.deep"},"ev","/ev",{"*":"out","flg":8},"done",{"#f":1,"in":["^no",{"#f":1,"deep":["^deep",{"->":"k"},{"#f":1}]}]}],"out":["^out","end",{"#f":2}]}]}',
+     ("through", "choose 0", "visits k.in", "through", "visits k.in", "visits k.in.deep", "choose 0")),
+    ('{"inkVersion":21,"root":[["^a","done",null],"done",{"k":["^k",["^b",["^c","done",{"#f":1}],{"#f":1}],{"#f":3}],"global decl":["ev","str","^d","/str","/ev",{"*":"k","flg":4},"ev",1,{"VAR=":"x"},"/ev","end",null]}]}',
+     ("jump k.1.1.0", "visits k", "visits k.1", "visits k.1.1", "through", "jump .k", "jump k.9", "get x", "jump k", "through", "visits k")),
 )
 
 BROKEN = b'{"fault":"OutOfMemory","refused":"Broken"}'
@@ -144,7 +154,7 @@ def is_run(program, story, commands, ample_lines, lines):
             before, command, after = commands[:k], commands[k], commands[k + 1:]
             if line == FAULT and command == "through":
                 rest = broken_from(program, story, before, after)
-            elif line == NO_MEMORY and command.split()[0] in ("set", "get", "restart", "visits"):
+            elif line == NO_MEMORY and command.split()[0] in ("set", "get", "restart", "visits", "choose", "jump"):
                 rest = [(line,) for line in answers(program, story, before + after)[k:]]
             else:
                 return False
@@ -167,7 +177,7 @@ def broken_from(program, story, before, after):
         if word == "get":
             rest.append((answers(program, story, before + (command,))[-1], answers(program, story, before + ("through", command))[-1]))
         else:
-            rest.append((BROKEN,) if word in ("through", "set", "visits") else (BAD_COMMAND,))
+            rest.append((BROKEN,) if word in ("through", "set", "visits", "choose", "jump") else (BAD_COMMAND,))
     return rest
 
 

@@ -30,7 +30,7 @@ use table::run_table;
 use tally::Tally;
 
 /// The tables that are read where none are named.
-const TABLES: [&str; 20] = [
+const TABLES: [&str; 23] = [
     "operators.txt",
     "operators_large.txt",
     "output.txt",
@@ -42,9 +42,12 @@ const TABLES: [&str; 20] = [
     "sessions.txt",
     "sessions_calls.txt",
     "sessions_calls_large.txt",
+    "sessions_choices.txt",
+    "sessions_choices_large.txt",
     "sessions_counts.txt",
     "sessions_counts_large.txt",
     "sessions_cut.txt",
+    "sessions_games.txt",
     "sessions_large.txt",
     "sessions_limits.txt",
     "sessions_refused.txt",
