@@ -29,6 +29,7 @@ pub mod Variables
 pub mod Counts
 pub mod OperatorExamples
 pub mod Configuration
+pub mod Choices
 pub mod Visits
 pub mod Output
 pub mod Flow
@@ -52,6 +53,7 @@ pub mod FrameExamples
 pub mod PushExamples
 pub mod VariableExamples
 pub mod CountExamples
+pub mod ChoiceExamples
 pub mod OutputExamples
 pub mod CallStories
 pub mod CallExamples

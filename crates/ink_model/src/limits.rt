@@ -24,6 +24,9 @@ pub const MAX_FRAMES: usize = 1_000;
 /// Threads.
 pub const MAX_THREADS: usize = 100;
 
+/// Choices that are offered, the invisible ones among them.
+pub const MAX_CHOICES: usize = 1_000;
+
 /// Steps of a command.
 pub const MAX_STEPS: u32 = 1_000_000;
 

@@ -106,7 +106,7 @@ impl<P: Copy> Thread<P> {
     }
 
     /// A copy. The one error is a refused request for memory, which a frame alone without temporaries never makes.
-    pub(crate) fn clone_in(&self, alloc: Global) -> Result<Thread<P>, AllocError>
+    pub fn clone_in(&self, alloc: Global) -> Result<Thread<P>, AllocError>
         ensures copy { IfOk result (λ copy. copy ≡ self.now) }
         ensures memory { OnErr result ((self.now.frame.temps ≢ []) ⊎ (self.now.below ≢ [])) }
     {
@@ -146,7 +146,8 @@ impl<P: Copy> Thread<P> {
         self.frame.set_number(Some(number));
     }
 
-    pub(crate) fn clear_numbers(&mut self)
+    /// No frame has the number of its mark any more. Takes no memory.
+    pub fn clear_numbers(&mut self)
         ensures { self.new ≡ unnumbered_thread self.old }
     {
         self.frame.set_number(None);

@@ -1,0 +1,150 @@
+-- Lists of choices, seen one after another.
+use Rattle.std.proofs.Common.{◌≡◌, ◌≢◌, ◌∙◌, ℕ, zero, suc, ◌+◌, ◌<◌, ◌≤◌, Bool, true, false, not, ◌||◌, List, [], ◌∷◌, ◌++◌, length, map, get_or, take, drop, Option, Some, None, option_map, ap, sym, refl, append_assoc, add-one, arith, inl, inr}
+use Rattle.std.specs.List.{remove}
+use Rattle.std.proofs.lemmas.Bool.{cases_Bool}
+use Rattle.std.proofs.lemmas.List.{drop_all, drop_more, take_more}
+use Rattle.ink_choice.specs.Words.{FindsIndex, Takes}
+use Rattle.ink_model.specs.Choices.{behind, none_visible, shown, shown_choice, taken, taken_of, visible}
+use Rattle.ink_model.specs.Configuration.{ChoiceOf}
+use Rattle.ink_model.specs.declared.passage.Shown.{Shown}
+
+not_true : (b : Bool) → not b ≡ true → b ≡ false
+not_true true h = cc
+not_true false h = refl
+
+not_false : (b : Bool) → not b ≡ false → b ≡ true
+not_false true h = refl
+not_false false h = cc
+
+module _ {P : Type 0} where
+  -- ---- the first of the rest
+
+  module _ (cs : List (ChoiceOf P)) (i : ℕ) (d : ChoiceOf P) (inside : i < length cs) where
+    pub hidden_here : (get_or cs i d).hidden ≡ true → visible (drop i cs) ≡ visible (drop (i + 1) cs)
+    hidden_here h = ap visible (drop_more cs i d inside) ∙ rw h refl
+
+    pub visible_here : (get_or cs i d).hidden ≡ false → visible (drop i cs) ≡ get_or cs i d ∷ visible (drop (i + 1) cs)
+    visible_here h = ap visible (drop_more cs i d inside) ∙ rw h refl
+
+    pub none_here : (get_or cs i d).hidden ≡ true → none_visible (drop i cs) ≡ none_visible (drop (i + 1) cs)
+    none_here h = ap none_visible (drop_more cs i d inside) ∙ rw h refl
+
+    pub some_here : (get_or cs i d).hidden ≡ false → none_visible (drop i cs) ≡ false
+    some_here h = ap none_visible (drop_more cs i d inside) ∙ rw h refl
+
+  -- ---- the one that is to be taken
+
+  -- in front of what is left
+  abbrev pub after : List (ChoiceOf P) → ChoiceOf P × List (ChoiceOf P) → ChoiceOf P × List (ChoiceOf P)
+  after cs r = (r.0, cs ++ r.1)
+
+  -- after these the rest decides
+  pub record Passed (test : ChoiceOf P → Bool) (n left i : ℕ) (cs : List (ChoiceOf P)) : Type 0 where
+    pub is : taken_of test n cs ≡ option_map (after (take i cs)) (taken_of test left (drop i cs))
+
+  after_none : (r : Option (ChoiceOf P × List (ChoiceOf P))) → r ≡ option_map (after []) r
+  after_none None = refl
+  after_none (Some r) = refl
+
+  pub passed_none : (test : ChoiceOf P → Bool) (n : ℕ) (cs : List (ChoiceOf P)) → Passed test n n 0 cs
+  passed_none test n cs = record { is = after_none (taken_of test n cs) }
+
+  after_more : (cs : List (ChoiceOf P)) (c : ChoiceOf P) (r : Option (ChoiceOf P × List (ChoiceOf P)))
+      → option_map (after cs) (option_map (behind c) r) ≡ option_map (after (cs ++ c ∷ [])) r
+  after_more cs c None = refl
+  after_more cs c (Some r) = ap (λ xs. Some (r.0, xs)) (sym (append_assoc cs (c ∷ []) r.1))
+
+  module _ (test : ChoiceOf P → Bool) where
+    over : (n : ℕ) (c : ChoiceOf P) (cs : List (ChoiceOf P)) → test c ≡ false → taken_of test n (c ∷ cs) ≡ option_map (behind c) (taken_of test n cs)
+    over zero c cs h = rw h refl
+    over (suc n) c cs h = rw h refl
+
+    one : (n : ℕ) (c : ChoiceOf P) (cs : List (ChoiceOf P)) → test c ≡ true → taken_of test (suc n) (c ∷ cs) ≡ option_map (behind c) (taken_of test n cs)
+    one n c cs h = rw h refl
+
+    here : (c : ChoiceOf P) (cs : List (ChoiceOf P)) → test c ≡ true → taken_of test 0 (c ∷ cs) ≡ Some (c, cs)
+    here c cs h = rw h refl
+
+    module _ (n i : ℕ) (cs : List (ChoiceOf P)) (d : ChoiceOf P) (inside : i < length cs) where
+      pub passed_over : (left : ℕ) → test (get_or cs i d) ≡ false → Passed test n left i cs → Passed test n left (i + 1) cs
+      passed_over left h p = record {
+        is = p.is
+            ∙ ap (λ xs. option_map (after (take i cs)) (taken_of test left xs)) (drop_more cs i d inside)
+            ∙ ap (option_map (after (take i cs))) (over left (get_or cs i d) (drop (i + 1) cs) h)
+            ∙ after_more (take i cs) (get_or cs i d) (taken_of test left (drop (i + 1) cs))
+            ∙ ap (λ xs. option_map (after xs) (taken_of test left (drop (i + 1) cs))) (sym (take_more cs i d inside));
+      }
+
+      pub passed_one : (left less : ℕ) → left ≡ suc less → test (get_or cs i d) ≡ true → Passed test n left i cs → Passed test n less (i + 1) cs
+      passed_one left less e h p = record {
+        is = p.is
+            ∙ ap (λ m. option_map (after (take i cs)) (taken_of test m (drop i cs))) e
+            ∙ ap (λ xs. option_map (after (take i cs)) (taken_of test (suc less) xs)) (drop_more cs i d inside)
+            ∙ ap (option_map (after (take i cs))) (one less (get_or cs i d) (drop (i + 1) cs) h)
+            ∙ after_more (take i cs) (get_or cs i d) (taken_of test less (drop (i + 1) cs))
+            ∙ ap (λ xs. option_map (after xs) (taken_of test less (drop (i + 1) cs))) (sym (take_more cs i d inside));
+      }
+
+      pub found_here : (left : ℕ) → left ≡ 0 → test (get_or cs i d) ≡ true → Passed test n left i cs → taken_of test n cs ≡ Some (get_or cs i d, remove cs i)
+      found_here left e h p =
+          p.is
+          ∙ ap (λ m. option_map (after (take i cs)) (taken_of test m (drop i cs))) e
+          ∙ ap (λ xs. option_map (after (take i cs)) (taken_of test 0 xs)) (drop_more cs i d inside)
+          ∙ ap (option_map (after (take i cs))) (here (get_or cs i d) (drop (i + 1) cs) h)
+          ∙ ap (λ k. Some (get_or cs i d, take i cs ++ drop k cs)) (add-one i)
+
+    pub passed_all : (n left i : ℕ) (cs : List (ChoiceOf P)) → length cs ≤ i → Passed test n left i cs → taken_of test n cs ≡ None
+    passed_all n left i cs h p = p.is ∙ ap (λ xs. option_map (after (take i cs)) (taken_of test left xs)) (drop_all i cs h)
+
+  pub took : (n i : ℕ) (cs new : List (ChoiceOf P)) (x : ChoiceOf P) (any : Bool) → any ≡ none_visible cs → FindsIndex (λ c. any || not c.hidden) n cs (Some i)
+      → x ≡ get_or cs i x → new ≡ remove cs i → Takes (taken n cs) cs new (Some x)
+  took n i cs new x any same found is left =
+      let taken_is : taken n cs ≡ Some (get_or cs i x, remove cs i) = ap (λ b. taken_of (λ c. b || not c.hidden) n cs) (sym same) ∙ found.1 x in
+      rw taken_is (is, left)
+
+  pub left_all : (n : ℕ) (cs : List (ChoiceOf P)) (any : Bool) → any ≡ none_visible cs → FindsIndex (λ c. any || not c.hidden) n cs None → Takes (taken n cs) cs cs None
+  left_all n cs any same found =
+      let taken_is : taken n cs ≡ None = ap (λ b. taken_of (λ c. b || not c.hidden) n cs) (sym same) ∙ found in
+      rw taken_is refl
+
+  -- ---- where there is one
+
+  pub any_visible : (cs : List (ChoiceOf P)) (i : ℕ) (d : ChoiceOf P) → i < length cs → (get_or cs i d).hidden ≡ false → visible cs ≢ []
+  any_visible [] i d h e = absurd (omega arith)
+  any_visible (c ∷ cs) zero d h e = rw e (λ none. absurd (cc))
+  any_visible (c ∷ cs) (suc i) d h e = elim (cases_Bool c.hidden) [
+    | inl hides ↦ rw hides (any_visible cs i d (omega arith) e)
+    | inr shows ↦ rw shows (λ none. absurd (cc))
+  ]
+
+  -- ---- one more
+
+  module _ (cs : List (ChoiceOf P)) (i : ℕ) (x : ChoiceOf P) (inside : i < length cs) (is : x ≡ get_or cs i x) where
+    pub counts_one : (n m : ℕ) → not x.hidden ≡ true → n + length (visible (drop i cs)) ≡ m → n + 1 + length (visible (drop (i + 1) cs)) ≡ m
+    counts_one n m h e =
+        let first : length (visible (drop i cs)) ≡ suc (length (visible (drop (i + 1) cs))) = ap length (visible_here cs i x inside (shows h)) in
+        omega arith
+      where
+        shows : not x.hidden ≡ true → (get_or cs i x).hidden ≡ false
+        shows k = ap (λ c. c.hidden) (sym is) ∙ not_true x.hidden k
+
+    pub counts_none : (n m : ℕ) → not x.hidden ≡ false → n + length (visible (drop i cs)) ≡ m → n + length (visible (drop (i + 1) cs)) ≡ m
+    counts_none n m h e = ap (λ xs. n + length xs) (sym (hidden_here cs i x inside (ap (λ c. c.hidden) (sym is) ∙ not_false x.hidden h))) ∙ e
+
+    pub shows_one : (done all : List Shown) (y : Shown) → not x.hidden ≡ true → y ≡ shown_choice x → done ++ shown (drop i cs) ≡ all → (done ++ y ∷ []) ++ shown (drop (i + 1) cs) ≡ all
+    shows_one done all y h made e =
+        append_assoc done (y ∷ []) (shown (drop (i + 1) cs))
+        ∙ ap (λ z. done ++ z ∷ shown (drop (i + 1) cs)) (made ∙ ap shown_choice is)
+        ∙ ap (λ xs. done ++ map shown_choice xs) (sym (visible_here cs i x inside (ap (λ c. c.hidden) (sym is) ∙ not_true x.hidden h)))
+        ∙ e
+
+    pub shows_none : (done all : List Shown) → not x.hidden ≡ false → done ++ shown (drop i cs) ≡ all → done ++ shown (drop (i + 1) cs) ≡ all
+    shows_none done all h e = ap (λ xs. done ++ map shown_choice xs) (sym (hidden_here cs i x inside (ap (λ c. c.hidden) (sym is) ∙ not_false x.hidden h))) ∙ e
+
+    pub some_shown : not x.hidden ≡ true → visible cs ≢ []
+    some_shown h = any_visible cs i x inside (ap (λ c. c.hidden) (sym is) ∙ not_true x.hidden h)
+
+  -- a copy of the next one
+  pub copied_one : (cs done : List (ChoiceOf P)) (i : ℕ) (x y : ChoiceOf P) → i < length cs → x ≡ get_or cs i x → done ≡ take i cs → y ≡ x → done ++ y ∷ [] ≡ take (i + 1) cs
+  copied_one cs done i x y h is e made =
+      ap (λ xs. xs ++ y ∷ []) e ∙ ap (λ z. take i cs ++ z ∷ []) (made ∙ is) ∙ sym (take_more cs i x h)

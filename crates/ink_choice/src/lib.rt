@@ -1,0 +1,12 @@
+//! Choices of a running story: what a choice point makes, and the list of what is offered (docs/CHOICES.md).
+#![tactic(auto)]
+
+mod choice;
+mod choices;
+mod making;
+mod operands;
+mod texts;
+
+pub use choice::Choice;
+pub use choices::Choices;
+pub use making::make;

@@ -1,0 +1,124 @@
+//! What a choice point makes (docs/CHOICES.md, "What is made").
+
+ghost use Rattle.std.specs.Prelude.{◌≡◌, ◌≢◌, ◌++◌, true, reverse, IfOk, OnErr};
+ghost use Rattle.ink_choice.specs.Operands.{operands_of};
+ghost use Rattle.ink_choice.specs.Words.{Chooses, Finds, Makes};
+ghost use Rattle.ink_model.specs.Choices as rules;
+ghost use Rattle.ink_model.specs.Choices.{choice_tags, has_any};
+
+use crate::choice::Choice;
+use crate::operands::{Operands, find_operands, pop_all, push_tags};
+use crate::texts::joined;
+use ink_model::flags::{is_invisible_default, is_once_only};
+use ink_model::{Fault, Seq, Shared, Text};
+use ink_stack::Threads;
+use ink_value::EvalStack;
+use std::alloc::{AllocError, Global};
+
+/// What a choice point of these flags makes: it pops the condition, the choice-only text and the start text, each text with the
+/// tags directly below it, where its flags have them. No choice is made where the condition is false, nor where the choice is
+/// offered once only and its target was visited; then all is popped all the same. A choice keeps a copy of the thread that runs.
+///
+/// `StackEmpty` where a value is missing; `BadOperands` for a condition that is neither true nor false, and for a value that is no
+/// text in the place of one, in the order in which they are popped; `TooDeep` where the text of a choice that is made is longer
+/// than a text may be; `OutOfMemory` for a refused request for memory, which is made only for a choice: for a text that is not
+/// empty, for tags, and for a thread with temporaries or more than one frame. On an error nothing has changed.
+pub fn make<P: Copy>(
+    alloc: Global,
+    flags: u8,
+    target: P,
+    stack: &mut EvalStack,
+    visited: bool,
+    threads: &Threads<P>,
+) -> Result<Option<Choice<P>>, Fault>
+    ensures { Makes (rules.make flags target visited threads.now.thread stack.old.items) stack.old.items stack.new.items result }
+{
+    match found(alloc, flags, target, stack, visited, threads) {
+        Ok((choice, count)) => {
+            pop_all(stack, count);
+            Ok(choice)
+        }
+        Err(fault) => Err(fault),
+    }
+}
+
+// The choice, and how many values are to be popped for it.
+fn found<P: Copy>(
+    alloc: Global,
+    flags: u8,
+    target: P,
+    stack: &EvalStack,
+    visited: bool,
+    threads: &Threads<P>,
+) -> Result<(Option<Choice<P>>, usize), Fault>
+    ensures { Finds (rules.make flags target visited threads.now.thread stack.now.items) (reverse stack.now.items) result }
+{
+    match find_operands(stack, flags) {
+        Ok(operands) => {
+            if !is_offered(flags, visited, operands.condition) {
+                return Ok((None, operands.end));
+            }
+            match choice_of(alloc, flags, target, stack, threads, &operands) {
+                Ok(choice) => Ok((Some(choice), operands.end)),
+                Err(fault) => Err(fault),
+            }
+        }
+        Err(fault) => Err(fault),
+    }
+}
+
+// Whether a choice is made.
+fn is_offered(flags: u8, visited: bool, condition: bool) -> bool
+    ensures { result ≡ rules.is_offered flags visited condition }
+{
+    condition && !(is_once_only(flags) && visited)
+}
+
+// The choice of what was found. `TooDeep` where its text is longer than a text may be, before memory is asked for.
+fn choice_of<P: Copy>(
+    alloc: Global,
+    flags: u8,
+    target: P,
+    stack: &EvalStack,
+    threads: &Threads<P>,
+    operands: &Operands<'_>,
+) -> Result<Choice<P>, Fault>
+    ensures { Chooses (rules.choice flags target threads.now.thread (operands_of (reverse stack.now.items) operands.now)) result }
+{
+    match joined(alloc, operands.start.text, operands.choice_only.text) {
+        Ok(text) => {
+            let Ok(tags) = tags_of(alloc, stack, operands) else {
+                return Err(Fault::OutOfMemory);
+            };
+            let Ok(thread) = threads.fork() else {
+                return Err(Fault::OutOfMemory);
+            };
+            let hidden = is_invisible_default(flags);
+            Ok(Choice {
+                text,
+                tags,
+                target,
+                hidden,
+                thread,
+            })
+        }
+        Err(fault) => Err(fault),
+    }
+}
+
+// The tags of both texts, the start's first. The one error is a refused request for memory, which is made only where there is a
+// tag.
+fn tags_of(
+    alloc: Global,
+    stack: &EvalStack,
+    operands: &Operands<'_>,
+) -> Result<Seq<Shared<Text>>, AllocError>
+    ensures ok { IfOk result (λ tags. tags ≡ choice_tags (operands_of (reverse stack.now.items) operands.now)) }
+    ensures memory { OnErr result (has_any (choice_tags (operands_of (reverse stack.now.items) operands.now)) ≡ true) }
+{
+    let mut tags = Vec::new(alloc);
+    push_tags(&mut tags, stack, operands.choice_only.tags)?;
+    push_tags(&mut tags, stack, operands.start.tags)?;
+    tags.reverse();
+    Ok(Seq::from_vec(tags))
+}

@@ -1,0 +1,158 @@
+//! What a choice point is to pop, found on the stack before anything is popped (docs/CHOICES.md, "What is popped").
+
+ghost use Rattle.std.specs.Prelude.{◌≡◌, ◌≢◌, ◌<◌, ◌+◌, ◌^◌, [], ◌∷◌, ◌++◌, Ok, Err, drop, reverse, IfSome, MatchOption, MatchResult, OnOk, OnErr};
+ghost use Rattle.ink_choice.specs.Operands.{operands_of, words_of};
+ghost use Rattle.ink_model.specs.Choices as rules;
+ghost use Rattle.ink_model.specs.Choices.{tags_first};
+
+use ink_model::flags::{has_choice_only_text, has_start_text, is_conditional};
+use ink_model::{Fault, Shared, Text, Value};
+use ink_value::{EvalStack, is_true};
+use std::alloc::AllocError;
+
+/// A text on the stack, and the depth from which on its tags lie below it.
+#[derive(Clone, Copy)]
+pub(crate) struct Words<'s> {
+    pub(crate) text: &'s str,
+    pub(crate) tags: usize,
+}
+
+/// Whether the condition is true, the two texts, and how many values all of it is.
+#[derive(Clone, Copy)]
+pub(crate) struct Operands<'s> {
+    pub(crate) condition: bool,
+    pub(crate) start: Words<'s>,
+    pub(crate) choice_only: Words<'s>,
+    pub(crate) end: usize,
+}
+
+/// What a choice point of these flags pops. `StackEmpty` where a value is missing; `BadOperands` for a condition that is neither
+/// true nor false, and for what stands in the place of a text and is none. Takes no memory.
+pub(crate) fn find_operands<'s>(stack: &'s EvalStack, flags: u8) -> Result<Operands<'s>, Fault>
+    ensures { let vs = reverse stack.now.items in
+        MatchResult result (λ found. rules.operands flags vs ≡ Ok (operands_of vs found)) (λ f. rules.operands flags vs ≡ Err f) }
+{
+    match find_condition(stack, is_conditional(flags)) {
+        Ok((condition, depth)) => {
+            match find_words(stack, has_choice_only_text(flags), depth) {
+                Ok((choice_only, depth)) => {
+                    match find_words(stack, has_start_text(flags), depth) {
+                        Ok((start, end)) => Ok(Operands {
+                            condition,
+                            start,
+                            choice_only,
+                            end,
+                        }),
+                        Err(fault) => Err(fault),
+                    }
+                }
+                Err(fault) => Err(fault),
+            }
+        }
+        Err(fault) => Err(fault),
+    }
+}
+
+// Whether the condition is true, where there is to be one, and the depth after it.
+fn find_condition(stack: &EvalStack, wanted: bool) -> Result<(bool, usize), Fault>
+    ensures { let vs = reverse stack.now.items in
+        MatchResult result (λ found. rules.pop_condition wanted vs ≡ Ok (found.0, drop found.1 vs)) (λ f. rules.pop_condition wanted vs ≡ Err f) }
+{
+    if !wanted {
+        return Ok((true, 0));
+    }
+    match value_at(stack, 0) {
+        Some(value) => match is_true(value) {
+            Ok(truth) => Ok((truth, 1)),
+            Err(fault) => Err(fault),
+        },
+        None => Err(Fault::StackEmpty),
+    }
+}
+
+// The text at a depth with its tags, where there is to be one, and the depth after it.
+fn find_words<'s>(
+    stack: &'s EvalStack,
+    wanted: bool,
+    depth: usize,
+) -> Result<(Words<'s>, usize), Fault>
+    ensures { let vs = reverse stack.now.items in
+        MatchResult result (λ found. rules.pop_any_words wanted (drop depth vs) ≡ Ok (words_of vs found.0, drop found.1 vs)) (λ f. rules.pop_any_words wanted (drop depth vs) ≡ Err f) }
+{
+    if !wanted {
+        return Ok((
+            Words {
+                text: "",
+                tags: stack.len(),
+            },
+            depth,
+        ));
+    }
+    match value_at(stack, depth) {
+        Some(Value::Text(text)) => {
+            let tags = depth + 1;
+            let text = text.get().as_str();
+            Ok((Words { text, tags }, tags_end(stack, tags)))
+        }
+        Some(_) => Err(Fault::BadOperands),
+        None => Err(Fault::StackEmpty),
+    }
+}
+
+// The depth after the tags that lie from a depth on.
+fn tags_end(stack: &EvalStack, from: usize) -> usize
+    ensures { let vs = reverse stack.now.items in rules.after_tags (drop from vs) ≡ drop result vs }
+{
+    for depth in from..stack.len() {
+        match value_at(stack, depth) {
+            Some(Value::Tag(_)) => {}
+            _ => return depth,
+        }
+    }
+    from.max(stack.len())
+}
+
+/// Adds the tags that lie from a depth on, the nearest first. The one error is a refused request for memory, which is made
+/// only where there is a tag.
+pub(crate) fn push_tags(
+    tags: &mut Vec<Shared<Text>>,
+    stack: &EvalStack,
+    from: usize,
+) -> Result<(), AllocError>
+    ensures ok { OnOk result (tags.new.items ≡ tags.old.items ++ tags_first (drop from (reverse stack.now.items))) }
+    ensures memory { OnErr result (tags_first (drop from (reverse stack.now.items)) ≢ []) }
+{
+    for depth in from..stack.len() {
+        match value_at(stack, depth) {
+            Some(Value::Tag(tag)) => {
+                let tag = tag.share()?;
+                tags.push(tag)?;
+            }
+            _ => return Ok(()),
+        }
+    }
+    Ok(())
+}
+
+// The value at a depth, none where there is none so deep.
+fn value_at<'s>(stack: &'s EvalStack, depth: usize) -> Option<&'s Value>
+    ensures value { let vs = reverse stack.now.items in MatchOption result (drop depth vs ≡ []) (λ v. drop depth vs ≡ v.now ∷ drop (depth + 1) vs) }
+    ensures within { IfSome result (λ v. depth + 1 < 2 ^ 64) }
+{
+    if depth >= stack.len() {
+        return None;
+    }
+    match stack.peek(depth) {
+        Ok(value) => Some(value),
+        Err(_) => None,
+    }
+}
+
+/// Pops as many values. Takes no memory.
+pub(crate) fn pop_all(stack: &mut EvalStack, count: usize)
+    ensures { reverse stack.new.items ≡ drop count (reverse stack.old.items) }
+{
+    for _ in 0..count {
+        let _ = stack.pop();
+    }
+}
