@@ -67,4 +67,10 @@ pub mod VisitExamples
 pub mod LandingExamples
 pub mod QuestionExamples
 pub mod TemporaryExamples
+pub mod ChoiceStories
+pub mod OfferExamples
+pub mod DefaultExamples
+pub mod ChoosingExamples
+pub mod JumpExamples
+pub mod TurnExamples
 pub mod Examples

@@ -1,5 +1,5 @@
 -- What a player answers to command lines (docs/PROTOCOL.md, "Sessions").
-use Rattle.std.specs.Prelude.{is_some, Result, Ok, Err, ◌≡◌, ℕ, ℤ, List, [], ◌∷◌, ◌++◌, Bool, true, false, not, ◌&&◌, ◌⊎◌, Option, Some, None, if◌then◌else◌, MatchBool}
+use Rattle.std.specs.Prelude.{is_some, Result, Ok, Err, ◌≡◌, ℕ, ℤ, List, [], ◌∷◌, ◌++◌, Bool, true, false, not, ◌&&◌, ◌⊎◌, Option, Some, None, MatchBool}
 use Rattle.ink_model.specs.Bytes.{fits_text}
 use Rattle.ink_model.specs.Tree.{StoryTree}
 use Rattle.ink_model.specs.Mark.{tags}
