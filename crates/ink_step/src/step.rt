@@ -14,7 +14,7 @@ ghost use Rattle.ink_model.specs.Step.{control_effect, effect, leaf_effect, step
 ghost use Rattle.ink_model.specs.Store.{store, stored};
 ghost use Rattle.ink_model.specs.Tree.{at, leaf};
 ghost use Rattle.ink_model.specs.View.{view};
-ghost use Rattle.ink_step.specs.Performs.{Keeps, Performs};
+ghost use Rattle.ink_step.specs.Performs.{Keeps, KeepsChoices, Performs};
 ghost use Rattle.ink_step.specs.Steps.{StepEnds};
 ghost use Rattle.ink_step.specs.Words.{config_of};
 ghost use Rattle.ink_tree.specs.Nodes.{place_of};
@@ -26,6 +26,7 @@ use crate::flow;
 use crate::flow::{StepEnd, done, end, fork, give_back, land, move_on};
 use crate::frames::{call, return_tunnel};
 use crate::machine::Machine;
+use crate::offering::{offer, push_choice_count};
 use crate::questions::{push_count, push_read_count, push_turn, push_turns, push_visit};
 use crate::sections::{begin_string, begin_tag, end_string, end_tag};
 use crate::storing::{assign, declare, push_pointer, push_variable};
@@ -46,7 +47,10 @@ impl Machine {
             return Ok(StepEnd::Stopped);
         };
         let (here, found) = self.go_in(story.tree(), place)?;
-        self.act(story, here, found)
+        match self.act(story, here, found) {
+            Ok(StepEnd::Stopped) => self.follow_default(story),
+            end => end,
+        }
     }
 
     /// What stands where flow is has its effect, and flow moves.
@@ -72,7 +76,10 @@ impl Machine {
             Performs s (content_asks s p stands (context_of c) (fields_of c)) (effect s p stands (context_of c) (fields_of c)) (fields_of (config_of s self.new)) result }
         ensures threads { let s = story_tree story.now in let stands = option_map (λ c. view c.now) found.entry in let c = config_of s self.old in
             OnOk result (Keeps s (effect s (place_of s here) stands (context_of c) (fields_of c)) self.old.threads self.new.threads) }
+        ensures choices { let s = story_tree story.now in let stands = option_map (λ c. view c.now) found.entry in let c = config_of s self.old in
+            OnOk result (KeepsChoices s (effect s (place_of s here) stands (context_of c) (fields_of c)) self.old.choices self.new.choices) }
         ensures counts { self.new.counts ≡ self.old.counts }
+        ensures turn { self.new.turn ≡ self.old.turn }
         ensures safe { self.new.safe ≡ self.old.safe }
         ensures globals { self.new.globals ≡ self.old.globals }
     {
@@ -95,7 +102,10 @@ impl Machine {
             Performs s (leaf_asks s p (context_of c) content.now (fields_of c)) (leaf_effect s p (context_of c) content.now (fields_of c)) (fields_of (config_of s self.new)) result }
         ensures threads { let s = story_tree story.now in let c = config_of s self.old in
             OnOk result (Keeps s (leaf_effect s (place_of s here) (context_of c) content.now (fields_of c)) self.old.threads self.new.threads) }
+        ensures choices { let s = story_tree story.now in let c = config_of s self.old in
+            OnOk result (KeepsChoices s (leaf_effect s (place_of s here) (context_of c) content.now (fields_of c)) self.old.choices self.new.choices) }
         ensures counts { self.new.counts ≡ self.old.counts }
+        ensures turn { self.new.turn ≡ self.old.turn }
         ensures safe { self.new.safe ≡ self.old.safe }
         ensures globals { self.new.globals ≡ self.old.globals }
     {
@@ -207,7 +217,18 @@ impl Machine {
                 &self.globals,
                 &self.threads,
             ),
-            Leaf::External { .. } | Leaf::Choice { .. } => Ok(Transfer::Next),
+            Leaf::Choice { target, flags } => moving(offer(
+                self.alloc,
+                story,
+                here,
+                *flags,
+                &mut self.stack,
+                &self.counts,
+                &self.threads,
+                &mut self.choices,
+                target,
+            )),
+            Leaf::External { .. } => Ok(Transfer::Next),
         }
     }
 
@@ -219,6 +240,8 @@ impl Machine {
     ) -> Result<Transfer<'a>, Fault>
         ensures effect { let s = story_tree story.now in let p = place_of s here in let c = config_of s self.old in
             Performs s (control_asks s p (context_of c) control (fields_of c)) (control_effect s p (context_of c) control (fields_of c)) (fields_of (config_of s self.new)) result }
+        ensures choices { self.new.choices ≡ self.old.choices }
+        ensures turn { self.new.turn ≡ self.old.turn }
         ensures counts { self.new.counts ≡ self.old.counts }
         ensures threads { self.new.threads ≡ on_top (mode_in self.new.threads.thread.frame.evaluating) self.old.threads }
         ensures safe { self.new.safe ≡ self.old.safe }
@@ -246,11 +269,11 @@ impl Machine {
             Control::Return => Ok(Transfer::Return(FrameKind::Function, None)),
             Control::ReturnTunnel => return_tunnel(story, &mut self.stack),
             Control::Thread => Ok(Transfer::Fork),
-            Control::Turn => moving(push_turn(&mut self.stack)),
-            Control::Turns => moving(push_turns(story, &self.counts, &mut self.stack)),
+            Control::Turn => moving(push_turn(&mut self.stack, self.turn)),
+            Control::Turns => moving(push_turns(story, &self.counts, &mut self.stack, self.turn)),
             Control::ReadCount => moving(push_read_count(story, &self.counts, &mut self.stack)),
             Control::Visit => moving(push_visit(story, here, &self.counts, &mut self.stack)),
-            Control::ChoiceCount => Ok(Transfer::Next),
+            Control::ChoiceCount => moving(push_choice_count(&mut self.stack, &self.choices)),
         };
         self.threads.set_mode(evaluating);
         transfer
@@ -296,6 +319,7 @@ impl Machine {
             }
             Transfer::End => {
                 self.safe = true;
+                self.choices.clear();
                 end(&mut self.threads, &self.output)
             }
         }
