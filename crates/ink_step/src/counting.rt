@@ -19,7 +19,7 @@ use crate::machine::Machine;
 use ink_check::Story;
 use ink_model::{Content, Fault};
 use ink_tree::{NodeId, Spot, Tree};
-use ink_vars::Counts;
+use ink_vars::{Counts, Turn};
 
 // The turn in which everything happens: no choice is made yet, which begins another.
 pub(crate) const TURN: u32 = 0;
@@ -34,11 +34,11 @@ pub(crate) fn visits_of(tree: &Tree, counts: &Counts, container: NodeId) -> Resu
 
 /// How many turns ago a container was entered last, -1 where it never was. `NotCounted` where its turns are not noted. Takes no
 /// memory.
-pub(crate) fn turns_since(tree: &Tree, counts: &Counts, container: NodeId) -> Result<i32, Fault>
+pub(crate) fn turns_since(tree: &Tree, counts: &Counts, container: NodeId, turn: Turn) -> Result<i32, Fault>
     ensures { let s = story_tree tree.now in let q = node_place s container in
-        result ≡ rules.turns_since place_order q (flags_at (at s q)) 0 (counts_in s counts.now) }
+        result ≡ rules.turns_since place_order q (flags_at (at s q)) turn (counts_in s counts.now) }
 {
-    counts.turns_since(tree.number_of(container), tree.flags(container), TURN)
+    counts.turns_since(tree.number_of(container), tree.flags(container), turn.number())
 }
 
 // A container is entered, as at its start. The one error is a refused request for memory, which is made only for a row that is
