@@ -130,7 +130,7 @@ pub(crate) fn landing_on(story: &Story, path: &Path) -> Option<Landing>
 }
 
 /// Where the written path of the content at a place leads.
-fn written_landing(story: &Story, here: Spot) -> Option<Spot>
+pub(crate) fn written_landing(story: &Story, here: Spot) -> Option<Spot>
     ensures { let s = story_tree story.now in option_map (place_of s) result ≡ written_target s (place_of s here) }
 {
     let Some(node) = story.tree().node(here) else {

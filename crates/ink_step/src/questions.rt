@@ -97,7 +97,7 @@ pub(crate) fn push_read_count(
 }
 
 /// The container for whose visits the content at a place asks.
-fn counted(story: &Story, here: Spot) -> Option<NodeId>
+pub(crate) fn counted(story: &Story, here: Spot) -> Option<NodeId>
     ensures { let s = story_tree story.now in option_map (node_place s) result ≡ counted_container s (place_of s here) }
 {
     let Some(node) = story.tree().node(here) else {
@@ -117,7 +117,7 @@ fn holder(story: &Story, here: Spot) -> Option<NodeId>
 }
 
 /// The visits of a container. `NotCounted` where they are not counted, or there is none.
-fn visits_in(story: &Story, counts: &Counts, container: Option<NodeId>) -> Result<i32, Fault>
+pub(crate) fn visits_in(story: &Story, counts: &Counts, container: Option<NodeId>) -> Result<i32, Fault>
     ensures { let s = story_tree story.now in result ≡ visits_in s (counts_in s counts.now) (option_map (node_place s) container) }
 {
     match container {
