@@ -21,4 +21,5 @@ pub mod Places
 pub mod Asked
 pub mod Stored
 pub mod Unstored
-pub mod Offering
+pub mod Offered
+pub mod Shows
