@@ -1,10 +1,10 @@
-use Rattle.std.proofs.Common.{◌∙◌, ap, false, None, Ok, subst, true}
+use Rattle.std.proofs.Common.{◌∙◌, ap, false, None, Ok, subst, sym, true}
 use Rattle.ink_check.specs.Words.{story_tree}
 use Rattle.ink_model.specs.Configuration.{ended, with_threads}
 use Rattle.ink_model.specs.Effect.{fields_of}
 use Rattle.ink_model.specs.Flow.{halt, moved_on}
 use Rattle.ink_model.specs.Frames.{base_threads, map_threads, on_top}
-use Rattle.ink_model.specs.Move.{going, written_in}
+use Rattle.ink_model.specs.Move.{going, reached_in, written_in}
 use Rattle.ink_model.specs.MoveMemory.{moved_asks}
 use Rattle.ink_model.specs.Place.{next_place}
 use Rattle.ink_model.specs.Threads.{staled}
@@ -68,6 +68,8 @@ returns-in-End c asks e h has offers =
     let s = story_tree c.args.story.now in
     let old = config_of s c.args.self.now in
     let new = config_of s (record c.args.self.now { threads = c.end.new.threads; choices = c.clear.new.self; safe = true }) in
+    let ends = ends_reached false (ended old) (halt (base_threads None) (written_in old)) (map_threads (place_of s) c.end.new.threads) (written_in old) c.end.result
+    (c.end.ensures s c.args.self.now.stack.items) in
     goes_nowhere s asks old new c.end.result e (subst (λ t. Performs s asks e (fields_of old) (Ok t)) c.in-End.is h)
-    (ends_reached false (ended old) (halt (base_threads None) (written_in old)) (map_threads (place_of s) c.end.new.threads) (written_in old) c.end.result
-    (c.end.ensures s c.args.self.now.stack.items))
+    (subst (λ cs. StepEnds false (reached_in (ended old) (halt (base_threads None) (written_in old))) old.shared.globals
+    (config_of s (record c.args.self.now { threads = c.end.new.threads; choices = cs; safe = true })) c.end.result) (sym c.clear.ensures) ends)
