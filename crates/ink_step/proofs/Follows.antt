@@ -1,21 +1,20 @@
 -- Where flow goes after a content, and so how a step ends.
-use Rattle.std.proofs.Common.{◌≡◌, ◌∙◌, ◌||◌, ap, sym, refl, subst, inl, inr, ℕ, List, [], Bool, true, false, Option, Some, None, option_map, Result, Ok, Err}
-use Rattle.ink_model.specs.Configuration.{Configuration, current_place, ended, put_at, with_threads}
+use Rattle.std.proofs.Common.{◌≡◌, ◌∙◌, ◌||◌, ap, sym, refl, subst, inl, inr, ℕ, List, [], Bool, true, false, Option, Some, None, Result, Ok, Err}
+use Rattle.ink_model.specs.Configuration.{Configuration, current_place, ended, with_threads}
 use Rattle.ink_model.specs.Counts.{CountsOf}
 use Rattle.ink_model.specs.Effect.{Fields, Effect, Moves, Stores, Lands, Calls, Returns, Forks, Done, Ends, Fails, fields_of, with_fields, with_thread}
 use Rattle.ink_model.specs.Flow.{Written, Reached, Reaches, Halts, Breaks, called, depth_of, forked, halt, moved_on, reach, returned}
 use Rattle.ink_model.specs.Frames.{ThreadOf, ThreadsOf, base_threads, map_threads, mode_in, on_top}
-use Rattle.ink_model.specs.Memory.{asks, asks_at, content_asks}
+use Rattle.ink_model.specs.Memory.{asks}
 use Rattle.ink_model.specs.Move.{Outcome, Next, Stop, Wants, Faults, end_all, finish, going, landing, may_enter, move, place_to, reached_in, with_flow, written_in}
-use Rattle.ink_model.specs.MoveMemory.{flow_asks, move_asks, moved_asks, returned_asks}
-use Rattle.ink_model.specs.Place.{entered, next_place}
-use Rattle.ink_model.specs.Step.{effect, nothing_bound, step, step_at}
+use Rattle.ink_model.specs.MoveMemory.{flow_asks, move_asks, moved_asks}
+use Rattle.ink_model.specs.Place.{next_place}
+use Rattle.ink_model.specs.Step.{nothing_bound, step, step_at}
 use Rattle.ink_model.specs.Store.{Values}
 use Rattle.ink_model.specs.Threads.{staled}
-use Rattle.ink_model.specs.Tree.{StoryTree, at}
+use Rattle.ink_model.specs.Tree.{StoryTree}
 use Rattle.ink_model.specs.declared.fault.Fault.{Fault}
 use Rattle.ink_model.specs.declared.fault.Fault.TheVariants.{OutOfMemory}
-use Rattle.ink_model.specs.declared.frame.FrameKind.{FrameKind}
 use Rattle.ink_model.specs.declared.place.Part.{Part}
 use Rattle.ink_step.specs.Performs.{Keeps, Performs, stored_by}
 use Rattle.ink_step.specs.Reaches.{ReachesAs}
@@ -30,15 +29,15 @@ use Rattle.ink_tree.specs.declared.spot.Spot.{Spot}
 
 -- ---- by cases
 
-or_more : (a b : Bool) → b ≡ true → a || b ≡ true
+pub or_more : (a b : Bool) → b ≡ true → a || b ≡ true
 or_more true b h = refl
 or_more false b h = h
 
-or_first : (a b : Bool) → a ≡ true → a || b ≡ true
+pub or_first : (a b : Bool) → a ≡ true → a || b ≡ true
 or_first a b h = subst (λ x. x || b ≡ true) (sym h) refl
 
 -- where memory was refused
-ends_short : (asking : Bool) (o : Outcome) (globals : Values) (d : Configuration) (f : Fault) → (f ≡ OutOfMemory) × (asking ≡ true) → d.shared.globals ≡ globals
+pub ends_short : (asking : Bool) (o : Outcome) (globals : Values) (d : Configuration) (f : Fault) → (f ≡ OutOfMemory) × (asking ≡ true) → d.shared.globals ≡ globals
     → StepEnds asking o globals d (Err f)
 ends_short asking (Next c) globals d f short same = (short, same)
 ends_short asking (Stop c) globals d f short same = (short, same)
@@ -47,7 +46,7 @@ ends_short asking (Faults g) globals d f short same = (inr short, same)
 
 -- the same where more asks for memory
 module _ (asking more : Bool) where
-  ends_more : (o : Outcome) (globals : Values) (d : Configuration) (r : Result StepEnd Fault) → StepEnds more o globals d r → StepEnds (asking || more) o globals d r
+  pub ends_more : (o : Outcome) (globals : Values) (d : Configuration) (r : Result StepEnd Fault) → StepEnds more o globals d r → StepEnds (asking || more) o globals d r
   ends_more (Next c) globals d (Ok ends.Went) h = h
   ends_more (Next c) globals d (Ok ends.Stopped) h = absurd h
   ends_more (Next c) globals d (Err f) h = ((h.0.0, or_more asking more h.0.1), h.1)
@@ -105,30 +104,6 @@ module _ (s : StoryTree) (asking : Bool) (c d : Configuration) (r : Result StepE
   goes_after_text (Done f) h go = absurd h
   goes_after_text (Ends f) h go = absurd h
   goes_after_text (Fails f) h go = absurd h
-
-  pub goes_there : (spot : Spot) (e : Effect) → Performs s asking e (fields_of c) (Ok (transfer.Land spot))
-      → StepEnds false (going (reach (place_of s spot)) c) c.shared.globals d r → Follows e
-  goes_there spot (Moves f) h go = absurd h
-  goes_there spot (Lands p f) h go = subst (λ q. Follows (Lands q f)) (sym h.0) (subst (λ g. Follows (Lands (place_of s spot) g)) h.1 (ends_more asking false (going (reach (place_of s spot)) c) _ d r go))
-  goes_there spot (Calls k p f) h go = absurd h
-  goes_there spot (Returns k to f) h go = absurd h
-  goes_there spot (Forks f) h go = absurd h
-  goes_there spot (Done f) h go = absurd h
-  goes_there spot (Ends f) h go = absurd h
-  goes_there spot (Fails f) h go = absurd h
-
-  pub goes_back : (kind : FrameKind) (spot : Option Spot) (e : Effect) → Performs s asking e (fields_of c) (Ok (transfer.Return kind spot))
-      → StepEnds (returned_asks (next_place s) kind (option_map (place_of s) spot) c.flow.threads (written_in c)) (going (returned (next_place s) kind (option_map (place_of s) spot)) c) c.shared.globals d r
-      → Follows e
-  goes_back kind spot (Moves f) h go = absurd h
-  goes_back kind spot (Lands p f) h go = absurd h
-  goes_back kind spot (Calls k p f) h go = absurd h
-  goes_back kind spot (Returns k to f) h go = subst (λ x. Follows (Returns x to f)) (sym h.0) (subst (λ o. Follows (Returns kind o f)) (sym h.1)
-      (subst (λ g. Follows (Returns kind (option_map (place_of s) spot) g)) h.2 (ends_more asking _ _ _ _ r go)))
-  goes_back kind spot (Forks f) h go = absurd h
-  goes_back kind spot (Done f) h go = absurd h
-  goes_back kind spot (Ends f) h go = absurd h
-  goes_back kind spot (Fails f) h go = absurd h
 
   pub goes_nowhere : (e : Effect) → Performs s asking e (fields_of c) (Ok transfer.End)
       → StepEnds false (reached_in (ended c) (halt (base_threads None) (written_in c))) c.shared.globals d r → Follows e
@@ -233,20 +208,6 @@ kept_stays s e old new keeps = by e keeps
     by (Done f) k = refl
     by (Ends f) k = refl
     by (Fails g) k = refl
-
--- a step goes down to the first content, performs what stands there and moves
-pub ends_performed : (s : StoryTree) (p here : List Part) (found : Option StoryTree) (old new : Configuration) (r : Result StepEnd Fault)
-    → current_place old ≡ Some p → here ≡ entered s p → found ≡ at s here
-    → StepEnds (content_asks found (fields_of old) || move_asks s (effect s here found (fields_of old)) (put_at (Some here) old))
-    (move s (effect s here found (fields_of old)) (put_at (Some here) old)) old.shared.globals new r
-    → StepEnds (asks s old) (step s nothing_bound old) old.shared.globals new r
-unfolding step asks
-ends_performed s p here found old new r at_p is stands h =
-    let there = subst (λ f. StepEnds (content_asks f (fields_of old) || move_asks s (effect s here f (fields_of old)) (put_at (Some here) old))
-    (move s (effect s here f (fields_of old)) (put_at (Some here) old)) old.shared.globals new r) stands h in
-    let entering = subst (λ q. StepEnds (content_asks (at s q) (fields_of old) || move_asks s (effect s q (at s q) (fields_of old)) (put_at (Some q) old))
-    (move s (effect s q (at s q) (fields_of old)) (put_at (Some q) old)) old.shared.globals new r) is there in
-    subst (λ o. StepEnds (asks_at s o old) (step_at s nothing_bound o old) old.shared.globals new r) (sym at_p) entering
 
 -- where flow has stopped it stays stopped
 pub ends_still : (s : StoryTree) (c : Configuration) (globals : Values) → current_place c ≡ None → StepEnds (asks s c) (step s nothing_bound c) globals c (Ok ends.Stopped)

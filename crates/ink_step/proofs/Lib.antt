@@ -5,6 +5,7 @@ pub mod Landings
 pub mod Leading
 pub mod Staled
 pub mod Follows
+pub mod Landed
 pub mod Moments
 pub mod Passages
 pub mod Openings
@@ -17,6 +18,6 @@ pub mod Keys
 pub mod Visits
 pub mod Goings
 pub mod Places
+pub mod Asked
 pub mod Stored
 pub mod Unstored
-pub mod Asked

@@ -196,20 +196,11 @@ StillEnters s all old rest now =
     × (adds_rows s rest (counts_in s now) ≡ true → adds_rows s all (counts_in s old) ≡ true)
 
 module _ (s : StoryTree) (all : List (List Part)) (old : CountsOf ℕ) where
-  pub enters_all : StillEnters s all old all old
-  enters_all = (refl, λ h. h)
-
-  module _ (p : List Part) (rest more : List (List Part)) (now : CountsOf ℕ) (is : rest ≡ p ∷ more) (still : StillEnters s all old rest now) where
-    pub enters_more : (new : CountsOf ℕ) → counts_in s new ≡ visited place_order p (flags_at (at s p)) true 0 (counts_in s now) → StillEnters s all old more new
-    enters_more new visit = (
-      ap (all_visited s 0 more) visit ∙ ap (λ ps. all_visited s 0 ps (counts_in s now)) (sym is) ∙ still.0,
-      λ h. still.1 (ap (λ ps. adds_rows s ps (counts_in s now)) is
+  pub enters_more : (p : List Part) (rest more : List (List Part)) (now : CountsOf ℕ) → rest ≡ p ∷ more → StillEnters s all old rest now
+      → (new : CountsOf ℕ) → counts_in s new ≡ visited place_order p (flags_at (at s p)) true 0 (counts_in s now) → StillEnters s all old more new
+  enters_more p rest more now is still new visit = (
+    ap (all_visited s 0 more) visit ∙ ap (λ ps. all_visited s 0 ps (counts_in s now)) (sym is) ∙ still.0,
+    λ h. still.1 (ap (λ ps. adds_rows s ps (counts_in s now)) is
         ∙ or_second (adds_row place_order p (flags_at (at s p)) (counts_in s now)) _
-            (rows_less s p (flags_at (at s p)) 0 (counts_in s now) more (ap (adds_rows s more) (sym visit) ∙ h))),
-    )
-
-    pub enters_short : adds_row place_order p (flags_at (at s p)) (counts_in s now) ≡ true → adds_rows s all (counts_in s old) ≡ true
-    enters_short h = still.1 (ap (λ ps. adds_rows s ps (counts_in s now)) is ∙ ap (λ b. b || adds_rows s more (counts_in s now)) h)
-
-  pub enters_no_more : (rest : List (List Part)) (now : CountsOf ℕ) → rest ≡ [] → StillEnters s all old rest now → counts_in s now ≡ all_visited s 0 all (counts_in s old)
-  enters_no_more rest now is still = ap (λ ps. all_visited s 0 ps (counts_in s now)) (sym is) ∙ still.0
+        (rows_less s p (flags_at (at s p)) 0 (counts_in s now) more (ap (adds_rows s more) (sym visit) ∙ h))),
+  )

@@ -1,20 +1,22 @@
 //! One step of the machine: enter, effect, move (docs/RUNNING.md, "Steps").
 
-ghost use Rattle.std.specs.Prelude.{◌≡◌, ◌||◌, Bool, true, Some, Ok, OnOk, is_some, option_map};
+ghost use Rattle.std.specs.Prelude.{◌≡◌, ◌||◌, Bool, true, Some, Ok, OnOk, is_some, nat_lt, option_map};
 ghost use Rattle.ink_check.specs.Words.{story_tree};
 ghost use Rattle.ink_model.specs.Configuration.{with_globals};
 ghost use Rattle.ink_model.specs.Effect.{Effect, context_of, fields_of};
-ghost use Rattle.ink_model.specs.Flow.{moved_on};
+ghost use Rattle.ink_model.specs.Flow.{called, moved_on, reach, returned};
 ghost use Rattle.ink_model.specs.Frames.{mode_in, on_top};
 ghost use Rattle.ink_model.specs.Memory.{asks, content_asks, control_asks, leaf_asks};
-ghost use Rattle.ink_model.specs.Move.{going, move as moved, written_in};
-ghost use Rattle.ink_model.specs.MoveMemory.{move_asks, moved_asks};
+ghost use Rattle.ink_model.specs.Move.{going, landing, may_enter, move as moved, place_to, written_in};
+ghost use Rattle.ink_model.specs.MoveMemory.{landed_asks, move_asks, moved_asks, returned_asks};
 ghost use Rattle.ink_model.specs.Place.{next_place};
 ghost use Rattle.ink_model.specs.Step.{control_effect, effect, leaf_effect, step, nothing_bound};
 ghost use Rattle.ink_model.specs.Store.{store, stored};
-ghost use Rattle.ink_model.specs.Tree.{at, leaf};
+ghost use Rattle.ink_model.specs.Threads.{frame_count};
+ghost use Rattle.ink_model.specs.Tree.{StoryTree, at, leaf};
 ghost use Rattle.ink_model.specs.View.{view};
-ghost use Rattle.ink_step.specs.Performs.{Keeps, KeepsChoices, Performs};
+ghost use Rattle.ink_model.specs.declared.limits.TheConstants.{MAX_FRAMES};
+ghost use Rattle.ink_step.specs.Performs.{Keeps, KeepsChoices, Performs, landing_of};
 ghost use Rattle.ink_step.specs.Steps.{StepEnds};
 ghost use Rattle.ink_step.specs.Words.{config_of};
 ghost use Rattle.ink_tree.specs.Nodes.{place_of};
@@ -291,16 +293,8 @@ impl Machine {
                 self.go_on(story)
             }
             Transfer::Store(name, value) => self.go_on_storing(story, name, value),
-            Transfer::Land(to) => {
-                let end = land(&mut self.threads, to.place);
-                self.enter_around(story.tree(), to.enters)?;
-                Ok(end)
-            }
-            Transfer::Call(kind, to) => {
-                let end = flow::call(&mut self.threads, &mut self.output, kind, to.place)?;
-                self.enter_around(story.tree(), to.enters)?;
-                Ok(end)
-            }
+            Transfer::Land(to) => self.go_to(story, to),
+            Transfer::Call(kind, to) => self.go_into(story, kind, to),
             Transfer::Return(kind, to) => self.go_back(story, kind, to),
             Transfer::Fork => fork(
                 story.tree(),
@@ -325,30 +319,47 @@ impl Machine {
         }
     }
 
-    /// Flow comes back from a frame of this kind, to after its call or to where it lands.
+    /// Flow lands, which may enter containers around.
+    fn go_to(&mut self, story: &Story, to: Landing) -> Result<StepEnd, Fault>
+        ensures { let s = story_tree story.now in let c = config_of s self.old in let how = reach (place_of s to.place) in
+            StepEnds (landed_asks s to.enters c.shared.counts (how c.flow.threads (written_in c))) (landing s to.enters how c) self.old.globals (config_of s self.new) result }
+    {
+        let end = land(&mut self.threads, to.place);
+        self.enter_around(story.tree(), to.enters)?;
+        Ok(end)
+    }
+
+    /// Flow lands in a frame of this kind, which may enter containers around.
+    fn go_into(&mut self, story: &Story, kind: FrameKind, to: Landing) -> Result<StepEnd, Fault>
+        ensures { let s = story_tree story.now in let c = config_of s self.old in let how = called kind (place_of s to.place) in
+            StepEnds (nat_lt (frame_count c.flow.threads.thread) MAX_FRAMES || landed_asks s to.enters c.shared.counts (how c.flow.threads (written_in c)))
+            (landing s to.enters how c) self.old.globals (config_of s self.new) result }
+    {
+        let end = flow::call(&mut self.threads, &mut self.output, kind, to.place)?;
+        self.enter_around(story.tree(), to.enters)?;
+        Ok(end)
+    }
+
+    /// Flow comes back from a frame of this kind, to after its call, or to where it lands, which may enter containers around.
     fn go_back(
         &mut self,
         story: &Story,
         kind: FrameKind,
         to: Option<Landing>,
     ) -> Result<StepEnd, Fault>
-        ensures { todo }
+        ensures { let s = story_tree story.now in let c = config_of s self.old in let goal = option_map (landing_of s) to in let how = returned (next_place s) kind (place_to goal) in
+            StepEnds (returned_asks (next_place s) kind (place_to goal) c.flow.threads (written_in c) || landed_asks s (may_enter goal) c.shared.counts (how c.flow.threads (written_in c)))
+            (landing s (may_enter goal) how c) self.old.globals (config_of s self.new) result }
     {
-        let place = match to {
-            Some(to) => Some(to.place),
-            None => None,
-        };
         let end = give_back(
             story.tree(),
             &mut self.threads,
             &mut self.stack,
             &mut self.output,
             kind,
-            place,
+            place_to(to),
         )?;
-        if let Some(to) = to {
-            self.enter_around(story.tree(), to.enters)?;
-        }
+        self.enter_around(story.tree(), may_enter(to))?;
         Ok(end)
     }
 
@@ -387,5 +398,25 @@ impl Machine {
             },
             Err(fault) => Err(fault),
         }
+    }
+}
+
+/// Where flow that comes back lands, where it is given a place.
+fn place_to(to: Option<Landing>) -> Option<Spot>
+    ensures { (s : StoryTree) → option_map (place_of s) result ≡ place_to (option_map (landing_of s) to) }
+{
+    match to {
+        Some(to) => Some(to.place),
+        None => None,
+    }
+}
+
+/// Whether flow that comes back may enter containers around.
+fn may_enter(to: Option<Landing>) -> bool
+    ensures { (s : StoryTree) → result ≡ may_enter (option_map (landing_of s) to) }
+{
+    match to {
+        Some(to) => to.enters,
+        None => false,
     }
 }

@@ -1,11 +1,10 @@
 -- The containers that a landing enters, one further up.
-use Rattle.std.proofs.Common.{◌≡◌, ◌∙◌, ap, sym, refl, List, [], ◌∷◌, ◌++◌, map, reverse, Bool, true, false, true≢false, ◌&&◌, Option, Some, None, is_some, append_assoc}
-use Rattle.std.proofs.lemmas.List.{reverse-append, reverse-reverse, map-append}
-use Rattle.ink_model.specs.Entered.{was_inside, starts_only, is_first, entered_above, entered_around, entered_places}
+use Rattle.std.proofs.Common.{◌≡◌, ◌∙◌, ap, sym, refl, List, [], ◌∷◌, ◌++◌, map, reverse, true, false, true≢false, Option, Some, None, is_some, append_assoc}
+use Rattle.std.proofs.lemmas.List.{map-append}
+use Rattle.ink_model.specs.Entered.{entered_above, entered_around, entered_places}
 use Rattle.ink_model.specs.Tree.{StoryTree, at}
 use Rattle.ink_model.specs.declared.place.Part.{Part}
 use Rattle.ink_tree.specs.Nodes.{node_place, IsNode, AreNodes}
-use Rattle.ink_tree.specs.Walks.{with_container}
 use Rattle.ink_tree.specs.declared.spot.NodeId.{NodeId}
 
 abbrev Places : Type 0
@@ -28,13 +27,6 @@ module _ (s : StoryTree) (o : Option (List Part)) where
   pub entered_nowhere : (n : List Part) → is_some (at s n) ≡ false → [] ≡ entered_places s o n
   unfolding entered_places
   entered_nowhere n h = around_none n (at s n) h
-
-  module _ (at_start : Bool) (x : Part) (up rest : List Part) (e : rest ≡ up ++ x ∷ []) where
-    pub one_up : entered_above s o at_start (reverse rest)
-        ≡ with_container (was_inside up o) (starts_only s up) (at_start && is_first x) up (entered_above s o (at_start && is_first x) (reverse up))
-    one_up =
-        ap (λ r. entered_above s o at_start (reverse r)) e ∙ ap (entered_above s o at_start) (reverse-append up (x ∷ []))
-        ∙ ap (λ q. with_container (was_inside q o) (starts_only s q) (at_start && is_first x) q (entered_above s o (at_start && is_first x) (reverse up))) (reverse-reverse up)
 
 -- one container more
 one_more : (s : StoryTree) (ns : List NodeId) (n : NodeId) (up : List Part) (rest : Places) → node_place s n ≡ up

@@ -1,24 +1,32 @@
-use Rattle.std.proofs.Common.{◌∙◌, ap, false, true, None, option_map, subst, Ok}
+use Rattle.std.proofs.Common.{◌∙◌, ap, false, None, Ok, subst, true}
 use Rattle.ink_check.specs.Words.{story_tree}
 use Rattle.ink_model.specs.Configuration.{ended, with_threads}
 use Rattle.ink_model.specs.Effect.{fields_of}
-use Rattle.ink_model.specs.Flow.{halt, moved_on, reach, returned}
+use Rattle.ink_model.specs.Flow.{halt, moved_on}
 use Rattle.ink_model.specs.Frames.{base_threads, map_threads, on_top}
 use Rattle.ink_model.specs.Move.{going, written_in}
-use Rattle.ink_model.specs.MoveMemory.{moved_asks, returned_asks}
+use Rattle.ink_model.specs.MoveMemory.{moved_asks}
 use Rattle.ink_model.specs.Place.{next_place}
 use Rattle.ink_model.specs.Threads.{staled}
 use Rattle.ink_step.specs.Performs.{Performs}
-use Rattle.ink_step.specs.Reaches.{ReachesAs, written}
 use Rattle.ink_step.specs.Steps.{StepEnds}
 use Rattle.ink_step.specs.Words.{config_of}
-use Rattle.ink_step.proofs.Follows.{ends_reached, goes_after_text, goes_back, goes_nowhere, goes_there}
+use Rattle.ink_step.proofs.Follows.{ends_more, ends_reached, goes_after_text, goes_nowhere}
+use Rattle.ink_step.proofs.Landed.{goes_back, goes_into, goes_on, goes_storing, goes_there}
 use Rattle.ink_step.proofs.Staled.{staled_alike}
 use Rattle.ink_step.proofs.machine.Machine.follow.Goals as goal
 use Rattle.ink_tree.specs.Nodes.{place_of}
 
+pub returns-in-Next : goal.returns-in-Next
+returns-in-Next c asks e h has =
+    let s = story_tree c.args.story.now in
+    let old = config_of s c.args.self.now in
+    let new = config_of s c.go_on.new.self in
+    goes_on s asks old new c.go_on.result e (subst (λ t. Performs s asks e (fields_of old) (Ok t)) c.in-Next.is h) has
+    (ends_more asks _ (going (moved_on (next_place s)) old) _ new c.go_on.result c.go_on.ensures)
+
 pub returns-in-Wrote : goal.returns-in-Wrote
-returns-in-Wrote c asks e h =
+returns-in-Wrote c asks e h has =
     let s = story_tree c.args.story.now in
     let machine = c.args.self.now in
     let old = config_of s machine in
@@ -29,33 +37,34 @@ returns-in-Wrote c asks e h =
     goes_after_text s asks old new c.go_on-in-Wrote.result e (subst (λ t. Performs s asks e (fields_of old) (Ok t)) c.in-Wrote.is h)
     (subst (λ d. StepEnds (moved_asks (next_place s) d.flow.threads (written_in d)) (going (moved_on (next_place s)) d) machine.globals new c.go_on-in-Wrote.result) stale c.go_on-in-Wrote.ensures)
 
-pub returns-in-Land : goal.returns-in-Land
-returns-in-Land c asks e h =
+pub returns-in-Store : goal.returns-in-Store
+returns-in-Store c asks e h has =
     let s = story_tree c.args.story.now in
     let old = config_of s c.args.self.now in
-    let new = config_of s (record c.args.self.now { threads = c.land.new.threads }) in
-    let place = c.in-Land.place in
-    goes_there s asks old new (Ok c.land.result) place e (subst (λ t. Performs s asks e (fields_of old) (Ok t)) c.in-Land.is h)
-    (ends_reached false old (reach (place_of s place) old.flow.threads (written_in old)) (map_threads (place_of s) c.land.new.threads) (written_in old) (Ok c.land.result)
-    (c.land.ensures s (written_in old)))
+    let new = config_of s c.go_on_storing.new.self in
+    goes_storing s asks old new c.go_on_storing.result c.in-Store.name c.in-Store.value e (subst (λ t. Performs s asks e (fields_of old) (Ok t)) c.in-Store.is h) has
+    (c.go_on_storing.ensures asks)
+
+pub returns-in-Land : goal.returns-in-Land
+returns-in-Land c asks e h has =
+    let s = story_tree c.args.story.now in
+    let old = config_of s c.args.self.now in
+    goes_there s asks old (config_of s c.go_to.new.self) c.go_to.result c.in-Land.to e (subst (λ t. Performs s asks e (fields_of old) (Ok t)) c.in-Land.is h) c.go_to.ensures
+
+pub returns-in-Call : goal.returns-in-Call
+returns-in-Call c asks e h has =
+    let s = story_tree c.args.story.now in
+    let old = config_of s c.args.self.now in
+    goes_into s asks old (config_of s c.go_into.new.self) c.go_into.result c.in-Call.kind c.in-Call.to e (subst (λ t. Performs s asks e (fields_of old) (Ok t)) c.in-Call.is h) c.go_into.ensures
 
 pub returns-in-Return : goal.returns-in-Return
-returns-in-Return c asks e h =
+returns-in-Return c asks e h has =
     let s = story_tree c.args.story.now in
-    let machine = c.args.self.now in
-    let old = config_of s machine in
-    let back = c.give_back.new in
-    let new = config_of s (record machine { threads = back.threads; stack = back.stack; output = back.output }) in
-    let kind = c.in-Return.kind in
-    let to = c.in-Return.to in
-    let reached = subst (λ t. let ts = map_threads (place_of t) machine.threads in let q = option_map (place_of t) to in
-    ReachesAs (returned_asks (next_place t) kind q ts (written_in old)) (returned (next_place t) kind q ts (written_in old)) (map_threads (place_of t) back.threads) (written back.stack back.output) c.give_back.result)
-    c.tree.ensures.tree c.give_back.ensures in
-    goes_back s asks old new c.give_back.result kind to e (subst (λ t. Performs s asks e (fields_of old) (Ok t)) c.in-Return.is h)
-    (ends_reached _ old _ (map_threads (place_of s) back.threads) (written back.stack back.output) c.give_back.result reached)
+    let old = config_of s c.args.self.now in
+    goes_back s asks old (config_of s c.go_back.new.self) c.go_back.result c.in-Return.kind c.in-Return.to e (subst (λ t. Performs s asks e (fields_of old) (Ok t)) c.in-Return.is h) c.go_back.ensures
 
 pub returns-in-End : goal.returns-in-End
-returns-in-End c asks e h =
+returns-in-End c asks e h has =
     let s = story_tree c.args.story.now in
     let old = config_of s c.args.self.now in
     let new = config_of s (record c.args.self.now { threads = c.end.new.threads; safe = true }) in

@@ -1,0 +1,194 @@
+-- Flow lands, and the containers around are entered; a step goes in before it performs.
+use Rattle.std.proofs.Common.{◌≡◌, ◌∙◌, ◌||◌, ◌&&◌, ap, sym, refl, subst, inl, inr, List, Bool, true, false, true≢false, cond, nat_lt, Option, Some, is_some, option_map, Result, Ok, Err}
+use Rattle.ink_model.specs.Asks.{going_in_asks}
+use Rattle.ink_model.specs.Configuration.{Configuration, current_place, with_globals, with_threads}
+use Rattle.ink_model.specs.Effect.{Effect, Moves, Stores, Lands, Calls, Returns, Forks, Done, Ends, Fails, context_of, fields_of}
+use Rattle.ink_model.specs.Flow.{Written, moved_on, Reached, Reaches, Halts, Breaks, called, reach, returned}
+use Rattle.ink_model.specs.Frames.{ThreadsOf, mode_in, on_top}
+use Rattle.ink_model.specs.Memory.{asks, asks_at, content_asks}
+use Rattle.ink_model.specs.Move.{going, landed_in, landing, may_enter, move, place_to, with_flow, written_in}
+use Rattle.ink_model.specs.MoveMemory.{landed_asks, move_asks, moved_asks, returned_asks}
+use Rattle.ink_model.specs.Place.{entered, next_place}
+use Rattle.ink_model.specs.Step.{effect, gone_in, nothing_bound, step, step_at}
+use Rattle.ink_model.specs.Store.{Values, store, stored}
+use Rattle.ink_model.specs.Threads.{frame_count}
+use Rattle.ink_model.specs.Tree.{StoryTree, at}
+use Rattle.ink_model.specs.Visits.{adds_rows, around, entering_around}
+use Rattle.ink_model.specs.declared.fault.Fault.{Fault}
+use Rattle.ink_model.specs.declared.fault.Fault.TheVariants.{OutOfMemory}
+use Rattle.ink_model.specs.declared.frame.FrameKind.{FrameKind}
+use Rattle.ink_model.specs.declared.limits.TheConstants.{MAX_FRAMES}
+use Rattle.ink_model.specs.declared.place.Part.{Part}
+use Rattle.ink_model.specs.declared.value.Value.{Value}
+use Rattle.ink_step.specs.Performs.{Performs, landing_of, stored_by}
+use Rattle.ink_step.specs.Reaches.{ReachesAs}
+use Rattle.ink_step.specs.Steps.{StepEnds}
+use Rattle.ink_step.specs.declared.flow.StepEnd.{StepEnd}
+use Rattle.ink_step.specs.declared.flow.StepEnd.TheVariants as ends
+use Rattle.ink_step.specs.declared.transfer.Landing.{Landing}
+use Rattle.ink_step.specs.declared.transfer.Transfer.TheVariants as transfer
+use Rattle.ink_step.proofs.Follows.{ends_more, ends_short, or_first, or_more}
+use Rattle.ink_tree.specs.Nodes.{place_of}
+use Rattle.ink_vars.specs.Words.{name_of}
+use Rattle.ink_vars.specs.declared.places.Name.{Name}
+
+-- flow goes on, or a fault comes
+abbrev pub IsGoing : {P : Type 0} → Reached P → Type 0
+IsGoing (Reaches ts w) = Unit {0}
+IsGoing (Halts ts w) = ⊥
+IsGoing (Breaks f) = Unit {0}
+
+-- ---- what is around is entered where flow has landed
+
+module _ (s : StoryTree) (asking : Bool) (c d : Configuration) (globals : Values) (ts : ThreadsOf (List Part)) (w : Written) where
+  abbrev Lands_as : Bool → Reached (List Part) → Result StepEnd Fault → Type 0
+  Lands_as enters reached r = StepEnds (asking || landed_asks s enters c.shared.counts reached) (landed_in s enters c reached) globals d r
+
+  pub lands : (enters : Bool) (reached : Reached (List Part)) (end : StepEnd) → (enters ≡ true → IsGoing reached) → ReachesAs asking reached ts w (Ok end)
+      → d ≡ cond enters (entering_around s (with_flow ts w c)) (with_flow ts w c) → Lands_as enters reached (Ok end)
+  lands true (Reaches us v) ends.Went goes h is = is ∙ ap (λ t. entering_around s (with_flow t w c)) h.0 ∙ ap (λ x. entering_around s (with_flow us x c)) h.1
+  lands true (Reaches us v) ends.Stopped goes h is = absurd h
+  lands true (Halts us v) end goes h is = absurd (goes refl)
+  lands true (Breaks g) ends.Went goes h is = absurd h
+  lands true (Breaks g) ends.Stopped goes h is = absurd h
+  lands false (Reaches us v) ends.Went goes h is = is ∙ ap (λ t. with_flow t w c) h.0 ∙ ap (λ x. with_flow us x c) h.1
+  lands false (Reaches us v) ends.Stopped goes h is = absurd h
+  lands false (Halts us v) ends.Went goes h is = absurd h
+  lands false (Halts us v) ends.Stopped goes h is = is ∙ ap (λ t. with_flow t w c) h.0 ∙ ap (λ x. with_flow us x c) h.1
+  lands false (Breaks g) ends.Went goes h is = absurd h
+  lands false (Breaks g) ends.Stopped goes h is = absurd h
+
+  module _ (f : Fault) (same : d.shared.globals ≡ globals) where
+    -- memory for a row was refused
+    pub lands_short : (enters : Bool) (reached : Reached (List Part)) (end : StepEnd) → (enters ≡ true → IsGoing reached) → ReachesAs asking reached ts w (Ok end)
+        → f ≡ OutOfMemory → (enters && adds_rows s (around s ts) c.shared.counts) ≡ true → Lands_as enters reached (Err f)
+    lands_short true (Reaches us v) ends.Went goes h short adds =
+        ((short, or_more asking _ (ap (λ t. adds_rows s (around s t) c.shared.counts) (sym h.0) ∙ adds)), same)
+    lands_short true (Reaches us v) ends.Stopped goes h short adds = absurd h
+    lands_short true (Halts us v) end goes h short adds = absurd (goes refl)
+    lands_short true (Breaks g) ends.Went goes h short adds = absurd h
+    lands_short true (Breaks g) ends.Stopped goes h short adds = absurd h
+    lands_short false reached end goes h short adds = absurd (true≢false (sym adds))
+
+    -- a fault before
+    pub lands_broken : (enters : Bool) (reached : Reached (List Part)) → ReachesAs asking reached ts w (Err f) → Lands_as enters reached (Err f)
+    lands_broken true (Reaches us v) h = ((h.0, or_first asking _ h.1), same)
+    lands_broken true (Halts us v) h = ((h.0, or_first asking _ h.1), same)
+    lands_broken true (Breaks g) h = (elim h [ inl is ↦ inl is | inr short ↦ inr (short.0, or_first asking _ short.1) ], same)
+    lands_broken false (Reaches us v) h = ((h.0, or_first asking _ h.1), same)
+    lands_broken false (Halts us v) h = ((h.0, or_first asking _ h.1), same)
+    lands_broken false (Breaks g) h = (elim h [ inl is ↦ inl is | inr short ↦ inr (short.0, or_first asking _ short.1) ], same)
+
+-- ---- flow goes where a content sends it
+
+module _ (s : StoryTree) (asking : Bool) (c d : Configuration) (r : Result StepEnd Fault) where
+  abbrev Follows : Effect → Type 0
+  Follows e = StepEnds (asking || move_asks s e c) (move s e c) c.shared.globals d r
+
+  -- the thread has the temporaries that the effect stores
+  abbrev HasStored : Effect → Type 0
+  HasStored e = c.flow.threads ≡ on_top (mode_in c.flow.threads.thread.frame.evaluating) (on_top (stored_by e) c.flow.threads)
+
+  abbrev GoesOn : Bool → Configuration → Type 0
+  GoesOn more from = StepEnds (more || moved_asks (next_place s) from.flow.threads (written_in from)) (going (moved_on (next_place s)) from) c.shared.globals d r
+
+  pub goes_on : (e : Effect) → Performs s asking e (fields_of c) (Ok transfer.Next) → HasStored e → GoesOn asking c → Follows e
+  goes_on (Moves f) h has go = subst (λ g. Follows (Moves g)) h go
+  goes_on (Stores t f) h has go = subst (λ g. Follows (Stores t g)) h (subst (λ ts. GoesOn asking (with_threads ts c)) has go)
+  goes_on (Lands l f) h has go = absurd h
+  goes_on (Calls k l f) h has go = absurd h
+  goes_on (Returns k l f) h has go = absurd h
+  goes_on (Forks f) h has go = absurd h
+  goes_on (Done f) h has go = absurd h
+  goes_on (Ends f) h has go = absurd h
+  goes_on (Fails f) h has go = absurd h
+
+  module _ (name : Name) (v : Value) where
+    abbrev after_storing : Configuration
+    after_storing = with_globals (store (name_of name) v c.shared.globals) c
+
+    pub goes_storing : (e : Effect) → Performs s asking e (fields_of c) (Ok (transfer.Store name v)) → HasStored e
+        → (is_some (stored (name_of name) c.shared.globals) || asking ≡ true → GoesOn asking after_storing) → Follows e
+    goes_storing (Moves f) h has go = absurd h
+    goes_storing (Stores t f) h has go = subst (λ g. Follows (Stores t g)) (sym h.0) (subst (λ ts. GoesOn asking (with_threads ts after_storing)) has (go h.1))
+    goes_storing (Lands l f) h has go = absurd h
+    goes_storing (Calls k l f) h has go = absurd h
+    goes_storing (Returns k l f) h has go = absurd h
+    goes_storing (Forks f) h has go = absurd h
+    goes_storing (Done f) h has go = absurd h
+    goes_storing (Ends f) h has go = absurd h
+    goes_storing (Fails f) h has go = absurd h
+
+  pub goes_there : (to : Landing) (e : Effect) → Performs s asking e (fields_of c) (Ok (transfer.Land to))
+      → StepEnds (landed_asks s to.enters c.shared.counts (reach (place_of s to.place) c.flow.threads (written_in c))) (landing s to.enters (reach (place_of s to.place)) c) c.shared.globals d r
+      → Follows e
+  goes_there to (Moves f) h go = absurd h
+  goes_there to (Stores t f) h go = absurd h
+  goes_there to (Lands l f) h go = subst (λ q. Follows (Lands q f)) (sym h.0) (subst (λ g. Follows (Lands (landing_of s to) g)) h.1
+      (ends_more asking _ (landing s to.enters (reach (place_of s to.place)) c) _ d r go))
+  goes_there to (Calls k l f) h go = absurd h
+  goes_there to (Returns k l f) h go = absurd h
+  goes_there to (Forks f) h go = absurd h
+  goes_there to (Done f) h go = absurd h
+  goes_there to (Ends f) h go = absurd h
+  goes_there to (Fails f) h go = absurd h
+
+  pub goes_into : (kind : FrameKind) (to : Landing) (e : Effect) → Performs s asking e (fields_of c) (Ok (transfer.Call kind to))
+      → StepEnds (nat_lt (frame_count c.flow.threads.thread) MAX_FRAMES || landed_asks s to.enters c.shared.counts (called kind (place_of s to.place) c.flow.threads (written_in c)))
+      (landing s to.enters (called kind (place_of s to.place)) c) c.shared.globals d r
+      → Follows e
+  goes_into kind to (Moves f) h go = absurd h
+  goes_into kind to (Stores t f) h go = absurd h
+  goes_into kind to (Lands l f) h go = absurd h
+  goes_into kind to (Calls k l f) h go = subst (λ x. Follows (Calls x l f)) (sym h.0) (subst (λ q. Follows (Calls kind q f)) (sym h.1)
+      (subst (λ g. Follows (Calls kind (landing_of s to) g)) h.2 (ends_more asking _ (landing s to.enters (called kind (place_of s to.place)) c) _ d r go)))
+  goes_into kind to (Returns k l f) h go = absurd h
+  goes_into kind to (Forks f) h go = absurd h
+  goes_into kind to (Done f) h go = absurd h
+  goes_into kind to (Ends f) h go = absurd h
+  goes_into kind to (Fails f) h go = absurd h
+
+  pub goes_back : (kind : FrameKind) (back : Option Landing) (e : Effect) → Performs s asking e (fields_of c) (Ok (transfer.Return kind back))
+      → StepEnds (returned_asks (next_place s) kind (place_to (option_map (landing_of s) back)) c.flow.threads (written_in c)
+      || landed_asks s (may_enter (option_map (landing_of s) back)) c.shared.counts (returned (next_place s) kind (place_to (option_map (landing_of s) back)) c.flow.threads (written_in c)))
+      (landing s (may_enter (option_map (landing_of s) back)) (returned (next_place s) kind (place_to (option_map (landing_of s) back))) c) c.shared.globals d r
+      → Follows e
+  goes_back kind back (Moves f) h go = absurd h
+  goes_back kind back (Stores t f) h go = absurd h
+  goes_back kind back (Lands l f) h go = absurd h
+  goes_back kind back (Calls k l f) h go = absurd h
+  goes_back kind back (Returns k l f) h go = subst (λ x. Follows (Returns x l f)) (sym h.0) (subst (λ o. Follows (Returns kind o f)) (sym h.1)
+      (subst (λ g. Follows (Returns kind (option_map (landing_of s) back) g)) h.2
+      (ends_more asking _ (landing s (may_enter (option_map (landing_of s) back)) (returned (next_place s) kind (place_to (option_map (landing_of s) back))) c) _ d r go)))
+  goes_back kind back (Forks f) h go = absurd h
+  goes_back kind back (Done f) h go = absurd h
+  goes_back kind back (Ends f) h go = absurd h
+  goes_back kind back (Fails f) h go = absurd h
+
+-- ---- a step
+
+module _ (s : StoryTree) (p : List Part) (old new : Configuration) (at_p : current_place old ≡ Some p) where
+  -- a step goes in, performs what stands there and moves
+  pub ends_performed : (here : List Part) (found : Option StoryTree) (mid : Configuration) (r : Result StepEnd Fault) → here ≡ entered s p → found ≡ at s here → mid ≡ gone_in s p old
+      → StepEnds (content_asks s here found (context_of mid) (fields_of mid) || move_asks s (effect s here found (context_of mid) (fields_of mid)) mid)
+      (move s (effect s here found (context_of mid) (fields_of mid)) mid) old.shared.globals new r
+      → StepEnds (asks s old) (step s nothing_bound old) old.shared.globals new r
+  unfolding step asks
+  ends_performed here found mid r is stands went h =
+      let gone = subst (λ m. StepEnds (content_asks s here found (context_of m) (fields_of m) || move_asks s (effect s here found (context_of m) (fields_of m)) m)
+      (move s (effect s here found (context_of m) (fields_of m)) m) old.shared.globals new r) went h in
+      let m = gone_in s p old in
+      let there = subst (λ f. StepEnds (content_asks s here f (context_of m) (fields_of m) || move_asks s (effect s here f (context_of m) (fields_of m)) m)
+      (move s (effect s here f (context_of m) (fields_of m)) m) old.shared.globals new r) stands gone in
+      let entering = subst (λ q. StepEnds (content_asks s q (at s q) (context_of m) (fields_of m) || move_asks s (effect s q (at s q) (context_of m) (fields_of m)) m)
+      (move s (effect s q (at s q) (context_of m) (fields_of m)) m) old.shared.globals new r) is there in
+      let whole = ends_more (going_in_asks s p old) _ (move s (effect s (entered s p) (at s (entered s p)) (context_of m) (fields_of m)) m) _ new r entering in
+      subst (λ o. StepEnds (asks_at s o old) (step_at s nothing_bound o old) old.shared.globals new r) (sym at_p) whole
+
+  -- memory for a container on the way was refused
+  pub ends_outside : (f : Fault) → f ≡ OutOfMemory → going_in_asks s p old ≡ true → new.shared.globals ≡ old.shared.globals
+      → StepEnds (asks s old) (step s nothing_bound old) old.shared.globals new (Err f)
+  unfolding step asks
+  ends_outside f short adds same =
+      subst (λ o. StepEnds (asks_at s o old) (step_at s nothing_bound o old) old.shared.globals new (Err f)) (sym at_p)
+      (ends_short (asks_at s (Some p) old) (step_at s nothing_bound (Some p) old) old.shared.globals new f (short, or_first (going_in_asks s p old) _ adds) same)

@@ -1,0 +1,37 @@
+use Rattle.std.proofs.Common.{◌≡◌, ◌||◌, option_map, refl, rules, subst, sym, Err}
+use Rattle.ink_check.specs.Words.{story_tree}
+use Rattle.ink_model.specs.Flow.{returned}
+use Rattle.ink_model.specs.Frames.{map_threads}
+use Rattle.ink_model.specs.Move.{landing, may_enter, place_to, written_in}
+use Rattle.ink_model.specs.MoveMemory.{landed_asks, returned_asks}
+use Rattle.ink_model.specs.Place.{next_place}
+use Rattle.ink_step.specs.Performs.{landing_of}
+use Rattle.ink_step.specs.Reaches.{ReachesAs, written}
+use Rattle.ink_step.specs.Steps.{StepEnds}
+use Rattle.ink_step.specs.Words.{config_of}
+use Rattle.ink_step.proofs.Landed.{lands_broken}
+use Rattle.ink_step.proofs.machine.Machine.go_back.Goals as goal
+use Rattle.ink_tree.specs.Nodes.{place_of}
+
+pub returns-in_err-end : goal.returns-in_err-end
+returns-in_err-end c =
+    let s = story_tree c.args.story.now in
+    let machine = c.args.self.now in
+    let old = config_of s machine in
+    let kind = c.args.kind in
+    let goal = option_map (landing_of s) c.args.to in
+    let back = c.give_back.new in
+    let new = config_of s (record machine { threads = back.threads; stack = back.stack; output = back.output }) in
+    let ts = map_threads (place_of s) back.threads in
+    let w = written back.stack back.output in
+    let f = c.in_err-end.field-0.0 in
+    let short = subst (λ t. let us = map_threads (place_of t) machine.threads in let q = option_map (place_of t) c.place_to.result in
+    ReachesAs (returned_asks (next_place t) kind q us (written_in old)) (returned (next_place t) kind q us (written_in old)) (map_threads (place_of t) back.threads) w (Err f))
+    c.tree.ensures.tree c.in_err-end.ensures in
+    let reached = subst (λ q. ReachesAs (returned_asks (next_place s) kind q old.flow.threads (written_in old)) (returned (next_place s) kind q old.flow.threads (written_in old)) ts w (Err f))
+    (c.place_to.ensures s) short in
+    let is : c.from_residual.result ≡ Err f = search rules in
+    subst (λ r. StepEnds (returned_asks (next_place s) kind (place_to goal) old.flow.threads (written_in old)
+    || landed_asks s (may_enter goal) old.shared.counts (returned (next_place s) kind (place_to goal) old.flow.threads (written_in old)))
+    (landing s (may_enter goal) (returned (next_place s) kind (place_to goal)) old) machine.globals new r) (sym is)
+    (lands_broken s _ old new machine.globals ts w f refl (may_enter goal) _ reached)

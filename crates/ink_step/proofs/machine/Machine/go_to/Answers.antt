@@ -1,0 +1,39 @@
+use Rattle.std.proofs.Common.{◌≡◌, ◌&&◌, cond, false, rules, subst, sym, true, Err}
+use Rattle.ink_check.specs.Words.{story_tree}
+use Rattle.ink_model.specs.Flow.{reach}
+use Rattle.ink_model.specs.Frames.{map_threads}
+use Rattle.ink_model.specs.Move.{landing, written_in}
+use Rattle.ink_model.specs.MoveMemory.{landed_asks}
+use Rattle.ink_model.specs.Visits.{adds_rows, around, entering_around}
+use Rattle.ink_step.specs.Steps.{StepEnds}
+use Rattle.ink_step.specs.Words.{config_of, counts_in}
+use Rattle.ink_step.proofs.Landed.{lands, lands_short}
+use Rattle.ink_step.proofs.machine.Machine.go_to.Goals as goal
+use Rattle.ink_tree.specs.Nodes.{place_of}
+
+pub returns-in_err-enter_around : goal.returns-in_err-enter_around
+returns-in_err-enter_around c =
+    let s = story_tree c.args.story.now in
+    let machine = c.args.self.now in
+    let old = config_of s machine in
+    let to = c.args.to in
+    let new = config_of s c.enter_around.new.self in
+    let threads = c.land-end.new.threads in
+    let short = c.in_err-enter_around.ensures in
+    let adds = subst (λ t. (to.enters && adds_rows t (around t (map_threads (place_of t) threads)) (counts_in t machine.counts)) ≡ true) c.tree.ensures.tree short.memory in
+    let is : c.from_residual.result ≡ Err c.in_err-enter_around.field-0.0 = search rules in
+    subst (λ r. StepEnds (landed_asks s to.enters old.shared.counts (reach (place_of s to.place) old.flow.threads (written_in old))) (landing s to.enters (reach (place_of s to.place)) old) machine.globals new r) (sym is)
+    (lands_short s false old new machine.globals (map_threads (place_of s) threads) (written_in old) c.in_err-enter_around.field-0.0 short.globals to.enters _ c.land-end.result (λ e. tt)
+    (c.land-end.ensures s (written_in old)) short.fault adds)
+
+pub returns : goal.returns
+returns c =
+    let s = story_tree c.args.story.now in
+    let machine = c.args.self.now in
+    let old = config_of s machine in
+    let to = c.args.to in
+    let after = c.enter_around.new.self in
+    let landed = record machine { threads = c.land-end.new.threads } in
+    let entered = subst (λ t. config_of t after ≡ cond to.enters (entering_around t (config_of t landed)) (config_of t landed)) c.tree.ensures.tree c.in_ok-enter_around.ensures.ok in
+    lands s false old (config_of s after) machine.globals (map_threads (place_of s) c.land-end.new.threads) (written_in old) to.enters _ c.land-end.result (λ e. tt)
+    (c.land-end.ensures s (written_in old)) entered
