@@ -1,9 +1,10 @@
 //! The choices that are offered.
 
-ghost use Rattle.std.specs.Prelude.{◌≡◌, ◌≢◌, ◌||◌, [], not, length, map, IfOk, OnErr};
+ghost use Rattle.std.specs.Prelude.{◌≡◌, ◌≢◌, ◌≤◌, ◌||◌, [], not, length, map, IfOk, OnErr};
 ghost use Rattle.ink_choice.specs.Words.{Adds, FindsIndex, Takes};
 ghost use Rattle.ink_model.specs.Choices as rules;
 ghost use Rattle.ink_model.specs.Configuration.{unnumbered_choice};
+ghost use Rattle.ink_model.specs.declared.limits.TheConstants.{MAX_CHOICES};
 
 use crate::choice::{Choice, copied_tags, copied_text};
 use ink_model::{Fault, MAX_CHOICES, Seq, Shown};
@@ -17,12 +18,15 @@ pub struct Choices<P> {
 }
 
 impl<P> Model for Choices<P> {
-    ghost use Rattle.std.specs.Prelude.{List};
+    ghost use Rattle.std.specs.Prelude.{List, length, ◌≤◌};
     ghost use Rattle.ink_model.specs.Configuration.{ChoiceOf};
+    ghost use Rattle.ink_model.specs.declared.limits.TheConstants.{MAX_CHOICES};
 
     ghost Value = { List (ChoiceOf P) };
 
     ghost view = { λ c. c.items.items };
+
+    ghost invariant = { λ c. length c.items.items ≤ MAX_CHOICES };
 }
 
 impl<P: Copy> Choices<P> {
@@ -46,7 +50,8 @@ impl<P: Copy> Choices<P> {
 
     /// How many there are, the invisible ones counted. Takes no memory.
     pub fn len(&self) -> usize
-        ensures { result ≡ length self.now }
+        ensures number { result ≡ length self.now }
+        ensures most { result ≤ MAX_CHOICES }
     {
         self.items.len()
     }

