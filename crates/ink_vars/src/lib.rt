@@ -9,7 +9,7 @@ mod slots;
 mod turn;
 mod variables;
 
-pub use counts::Counts;
+pub use counts::{Counts, Noted};
 pub use globals::Globals;
 pub use places::{Name, Variable};
 pub use turn::Turn;
