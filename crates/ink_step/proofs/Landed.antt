@@ -1,8 +1,8 @@
 -- Flow lands, and the containers around are entered; a step goes in before it performs.
 use Rattle.std.proofs.Common.{◌≡◌, ◌∙◌, ◌||◌, ◌&&◌, ap, sym, refl, subst, inl, inr, List, Bool, true, false, true≢false, cond, nat_lt, Option, Some, is_some, option_map, Result, Ok, Err}
 use Rattle.ink_model.specs.Asks.{going_in_asks}
-use Rattle.ink_model.specs.Configuration.{Configuration, current_place, with_globals, with_threads}
-use Rattle.ink_model.specs.Effect.{Effect, Moves, Stores, Lands, Calls, Returns, Forks, Done, Ends, Fails, context_of, fields_of}
+use Rattle.ink_model.specs.Configuration.{Configuration, current_place, with_choices, with_globals, with_threads}
+use Rattle.ink_model.specs.Effect.{Effect, Moves, Stores, Offers, Lands, Calls, Returns, Forks, Done, Ends, Fails, context_of, fields_of}
 use Rattle.ink_model.specs.Flow.{Written, moved_on, Reached, Reaches, Halts, Breaks, called, reach, returned}
 use Rattle.ink_model.specs.Frames.{ThreadsOf, mode_in, on_top}
 use Rattle.ink_model.specs.Memory.{asks, asks_at, content_asks}
@@ -20,7 +20,7 @@ use Rattle.ink_model.specs.declared.frame.FrameKind.{FrameKind}
 use Rattle.ink_model.specs.declared.limits.TheConstants.{MAX_FRAMES}
 use Rattle.ink_model.specs.declared.place.Part.{Part}
 use Rattle.ink_model.specs.declared.value.Value.{Value}
-use Rattle.ink_step.specs.Performs.{Performs, landing_of, stored_by}
+use Rattle.ink_step.specs.Performs.{Performs, landing_of, offered_by, stored_by}
 use Rattle.ink_step.specs.Reaches.{ReachesAs}
 use Rattle.ink_step.specs.Steps.{StepEnds}
 use Rattle.ink_step.specs.declared.flow.StepEnd.{StepEnd}
@@ -89,19 +89,24 @@ module _ (s : StoryTree) (asking : Bool) (c d : Configuration) (r : Result StepE
   abbrev HasStored : Effect → Type 0
   HasStored e = c.flow.threads ≡ on_top (mode_in c.flow.threads.thread.frame.evaluating) (on_top (stored_by e) c.flow.threads)
 
+  -- the choices are those that the effect offers
+  abbrev HasOffered : Effect → Type 0
+  HasOffered e = c.flow.choices ≡ offered_by e c.flow.choices
+
   abbrev GoesOn : Bool → Configuration → Type 0
   GoesOn more from = StepEnds (more || moved_asks (next_place s) from.flow.threads (written_in from)) (going (moved_on (next_place s)) from) c.shared.globals d r
 
-  pub goes_on : (e : Effect) → Performs s asking e (fields_of c) (Ok transfer.Next) → HasStored e → GoesOn asking c → Follows e
-  goes_on (Moves f) h has go = subst (λ g. Follows (Moves g)) h go
-  goes_on (Stores t f) h has go = subst (λ g. Follows (Stores t g)) h (subst (λ ts. GoesOn asking (with_threads ts c)) has go)
-  goes_on (Lands l f) h has go = absurd h
-  goes_on (Calls k l f) h has go = absurd h
-  goes_on (Returns k l f) h has go = absurd h
-  goes_on (Forks f) h has go = absurd h
-  goes_on (Done f) h has go = absurd h
-  goes_on (Ends f) h has go = absurd h
-  goes_on (Fails f) h has go = absurd h
+  pub goes_on : (e : Effect) → Performs s asking e (fields_of c) (Ok transfer.Next) → HasStored e → HasOffered e → GoesOn asking c → Follows e
+  goes_on (Moves f) h has offers go = subst (λ g. Follows (Moves g)) h go
+  goes_on (Stores t f) h has offers go = subst (λ g. Follows (Stores t g)) h (subst (λ ts. GoesOn asking (with_threads ts c)) has go)
+  goes_on (Offers cs f) h has offers go = subst (λ g. Follows (Offers cs g)) h (subst (λ ds. GoesOn asking (with_choices ds c)) offers go)
+  goes_on (Lands l f) h has offers go = absurd h
+  goes_on (Calls k l f) h has offers go = absurd h
+  goes_on (Returns k l f) h has offers go = absurd h
+  goes_on (Forks f) h has offers go = absurd h
+  goes_on (Done f) h has offers go = absurd h
+  goes_on (Ends f) h has offers go = absurd h
+  goes_on (Fails f) h has offers go = absurd h
 
   module _ (name : Name) (v : Value) where
     abbrev after_storing : Configuration
@@ -111,6 +116,7 @@ module _ (s : StoryTree) (asking : Bool) (c d : Configuration) (r : Result StepE
         → (is_some (stored (name_of name) c.shared.globals) || asking ≡ true → GoesOn asking after_storing) → Follows e
     goes_storing (Moves f) h has go = absurd h
     goes_storing (Stores t f) h has go = subst (λ g. Follows (Stores t g)) (sym h.0) (subst (λ ts. GoesOn asking (with_threads ts after_storing)) has (go h.1))
+    goes_storing (Offers cs f) h has go = absurd h
     goes_storing (Lands l f) h has go = absurd h
     goes_storing (Calls k l f) h has go = absurd h
     goes_storing (Returns k l f) h has go = absurd h
@@ -124,6 +130,7 @@ module _ (s : StoryTree) (asking : Bool) (c d : Configuration) (r : Result StepE
       → Follows e
   goes_there to (Moves f) h go = absurd h
   goes_there to (Stores t f) h go = absurd h
+  goes_there to (Offers cs f) h go = absurd h
   goes_there to (Lands l f) h go = subst (λ q. Follows (Lands q f)) (sym h.0) (subst (λ g. Follows (Lands (landing_of s to) g)) h.1
       (ends_more asking _ (landing s to.enters (reach (place_of s to.place)) c) _ d r go))
   goes_there to (Calls k l f) h go = absurd h
@@ -139,6 +146,7 @@ module _ (s : StoryTree) (asking : Bool) (c d : Configuration) (r : Result StepE
       → Follows e
   goes_into kind to (Moves f) h go = absurd h
   goes_into kind to (Stores t f) h go = absurd h
+  goes_into kind to (Offers cs f) h go = absurd h
   goes_into kind to (Lands l f) h go = absurd h
   goes_into kind to (Calls k l f) h go = subst (λ x. Follows (Calls x l f)) (sym h.0) (subst (λ q. Follows (Calls kind q f)) (sym h.1)
       (subst (λ g. Follows (Calls kind (landing_of s to) g)) h.2 (ends_more asking _ (landing s to.enters (called kind (place_of s to.place)) c) _ d r go)))
@@ -155,6 +163,7 @@ module _ (s : StoryTree) (asking : Bool) (c d : Configuration) (r : Result StepE
       → Follows e
   goes_back kind back (Moves f) h go = absurd h
   goes_back kind back (Stores t f) h go = absurd h
+  goes_back kind back (Offers cs f) h go = absurd h
   goes_back kind back (Lands l f) h go = absurd h
   goes_back kind back (Calls k l f) h go = absurd h
   goes_back kind back (Returns k l f) h go = subst (λ x. Follows (Returns x l f)) (sym h.0) (subst (λ o. Follows (Returns kind o f)) (sym h.1)

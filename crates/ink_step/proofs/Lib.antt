@@ -22,3 +22,4 @@ pub mod Asked
 pub mod Stored
 pub mod Unstored
 pub mod Offered
+pub mod Shows

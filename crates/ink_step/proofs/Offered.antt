@@ -8,7 +8,7 @@ use Rattle.ink_model.specs.Choices.{Operands, added, choice, choice_of, choice_t
 use Rattle.ink_model.specs.Configuration.{ChoiceOf, map_choice}
 use Rattle.ink_model.specs.Effect.{Context, Effect, Fields, Offers, or_else, or_fault}
 use Rattle.ink_model.specs.Frames.{ThreadOf, ThreadsOf, map_thread}
-use Rattle.ink_model.specs.Memory.{makes_choice, offer_asks}
+use Rattle.ink_model.specs.Asks.{makes_choice, offer_asks}
 use Rattle.ink_model.specs.Page.{Page}
 use Rattle.ink_model.specs.Step.Choices.{is_visited, offer, offering, visited_at, was_visited}
 use Rattle.ink_model.specs.Store.{Values}
@@ -72,6 +72,11 @@ module _ {P Q : Type 0} (g : P → Q) where
   added_renamed c cs =
       ap (λ n. if nat_lt n MAX_CHOICES then Ok (map (map_choice g) cs ++ map_choice g c ∷ []) else Err TooDeep) (length-map cs (map_choice g)) ∙ added_by c cs (nat_lt (length cs) MAX_CHOICES)
 
+-- what holds where nothing faulted, holds where flow goes on then
+pub moved_ok : (r : Result (Unit {0}) Fault) (B : Type 0) → OnOk r B → OnOk (moving r) B
+moved_ok (Ok u) B h = h
+moved_ok (Err f) B h = h
+
 -- ---- a choice point
 
 module _ (s : StoryTree) (p : List Part) (rest : Rest) (ts : ThreadsOf Spot) (text : List ℕ) (flags : ℕ) (stands : at s p ≡ Some (leaf (Choice text flags)))
@@ -115,7 +120,7 @@ module _ (s : StoryTree) (p : List Part) (rest : Rest) (ts : ThreadsOf Spot) (te
     counts_there = ap (content_counted s p) stands
 
     was : was_visited s p seen text flags ≡ visited
-    was = sym (is ∙ ap (λ o. is_visited (visits_in s seen.counts o)) counts_there ∙ visited_in _)
+    was = sym (is ∙ ap (λ o. is_visited (visits_in s seen.counts o)) counts_there ∙ visited_in (leaf_counted s p (Choice text flags)))
 
     makes : make flags (place_of s spot) (was_visited s p seen text flags) seen.thread old ≡ made_at (place_of s) made
     makes = ap (λ b. make flags (place_of s spot) b seen.thread old) was ∙ make_renamed (place_of s) flags spot visited ts.thread old

@@ -59,10 +59,11 @@ impl Machine {
     {
         let text = self.output.text()?;
         let tags = self.output.tags()?;
+        let choices = self.choices()?;
         Ok(Passage {
             text,
             tags,
-            choices: self.choices()?,
+            choices,
             events: Seq::new(self.alloc),
             more: self.can_go_on(),
             loose: self.is_loose(),

@@ -281,9 +281,10 @@ impl Machine {
         transfer
     }
 
-    /// Flow goes where a content sends it, and then a global is stored. Temporaries that the content stores are set already.
+    /// Flow goes where a content sends it, and then a global is stored. Temporaries that the content stores are set already, and
+    /// what it offers is offered.
     fn follow(&mut self, story: &Story, transfer: Transfer<'_>) -> Result<StepEnd, Fault>
-        ensures { let s = story_tree story.now in (asks : Bool) (e : Effect) → Performs s asks e (fields_of (config_of s self.old)) (Ok transfer.entry) → Keeps s e self.old.threads self.old.threads
+        ensures { let s = story_tree story.now in (asks : Bool) (e : Effect) → Performs s asks e (fields_of (config_of s self.old)) (Ok transfer.entry) → Keeps s e self.old.threads self.old.threads → KeepsChoices s e self.old.choices self.old.choices
             → StepEnds (asks || move_asks s e (config_of s self.old)) (moved s e (config_of s self.old)) self.old.globals (config_of s self.new) result }
     {
         match transfer {

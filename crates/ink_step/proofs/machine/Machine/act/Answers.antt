@@ -8,7 +8,7 @@ use Rattle.ink_model.specs.Step.{effect}
 use Rattle.ink_model.specs.View.{view}
 use Rattle.ink_step.specs.Steps.{StepEnds}
 use Rattle.ink_step.specs.Words.{config_of}
-use Rattle.ink_step.proofs.Follows.{ends_after, ends_unperformed, kept_stays}
+use Rattle.ink_step.proofs.Follows.{ends_after, ends_unperformed, kept_stays, offered_stay}
 use Rattle.ink_step.proofs.machine.Machine.act.Goals as goal
 use Rattle.ink_tree.specs.Nodes.{place_of}
 
@@ -37,6 +37,6 @@ returns c =
     let e = effect s p found (context_of before) (fields_of before) in
     let performs = c.in_ok-transfer.ensures in
     let new = config_of s c.follow.new.self in
-    let moved = ends_after s old mid performs.safe performs.counts asking e mid.globals new c.follow.result performs.threads
-    (c.follow.ensures asking e performs.effect (kept_stays s e old.threads mid.threads performs.threads)) in
+    let moved = ends_after s old mid performs.safe performs.counts performs.turn asking e mid.globals new c.follow.result performs.threads performs.choices
+    (c.follow.ensures asking e performs.effect (kept_stays s e old.threads mid.threads performs.threads) (offered_stay s e old.choices mid.choices performs.choices)) in
     subst (λ vs. StepEnds (asking || move_asks s e before) (move s e before) vs new c.follow.result) performs.globals moved
