@@ -5,14 +5,19 @@ use Rattle.ink_choice.specs.Words.{Takes}
 use Rattle.ink_model.specs.Choices.{has_any, none_visible, only_invisible, taken, visible}
 use Rattle.ink_model.specs.Choosing.{chosen, default_asks, default_choice, open_choice, stopped_by, taken_up}
 use Rattle.ink_model.specs.Configuration.{ChoiceOf, Configuration, can_go_on, map_choice}
-use Rattle.ink_model.specs.Store.{Values}
+use Rattle.ink_model.specs.Counts.{CountsOf, one_more}
+use Rattle.ink_model.specs.Entered.{entered_places}
 use Rattle.ink_model.specs.Tree.{StoryTree}
-use Rattle.ink_model.specs.Visits.{entering_around, entering_asks}
+use Rattle.ink_model.specs.Visits.{all_visited, entering_around, entering_asks}
 use Rattle.ink_model.specs.declared.fault.Fault.{Fault}
 use Rattle.ink_model.specs.declared.fault.Fault.TheVariants.{OutOfMemory}
 use Rattle.ink_model.specs.declared.fault.Refusal.TheVariants as refusal
 use Rattle.ink_model.specs.declared.place.Part.{Part}
 use Rattle.ink_step.specs.Steps.{Chooses, StepEnds}
+use Rattle.ink_step.specs.Words.{config_of, counts_in}
+use Rattle.ink_step.specs.declared.machine.Machine.{Machine}
+use Rattle.ink_tree.specs.Nodes.{place_of}
+use Rattle.ink_tree.specs.declared.spot.Spot.{Spot}
 use Rattle.ink_step.specs.declared.flow.StepEnd.TheVariants as ends
 
 -- ---- what is taken
@@ -110,3 +115,16 @@ module _ (s : StoryTree) (n : ℕ) (old new : Configuration) (stopped : can_go_o
 
     pub chooses_short : entering_asks s (chosen x old) ≡ true → new ≡ old → Chooses s (open_choice n old) old new (Err refusal.OutOfMemory)
     chooses_short adds is = subst (λ o. Chooses s o old new (Err refusal.OutOfMemory)) (sym (open_is ∙ some)) (refl, adds, is)
+
+-- the machine whose flow a choice took up, after the containers around had been entered in the next turn
+module _ (s : StoryTree) (m : Machine) (x : ChoiceOf Spot) (cs : List (ChoiceOf Spot)) (counts : CountsOf ℕ) (turn : ℕ) where
+  abbrev up_in : ℕ → CountsOf (List Part) → Configuration
+  up_in t cts = taken_up (map_choice (place_of s) x) (record (config_of s m) { shared = record { globals = m.globals; counts = cts; turn = t } })
+
+  abbrev entered_by : List (List Part)
+  entered_by = entered_places s (option_map (place_of s) x.thread.previous) (place_of s x.target)
+
+  pub chosen_lands : (new : Machine) → config_of s new ≡ taken_up (map_choice (place_of s) x) (config_of s (record m { choices = cs; counts = counts; turn = turn }))
+      → turn ≡ one_more m.turn → counts_in s counts ≡ all_visited s turn entered_by (counts_in s m.counts)
+      → config_of s new ≡ entering_around s (chosen (map_choice (place_of s) x) (config_of s m))
+  chosen_lands new is next entering = is ∙ ap (up_in turn) entering ∙ ap (λ t. up_in t (all_visited s t entered_by (counts_in s m.counts))) next
