@@ -1,10 +1,9 @@
-use Rattle.std.proofs.Common.{◌∙◌, ap, option_map, sym, true}
+use Rattle.std.proofs.Common.{◌∙◌, ap, sym, true}
 use Rattle.std.proofs.lemmas.Result.{err_from_is_err_and}
 use Rattle.ink_step.specs.Words.{counts_in}
 use Rattle.ink_step.proofs.Visits.{adds_at, first_adds, first_entered, visited_at}
 use Rattle.ink_step.proofs.counting.+enter_all.Goals as goal
-use Rattle.ink_tree.specs.Nodes.{node_place, place_of, story_tree}
-use Rattle.ink_tree.specs.Walks.{still_entered}
+use Rattle.ink_tree.specs.Nodes.{story_tree}
 
 pub returns-in_err-visit-clause-memory : goal.returns-in_err-visit-clause-memory
 returns-in_err-visit-clause-memory t c =
