@@ -24,3 +24,4 @@ pub mod Stored
 pub mod Unstored
 pub mod Offered
 pub mod Shows
+pub mod Chosen
