@@ -103,7 +103,7 @@ end_kept : (test : ℕ → Bool) (a b ys : List ℕ) → without test (reverse b
 end_kept test a b [] h e = absurd (cc)
 end_kept test a b (y ∷ ys) h e =
     sym (ap reverse (ap (without test) (reverse-append a b) ∙ without_some test (reverse b) (reverse a) y ys h)
-      ∙ reverse-append (y ∷ ys) (reverse a) ∙ ap (λ xs. xs ++ reverse (y ∷ ys)) (reverse-reverse a))
+    ∙ reverse-append (y ∷ ys) (reverse a) ∙ ap (λ xs. xs ++ reverse (y ∷ ys)) (reverse-reverse a))
 
 pub end_second : (test : ℕ → Bool) (a b p : List ℕ) → p ≡ trimmed test b → (length p == 0) ≡ false → a ++ p ≡ trimmed test (a ++ b)
 end_second test a b p h e =

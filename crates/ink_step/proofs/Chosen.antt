@@ -1,8 +1,8 @@
 -- Choices over spots and over places; where they lead.
-use Rattle.std.proofs.Common.{◌≡◌, ◌∙◌, ap, sym, refl, subst, ℕ, zero, suc, List, [], ◌∷◌, map, Bool, true, false, true≢false, not, ◌&&◌, ◌||◌, if◌then◌else◌, slice_get, Option, Some, None, option_map, Result, Ok, Err}
+use Rattle.std.proofs.Common.{◌≡◌, ◌∙◌, ap, sym, refl, subst, ℕ, zero, suc, List, [], ◌∷◌, map, Bool, true, false, ◌&&◌, if◌then◌else◌, slice_get, Option, Some, None, option_map, Ok, Err}
 use Rattle.ink_choice.proofs.Nth.{taken_visible}
 use Rattle.ink_choice.specs.Words.{Takes}
-use Rattle.ink_model.specs.Choices.{has_any, none_visible, only_invisible, taken, visible}
+use Rattle.ink_model.specs.Choices.{none_visible, only_invisible, taken, visible}
 use Rattle.ink_model.specs.Choosing.{chosen, default_asks, default_choice, open_choice, stopped_by, taken_up}
 use Rattle.ink_model.specs.Configuration.{ChoiceOf, Configuration, can_go_on, map_choice}
 use Rattle.ink_model.specs.Counts.{CountsOf, one_more}

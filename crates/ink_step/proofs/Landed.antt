@@ -1,8 +1,8 @@
 -- Flow lands, and the containers around are entered; a step goes in before it performs.
-use Rattle.std.proofs.Common.{◌≡◌, ◌∙◌, ◌||◌, ◌&&◌, ap, sym, refl, subst, inl, inr, List, Bool, true, false, true≢false, cond, nat_lt, Option, Some, is_some, option_map, Result, Ok, Err}
+use Rattle.std.proofs.Common.{◌≡◌, ◌∙◌, ◌||◌, ◌&&◌, ap, sym, refl, subst, inl, inr, List, Bool, true, false, true≢false, cond, nat_lt, Option, Some, option_map, Result, Ok, Err}
 use Rattle.ink_model.specs.Asks.{going_in_asks}
 use Rattle.ink_model.specs.Choosing.{following, following_asks}
-use Rattle.ink_model.specs.Configuration.{Configuration, current_place, with_choices, with_globals, with_threads}
+use Rattle.ink_model.specs.Configuration.{Configuration, current_place, with_choices, with_threads}
 use Rattle.ink_model.specs.Effect.{Effect, Moves, Stores, Offers, Lands, Calls, Returns, Forks, Done, Ends, Fails, context_of, fields_of}
 use Rattle.ink_model.specs.Flow.{Written, moved_on, Reached, Reaches, Halts, Breaks, called, reach, returned}
 use Rattle.ink_model.specs.Frames.{ThreadsOf, mode_in, on_top}
@@ -11,7 +11,7 @@ use Rattle.ink_model.specs.Move.{going, landed_in, landing, may_enter, move, pla
 use Rattle.ink_model.specs.MoveMemory.{landed_asks, move_asks, moved_asks, returned_asks}
 use Rattle.ink_model.specs.Place.{entered, next_place}
 use Rattle.ink_model.specs.Step.{effect, gone_in, nothing_bound, step, step_at}
-use Rattle.ink_model.specs.Store.{Values, store, stored}
+use Rattle.ink_model.specs.Store.{Values}
 use Rattle.ink_model.specs.Threads.{frame_count}
 use Rattle.ink_model.specs.Tree.{StoryTree, at}
 use Rattle.ink_model.specs.Visits.{adds_rows, around, entering_around}
@@ -30,7 +30,6 @@ use Rattle.ink_step.specs.declared.transfer.Landing.{Landing}
 use Rattle.ink_step.specs.declared.transfer.Transfer.TheVariants as transfer
 use Rattle.ink_step.proofs.Follows.{ends_more, ends_short, or_first, or_more}
 use Rattle.ink_tree.specs.Nodes.{place_of}
-use Rattle.ink_vars.specs.Words.{name_of}
 use Rattle.ink_vars.specs.declared.places.Name.{Name}
 
 -- flow goes on, or a fault comes

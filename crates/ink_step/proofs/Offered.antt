@@ -1,5 +1,5 @@
 -- Choice points: what is made of spots and of places, and what it comes to.
-use Rattle.std.proofs.Common.{◌≡◌, ◌∙◌, ℕ, ℤ, List, [], ◌∷◌, ◌++◌, length, map, reverse, nat_lt, if◌then◌else◌, Bool, true, false, Option, Some, None, option_map, Result, Ok, Err, OnOk, ap, sym, subst, refl, inl}
+use Rattle.std.proofs.Common.{◌≡◌, ◌∙◌, ℕ, List, [], ◌∷◌, ◌++◌, length, map, reverse, nat_lt, if◌then◌else◌, Bool, true, false, Option, Some, None, option_map, Result, Ok, Err, OnOk, ap, sym, subst, refl, inl}
 use Rattle.std.proofs.lemmas.List.{length-map, map-append}
 use Rattle.ink_choice.specs.Words.{Adds, Makes}
 use Rattle.ink_model.specs.Acceptance.{content_counted, counted_container, lands, leaf_counted, written_target}
@@ -45,14 +45,14 @@ module _ {P Q : Type 0} (g : P → Q) where
   module _ (flags : ℕ) (target : P) (visited : Bool) (t : ThreadOf P) where
     by_text : (o : Operands) (b : Bool)
         → ◌≡◌ {A = Result (Option (ChoiceOf Q) × List Value) Fault} (if b then Ok (Some (choice flags (g target) (map_thread g t) o), reverse o.left) else Err TooDeep)
-          (made_at (if b then Ok (Some (choice flags target t o), reverse o.left) else Err TooDeep))
+        (made_at (if b then Ok (Some (choice flags target t o), reverse o.left) else Err TooDeep))
     by_text o true = refl
     by_text o false = refl
 
     by_operands : (o : Operands) (b : Bool)
         → ◌≡◌ {A = Result (Option (ChoiceOf Q) × List Value) Fault}
-          (if b then (if fits_text (choice_text o) then Ok (Some (choice flags (g target) (map_thread g t) o), reverse o.left) else Err TooDeep) else Ok (None, reverse o.left))
-          (made_at (if b then (if fits_text (choice_text o) then Ok (Some (choice flags target t o), reverse o.left) else Err TooDeep) else Ok (None, reverse o.left)))
+        (if b then (if fits_text (choice_text o) then Ok (Some (choice flags (g target) (map_thread g t) o), reverse o.left) else Err TooDeep) else Ok (None, reverse o.left))
+        (made_at (if b then (if fits_text (choice_text o) then Ok (Some (choice flags target t o), reverse o.left) else Err TooDeep) else Ok (None, reverse o.left)))
     by_operands o true = by_text o (fits_text (choice_text o))
     by_operands o false = refl
 
@@ -97,7 +97,7 @@ module _ (s : StoryTree) (p : List Part) (rest : Rest) (ts : ThreadsOf Spot) (te
   pub offers_nowhere : None ≡ written_target s p → (new : List Value) (t : StoryTree) → Performs t asking offers (with new) (Err BadTarget)
   offers_nowhere h new t =
       subst (λ o. Performs t (offer_asks s p seen text flags (with old) o)
-          (or_else BadTarget o (λ q. or_fault (make flags q (was_visited s p seen text flags) seen.thread old) (λ r. offering s p seen r.0 (with r.1)))) (with new) (Err BadTarget))
+      (or_else BadTarget o (λ q. or_fault (make flags q (was_visited s p seen text flags) seen.thread old) (λ r. offering s p seen r.0 (with r.1)))) (with new) (Err BadTarget))
       (h ∙ leaf_landing s p _ stands) (inl refl)
 
   module _ (spot : Spot) (there : Some (place_of s spot) ≡ written_target s p) (visited : Bool) (is : visited ≡ is_visited (visits_in s (counts_in s rest.counts) (counted_container s p))) where

@@ -1,5 +1,5 @@
 -- The passage of a machine, and what a running command tells.
-use Rattle.std.proofs.Common.{◌≡◌, ◌∙◌, ◌⊎◌, ap, sym, refl, subst, inl, inr, ℕ, List, [], Bool, true, false, Err, if◌then◌else◌, arith}
+use Rattle.std.proofs.Common.{◌≡◌, ◌∙◌, ◌⊎◌, ap, sym, refl, subst, inl, inr, ℕ, List, [], Bool, Err, arith}
 use Rattle.ink_model.specs.Tree.{StoryTree}
 use Rattle.ink_model.specs.Mark.{tags}
 use Rattle.ink_model.specs.Clean.{clean}

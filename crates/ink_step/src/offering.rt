@@ -72,10 +72,7 @@ fn was_visited(story: &Story, here: Spot, counts: &Counts) -> bool
 }
 
 /// How many choices were made is pushed, the invisible ones counted.
-pub(crate) fn push_choice_count(
-    stack: &mut EvalStack,
-    choices: &Choices<Spot>,
-) -> Result<(), Fault>
+pub(crate) fn push_choice_count(stack: &mut EvalStack, choices: &Choices<Spot>) -> Result<(), Fault>
     ensures { (s : StoryTree) (threads : ThreadsOf Place) (rest : Rest) (evaluating : Bool) (fresh : Option ℕ) (page : Page) (globals : Values)
         → Changes true (push_choice_count (seen_by s threads (record rest { choices = choices.now })) (fields evaluating fresh stack.old.items page globals)) (fields evaluating fresh stack.new.items page globals) result }
 {

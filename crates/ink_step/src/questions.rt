@@ -71,7 +71,12 @@ pub(crate) fn push_turn(stack: &mut EvalStack, turn: Turn) -> Result<(), Fault>
 /// In the place of a target on top: how many turns ago the container that it names was entered last, -1 where it never was or is
 /// no container. `StackEmpty` where nothing is there, `BadTarget` where it is no target or leads nowhere, `NotCounted` where
 /// the container's turns are not noted.
-pub(crate) fn push_turns(story: &Story, counts: &Counts, stack: &mut EvalStack, turn: Turn) -> Result<(), Fault>
+pub(crate) fn push_turns(
+    story: &Story,
+    counts: &Counts,
+    stack: &mut EvalStack,
+    turn: Turn,
+) -> Result<(), Fault>
     ensures { let s = story_tree story.now in (threads : ThreadsOf Place) (rest : Rest) (evaluating : Bool) (fresh : Option ℕ) (page : Page) (globals : Values)
         → Changes false (push_turns s (seen_by s threads (record rest { counts = counts.now; turn = turn })) (fields evaluating fresh stack.old.items page globals)) (fields evaluating fresh stack.new.items page globals) result }
 {
@@ -117,7 +122,11 @@ fn holder(story: &Story, here: Spot) -> Option<NodeId>
 }
 
 /// The visits of a container. `NotCounted` where they are not counted, or there is none.
-pub(crate) fn visits_in(story: &Story, counts: &Counts, container: Option<NodeId>) -> Result<i32, Fault>
+pub(crate) fn visits_in(
+    story: &Story,
+    counts: &Counts,
+    container: Option<NodeId>,
+) -> Result<i32, Fault>
     ensures { let s = story_tree story.now in result ≡ visits_in s (counts_in s counts.now) (option_map (node_place s) container) }
 {
     match container {

@@ -37,8 +37,9 @@ use ink_model::{Content, Control, Fault, FrameKind, Leaf, Scope, Value};
 use ink_tree::Spot;
 
 impl Machine {
-    /// One step: goes down to the first content, performs it and moves. Where flow has stopped it stays stopped. After a fault
-    /// the globals are as they were, and the machine is of no more use but for them.
+    /// One step: goes down to the first content, performs it and moves; where flow stops so, it may follow a choice. Where flow had
+    /// stopped before it stays stopped. After a fault the globals are as they were, and the machine is of no more use but for
+    /// them.
     pub fn step(&mut self, story: &Story) -> Result<StepEnd, Fault>
         ensures { let s = story_tree story.now in StepEnds (asks s (config_of s self.old)) (step s nothing_bound (config_of s self.old)) self.old.globals (config_of s self.new) result }
     {

@@ -1,11 +1,8 @@
 use Rattle.std.proofs.Common.{◌≡◌, ◌∙◌, ap, refl, subst, sym, true, false, option_map, Some, None, unwrap_or}
 use Rattle.ink_check.specs.Words.{story_tree}
-use Rattle.ink_model.specs.Choices.{visible}
-use Rattle.ink_model.specs.Choosing.{chosen}
 use Rattle.ink_model.specs.Configuration.{can_go_on, map_choice}
-use Rattle.ink_model.specs.Counts.{one_more}
 use Rattle.ink_model.specs.Entered.{entered_places}
-use Rattle.ink_model.specs.Visits.{adds_rows, all_visited, entering_around, entering_asks}
+use Rattle.ink_model.specs.Visits.{adds_rows, all_visited}
 use Rattle.ink_step.specs.Words.{config_of, counts_in}
 use Rattle.ink_step.proofs.Chosen.{chooses_none, chooses_one, chooses_short, chosen_lands, open_alike, takes_any, takes_visible}
 use Rattle.ink_step.proofs.machine.Machine.choose.Goals as goal

@@ -1,7 +1,7 @@
-use Rattle.std.proofs.Common.{◌≡◌, ◌∙◌, ◌&&◌, ap, refl, subst, sym, true}
+use Rattle.std.proofs.Common.{◌≡◌, ◌∙◌, ap, refl, subst, sym, true}
 use Rattle.ink_check.specs.Words.{story_tree}
 use Rattle.ink_model.specs.Configuration.{map_choice}
-use Rattle.ink_model.specs.Visits.{adds_rows, around, entering_around, entering_asks}
+use Rattle.ink_model.specs.Visits.{entering_around, entering_asks}
 use Rattle.ink_step.specs.Words.{config_of}
 use Rattle.ink_step.proofs.Chosen.{follows_default, is_default, no_default, short_of_default, stays_stopped}
 use Rattle.ink_step.proofs.machine.Machine.follow_default.Goals as goal

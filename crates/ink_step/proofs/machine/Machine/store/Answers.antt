@@ -1,7 +1,7 @@
-use Rattle.std.proofs.Common.{◌∙◌, ap, subst, Ok}
+use Rattle.std.proofs.Common.{subst, Ok}
 use Rattle.ink_step.specs.Performs.{Performs}
 use Rattle.ink_step.specs.Words.{config_of}
-use Rattle.ink_step.proofs.Stopping.{stores_it, stores_none, stores_short}
+use Rattle.ink_step.proofs.Stopping.{stores_it}
 use Rattle.ink_step.proofs.machine.Machine.store.Goals as goal
 
 pub returns-in-Ok : goal.returns-in-Ok
