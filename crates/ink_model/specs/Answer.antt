@@ -46,6 +46,11 @@ abbrev pub reply_of_visits : Result ℤ Refusal → Reply
 reply_of_visits (Ok visits) = Counts visits
 reply_of_visits (Err r) = Refuses r
 
+-- of a choice that is taken, and of a jump
+abbrev pub reply_of_landing : Result (Unit {0}) Refusal → Reply
+reply_of_landing (Ok u) = Acts []
+reply_of_landing (Err r) = Refuses r
+
 -- ---- replies as JSON
 
 abbrev pub fault_name : Fault → List ℕ
@@ -66,6 +71,7 @@ fault_name fault.OutOfMemory = codes "OutOfMemory"
 
 abbrev pub refusal_name : Refusal → List ℕ
 refusal_name refusal.CannotContinue = codes "CannotContinue"
+refusal_name refusal.NotAChoice = codes "NotAChoice"
 refusal_name refusal.NoSuchVariable = codes "NoSuchVariable"
 refusal_name refusal.NoSuchPath = codes "NoSuchPath"
 refusal_name refusal.BadValue = codes "BadValue"

@@ -1,9 +1,12 @@
 -- Whether a step asks for memory (docs/RUNNING.md, "Out of memory").
-use Rattle.std.specs.Prelude.{List, [], reverse, Bool, true, false, not, ◌||◌, Option, Some, None, Result, Ok, Err, is_ok}
-use Rattle.ink_model.specs.Acceptance.{leads}
-use Rattle.ink_model.specs.Configuration.{Configuration, current_place}
+use Rattle.std.specs.Prelude.{ℕ, List, [], reverse, Bool, true, false, not, ◌||◌, Option, Some, None, Result, Ok, Err, is_ok}
+use Rattle.ink_model.specs.Acceptance.{lands, leads}
+use Rattle.ink_model.specs.Choices.{make}
+use Rattle.ink_model.specs.Choosing.{following_asks}
+use Rattle.ink_model.specs.Configuration.{ChoiceOf, Configuration, current_place}
 use Rattle.ink_model.specs.Effect.{Context, Fields, context_of, fields_of, is_fresh}
 use Rattle.ink_model.specs.Entered.{passed_places}
+use Rattle.ink_model.specs.Move.{move}
 use Rattle.ink_model.specs.MoveMemory.{move_asks}
 use Rattle.ink_model.specs.Joining.{makes_text}
 use Rattle.ink_model.specs.Operator.{takes}
@@ -12,6 +15,7 @@ use Rattle.ink_model.specs.Path.{above}
 use Rattle.ink_model.specs.Place.{entered}
 use Rattle.ink_model.specs.Stack.{popped, taken}
 use Rattle.ink_model.specs.Step.{effect, gone_in}
+use Rattle.ink_model.specs.Step.Choices.{was_visited}
 use Rattle.ink_model.specs.Step.Counts.{visits_at}
 use Rattle.ink_model.specs.Tree.{StoryTree, leaf, container, at}
 use Rattle.ink_model.specs.Value.{printed}
@@ -59,6 +63,16 @@ abbrev pub visit_asks : StoryTree → Context → Option (List Part) → Bool
 visit_asks s seen None = false
 visit_asks s seen (Some q) = is_ok (visits_at s seen q)
 
+-- a choice that is made
+abbrev pub makes_choice : {P : Type 0} → Result (Option (ChoiceOf P) × List Value) Fault → Bool
+makes_choice (Ok (None, left)) = false
+makes_choice (Ok (Some choice, left)) = true
+makes_choice (Err f) = false
+
+abbrev pub offer_asks : StoryTree → List Part → Context → List ℕ → ℕ → Fields → Option (List Part) → Bool
+offer_asks s p seen text flags f None = false
+offer_asks s p seen text flags f (Some q) = makes_choice (make flags q (was_visited s p seen text flags) seen.thread f.stack)
+
 abbrev pub control_asks : StoryTree → List Part → Context → Control → Fields → Bool
 control_asks s p seen control.Out f = output_asks (popped f.stack)
 control_asks s p seen control.Duplicate f = has_top (popped f.stack)
@@ -75,7 +89,7 @@ control_asks s p seen control.End f = false
 control_asks s p seen control.Return f = false
 control_asks s p seen control.ReturnTunnel f = false
 control_asks s p seen control.Thread f = false
-control_asks s p seen control.ChoiceCount f = false
+control_asks s p seen control.ChoiceCount f = true
 control_asks s p seen control.Turn f = true
 control_asks s p seen control.Turns f = false
 control_asks s p seen control.ReadCount f = false
@@ -102,7 +116,7 @@ leaf_asks s p seen (leaves.External name arguments conditional) f = false
 leaf_asks s p seen (leaves.DeclareTemp name) f = on_popped (popped f.stack) (declare_asks f.globals seen.thread Temporary name)
 leaf_asks s p seen (leaves.AssignTemp name) f = on_popped (popped f.stack) (assign_asks f.globals seen.thread name)
 leaf_asks s p seen (leaves.Count text) f = visit_asks s seen (leads s p text)
-leaf_asks s p seen (leaves.Choice text flags) f = false
+leaf_asks s p seen (leaves.Choice text flags) f = offer_asks s p seen text flags f (lands s p text)
 
 abbrev pub content_asks : StoryTree → List Part → Option StoryTree → Context → Fields → Bool
 content_asks s p None seen f = false
@@ -118,9 +132,14 @@ performing_asks s p found c =
 abbrev pub going_in_asks : StoryTree → List Part → Configuration → Bool
 going_in_asks s p c = adds_rows s (passed_places s p) c.shared.counts
 
+-- and following a choice, where flow stops so
+abbrev pub stopping_asks : StoryTree → List Part → Option StoryTree → Configuration → Bool
+stopping_asks s p found c = following_asks s (move s (effect s p found (context_of c) (fields_of c)) c)
+
 abbrev pub asks_at : StoryTree → Option (List Part) → Configuration → Bool
 asks_at s None c = false
-asks_at s (Some p) c = going_in_asks s p c || performing_asks s (entered s p) (at s (entered s p)) (gone_in s p c)
+asks_at s (Some p) c = going_in_asks s p c
+    || (performing_asks s (entered s p) (at s (entered s p)) (gone_in s p c) || stopping_asks s (entered s p) (at s (entered s p)) (gone_in s p c))
 
 -- the step at a configuration asks for memory
 unfoldable pub asks : StoryTree → Configuration → Bool

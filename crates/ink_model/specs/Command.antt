@@ -1,9 +1,10 @@
 -- Command lines (docs/PROTOCOL.md, "Command lines").
-use Rattle.std.specs.Prelude.{ℕ, List, [], ◌∷◌, ◌==◌, bytes_eq, codes, ◌&&◌, is_none, option_and_then, Option, Some, None, if◌then◌else◌}
+use Rattle.std.specs.Prelude.{ℕ, List, [], ◌∷◌, ◌==◌, length, bytes_eq, codes, nat_le, ◌&&◌, is_none, option_and_then, Option, Some, None, if◌then◌else◌}
+use Rattle.std.specs.List.{list_all}
 use Rattle.std.specs.Option.{option_or}
 use Rattle.std.specs.Str.{is_utf8}
 use Rattle.ink_model.specs.ValueJson.{given_of}
-use Rattle.ink_model.specs.Bytes.{is_filled, onto, at_space, after}
+use Rattle.ink_model.specs.Bytes.{is_digit, is_filled, number_from, onto, at_space, after}
 use Rattle.ink_model.specs.declared.command.Command.{Command}
 use Rattle.ink_model.specs.declared.command.Command.TheVariants as command
 
@@ -32,10 +33,19 @@ set_command r = if is_filled r.0 && is_filled r.1 then Some (command.Set r.0 (gi
 abbrev pub visits_command : List ℕ → Option Command
 visits_command path = if is_filled path then Some (command.Visits path) else None
 
+abbrev pub jump_command : List ℕ → Option Command
+jump_command path = if is_filled path then Some (command.Jump path) else None
+
+-- a choice's number, of 1 to 9 digits
+abbrev pub choose_command : List ℕ → Option Command
+choose_command number =
+    if is_filled number && (list_all is_digit number && nat_le (length number) 9) then Some (command.Choose (number_from 0 number)) else None
+
 abbrev pub command_word : List ℕ → Option Command
 command_word line = option_or (plain_command line) (option_or (option_and_then get_command (after (codes "get ") line))
     (option_or (option_and_then set_command (option_and_then at_space (after (codes "set ") line)))
-    (option_and_then visits_command (after (codes "visits ") line))))
+    (option_or (option_and_then visits_command (after (codes "visits ") line))
+    (option_or (option_and_then choose_command (after (codes "choose ") line)) (option_and_then jump_command (after (codes "jump ") line))))))
 
 -- the command of a line; a line that is no text, or no command, has none
 unfoldable pub command_of : List ℕ → Option Command
@@ -48,4 +58,6 @@ NeedsMemory (Some command.Through) = ⊥
 NeedsMemory (Some (command.Set name value)) = Unit {0}
 NeedsMemory (Some (command.Get name)) = Unit {0}
 NeedsMemory (Some (command.Visits path)) = Unit {0}
+NeedsMemory (Some (command.Choose number)) = ⊥
+NeedsMemory (Some (command.Jump path)) = Unit {0}
 NeedsMemory (Some command.Restart) = ⊥

@@ -1,6 +1,6 @@
 -- A configuration: all that a saved game holds, and the text being written (docs/RUNNING.md, "Configurations").
 use Rattle.std.specs.Prelude.{ℕ, List, [], map, Bool, true, false, Option, Some, None, is_some}
-use Rattle.ink_model.specs.Counts.{CountsOf}
+use Rattle.ink_model.specs.Counts.{CountsOf, one_more}
 use Rattle.ink_model.specs.Frames.{ThreadOf, ThreadsOf, map_thread, map_threads, base_threads, gone, place_in, on_top, put_in, unnumbered_thread, unnumbered_threads}
 pub use Rattle.ink_model.specs.Page.{Page, Section, SectionKind, string_section, tag_section}
 use Rattle.ink_model.specs.Place.{start_place}
@@ -88,6 +88,13 @@ module _ {P : Type 0} where
 
   abbrev pub with_counts : CountsOf P → ConfigurationOf P → ConfigurationOf P
   with_counts counts c = record c { shared = record c.shared { counts = counts } }
+
+  abbrev pub with_choices : List (ChoiceOf P) → ConfigurationOf P → ConfigurationOf P
+  with_choices choices c = record c { flow = record c.flow { choices = choices } }
+
+  -- another turn begins; the number of turns stays at its most
+  abbrev pub next_turn : ConfigurationOf P → ConfigurationOf P
+  next_turn c = record c { shared = record c.shared { turn = one_more c.shared.turn } }
 
   -- `end`: flow stops safely, and of threads and choices nothing is left
   abbrev pub ended : ConfigurationOf P → ConfigurationOf P

@@ -1,6 +1,6 @@
 -- What a content does: to the fields that it touches, and how flow goes from there (docs/RUNNING.md, "Steps").
 use Rattle.std.specs.Prelude.{ℕ, List, length, Bool, true, false, nat_eq, Option, Some, None, Result, Ok, Err}
-use Rattle.ink_model.specs.Configuration.{Configuration, ConfigurationOf, with_globals, with_threads}
+use Rattle.ink_model.specs.Configuration.{ChoiceOf, Configuration, ConfigurationOf, with_globals, with_threads}
 use Rattle.ink_model.specs.Counts.{CountsOf}
 use Rattle.ink_model.specs.Frames.{ThreadOf, fresh_depth, mode_in, on_top}
 use Rattle.ink_model.specs.Threads.{staled}
@@ -23,15 +23,16 @@ pub record Fields : Type 0 where
   pub page : Page
   pub globals : Values
 
--- What content may look at beside these, and not change: the thread that runs, for its temporaries; visits and turns, and the
--- number of the turn.
+-- What content may look at beside these, and not change: the thread that runs, for its temporaries and for a choice's copy;
+-- the choices that were made; visits and turns, and the number of the turn.
 pub record Context : Type 0 where
   pub thread : ThreadOf (List Part)
+  pub choices : List (ChoiceOf (List Part))
   pub counts : CountsOf (List Part)
   pub turn : ℕ
 
 abbrev pub context_of : Configuration → Context
-context_of c = record { thread = c.flow.threads.thread; counts = c.shared.counts; turn = c.shared.turn }
+context_of c = record { thread = c.flow.threads.thread; choices = c.flow.choices; counts = c.shared.counts; turn = c.shared.turn }
 
 module _ {P : Type 0} where
   abbrev pub fields_of : ConfigurationOf P → Fields
@@ -76,12 +77,13 @@ pub record Landing : Type 0 where
   pub place : List Part
   pub enters : Bool
 
--- Flow moves on after its place, or does that with these variables in its thread; it lands at another place, or lands there in
+-- Flow moves on after its place, or does that with these variables in its thread, or with these choices; it lands at another place, or lands there in
 -- a frame of its own; it comes back from such a frame, to after its call or to a place; it goes on in two threads; it is done
 -- with its thread, or ends; or a fault comes.
 pub data Effect : Type 0 where
   Moves : (after : Fields) → Effect
   Stores : (thread : ThreadOf (List Part)) → (after : Fields) → Effect
+  Offers : (choices : List (ChoiceOf (List Part))) → (after : Fields) → Effect
   Lands : (to : Landing) → (after : Fields) → Effect
   Calls : (kind : FrameKind) → (to : Landing) → (after : Fields) → Effect
   Returns : (kind : FrameKind) → (to : Option Landing) → (after : Fields) → Effect

@@ -35,6 +35,7 @@ pub mod Output
 pub mod Flow
 pub mod Effect
 pub mod Move
+pub mod Choosing
 pub mod Step
 pub mod Run
 pub mod Opening
@@ -46,6 +47,8 @@ pub mod VariableMemory
 pub mod MoveMemory
 pub mod Asks
 pub mod Memory
+pub mod Changed
+pub mod Turns
 pub mod Session
 pub mod PathExamples
 pub mod StoryExamples
@@ -64,4 +67,10 @@ pub mod VisitExamples
 pub mod LandingExamples
 pub mod QuestionExamples
 pub mod TemporaryExamples
+pub mod ChoiceStories
+pub mod OfferExamples
+pub mod DefaultExamples
+pub mod ChoosingExamples
+pub mod JumpExamples
+pub mod TurnExamples
 pub mod Examples

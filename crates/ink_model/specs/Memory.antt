@@ -1,6 +1,6 @@
 -- Where memory may be refused, and what is answered then (docs/RUNNING.md, "Out of memory").
 use Rattle.std.specs.Prelude.{◌≡◌, ◌<◌, ◌≤◌, ◌⊎◌, ℕ, List, [], Bool, true, false, Some, Result, Ok, Err, OnErr}
-unfoldable pub use Rattle.ink_model.specs.Asks.{asks, asks_at, asks_for, content_asks, control_asks, has_top, is_found_late, leaf_asks, operator_asks, output_asks, visit_asks}
+unfoldable pub use Rattle.ink_model.specs.Asks.{asks, asks_at, asks_for, content_asks, control_asks, going_in_asks, has_top, is_found_late, leaf_asks, offer_asks, operator_asks, output_asks, stopping_asks, visit_asks}
 use Rattle.ink_model.specs.Tree.{StoryTree}
 use Rattle.ink_model.specs.Configuration.{Configuration, begun}
 use Rattle.ink_model.specs.Step.Host.{Bound, nothing_bound}

@@ -1,8 +1,8 @@
 -- Where flow goes after an effect (docs/RUNNING.md, "Places"; docs/FRAMES.md). Of what a configuration has it changes where
 -- flow is, the stack and the page alone, visits and turns where flow lands, and `safe` where flow is done.
 use Rattle.std.specs.Prelude.{ℕ, List, Bool, true, false, ◌||◌, Option, Some, None, option_map}
-use Rattle.ink_model.specs.Configuration.{Configuration, ended, with_safe, with_threads}
-use Rattle.ink_model.specs.Effect.{Effect, Landing, Moves, Stores, Lands, Calls, Returns, Forks, Done, Ends, Fails, with_fields, with_page, with_stack, with_thread}
+use Rattle.ink_model.specs.Configuration.{Configuration, ended, with_choices, with_safe, with_threads}
+use Rattle.ink_model.specs.Effect.{Effect, Landing, Moves, Stores, Offers, Lands, Calls, Returns, Forks, Done, Ends, Fails, with_fields, with_page, with_stack, with_thread}
 use Rattle.ink_model.specs.Flow.{Written, Reached, Reaches, Halts, Breaks, called, done, forked, halt, is_last, moved_on, reach, returned}
 use Rattle.ink_model.specs.Frames.{ThreadsOf, base_threads}
 use Rattle.ink_model.specs.Place.{next_place}
@@ -61,6 +61,7 @@ end_all c = reached_in (ended c) (halt (base_threads None) (written_in c))
 abbrev pub move : StoryTree → Effect → Configuration → Outcome
 move s (Moves f) c = going (moved_on (next_place s)) (with_fields f c)
 move s (Stores t f) c = going (moved_on (next_place s)) (with_fields f (with_thread t c))
+move s (Offers choices f) c = going (moved_on (next_place s)) (with_fields f (with_choices choices c))
 move s (Lands to f) c = landing s to.enters (reach to.place) (with_fields f c)
 move s (Calls k to f) c = landing s to.enters (called k to.place) (with_fields f c)
 move s (Returns k to f) c = landing s (may_enter to) (returned (next_place s) k (place_to to)) (with_fields f c)

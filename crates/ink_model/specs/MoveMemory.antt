@@ -1,8 +1,8 @@
 -- Where flow asks for memory on its way from a content: calls push frames, marks and void are written where functions end, and
 -- a landing may be the first visit of a container (docs/RUNNING.md, "Out of memory"; docs/FRAMES.md).
 use Rattle.std.specs.Prelude.{ℕ, List, [], ◌∷◌, Bool, true, false, not, ◌||◌, ◌&&◌, nat_eq, nat_lt, if◌then◌else◌, Option, Some, None, is_some, option_and_then, Result, Ok, Err}
-use Rattle.ink_model.specs.Configuration.{Configuration}
-use Rattle.ink_model.specs.Effect.{Effect, Moves, Stores, Lands, Calls, Returns, Forks, Done, Ends, Fails, with_fields, with_thread}
+use Rattle.ink_model.specs.Configuration.{Configuration, with_choices}
+use Rattle.ink_model.specs.Effect.{Effect, Moves, Stores, Offers, Lands, Calls, Returns, Forks, Done, Ends, Fails, with_fields, with_thread}
 use Rattle.ink_model.specs.Counts.{CountsOf}
 use Rattle.ink_model.specs.Flow.{Written, Reached, Reaches, Halts, Breaks, called, depth_of, moved_on, reach, returned}
 use Rattle.ink_model.specs.Frames.{FrameOf, ThreadOf, ThreadsOf, is_function}
@@ -66,6 +66,7 @@ landed_asks s enters counts r = false
 abbrev pub flow_asks : StoryTree → Effect → CountsOf (List Part) → ThreadsOf (List Part) → Written → Bool
 flow_asks s (Moves f) counts ts w = moved_asks (next_place s) ts w
 flow_asks s (Stores t f) counts ts w = moved_asks (next_place s) ts w
+flow_asks s (Offers choices f) counts ts w = moved_asks (next_place s) ts w
 flow_asks s (Lands to f) counts ts w = landed_asks s to.enters counts (reach to.place ts w)
 flow_asks s (Calls k to f) counts ts w = nat_lt (frame_count ts.thread) MAX_FRAMES || landed_asks s to.enters counts (called k to.place ts w)
 flow_asks s (Returns k to f) counts ts w =
@@ -79,6 +80,7 @@ flow_asks s (Fails f) counts ts w = false
 abbrev pub after_effect : Effect → Configuration → Configuration
 after_effect (Moves f) c = with_fields f c
 after_effect (Stores t f) c = with_fields f (with_thread t c)
+after_effect (Offers choices f) c = with_fields f (with_choices choices c)
 after_effect (Lands to f) c = with_fields f c
 after_effect (Calls k to f) c = with_fields f c
 after_effect (Returns k to f) c = with_fields f c

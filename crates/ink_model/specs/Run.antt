@@ -4,6 +4,7 @@ use Rattle.ink_model.specs.declared.limits.TheConstants.{MAX_STEPS}
 use Rattle.ink_model.specs.Bytes.{fits_text}
 use Rattle.ink_model.specs.Tree.{StoryTree}
 use Rattle.ink_model.specs.Place.{entered}
+use Rattle.ink_model.specs.Choosing.{following}
 use Rattle.ink_model.specs.Configuration.{Configuration, current_place, begun, put_at}
 use Rattle.ink_model.specs.Effect.{Fields, Effect, Fails, fields_of, pushing}
 use Rattle.ink_model.specs.Move.{Outcome, Next, Stop, Wants, Faults, move}
@@ -35,7 +36,7 @@ push_answer v f = if fits_value v then pushing v f else Fails TooDeep
 
 abbrev pub answered_at : StoryTree → Value → Option (List Part) → Configuration → Outcome
 answered_at s v None c = Stop c
-answered_at s v (Some p) c = move s (push_answer v (fields_of c)) (put_at (Some (entered s p)) c)
+answered_at s v (Some p) c = following s (move s (push_answer v (fields_of c)) (put_at (Some (entered s p)) c))
 
 -- a wanted call was answered, or refused: the answer is pushed, and flow goes on
 abbrev pub answered : StoryTree → Configuration → Option Given → Outcome

@@ -1,5 +1,5 @@
 -- What a player answers to command lines (docs/PROTOCOL.md, "Sessions").
-use Rattle.std.specs.Prelude.{is_some, Result, Ok, Err, ◌≡◌, ℕ, ℤ, List, [], ◌∷◌, ◌++◌, Bool, true, false, not, ◌&&◌, ◌⊎◌, Option, Some, None, if◌then◌else◌, MatchBool}
+use Rattle.std.specs.Prelude.{is_some, Result, Ok, Err, ◌≡◌, ℕ, ℤ, List, [], ◌∷◌, ◌++◌, Bool, true, false, not, ◌&&◌, ◌⊎◌, Option, Some, None, MatchBool}
 use Rattle.ink_model.specs.Bytes.{fits_text}
 use Rattle.ink_model.specs.Tree.{StoryTree}
 use Rattle.ink_model.specs.Mark.{tags}
@@ -9,11 +9,13 @@ use Rattle.ink_model.specs.Configuration.{Configuration, ChoiceOf, can_go_on, se
 use Rattle.ink_model.specs.Step.Host.{Bound}
 use Rattle.ink_model.specs.Run.{value_given, Made, answers_of, Moment, Stopped, Faulted, through}
 use Rattle.ink_model.specs.Memory.{FallsShort, OpensShort, holds_memory}
+pub use Rattle.ink_model.specs.Changed.{FailsAllocation, Keeps, with_condition}
 use Rattle.ink_model.specs.Command.{command_of, NeedsMemory}
 use Rattle.ink_model.specs.Answer.{Reply, Tells, Acts, Shows, Counts, Refuses, Breaks, answer}
 use Rattle.ink_model.specs.State.{State, Condition, Ready, Broken, globals_of}
 use Rattle.ink_model.specs.Store.{stored, store}
 use Rattle.ink_model.specs.Opening.{opening, Unopened}
+use Rattle.ink_model.specs.Turns.{Choose, Jump, open_choices}
 use Rattle.ink_model.specs.Visits.{visits_by}
 use Rattle.ink_model.specs.declared.command.Command.{Command}
 use Rattle.ink_model.specs.declared.command.Command.TheVariants as command
@@ -22,16 +24,9 @@ use Rattle.ink_model.specs.declared.host.Given.{Given}
 use Rattle.ink_model.specs.declared.host.Given.TheVariants as given
 use Rattle.ink_model.specs.declared.value.Value.{Value}
 use Rattle.ink_model.specs.declared.passage.Passage.{Passage}
-use Rattle.ink_model.specs.declared.passage.Shown.{Shown}
 use Rattle.ink_model.specs.declared.place.Part.{Part}
 
 -- ---- passages
-
--- the visible choices
-abbrev pub visible : List (ChoiceOf (List Part)) → List Shown
-visible [] = []
-visible (choice ∷ choices) =
-    if choice.hidden then visible choices else record { text = choice.text; tags = choice.tags } ∷ visible choices
 
 abbrev pub has_none : List (ChoiceOf (List Part)) → Bool
 has_none [] = true
@@ -46,7 +41,7 @@ unfoldable pub passage : Configuration → Passage
 passage c = record {
   text = clean (shown_text c.page.line);
   tags = tags c.page.line;
-  choices = if can_go_on c then [] else visible c.flow.choices;
+  choices = open_choices c;
   events = [];
   more = can_go_on c;
   loose = is_loose c;
@@ -65,10 +60,6 @@ EndsAs m made reply new = ⊥
 abbrev pub RunsThrough : StoryTree → Bound → Configuration → List Made → Reply → Condition → Type 0
 RunsThrough s b c made reply new = EndsAs (through s b c (answers_of made)) made reply new ⊎ FallsShort s b c made reply new
 
--- what a refusal answers and leaves
-abbrev pub Keeps : Reply → State → Reply → State → Type 0
-Keeps refused old reply new = (reply ≡ refused) × (new ≡ old)
-
 abbrev pub ThroughFrom : StoryTree → Bound → List Made → Condition → State → Reply → State → Type 0
 ThroughFrom s b made (Broken f globals) old reply new = (made ≡ []) × Keeps (Refuses (refusal.Broken f)) old reply new
 ThroughFrom s b made (Ready c) old reply new = MatchBool (can_go_on c)
@@ -78,13 +69,6 @@ ThroughFrom s b made (Ready c) old reply new = MatchBool (can_go_on c)
 -- `through`, with the calls that it made
 abbrev pub Through : StoryTree → Bound → List Made → State → Reply → State → Type 0
 Through s b made old reply new = ThroughFrom s b made old.condition old reply new
-
--- memory was refused for a command that does not run the story: nothing has changed
-abbrev pub FailsAllocation : State → Reply → State → Type 0
-FailsAllocation old reply new = Keeps (Refuses refusal.OutOfMemory) old reply new
-
-abbrev pub with_condition : Condition → State → State
-with_condition c st = record st { condition = c }
 
 -- `restart`, by what opening comes to: as the story was opened, with the stamps going on; or broken by the declarations, with
 -- the globals as they stood before the step that faulted
@@ -148,6 +132,8 @@ Does s b made (Some command.Through) old reply new = Through s b made old reply 
 Does s b made (Some (command.Set name value)) old reply new = (made ≡ []) × Set name value old reply new
 Does s b made (Some (command.Get name)) old reply new = (made ≡ []) × Get name old reply new
 Does s b made (Some (command.Visits path)) old reply new = (made ≡ []) × Visits s path old reply new
+Does s b made (Some (command.Choose number)) old reply new = (made ≡ []) × Choose s number old reply new
+Does s b made (Some (command.Jump path)) old reply new = (made ≡ []) × Jump s path old reply new
 Does s b made (Some command.Restart) old reply new = (made ≡ []) × Restart s old reply new
 
 -- memory was refused for reading a line, or the path in it, which only a line with a name or a path needs

@@ -1,5 +1,6 @@
 -- One step: enter, effect, move (docs/RUNNING.md, "Steps").
 use Rattle.std.specs.Prelude.{ℕ, List, Option, Some, None}
+use Rattle.ink_model.specs.Choosing.{following}
 use Rattle.ink_model.specs.Configuration.{Configuration, current_place, put_at}
 use Rattle.ink_model.specs.Effect.{Context, Fields, Effect, Moves, Forks, Done, Ends, context_of, fields_of}
 pub use Rattle.ink_model.specs.Move.{Outcome, Next, Stop, Wants, Faults}
@@ -7,6 +8,7 @@ use Rattle.ink_model.specs.Move.{move}
 use Rattle.ink_model.specs.Place.{entered}
 pub use Rattle.ink_model.specs.Step.Host.{Binding, Bound, nothing_bound}
 use Rattle.ink_model.specs.Step.Calls.{call, return_function, return_tunnel}
+use Rattle.ink_model.specs.Step.Choices.{offer, push_choice_count}
 use Rattle.ink_model.specs.Step.Counts.{push_count, push_read_count, push_turn, push_turns, push_visit}
 use Rattle.ink_model.specs.Step.Diverts.{divert, path_of}
 use Rattle.ink_model.specs.Step.Evaluation.{begin_eval, duplicate, end_eval, operate, output_value, pop, push_value}
@@ -23,6 +25,7 @@ use Rattle.ink_model.specs.declared.place.Part.{Part}
 use Rattle.ink_model.specs.declared.scope.Scope.TheVariants.{Global, Temporary}
 use Rattle.ink_model.specs.declared.value.Value.TheVariants as value
 pub mod Calls
+pub mod Choices
 pub mod Counts
 pub mod Diverts
 pub mod Evaluation
@@ -50,7 +53,7 @@ control_effect s p seen control.End f = Ends f
 control_effect s p seen control.Return f = return_function f
 control_effect s p seen control.ReturnTunnel f = return_tunnel s f
 control_effect s p seen control.Thread f = Forks f
-control_effect s p seen control.ChoiceCount f = not_yet f
+control_effect s p seen control.ChoiceCount f = push_choice_count seen f
 control_effect s p seen control.Turn f = push_turn s seen f
 control_effect s p seen control.Turns f = push_turns s seen f
 control_effect s p seen control.ReadCount f = push_read_count s seen f
@@ -78,7 +81,7 @@ leaf_effect s p seen (leaves.External name arguments conditional) f = not_yet f
 leaf_effect s p seen (leaves.DeclareTemp name) f = declare Temporary name seen f
 leaf_effect s p seen (leaves.AssignTemp name) f = assign name seen f
 leaf_effect s p seen (leaves.Count text) f = push_count s seen p text f
-leaf_effect s p seen (leaves.Choice text flags) f = not_yet f
+leaf_effect s p seen (leaves.Choice text flags) f = offer s p seen text flags f
 
 -- of what stands at a place: an empty container, or nothing, has none
 abbrev pub effect : StoryTree → List Part → Option StoryTree → Context → Fields → Effect
@@ -96,8 +99,9 @@ gone_in s p c = put_at (Some (entered s p)) (entering_at s p c)
 
 abbrev pub step_at : StoryTree → Bound → Option (List Part) → Configuration → Outcome
 step_at s b None c = Stop c
-step_at s b (Some p) c = perform s b (entered s p) (gone_in s p c)
+step_at s b (Some p) c = following s (perform s b (entered s p) (gone_in s p c))
 
--- One step goes down to the first content, performs it and moves. Where flow has stopped it stays stopped.
+-- One step goes down to the first content, performs it and moves; where flow stops so, it may follow a choice. Where flow had
+-- stopped before it stays stopped.
 unfoldable pub step : StoryTree → Bound → Configuration → Outcome
 step s b c = step_at s b (current_place c) c

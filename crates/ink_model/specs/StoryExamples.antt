@@ -138,7 +138,7 @@ a_relative_value : accepted (container None 0 (tree (leaf (leaves.Target (codes 
 unfolding accepted bad_places read_path target
 a_relative_value = refl
 
-the_first_unsupported : unsupported (container None 0 (tree (leaf (leaves.Count (codes "k"))) (tree (leaf (leaves.Choice (codes "k") 0)) no_trees)) no_keys) ≡ (Index 1 ∷ []) ∷ []
+the_first_unsupported : unsupported (container None 0 (tree (leaf (leaves.Choice (codes "k") 0)) (tree (leaf (leaves.External (codes "f") 0 false)) no_trees)) no_keys) ≡ (Index 1 ∷ []) ∷ []
 unfolding unsupported
 the_first_unsupported = refl
 

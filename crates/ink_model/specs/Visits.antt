@@ -40,6 +40,10 @@ entering_around s c = entering s (around s c.flow.threads) c
 abbrev pub adds_rows : StoryTree → List (List Part) → CountsOf (List Part) → Bool
 adds_rows s ps c = list_any (λ p. adds_row place_order p (flags_at (at s p)) c) ps
 
+-- entering the containers around asks for memory
+abbrev pub entering_asks : StoryTree → Configuration → Bool
+entering_asks s c = adds_rows s (around s c.flow.threads) c.shared.counts
+
 -- ---- for a host
 
 abbrev pub counted_visits : Result ℤ Fault → Option ℤ

@@ -72,6 +72,8 @@ pub enum Fault {
 pub enum Refusal {
     #[error("CannotContinue")]
     CannotContinue,
+    #[error("NotAChoice")]
+    NotAChoice,
     #[error("NoSuchVariable")]
     NoSuchVariable,
     #[error("NoSuchPath")]
@@ -128,6 +130,7 @@ impl Refusal {
     {
         match self {
             Refusal::CannotContinue => "CannotContinue",
+            Refusal::NotAChoice => "NotAChoice",
             Refusal::NoSuchVariable => "NoSuchVariable",
             Refusal::NoSuchPath => "NoSuchPath",
             Refusal::BadValue => "BadValue",

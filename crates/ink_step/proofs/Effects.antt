@@ -1,6 +1,6 @@
 -- What performing does where a call of it fails.
 use Rattle.std.proofs.Common.{◌≡◌, ap, sym, refl, subst, inl, inr, List, Result, Ok, Err, Bool, true}
-use Rattle.ink_model.specs.Effect.{Fields, Effect, Moves, Stores, Lands, Calls, Returns, Forks, Done, Ends, Fails, or_fault}
+use Rattle.ink_model.specs.Effect.{Fields, Effect, Moves, Stores, Offers, Lands, Calls, Returns, Forks, Done, Ends, Fails, or_fault}
 use Rattle.ink_model.specs.Memory.{Gives, Leaves, asks_for}
 use Rattle.ink_model.specs.Tree.{StoryTree}
 use Rattle.ink_model.specs.declared.fault.Fault.{Fault}
@@ -14,6 +14,7 @@ module _ (s : StoryTree) (asks : Bool) (new : Fields) where
   pub short : (e : Effect) → asks ≡ true → Performs s asks e new (Err OutOfMemory)
   short (Moves f) a = (refl, a)
   short (Stores t f) a = (refl, a)
+  short (Offers cs f) a = (refl, a)
   short (Lands p f) a = (refl, a)
   short (Calls k p f) a = (refl, a)
   short (Returns k to f) a = (refl, a)

@@ -1,8 +1,9 @@
 -- Where flow goes after a content, and so how a step ends.
-use Rattle.std.proofs.Common.{◌≡◌, ◌∙◌, ◌||◌, ap, sym, refl, subst, inl, inr, ℕ, List, [], Bool, true, false, Option, Some, None, Result, Ok, Err}
-use Rattle.ink_model.specs.Configuration.{Configuration, current_place, ended, with_threads}
+use Rattle.std.proofs.Common.{◌≡◌, ◌∙◌, ◌||◌, ap, sym, refl, subst, inl, inr, ℕ, List, map, Bool, true, false, Option, Some, None, Result, Ok, Err}
+use Rattle.ink_model.specs.Choosing.{following, following_asks}
+use Rattle.ink_model.specs.Configuration.{ChoiceOf, Configuration, current_place, ended, map_choice, with_choices, with_threads}
 use Rattle.ink_model.specs.Counts.{CountsOf}
-use Rattle.ink_model.specs.Effect.{Fields, Effect, Moves, Stores, Lands, Calls, Returns, Forks, Done, Ends, Fails, fields_of, with_fields, with_thread}
+use Rattle.ink_model.specs.Effect.{Fields, Effect, Moves, Stores, Offers, Lands, Calls, Returns, Forks, Done, Ends, Fails, fields_of, with_fields, with_thread}
 use Rattle.ink_model.specs.Flow.{Written, Reached, Reaches, Halts, Breaks, called, depth_of, forked, halt, moved_on, reach, returned}
 use Rattle.ink_model.specs.Frames.{ThreadOf, ThreadsOf, base_threads, map_threads, mode_in, on_top}
 use Rattle.ink_model.specs.Memory.{asks}
@@ -16,7 +17,7 @@ use Rattle.ink_model.specs.Tree.{StoryTree}
 use Rattle.ink_model.specs.declared.fault.Fault.{Fault}
 use Rattle.ink_model.specs.declared.fault.Fault.TheVariants.{OutOfMemory}
 use Rattle.ink_model.specs.declared.place.Part.{Part}
-use Rattle.ink_step.specs.Performs.{Keeps, Performs, stored_by}
+use Rattle.ink_step.specs.Performs.{Keeps, KeepsChoices, Performs, offered_by, stored_by, unstored}
 use Rattle.ink_step.specs.Reaches.{ReachesAs}
 use Rattle.ink_step.specs.Steps.{StepEnds}
 use Rattle.ink_step.specs.Words.{config_of, counts_in}
@@ -88,7 +89,7 @@ ends_reached asking c reached ts w (Err f) h = ends_broken asking c (with_flow t
 
 module _ (s : StoryTree) (asking : Bool) (c d : Configuration) (r : Result StepEnd Fault) where
   abbrev Follows : Effect → Type 0
-  Follows e = StepEnds (asking || move_asks s e c) (move s e c) c.shared.globals d r
+  Follows e = StepEnds (asking || move_asks s e c) (move s (unstored c.shared.globals e) c) c.shared.globals d r
 
   abbrev stale_now : Configuration
   stale_now = with_threads (on_top (staled (depth_of (written_in c))) c.flow.threads) c
@@ -97,6 +98,7 @@ module _ (s : StoryTree) (asking : Bool) (c d : Configuration) (r : Result StepE
       → StepEnds (moved_asks (next_place s) stale_now.flow.threads (written_in c)) (going (moved_on (next_place s)) stale_now) c.shared.globals d r → Follows e
   goes_after_text (Moves f) h go = subst (λ g. Follows (Moves g)) (sym h) (ends_more asking _ _ _ _ r go)
   goes_after_text (Stores t f) h go = absurd h
+  goes_after_text (Offers cs f) h go = absurd h
   goes_after_text (Lands p f) h go = absurd h
   goes_after_text (Calls k p f) h go = absurd h
   goes_after_text (Returns k to f) h go = absurd h
@@ -109,6 +111,7 @@ module _ (s : StoryTree) (asking : Bool) (c d : Configuration) (r : Result StepE
       → StepEnds false (reached_in (ended c) (halt (base_threads None) (written_in c))) c.shared.globals d r → Follows e
   goes_nowhere (Moves f) h go = absurd h
   goes_nowhere (Stores t f) h go = absurd h
+  goes_nowhere (Offers cs f) h go = absurd h
   goes_nowhere (Lands p f) h go = absurd h
   goes_nowhere (Calls k p f) h go = absurd h
   goes_nowhere (Returns k to f) h go = absurd h
@@ -130,6 +133,7 @@ ends_unperformed s asking more e new c d globals f h same = by e h
     by : (e : Effect) → Performs s asking e new (Err f) → StepEnds (asking || more) (move s e c) globals d (Err f)
     by (Moves g) k = short (move s (Moves g) c) k
     by (Stores t g) k = short (move s (Stores t g) c) k
+    by (Offers cs g) k = short (move s (Offers cs g) c) k
     by (Lands p g) k = short (move s (Lands p g) c) k
     by (Calls kind p g) k = short (move s (Calls kind p g) c) k
     by (Returns kind to g) k = short (move s (Returns kind to g) c) k
@@ -138,22 +142,31 @@ ends_unperformed s asking more e new c d globals f h same = by e h
     by (Ends g) k = short (move s (Ends g) c) k
     by (Fails g) k = (elim k [ inl is ↦ inl is | inr refused ↦ inr (refused.0, or_first asking more refused.1) ], same)
 
--- performing changes the fields and temporaries alone, which a move takes from the effect
-module _ (s : StoryTree) (old mid : Machine) (safely : mid.safe ≡ old.safe) (counted : mid.counts ≡ old.counts) where
-  abbrev over : ThreadsOf (List Part) → Bool → CountsOf ℕ → Configuration
-  over ts b counts = record {
-    flow = record { threads = ts; stack = mid.stack.items; choices = []; safe = b };
-    shared = record { globals = mid.globals; counts = counts_in s counts; turn = 0 };
+-- performing changes the fields, temporaries and choices alone, which a move takes from the effect
+module _ (s : StoryTree) (old mid : Machine) (safely : mid.safe ≡ old.safe) (counted : mid.counts ≡ old.counts) (turned : mid.turn ≡ old.turn) where
+  abbrev over : ThreadsOf (List Part) → List (ChoiceOf (List Part)) → Bool → CountsOf ℕ → ℕ → Configuration
+  over ts choices b counts turn = record {
+    flow = record { threads = ts; stack = mid.stack.items; choices = choices; safe = b };
+    shared = record { globals = mid.globals; counts = counts_in s counts; turn = turn };
     page = mid.output.page;
   }
 
-  abbrev kept : Effect → Configuration
-  kept e = over (on_top (mode_in mid.threads.thread.frame.evaluating) (on_top (stored_by e) (map_threads (place_of s) old.threads))) old.safe old.counts
+  abbrev threads_by : Effect → ThreadsOf (List Part)
+  threads_by e = on_top (mode_in mid.threads.thread.frame.evaluating) (on_top (stored_by e) (map_threads (place_of s) old.threads))
 
-  is_kept : (e : Effect) → Keeps s e old.threads mid.threads → config_of s mid ≡ kept e
-  is_kept e keeps =
-      ap (λ ts. over ts mid.safe mid.counts) keeps ∙ ap (λ b. over (on_top (mode_in mid.threads.thread.frame.evaluating) (on_top (stored_by e) (map_threads (place_of s) old.threads))) b mid.counts) safely
-      ∙ ap (over (on_top (mode_in mid.threads.thread.frame.evaluating) (on_top (stored_by e) (map_threads (place_of s) old.threads))) old.safe) counted
+  abbrev choices_by : Effect → List (ChoiceOf (List Part))
+  choices_by e = offered_by e (map (map_choice (place_of s)) old.choices)
+
+  abbrev kept : Effect → Configuration
+  kept e = over (threads_by e) (choices_by e) old.safe old.counts old.turn
+
+  is_kept : (e : Effect) → Keeps s e old.threads mid.threads → KeepsChoices s e old.choices mid.choices → config_of s mid ≡ kept e
+  is_kept e keeps offers =
+      ap (λ ts. over ts (map (map_choice (place_of s)) mid.choices) mid.safe mid.counts mid.turn) keeps
+      ∙ ap (λ cs. over (threads_by e) cs mid.safe mid.counts mid.turn) offers
+      ∙ ap (λ b. over (threads_by e) (choices_by e) b mid.counts mid.turn) safely
+      ∙ ap (λ counts. over (threads_by e) (choices_by e) old.safe counts mid.turn) counted
+      ∙ ap (over (threads_by e) (choices_by e) old.safe old.counts) turned
 
   -- with the effect's fields, whether it stores temporaries or not
   moving_alike : (f g : Fields) (o : Option ℕ) → with_fields (record f { wrote = o }) (kept (Moves g)) ≡ with_fields (record f { wrote = o }) (config_of s old)
@@ -165,9 +178,15 @@ module _ (s : StoryTree) (old mid : Machine) (safely : mid.safe ≡ old.safe) (c
   storing_alike t f g None = refl
   storing_alike t f g (Some depth) = refl
 
+  offering_alike : (cs : List (ChoiceOf (List Part))) (f g : Fields) (o : Option ℕ)
+      → with_fields (record f { wrote = o }) (with_choices cs (kept (Offers cs g))) ≡ with_fields (record f { wrote = o }) (with_choices cs (config_of s old))
+  offering_alike cs f g None = refl
+  offering_alike cs f g (Some depth) = refl
+
   goes_alike : (e : Effect) → move s e (kept e) ≡ move s e (config_of s old)
   goes_alike (Moves f) = ap (going (moved_on (next_place s))) (moving_alike f f f.wrote)
   goes_alike (Stores t f) = ap (going (moved_on (next_place s))) (storing_alike t f f f.wrote)
+  goes_alike (Offers cs f) = ap (going (moved_on (next_place s))) (offering_alike cs f f f.wrote)
   goes_alike (Lands to f) = ap (landing s to.enters (reach to.place)) (moving_alike f f f.wrote)
   goes_alike (Calls k to f) = ap (landing s to.enters (called k to.place)) (moving_alike f f f.wrote)
   goes_alike (Returns k to f) = ap (landing s (may_enter to) (returned (next_place s) k (place_to to))) (moving_alike f f f.wrote)
@@ -179,6 +198,7 @@ module _ (s : StoryTree) (old mid : Machine) (safely : mid.safe ≡ old.safe) (c
   asks_alike : (e : Effect) → move_asks s e (kept e) ≡ move_asks s e (config_of s old)
   asks_alike (Moves f) = ap (λ c. flow_asks s (Moves f) (counts_in s old.counts) c.flow.threads (written_in c)) (moving_alike f f f.wrote)
   asks_alike (Stores t f) = ap (λ c. flow_asks s (Stores t f) (counts_in s old.counts) c.flow.threads (written_in c)) (storing_alike t f f f.wrote)
+  asks_alike (Offers cs f) = ap (λ c. flow_asks s (Offers cs f) (counts_in s old.counts) c.flow.threads (written_in c)) (offering_alike cs f f f.wrote)
   asks_alike (Lands to f) = ap (λ c. flow_asks s (Lands to f) (counts_in s old.counts) c.flow.threads (written_in c)) (moving_alike f f f.wrote)
   asks_alike (Calls k to f) = ap (λ c. flow_asks s (Calls k to f) (counts_in s old.counts) c.flow.threads (written_in c)) (moving_alike f f f.wrote)
   asks_alike (Returns k to f) = ap (λ c. flow_asks s (Returns k to f) (counts_in s old.counts) c.flow.threads (written_in c)) (moving_alike f f f.wrote)
@@ -187,12 +207,16 @@ module _ (s : StoryTree) (old mid : Machine) (safely : mid.safe ≡ old.safe) (c
   asks_alike (Ends f) = refl
   asks_alike (Fails g) = refl
 
-  pub ends_after : (asking : Bool) (e : Effect) (globals : Values) (d : Configuration) (r : Result StepEnd Fault) → Keeps s e old.threads mid.threads
-      → StepEnds (asking || move_asks s e (config_of s mid)) (move s e (config_of s mid)) globals d r → StepEnds (asking || move_asks s e (config_of s old)) (move s e (config_of s old)) globals d r
-  ends_after asking e globals d r keeps h =
-      let alike = subst (λ c. StepEnds (asking || move_asks s e c) (move s e c) globals d r) (is_kept e keeps) h in
-      let moves = subst (λ o. StepEnds (asking || move_asks s e (kept e)) o globals d r) (goes_alike e) alike in
-      subst (λ b. StepEnds (asking || b) (move s e (config_of s old)) globals d r) (asks_alike e) moves
+  -- of a whole step
+  abbrev Steps : Bool → Effect → Configuration → Values → Configuration → Result StepEnd Fault → Type 0
+  Steps asking e c globals d r = StepEnds ((asking || move_asks s e c) || following_asks s (move s e c)) (following s (move s e c)) globals d r
+
+  pub ends_after : (asking : Bool) (e : Effect) (globals : Values) (d : Configuration) (r : Result StepEnd Fault) → Keeps s e old.threads mid.threads → KeepsChoices s e old.choices mid.choices
+      → Steps asking e (config_of s mid) globals d r → Steps asking e (config_of s old) globals d r
+  ends_after asking e globals d r keeps offers h =
+      let alike = subst (λ c. Steps asking e c globals d r) (is_kept e keeps offers) h in
+      let moves = subst (λ o. StepEnds ((asking || move_asks s e (kept e)) || following_asks s o) (following s o) globals d r) (goes_alike e) alike in
+      subst (λ b. StepEnds ((asking || b) || following_asks s (move s e (config_of s old))) (following s (move s e (config_of s old))) globals d r) (asks_alike e) moves
 
 -- after performing, the thread has the temporaries that the effect stores
 pub kept_stays : (s : StoryTree) (e : Effect) (old new : ThreadsOf Spot) → Keeps s e old new → Keeps s e new new
@@ -201,6 +225,23 @@ kept_stays s e old new keeps = by e keeps
     by : (e : Effect) → Keeps s e old new → Keeps s e new new
     by (Moves f) k = refl
     by (Stores t f) k = k ∙ ap (λ u. record { thread = mode_in new.thread.frame.evaluating t; below = u.below }) (sym k)
+    by (Offers cs f) k = refl
+    by (Lands to f) k = refl
+    by (Calls kind to f) k = refl
+    by (Returns kind to f) k = refl
+    by (Forks f) k = refl
+    by (Done f) k = refl
+    by (Ends f) k = refl
+    by (Fails g) k = refl
+
+-- and the choices are those that it offers
+pub offered_stay : (s : StoryTree) (e : Effect) (old new : List (ChoiceOf Spot)) → KeepsChoices s e old new → KeepsChoices s e new new
+offered_stay s e old new keeps = by e keeps
+  where
+    by : (e : Effect) → KeepsChoices s e old new → KeepsChoices s e new new
+    by (Moves f) k = refl
+    by (Stores t f) k = refl
+    by (Offers cs f) k = k
     by (Lands to f) k = refl
     by (Calls kind to f) k = refl
     by (Returns kind to f) k = refl

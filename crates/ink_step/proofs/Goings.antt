@@ -17,7 +17,7 @@ use Rattle.ink_tree.specs.declared.spot.Spot.{Spot}
 
 module _ (s : StoryTree) (p : List Part) (m : Machine) (here : Spot) (ts : ThreadsOf Spot) (is : ts ≡ on_top (put_in (Some here)) m.threads) where
   -- the containers on the way were entered, and flow is put at the first content
-  pub went_in : (counts : CountsOf ℕ) → place_of s here ≡ entered s p → counts_in s counts ≡ all_visited s 0 (passed_places s p) (counts_in s m.counts)
+  pub went_in : (counts : CountsOf ℕ) → place_of s here ≡ entered s p → counts_in s counts ≡ all_visited s m.turn (passed_places s p) (counts_in s m.counts)
       → config_of s (record m { threads = ts; counts = counts }) ≡ gone_in s p (config_of s m)
   went_in counts at_place entering =
       ap (λ t. config_of s (record m { threads = t; counts = counts })) is

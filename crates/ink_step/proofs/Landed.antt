@@ -1,8 +1,9 @@
 -- Flow lands, and the containers around are entered; a step goes in before it performs.
-use Rattle.std.proofs.Common.{◌≡◌, ◌∙◌, ◌||◌, ◌&&◌, ap, sym, refl, subst, inl, inr, List, Bool, true, false, true≢false, cond, nat_lt, Option, Some, is_some, option_map, Result, Ok, Err}
+use Rattle.std.proofs.Common.{◌≡◌, ◌∙◌, ◌||◌, ◌&&◌, ap, sym, refl, subst, inl, inr, List, Bool, true, false, true≢false, cond, nat_lt, Option, Some, option_map, Result, Ok, Err}
 use Rattle.ink_model.specs.Asks.{going_in_asks}
-use Rattle.ink_model.specs.Configuration.{Configuration, current_place, with_globals, with_threads}
-use Rattle.ink_model.specs.Effect.{Effect, Moves, Stores, Lands, Calls, Returns, Forks, Done, Ends, Fails, context_of, fields_of}
+use Rattle.ink_model.specs.Choosing.{following, following_asks}
+use Rattle.ink_model.specs.Configuration.{Configuration, current_place, with_choices, with_threads}
+use Rattle.ink_model.specs.Effect.{Effect, Moves, Stores, Offers, Lands, Calls, Returns, Forks, Done, Ends, Fails, context_of, fields_of}
 use Rattle.ink_model.specs.Flow.{Written, moved_on, Reached, Reaches, Halts, Breaks, called, reach, returned}
 use Rattle.ink_model.specs.Frames.{ThreadsOf, mode_in, on_top}
 use Rattle.ink_model.specs.Memory.{asks, asks_at, content_asks}
@@ -10,7 +11,7 @@ use Rattle.ink_model.specs.Move.{going, landed_in, landing, may_enter, move, pla
 use Rattle.ink_model.specs.MoveMemory.{landed_asks, move_asks, moved_asks, returned_asks}
 use Rattle.ink_model.specs.Place.{entered, next_place}
 use Rattle.ink_model.specs.Step.{effect, gone_in, nothing_bound, step, step_at}
-use Rattle.ink_model.specs.Store.{Values, store, stored}
+use Rattle.ink_model.specs.Store.{Values}
 use Rattle.ink_model.specs.Threads.{frame_count}
 use Rattle.ink_model.specs.Tree.{StoryTree, at}
 use Rattle.ink_model.specs.Visits.{adds_rows, around, entering_around}
@@ -20,7 +21,7 @@ use Rattle.ink_model.specs.declared.frame.FrameKind.{FrameKind}
 use Rattle.ink_model.specs.declared.limits.TheConstants.{MAX_FRAMES}
 use Rattle.ink_model.specs.declared.place.Part.{Part}
 use Rattle.ink_model.specs.declared.value.Value.{Value}
-use Rattle.ink_step.specs.Performs.{Performs, landing_of, stored_by}
+use Rattle.ink_step.specs.Performs.{Performs, landing_of, offered_by, stored_by, unstored}
 use Rattle.ink_step.specs.Reaches.{ReachesAs}
 use Rattle.ink_step.specs.Steps.{StepEnds}
 use Rattle.ink_step.specs.declared.flow.StepEnd.{StepEnd}
@@ -29,7 +30,6 @@ use Rattle.ink_step.specs.declared.transfer.Landing.{Landing}
 use Rattle.ink_step.specs.declared.transfer.Transfer.TheVariants as transfer
 use Rattle.ink_step.proofs.Follows.{ends_more, ends_short, or_first, or_more}
 use Rattle.ink_tree.specs.Nodes.{place_of}
-use Rattle.ink_vars.specs.Words.{name_of}
 use Rattle.ink_vars.specs.declared.places.Name.{Name}
 
 -- flow goes on, or a fault comes
@@ -83,34 +83,37 @@ module _ (s : StoryTree) (asking : Bool) (c d : Configuration) (globals : Values
 
 module _ (s : StoryTree) (asking : Bool) (c d : Configuration) (r : Result StepEnd Fault) where
   abbrev Follows : Effect → Type 0
-  Follows e = StepEnds (asking || move_asks s e c) (move s e c) c.shared.globals d r
+  Follows e = StepEnds (asking || move_asks s e c) (move s (unstored c.shared.globals e) c) c.shared.globals d r
 
   -- the thread has the temporaries that the effect stores
   abbrev HasStored : Effect → Type 0
   HasStored e = c.flow.threads ≡ on_top (mode_in c.flow.threads.thread.frame.evaluating) (on_top (stored_by e) c.flow.threads)
 
+  -- the choices are those that the effect offers
+  abbrev HasOffered : Effect → Type 0
+  HasOffered e = c.flow.choices ≡ offered_by e c.flow.choices
+
   abbrev GoesOn : Bool → Configuration → Type 0
   GoesOn more from = StepEnds (more || moved_asks (next_place s) from.flow.threads (written_in from)) (going (moved_on (next_place s)) from) c.shared.globals d r
 
-  pub goes_on : (e : Effect) → Performs s asking e (fields_of c) (Ok transfer.Next) → HasStored e → GoesOn asking c → Follows e
-  goes_on (Moves f) h has go = subst (λ g. Follows (Moves g)) h go
-  goes_on (Stores t f) h has go = subst (λ g. Follows (Stores t g)) h (subst (λ ts. GoesOn asking (with_threads ts c)) has go)
-  goes_on (Lands l f) h has go = absurd h
-  goes_on (Calls k l f) h has go = absurd h
-  goes_on (Returns k l f) h has go = absurd h
-  goes_on (Forks f) h has go = absurd h
-  goes_on (Done f) h has go = absurd h
-  goes_on (Ends f) h has go = absurd h
-  goes_on (Fails f) h has go = absurd h
+  pub goes_on : (e : Effect) → Performs s asking e (fields_of c) (Ok transfer.Next) → HasStored e → HasOffered e → GoesOn asking c → Follows e
+  goes_on (Moves f) h has offers go = subst (λ g. Follows (Moves g)) h go
+  goes_on (Stores t f) h has offers go = subst (λ g. Follows (Stores t g)) h (subst (λ ts. GoesOn asking (with_threads ts c)) has go)
+  goes_on (Offers cs f) h has offers go = subst (λ g. Follows (Offers cs g)) h (subst (λ ds. GoesOn asking (with_choices ds c)) offers go)
+  goes_on (Lands l f) h has offers go = absurd h
+  goes_on (Calls k l f) h has offers go = absurd h
+  goes_on (Returns k l f) h has offers go = absurd h
+  goes_on (Forks f) h has offers go = absurd h
+  goes_on (Done f) h has offers go = absurd h
+  goes_on (Ends f) h has offers go = absurd h
+  goes_on (Fails f) h has offers go = absurd h
 
   module _ (name : Name) (v : Value) where
-    abbrev after_storing : Configuration
-    after_storing = with_globals (store (name_of name) v c.shared.globals) c
-
     pub goes_storing : (e : Effect) → Performs s asking e (fields_of c) (Ok (transfer.Store name v)) → HasStored e
-        → (is_some (stored (name_of name) c.shared.globals) || asking ≡ true → GoesOn asking after_storing) → Follows e
+        → GoesOn asking c → Follows e
     goes_storing (Moves f) h has go = absurd h
-    goes_storing (Stores t f) h has go = subst (λ g. Follows (Stores t g)) (sym h.0) (subst (λ ts. GoesOn asking (with_threads ts after_storing)) has (go h.1))
+    goes_storing (Stores t f) h has go = subst (λ g. Follows (Stores t g)) (sym h.0) (subst (λ ts. GoesOn asking (with_threads ts c)) has go)
+    goes_storing (Offers cs f) h has go = absurd h
     goes_storing (Lands l f) h has go = absurd h
     goes_storing (Calls k l f) h has go = absurd h
     goes_storing (Returns k l f) h has go = absurd h
@@ -124,6 +127,7 @@ module _ (s : StoryTree) (asking : Bool) (c d : Configuration) (r : Result StepE
       → Follows e
   goes_there to (Moves f) h go = absurd h
   goes_there to (Stores t f) h go = absurd h
+  goes_there to (Offers cs f) h go = absurd h
   goes_there to (Lands l f) h go = subst (λ q. Follows (Lands q f)) (sym h.0) (subst (λ g. Follows (Lands (landing_of s to) g)) h.1
       (ends_more asking _ (landing s to.enters (reach (place_of s to.place)) c) _ d r go))
   goes_there to (Calls k l f) h go = absurd h
@@ -139,6 +143,7 @@ module _ (s : StoryTree) (asking : Bool) (c d : Configuration) (r : Result StepE
       → Follows e
   goes_into kind to (Moves f) h go = absurd h
   goes_into kind to (Stores t f) h go = absurd h
+  goes_into kind to (Offers cs f) h go = absurd h
   goes_into kind to (Lands l f) h go = absurd h
   goes_into kind to (Calls k l f) h go = subst (λ x. Follows (Calls x l f)) (sym h.0) (subst (λ q. Follows (Calls kind q f)) (sym h.1)
       (subst (λ g. Follows (Calls kind (landing_of s to) g)) h.2 (ends_more asking _ (landing s to.enters (called kind (place_of s to.place)) c) _ d r go)))
@@ -155,6 +160,7 @@ module _ (s : StoryTree) (asking : Bool) (c d : Configuration) (r : Result StepE
       → Follows e
   goes_back kind back (Moves f) h go = absurd h
   goes_back kind back (Stores t f) h go = absurd h
+  goes_back kind back (Offers cs f) h go = absurd h
   goes_back kind back (Lands l f) h go = absurd h
   goes_back kind back (Calls k l f) h go = absurd h
   goes_back kind back (Returns k l f) h go = subst (λ x. Follows (Returns x l f)) (sym h.0) (subst (λ o. Follows (Returns kind o f)) (sym h.1)
@@ -168,21 +174,22 @@ module _ (s : StoryTree) (asking : Bool) (c d : Configuration) (r : Result StepE
 -- ---- a step
 
 module _ (s : StoryTree) (p : List Part) (old new : Configuration) (at_p : current_place old ≡ Some p) where
+  -- what is performed at a place, from a configuration
+  abbrev Performing : List Part → Option StoryTree → Configuration → Result StepEnd Fault → Type 0
+  Performing here found m r =
+      let e = effect s here found (context_of m) (fields_of m) in
+      StepEnds ((content_asks s here found (context_of m) (fields_of m) || move_asks s e m) || following_asks s (move s e m)) (following s (move s e m)) old.shared.globals new r
+
   -- a step goes in, performs what stands there and moves
   pub ends_performed : (here : List Part) (found : Option StoryTree) (mid : Configuration) (r : Result StepEnd Fault) → here ≡ entered s p → found ≡ at s here → mid ≡ gone_in s p old
-      → StepEnds (content_asks s here found (context_of mid) (fields_of mid) || move_asks s (effect s here found (context_of mid) (fields_of mid)) mid)
-      (move s (effect s here found (context_of mid) (fields_of mid)) mid) old.shared.globals new r
-      → StepEnds (asks s old) (step s nothing_bound old) old.shared.globals new r
+      → Performing here found mid r → StepEnds (asks s old) (step s nothing_bound old) old.shared.globals new r
   unfolding step asks
   ends_performed here found mid r is stands went h =
-      let gone = subst (λ m. StepEnds (content_asks s here found (context_of m) (fields_of m) || move_asks s (effect s here found (context_of m) (fields_of m)) m)
-      (move s (effect s here found (context_of m) (fields_of m)) m) old.shared.globals new r) went h in
+      let gone = subst (λ m. Performing here found m r) went h in
       let m = gone_in s p old in
-      let there = subst (λ f. StepEnds (content_asks s here f (context_of m) (fields_of m) || move_asks s (effect s here f (context_of m) (fields_of m)) m)
-      (move s (effect s here f (context_of m) (fields_of m)) m) old.shared.globals new r) stands gone in
-      let entering = subst (λ q. StepEnds (content_asks s q (at s q) (context_of m) (fields_of m) || move_asks s (effect s q (at s q) (context_of m) (fields_of m)) m)
-      (move s (effect s q (at s q) (context_of m) (fields_of m)) m) old.shared.globals new r) is there in
-      let whole = ends_more (going_in_asks s p old) _ (move s (effect s (entered s p) (at s (entered s p)) (context_of m) (fields_of m)) m) _ new r entering in
+      let there = subst (λ f. Performing here f m r) stands gone in
+      let entering = subst (λ q. Performing q (at s q) m r) is there in
+      let whole = ends_more (going_in_asks s p old) _ (following s (move s (effect s (entered s p) (at s (entered s p)) (context_of m) (fields_of m)) m)) _ new r entering in
       subst (λ o. StepEnds (asks_at s o old) (step_at s nothing_bound o old) old.shared.globals new r) (sym at_p) whole
 
   -- memory for a container on the way was refused

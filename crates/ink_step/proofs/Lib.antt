@@ -6,6 +6,7 @@ pub mod Leading
 pub mod Staled
 pub mod Follows
 pub mod Landed
+pub mod Stopping
 pub mod Moments
 pub mod Passages
 pub mod Openings
@@ -21,3 +22,6 @@ pub mod Places
 pub mod Stored
 pub mod Unstored
 pub mod Asked
+pub mod Offered
+pub mod Shows
+pub mod Chosen

@@ -1,11 +1,13 @@
 -- No rule faults with OutOfMemory: who is told so was refused memory.
-use Rattle.std.proofs.Common.{◌≡◌, ◌≢◌, ◌∙◌, ◌^◌, ap, refl, subst, sym, ℕ, zero, suc, ℤ, List, [], ◌∷◌, ◌++◌, ◌||◌, Bool, true, false, if◌then◌else◌, Option, Some, None, Result, Ok, Err, is_some, nat_eq, nat_lt, ok_or, option_and_then, option_map, reverse}
+use Rattle.std.proofs.Common.{◌≡◌, ◌≢◌, ◌∙◌, ◌^◌, ap, refl, subst, sym, ℕ, zero, suc, ℤ, List, [], ◌∷◌, ◌++◌, ◌||◌, Bool, length, true, false, if◌then◌else◌, Option, Some, None, Result, Ok, Err, is_some, nat_eq, nat_lt, ok_or, option_and_then, option_map, reverse}
 use Rattle.ink_model.specs.Acceptance.{lands, leads}
 use Rattle.ink_model.specs.Bytes.{fits_text}
-use Rattle.ink_model.specs.Configuration.{Configuration, begun, current_place, ended, with_safe}
-use Rattle.ink_model.specs.Effect.{Context, Fields, Effect, Moves, Stores, Lands, Calls, Returns, Forks, Done, Ends, Fails, context_of, fields_of, is_fresh, or_else, or_fault, pushing, with_fields, with_thread, writing, writing_text}
+use Rattle.ink_model.specs.Configuration.{ChoiceOf, Configuration, begun, current_place, ended, with_choices, with_safe}
+use Rattle.ink_model.specs.Choices.{added, choice_text, is_offered, make, operands, pop_any_words, pop_condition, pop_words, then_pop}
+use Rattle.ink_model.specs.Choosing.{default_choice, following, stopped_by}
+use Rattle.ink_model.specs.Effect.{Context, Fields, Effect, Moves, Stores, Offers, Lands, Calls, Returns, Forks, Done, Ends, Fails, context_of, fields_of, is_fresh, or_else, or_fault, pushing, with_fields, with_thread, writing, writing_text}
 use Rattle.ink_model.specs.Entered.{flags_at}
-use Rattle.ink_model.specs.Flags.{counts_visits, notes_turns}
+use Rattle.ink_model.specs.Flags.{counts_visits, has_choice_only_text, has_start_text, is_conditional, notes_turns}
 use Rattle.ink_model.specs.Flow.{Written, Reached, Reaches, Halts, Breaks, Ending, Continues, Finishes, Collapses, called, done_by, doubled_in, enter_for, frames_on, halt, is_last, leave_for, moved_on, on_ending, on_page, on_stack, or_breaks, or_end, reach, reach_or_on, returned, thread_of, threads_on, void_for}
 use Rattle.ink_model.specs.Frames.{FrameOf, ThreadOf, ThreadsOf, base_threads, is_function}
 use Rattle.ink_model.specs.Move.{Outcome, Next, Stop, Wants, Faults, landed_in, may_enter, move, place_to, reached_in, written_in}
@@ -21,6 +23,7 @@ use Rattle.ink_model.specs.Stack.{applied_to, on_top, popped, taken}
 use Rattle.ink_model.specs.Threads as threads
 use Rattle.ink_model.specs.Step.{Bound, control_effect, effect, gone_in, leaf_effect, nothing_bound, step, step_at}
 use Rattle.ink_model.specs.Step.Calls.{call_to, led_back}
+use Rattle.ink_model.specs.Step.Choices.{offering, was_visited}
 use Rattle.ink_model.specs.Step.Counts.{asking, less_one, pushing_count, turns_at, turns_there, visits_at, visits_there}
 use Rattle.ink_model.specs.Step.Diverts.{divert_to, landing_by, led_by, led_to, where_true}
 use Rattle.ink_model.specs.Step.Evaluation.{output_popped, push_value}
@@ -42,7 +45,7 @@ use Rattle.ink_model.specs.declared.fault.Fault.TheVariants.{BadMode, BadPointer
 use Rattle.ink_model.specs.declared.frame.FrameKind.{FrameKind}
 use Rattle.ink_model.specs.declared.frame.FrameKind.TheVariants.{Base, Function, Tunnel}
 use Rattle.ink_model.specs.declared.host.Given.{Given}
-use Rattle.ink_model.specs.declared.limits.TheConstants.{MAX_FRAMES, MAX_STEPS, MAX_THREADS}
+use Rattle.ink_model.specs.declared.limits.TheConstants.{MAX_CHOICES, MAX_FRAMES, MAX_STEPS, MAX_THREADS}
 use Rattle.ink_model.specs.declared.mark.Mark.{Mark}
 use Rattle.ink_model.specs.declared.mark.Mark.TheVariants as mark
 use Rattle.ink_model.specs.declared.operator.Op.{Op}
@@ -298,11 +301,53 @@ control_acts s p seen control.End f = λ h. absurd (cc)
 control_acts s p seen control.Return f = λ h. absurd (cc)
 control_acts s p seen control.ReturnTunnel f = acts_else StackEmpty (popped f.stack) _ (λ h. absurd (cc)) (λ r. acts_or (led_back s r.0) _ (led_back_sound s r.0) (λ to. λ h. absurd (cc)))
 control_acts s p seen control.Thread f = λ h. absurd (cc)
+control_acts s p seen control.ChoiceCount f = push_acts _ f
 control_acts s p seen control.Turn f = push_acts _ f
 control_acts s p seen control.Turns f = asking_acts s seen (turns_there s seen) f (λ q. result_if (is_container (at s q)) _ _ (turns_sound s seen q) (λ h. absurd (cc)))
 control_acts s p seen control.ReadCount f = asking_acts s seen (visits_there s seen) f (λ q. result_if (is_container (at s q)) _ _ (visits_sound s seen q) (λ h. absurd (cc)))
 control_acts s p seen control.Visit f = acts_else NotCounted (above (reverse p)) _ (λ h. absurd (cc)) (λ q. count_acts s seen _ f (less_sound s seen _ (visits_sound s seen q)))
 control_acts s p seen o f = moves_act f
+
+-- ---- choices
+
+popping_sound : {A B : Type 0} (r : Result A Fault) (so : A → Result B Fault) → Sound r → ((a : A) → Sound (so a)) → Sound (then_pop r so)
+popping_sound (Ok a) so sound on = on a
+popping_sound (Err f) so sound on = λ h. sound (cc)
+
+condition_sound : (wanted : Bool) (vs : List Value) → Sound (pop_condition wanted vs)
+unfolding is_true
+condition_sound false vs = λ h. absurd (cc)
+condition_sound true [] = λ h. absurd (cc)
+condition_sound true (value.Int z ∷ vs) = λ h. absurd (cc)
+condition_sound true (value.Bool b ∷ vs) = λ h. absurd (cc)
+condition_sound true (value.Text t ∷ vs) = λ h. absurd (cc)
+condition_sound true (value.Void ∷ vs) = λ h. absurd (cc)
+condition_sound true (v ∷ vs) = λ h. absurd (cc)
+
+words_sound : (vs : List Value) → Sound (pop_words vs)
+words_sound [] = λ h. absurd (cc)
+words_sound (value.Text t ∷ vs) = λ h. absurd (cc)
+words_sound (v ∷ vs) = λ h. absurd (cc)
+
+any_words_sound : (wanted : Bool) (vs : List Value) → Sound (pop_any_words wanted vs)
+any_words_sound false vs = λ h. absurd (cc)
+any_words_sound true vs = words_sound vs
+
+operands_sound : (flags : ℕ) (vs : List Value) → Sound (operands flags vs)
+operands_sound flags vs =
+    popping_sound (pop_condition (is_conditional flags) vs) _ (condition_sound _ vs)
+    (λ c. popping_sound (pop_any_words (has_choice_only_text flags) c.1) _ (any_words_sound _ c.1)
+    (λ only. popping_sound (pop_any_words (has_start_text flags) only.1) _ (any_words_sound _ only.1) (λ start. λ h. absurd (cc))))
+
+make_sound : (flags : ℕ) (q : List Part) (visited : Bool) (t : ThreadOf (List Part)) (vs : List Value) → Sound (make flags q visited t vs)
+make_sound flags q visited t vs = popping_sound (operands flags (reverse vs)) _ (operands_sound flags (reverse vs))
+    (λ o. result_if (is_offered flags visited o.condition) _ _ (result_or (fits_text (choice_text o)) _ TooDeep (λ h. absurd (cc))) (λ h. absurd (cc)))
+
+offering_acts : (s : StoryTree) (p : List Part) (seen : Context) (made : Option (ChoiceOf (List Part))) (f : Fields) → Acts (offering s p seen made f)
+offering_acts s p seen None f = moves_act f
+offering_acts s p seen (Some c) f = acts_or (added c seen.choices) _ (result_or (nat_lt (length seen.choices) MAX_CHOICES) _ TooDeep (λ h. absurd (cc))) (λ cs. λ h. absurd (cc))
+
+-- ---- content that leads elsewhere
 
 divert_acts : (s : StoryTree) (p : List Part) (seen : Context) (to : Destination) (f : Fields) → Acts (divert_to s p seen to f)
 divert_acts s p seen to f = acts_or (led_to s p seen to f.globals) _ (led_to_sound s p seen to f.globals) (λ l. λ h. absurd (cc))
@@ -348,6 +393,8 @@ leaf_acts s p seen (leaves.AssignTemp name) f = assign_acts name seen f
 leaf_acts s p seen (leaves.Variable name) f = acts_or (read f.globals seen.thread name) _ (read_sound f.globals seen.thread name) (λ v. push_acts v f)
 leaf_acts s p seen (leaves.Pointer name frame) f = value_acts _ f
 leaf_acts s p seen (leaves.Count text) f = acts_else NotCounted (leads s p text) _ (λ h. absurd (cc)) (λ q. count_acts s seen _ f (visits_sound s seen q))
+leaf_acts s p seen (leaves.Choice text flags) f = acts_else BadTarget (lands s p text) _ (λ h. absurd (cc))
+    (λ q. acts_or (make flags q (was_visited s p seen text flags) seen.thread f.stack) _ (make_sound flags q _ seen.thread f.stack) (λ r. offering_acts s p seen r.0 _))
 leaf_acts s p seen l f = moves_act f
 
 effect_acts : (s : StoryTree) (p : List Part) (found : Option StoryTree) (seen : Context) (f : Fields) → Acts (effect s p found seen f)
@@ -495,6 +542,7 @@ module _ (s : StoryTree) where
   move_goes : (e : Effect) (c : Configuration) → Acts e → Goes (move s e c)
   move_goes (Moves f) c acts = let d = with_fields f c in reached_goes d _ (moved_stays (next_place s) d.flow.threads (written_in d))
   move_goes (Stores t f) c acts = let d = with_fields f (with_thread t c) in reached_goes d _ (moved_stays (next_place s) d.flow.threads (written_in d))
+  move_goes (Offers cs f) c acts = let d = with_fields f (with_choices cs c) in reached_goes d _ (moved_stays (next_place s) d.flow.threads (written_in d))
   move_goes (Lands to f) c acts = let d = with_fields f c in landed_goes s to.enters d _ (reach_stays to.place d.flow.threads (written_in d))
   move_goes (Calls k to f) c acts = let d = with_fields f c in landed_goes s to.enters d _ (called_stays k to.place d.flow.threads (written_in d))
   move_goes (Returns k to f) c acts = let d = with_fields f c in landed_goes s (may_enter to) d _ (returned_stays (next_place s) k (place_to to) d.flow.threads (written_in d))
@@ -503,13 +551,23 @@ module _ (s : StoryTree) where
   move_goes (Ends f) c acts = let d = with_fields f c in reached_goes (ended d) _ (halt_stays (base_threads None) (written_in d))
   move_goes (Fails f) c acts = λ h. acts (cc)
 
+  following_goes : (o : Outcome) → Goes o → Goes (following s o)
+  following_goes (Next c) goes = goes
+  following_goes (Wants name arguments c) goes = goes
+  following_goes (Faults f) goes = goes
+  following_goes (Stop c) goes = by (default_choice c.flow.choices)
+    where
+      by : (o : Option (ChoiceOf (List Part))) → Goes (stopped_by s o c)
+      by None = λ h. absurd (cc)
+      by (Some choice) = λ h. absurd (cc)
+
   step_goes : (b : Bound) (c : Configuration) → Goes (step s b c)
   unfolding step
   step_goes b c = at_place (current_place c)
     where
       at_place : (place : Option (List Part)) → Goes (step_at s b place c)
       at_place None = λ h. absurd (cc)
-      at_place (Some p) = let d = gone_in s p c in move_goes _ d (effect_acts s (entered s p) (at s (entered s p)) (context_of d) (fields_of d))
+      at_place (Some p) = let d = gone_in s p c in following_goes _ (move_goes _ d (effect_acts s (entered s p) (at s (entered s p)) (context_of d) (fields_of d)))
 
   answered_goes : (c : Configuration) (g : Option Given) → Goes (answered s c g)
   answered_goes c None = λ h. absurd (cc)
@@ -517,8 +575,8 @@ module _ (s : StoryTree) where
     where
       at_place : (place : Option (List Part)) → Goes (answered_at s (value_given g) place c)
       at_place None = λ h. absurd (cc)
-      at_place (Some p) = move_goes (push_answer (value_given g) (fields_of c)) _
-          (effect_if (fits_value (value_given g)) _ _ (push_acts (value_given g) (fields_of c)) (fails_act TooDeep (λ h. absurd (cc))))
+      at_place (Some p) = following_goes _ (move_goes (push_answer (value_given g) (fields_of c)) _
+          (effect_if (fits_value (value_given g)) _ _ (push_acts (value_given g) (fields_of c)) (fails_act TooDeep (λ h. absurd (cc)))))
 
 module _ (s : StoryTree) (b : Bound) where
   -- ---- a run

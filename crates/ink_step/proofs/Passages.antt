@@ -1,5 +1,5 @@
 -- The passage of a machine, and what a running command tells.
-use Rattle.std.proofs.Common.{◌≡◌, ◌∙◌, ◌⊎◌, ap, sym, refl, subst, inl, inr, ℕ, List, [], Bool, true, false, Err, if◌then◌else◌, arith}
+use Rattle.std.proofs.Common.{◌≡◌, ◌∙◌, ◌⊎◌, ap, sym, refl, subst, inl, inr, ℕ, List, [], Bool, Err, arith}
 use Rattle.ink_model.specs.Tree.{StoryTree}
 use Rattle.ink_model.specs.Mark.{tags}
 use Rattle.ink_model.specs.Clean.{clean}
@@ -12,6 +12,7 @@ use Rattle.ink_model.specs.declared.limits.TheConstants.{MAX_STEPS}
 use Rattle.ink_model.specs.Answer.{Tells, Breaks}
 use Rattle.ink_model.specs.State.{Ready, Broken}
 use Rattle.ink_model.specs.Session.{passage, is_loose, EndsAs, RunsThrough}
+use Rattle.ink_model.specs.Turns.{open_choices}
 use Rattle.ink_model.specs.declared.fault.Fault.{Fault}
 use Rattle.ink_model.specs.declared.fault.Fault.TheVariants.{OutOfMemory}
 use Rattle.ink_model.specs.declared.host.Event.{Event}
@@ -25,19 +26,12 @@ abbrev pub made : List ℕ → List (List ℕ) → List Shown → List Event →
 made text told choices events more loose =
     record { text = text; tags = told; choices = choices; events = events; more = more; loose = loose }
 
--- no choice is shown, whether flow has stopped or not
-none_shown : (b : Bool) (choices : List Shown) → choices ≡ [] → choices ≡ (if b then [] else [])
-none_shown true choices e = e
-none_shown false choices e = e
-
 pub passage_is : (s : StoryTree) (m : Machine) (text : List ℕ) (told : List (List ℕ)) (choices : List Shown) (events : List Event) (more loose : Bool)
-    → text ≡ clean (shown_text m.output.page.line) → told ≡ tags m.output.page.line → choices ≡ [] → events ≡ []
+    → text ≡ clean (shown_text m.output.page.line) → told ≡ tags m.output.page.line → choices ≡ open_choices (config_of s m) → events ≡ []
     → more ≡ can_go_on (config_of s m) → loose ≡ is_loose (config_of s m)
     → made text told choices events more loose ≡ passage (config_of s m)
 unfolding passage
-passage_is s m text told choices events more loose e f g h i j =
-    let chosen = none_shown (can_go_on (config_of s m)) choices g in
-    rw (e, f, h, i, j, chosen) refl
+passage_is s m text told choices events more loose e f g h i j = rw (e, f, g, h, i, j) refl
 
 -- ---- a running command, from the run that it makes
 

@@ -1,6 +1,5 @@
 -- What reading, declaring and assigning do, by the variable that is read or written.
 use Rattle.std.proofs.Common.{◌≡◌, ◌∙◌, ℕ, List, Bool, true, false, not, ◌||◌, Some, Result, Ok, Err, OnOk, ap, inl, inr, is_ok, is_some, refl, subst, sym}
-use Rattle.ink_model.specs.Counts.{CountsOf}
 use Rattle.ink_model.specs.Effect.{Fields, Effect, Stores, or_fault, pushing}
 use Rattle.ink_model.specs.Frames.{ThreadOf, ThreadsOf, fresh_depth, map_thread}
 use Rattle.ink_model.specs.Memory.{Leaves}
@@ -18,7 +17,7 @@ use Rattle.ink_model.specs.declared.scope.Scope.{Scope}
 use Rattle.ink_model.specs.declared.scope.Scope.TheVariants.{Global, Temporary}
 use Rattle.ink_model.specs.declared.value.Value.{Value}
 use Rattle.ink_step.specs.Performs.{Changes, Keeps, Performs, fields}
-use Rattle.ink_step.specs.Words.{seen_by}
+use Rattle.ink_step.specs.Words.{Rest, seen_by}
 use Rattle.ink_step.specs.declared.transfer.Transfer.{Transfer}
 use Rattle.ink_step.specs.declared.transfer.Transfer.TheVariants as transfer
 use Rattle.ink_step.proofs.Effects.{operated, short}
@@ -71,7 +70,7 @@ on_ok : {A : Type 0} (r : Result A Fault) (B C : Type 0) → (B → C) → OnOk 
 on_ok (Ok a) B C so h = so h
 on_ok (Err f) B C so h = h
 
-module _ (s : StoryTree) (ts : ThreadsOf Spot) (counts : CountsOf ℕ) (f : Fields) where
+module _ (s : StoryTree) (ts : ThreadsOf Spot) (rest : Rest) (f : Fields) where
   -- ---- reading
 
   abbrev reading : List ℕ → Bool
@@ -79,13 +78,13 @@ module _ (s : StoryTree) (ts : ThreadsOf Spot) (counts : CountsOf ℕ) (f : Fiel
 
   pub pushes_read : (name : List ℕ) (v : Value) (new : List Value) (result : Result (Unit {0}) Fault)
       → HandsOut (copy_asks (read f.globals ts.thread name)) (read f.globals ts.thread name) (Ok v) → Leaves (pushed v f.stack) f.stack new result
-      → Changes (reading name) (effects.push_variable name (seen_by s ts counts) f) (record f { stack = new }) result
+      → Changes (reading name) (effects.push_variable name (seen_by s ts rest) f) (record f { stack = new }) result
   pushes_read name v new result is pushes t =
       let reads : read f.globals (map_thread (place_of s) ts.thread) name ≡ Ok v = read_renamed (place_of s) f.globals ts.thread name ∙ handed _ _ v is in
       rw reads (operated true (pushed v f.stack) (λ vs. record f { stack = vs }) f.stack new result pushes (λ h. refl) t)
 
   pub reads_nothing : (name : List ℕ) (g : Fault) → HandsOut (copy_asks (read f.globals ts.thread name)) (read f.globals ts.thread name) (Err g)
-      → Changes (reading name) (effects.push_variable name (seen_by s ts counts) f) f (Err g)
+      → Changes (reading name) (effects.push_variable name (seen_by s ts rest) f) f (Err g)
   reads_nothing name g h t =
       let reads : read f.globals (map_thread (place_of s) ts.thread) name ≡ read f.globals ts.thread name = read_renamed (place_of s) f.globals ts.thread name in
       rw reads (by (read f.globals ts.thread name) h)
@@ -107,7 +106,7 @@ module _ (s : StoryTree) (ts : ThreadsOf Spot) (counts : CountsOf ℕ) (f : Fiel
 
   module _ (name : List ℕ) (left : List Value) (v : Value) (pops : popped f.stack ≡ Some (v, left)) where
     abbrev assigning : Effect
-    assigning = effects.assign name (seen_by s ts counts) f
+    assigning = effects.assign name (seen_by s ts rest) f
 
     abbrev assigning_asks : Bool
     assigning_asks = on_popped (popped f.stack) (assign_asks f.globals (map_thread (place_of s) ts.thread) name)
@@ -141,7 +140,7 @@ module _ (s : StoryTree) (ts : ThreadsOf Spot) (counts : CountsOf ℕ) (f : Fiel
 
   module _ (scope : Scope) (name : List ℕ) (left : List Value) (v : Value) (pops : popped f.stack ≡ Some (v, left)) where
     abbrev declaring : Effect
-    declaring = effects.declare scope name (seen_by s ts counts) f
+    declaring = effects.declare scope name (seen_by s ts rest) f
 
     abbrev declaring_asks : Bool
     declaring_asks = on_popped (popped f.stack) (declare_asks f.globals (map_thread (place_of s) ts.thread) scope name)

@@ -1,5 +1,6 @@
 -- Numbers of marks are cleared alike among spots and among places.
 use Rattle.std.proofs.Common.{◌≡◌, ◌∙◌, ap, refl, List, [], ◌∷◌, map}
+use Rattle.ink_model.specs.Configuration.{ChoiceOf, map_choice, unnumbered_choice}
 use Rattle.ink_model.specs.Frames.{FrameOf, ThreadOf, ThreadsOf, map_frame, map_thread, map_threads, unnumbered_frame, unnumbered_thread, unnumbered_threads}
 
 module _ {P Q : Type 0} (f : P → Q) where
@@ -18,3 +19,10 @@ module _ {P Q : Type 0} (f : P → Q) where
   threads_alike ts =
       ap (λ t. record { thread = t; below = map (map_thread f) (map unnumbered_thread ts.below) }) (thread_alike ts.thread)
       ∙ ap (λ us. record { thread = unnumbered_thread (map_thread f ts.thread); below = us }) (below_alike ts.below)
+
+  -- the same of choices, which keep threads
+  pub choices_alike : (cs : List (ChoiceOf P)) → map (map_choice f) (map unnumbered_choice cs) ≡ map unnumbered_choice (map (map_choice f) cs)
+  choices_alike [] = refl
+  choices_alike (c ∷ cs) =
+      ap (λ t. record (map_choice f c) { thread = t } ∷ map (map_choice f) (map unnumbered_choice cs)) (thread_alike c.thread)
+      ∙ ap (λ ds. unnumbered_choice (map_choice f c) ∷ ds) (choices_alike cs)

@@ -70,6 +70,7 @@ control_unstored s p seen control.BeginTag f =
     unstored_or (if in_tag f.page.sections then closed_tag f.stack f.page else Ok (f.stack, f.page)) _ (λ r. writing_unstored (opens tag_section r.1) (record f { stack = r.0 }))
 control_unstored s p seen control.EndTag f = unstored_or (closed_tag f.stack f.page) _ (λ r u. refl)
 control_unstored s p seen control.ReturnTunnel f = unstored_else StackEmpty (popped f.stack) _ (λ r. unstored_or (led_back s r.0) _ (λ to u. refl))
+control_unstored s p seen control.ChoiceCount f = pushing_unstored _ f
 control_unstored s p seen control.Turn f = pushing_unstored _ f
 control_unstored s p seen control.Turns f = unstored_else StackEmpty (popped f.stack) _ (λ r. unstored_else BadTarget (landing_by s r.0) _ (λ to. count_unstored s seen _ (record f { stack = r.1 })))
 control_unstored s p seen control.ReadCount f = unstored_else StackEmpty (popped f.stack) _ (λ r. unstored_else BadTarget (landing_by s r.0) _ (λ to. count_unstored s seen _ (record f { stack = r.1 })))

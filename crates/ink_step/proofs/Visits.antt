@@ -190,17 +190,27 @@ module _ (s : StoryTree) (q : List Part) (g turn : ℕ) (c : CountsOf (List Part
 -- ---- containers that are entered one after another
 
 -- what was entered so far, and what is still entered, is all that is entered
-abbrev pub StillEnters : StoryTree → List (List Part) → CountsOf ℕ → List (List Part) → CountsOf ℕ → Type 0
-StillEnters s all old rest now =
-    (all_visited s 0 rest (counts_in s now) ≡ all_visited s 0 all (counts_in s old))
+abbrev pub StillEnters : StoryTree → ℕ → List (List Part) → CountsOf ℕ → List (List Part) → CountsOf ℕ → Type 0
+StillEnters s turn all old rest now =
+    (all_visited s turn rest (counts_in s now) ≡ all_visited s turn all (counts_in s old))
     × (adds_rows s rest (counts_in s now) ≡ true → adds_rows s all (counts_in s old) ≡ true)
 
-module _ (s : StoryTree) (all : List (List Part)) (old : CountsOf ℕ) where
-  pub enters_more : (p : List Part) (rest more : List (List Part)) (now : CountsOf ℕ) → rest ≡ p ∷ more → StillEnters s all old rest now
-      → (new : CountsOf ℕ) → counts_in s new ≡ visited place_order p (flags_at (at s p)) true 0 (counts_in s now) → StillEnters s all old more new
+module _ (s : StoryTree) (turn : ℕ) (all : List (List Part)) (old : CountsOf ℕ) where
+  pub enters_more : (p : List Part) (rest more : List (List Part)) (now : CountsOf ℕ) → rest ≡ p ∷ more → StillEnters s turn all old rest now
+      → (new : CountsOf ℕ) → counts_in s new ≡ visited place_order p (flags_at (at s p)) true turn (counts_in s now) → StillEnters s turn all old more new
   enters_more p rest more now is still new visit = (
-    ap (all_visited s 0 more) visit ∙ ap (λ ps. all_visited s 0 ps (counts_in s now)) (sym is) ∙ still.0,
+    ap (all_visited s turn more) visit ∙ ap (λ ps. all_visited s turn ps (counts_in s now)) (sym is) ∙ still.0,
     λ h. still.1 (ap (λ ps. adds_rows s ps (counts_in s now)) is
         ∙ or_second (adds_row place_order p (flags_at (at s p)) (counts_in s now)) _
-        (rows_less s p (flags_at (at s p)) 0 (counts_in s now) more (ap (adds_rows s more) (sym visit) ∙ h))),
+        (rows_less s p (flags_at (at s p)) turn (counts_in s now) more (ap (adds_rows s more) (sym visit) ∙ h))),
   )
+
+-- the first of these that are entered
+module _ (s : StoryTree) (turn : ℕ) (p : List Part) (all more : List (List Part)) (is : all ≡ p ∷ more) (old : CountsOf ℕ) where
+  pub first_adds : adds_row place_order p (flags_at (at s p)) (counts_in s old) ≡ true → adds_rows s all (counts_in s old) ≡ true
+  first_adds adds =
+      ap (λ ps. adds_rows s ps (counts_in s old)) is
+      ∙ ap (λ b. b || adds_rows s more (counts_in s old)) adds
+
+  pub first_entered : (new : CountsOf ℕ) → counts_in s new ≡ visited place_order p (flags_at (at s p)) true turn (counts_in s old) → StillEnters s turn all old more new
+  first_entered = enters_more s turn all old p all more old is (refl, λ h. h)

@@ -1,7 +1,9 @@
 -- What performing a content does, beside its effect.
-use Rattle.std.specs.Prelude.{◌≡◌, ◌⊎◌, ◌||◌, ℕ, List, length, Bool, true, false, Option, Some, None, is_some, option_map, Result, Ok, Err}
-use Rattle.ink_model.specs.Effect.{Fields, Effect, Landing as Goal, Moves, Stores, Lands, Calls, Returns, Forks, Done, Ends, Fails}
+use Rattle.std.specs.Prelude.{◌≡◌, ◌⊎◌, ◌||◌, ℕ, List, length, map, Bool, true, false, Option, Some, None, is_some, option_map, Result, Ok, Err}
+use Rattle.ink_model.specs.Configuration.{ChoiceOf, map_choice, with_globals}
+use Rattle.ink_model.specs.Effect.{Fields, Effect, Landing as Goal, Moves, Stores, Offers, Lands, Calls, Returns, Forks, Done, Ends, Fails}
 use Rattle.ink_model.specs.Frames.{ThreadOf, ThreadsOf, map_threads, mode_in, on_top}
+use Rattle.ink_model.specs.Move.{Outcome, Next, Stop}
 use Rattle.ink_model.specs.Page.{Page}
 use Rattle.ink_model.specs.Store.{Values, store, stored}
 use Rattle.ink_model.specs.Tree.{StoryTree}
@@ -42,6 +44,7 @@ Performs s asks (Moves f) new (Ok transfer.Next) = new ≡ f
 Performs s asks (Moves f) new (Ok transfer.Wrote) = f ≡ with_text new
 Performs s asks (Stores t f) new (Ok transfer.Next) = new ≡ f
 Performs s asks (Stores t f) new (Ok (transfer.Store name v)) = (f ≡ record new { globals = store (name_of name) v new.globals }) × (is_some (stored (name_of name) new.globals) || asks ≡ true)
+Performs s asks (Offers choices f) new (Ok transfer.Next) = new ≡ f
 Performs s asks (Lands l f) new (Ok (transfer.Land to)) = (l ≡ landing_of s to) × (new ≡ f)
 Performs s asks (Calls k l f) new (Ok (transfer.Call kind to)) = (k ≡ kind) × (l ≡ landing_of s to) × (new ≡ f)
 Performs s asks (Returns k to f) new (Ok (transfer.Return kind back)) = (k ≡ kind) × (to ≡ option_map (landing_of s) back) × (new ≡ f)
@@ -56,6 +59,26 @@ Performs s asks e new result = ⊥
 abbrev pub stored_by : Effect → ThreadOf (List Part) → ThreadOf (List Part)
 stored_by (Stores t f) u = t
 stored_by e u = u
+
+-- An effect that stores a global, before that is done: the globals are still these.
+abbrev pub unstored : Values → Effect → Effect
+unstored globals (Stores t f) = Stores t (record f { globals = globals })
+unstored globals e = e
+
+-- with the globals that an effect stores
+abbrev pub storing_in : Effect → Outcome → Outcome
+storing_in (Stores t f) (Next c) = Next (with_globals f.globals c)
+storing_in (Stores t f) (Stop c) = Stop (with_globals f.globals c)
+storing_in e o = o
+
+-- the choices, with those of an effect
+abbrev pub offered_by : Effect → List (ChoiceOf (List Part)) → List (ChoiceOf (List Part))
+offered_by (Offers choices f) old = choices
+offered_by e old = old
+
+-- Performing keeps the choices, but for those that an effect offers.
+abbrev pub KeepsChoices : StoryTree → Effect → List (ChoiceOf Spot) → List (ChoiceOf Spot) → Type 0
+KeepsChoices s e old new = map (map_choice (place_of s)) new ≡ offered_by e (map (map_choice (place_of s)) old)
 
 -- Performing keeps the threads, but for the mode of the top frame, and for temporaries that an effect stores.
 abbrev pub Keeps : StoryTree → Effect → ThreadsOf Spot → ThreadsOf Spot → Type 0

@@ -1,8 +1,9 @@
 -- How steps and runs end, beside the definitions.
-use Rattle.std.specs.Prelude.{◌≡◌, [], ◌⊎◌, Bool, true, Result, Ok, Err}
+use Rattle.std.specs.Prelude.{◌≡◌, List, [], ◌⊎◌, Bool, true, Option, Some, None, Result, Ok, Err}
 use Rattle.ink_model.specs.Answer as answer
 use Rattle.ink_model.specs.Answer.{Reply, Tells}
-use Rattle.ink_model.specs.Configuration.{Configuration}
+use Rattle.ink_model.specs.Choosing.{chosen}
+use Rattle.ink_model.specs.Configuration.{ChoiceOf, Configuration}
 use Rattle.ink_model.specs.Memory.{GetsTo, OpensShort}
 use Rattle.ink_model.specs.Move.{Outcome, Next, Stop, Faults}
 use Rattle.ink_model.specs.Opening.{opening}
@@ -12,10 +13,14 @@ use Rattle.ink_model.specs.State.{Condition, Ready, Broken}
 use Rattle.ink_model.specs.Step.Host.{nothing_bound}
 use Rattle.ink_model.specs.Store.{Values}
 use Rattle.ink_model.specs.Tree.{StoryTree}
+use Rattle.ink_model.specs.Visits.{entering_around, entering_asks}
 use Rattle.ink_model.specs.declared.fault.Fault.{Fault}
 use Rattle.ink_model.specs.declared.fault.Fault.TheVariants.{OutOfMemory}
+use Rattle.ink_model.specs.declared.fault.Refusal.{Refusal}
+use Rattle.ink_model.specs.declared.fault.Refusal.TheVariants as refusal
 use Rattle.ink_model.specs.declared.limits.TheConstants.{MAX_STEPS}
 use Rattle.ink_model.specs.declared.passage.Passage.{Passage}
+use Rattle.ink_model.specs.declared.place.Part.{Part}
 use Rattle.ink_step.specs.declared.flow.StepEnd.{StepEnd}
 use Rattle.ink_step.specs.declared.flow.StepEnd.TheVariants as ends
 
@@ -51,3 +56,11 @@ reply_of_run (Err f) = answer.Breaks f []
 abbrev pub left_by : Result Passage Fault → Configuration → Condition
 left_by (Ok passage) c = Ready c
 left_by (Err f) c = Broken f c.shared.globals
+
+-- A choice is taken, with the containers that its landing enters; or there is none, or memory is refused for a first visit, and
+-- nothing has changed.
+abbrev pub Chooses : StoryTree → Option (ChoiceOf (List Part)) → Configuration → Configuration → Result (Unit {0}) Refusal → Type 0
+Chooses s None old new (Ok u) = ⊥
+Chooses s None old new (Err r) = (r ≡ refusal.NotAChoice) × (new ≡ old)
+Chooses s (Some choice) old new (Ok u) = new ≡ entering_around s (chosen choice old)
+Chooses s (Some choice) old new (Err r) = (r ≡ refusal.OutOfMemory) × (entering_asks s (chosen choice old) ≡ true) × (new ≡ old)

@@ -1,6 +1,6 @@
 -- What a machine stands for.
-use Rattle.std.specs.Prelude.{ℕ, List, [], ◌∷◌, length, nat_lt, if◌then◌else◌}
-use Rattle.ink_model.specs.Configuration.{Configuration}
+use Rattle.std.specs.Prelude.{ℕ, List, [], ◌∷◌, length, map, nat_lt, if◌then◌else◌}
+use Rattle.ink_model.specs.Configuration.{ChoiceOf, Configuration, map_choice}
 use Rattle.ink_model.specs.Counts.{CountsOf}
 use Rattle.ink_model.specs.Effect.{Context}
 use Rattle.ink_model.specs.Frames.{ThreadsOf, map_thread, map_threads}
@@ -25,18 +25,31 @@ rows_in s rows = map_keys (λ n. node_place s (record { number = n })) (rows_bel
 abbrev pub counts_in : StoryTree → CountsOf ℕ → CountsOf (List Part)
 counts_in s counts = record { visits = rows_in s counts.visits; turns = rows_in s counts.turns }
 
--- the configuration of a machine, over the places that its spots and numbers stand for; choices, which begin turns, are as at the
--- start
+-- the configuration of a machine, over the places that its spots and numbers stand for
 abbrev pub config_of : StoryTree → Machine → Configuration
 config_of s m = record {
-  flow = record { threads = map_threads (place_of s) m.threads; stack = m.stack.items; choices = []; safe = m.safe };
-  shared = record { globals = m.globals; counts = counts_in s m.counts; turn = 0 };
+  flow = record { threads = map_threads (place_of s) m.threads; stack = m.stack.items; choices = map (map_choice (place_of s)) m.choices; safe = m.safe };
+  shared = record { globals = m.globals; counts = counts_in s m.counts; turn = m.turn };
   page = m.output.page;
 }
 
+-- what a machine has beside its threads that content may look at and not change
+pub record Rest : Type 0 where
+  pub choices : List (ChoiceOf Spot)
+  pub counts : CountsOf ℕ
+  pub turn : ℕ
+
+abbrev pub rest_of : Machine → Rest
+rest_of m = record { choices = m.choices; counts = m.counts; turn = m.turn }
+
 -- what content may look at and not change, as `context_of` gives it
-abbrev pub seen_by : StoryTree → ThreadsOf Spot → CountsOf ℕ → Context
-seen_by s threads counts = record { thread = map_thread (place_of s) threads.thread; counts = counts_in s counts; turn = 0 }
+abbrev pub seen_by : StoryTree → ThreadsOf Spot → Rest → Context
+seen_by s threads rest = record {
+  thread = map_thread (place_of s) threads.thread;
+  choices = map (map_choice (place_of s)) rest.choices;
+  counts = counts_in s rest.counts;
+  turn = rest.turn;
+}
 
 abbrev pub globals_of : Machine → Values
 globals_of m = m.globals

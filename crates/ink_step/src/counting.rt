@@ -14,15 +14,13 @@ ghost use Rattle.ink_model.specs.View.{view};
 ghost use Rattle.ink_model.specs.Visits.{adds_rows, all_visited, around, entering_around};
 ghost use Rattle.ink_step.specs.Words.{config_of, counts_in};
 ghost use Rattle.ink_tree.specs.Nodes.{node_place, place_of, story_tree};
+ghost use Rattle.ink_tree.specs.Walks.{still_entered};
 
 use crate::machine::Machine;
 use ink_check::Story;
 use ink_model::{Content, Fault};
-use ink_tree::{NodeId, Spot, Tree};
-use ink_vars::Counts;
-
-// The turn in which everything happens: no choice is made yet, which begins another.
-pub(crate) const TURN: u32 = 0;
+use ink_tree::{NodeId, Spot, Tree, Upward};
+use ink_vars::{Counts, Turn};
 
 /// How often a container was visited. `NotCounted` where its visits are not counted. Takes no memory.
 pub(crate) fn visits_of(tree: &Tree, counts: &Counts, container: NodeId) -> Result<i32, Fault>
@@ -34,23 +32,28 @@ pub(crate) fn visits_of(tree: &Tree, counts: &Counts, container: NodeId) -> Resu
 
 /// How many turns ago a container was entered last, -1 where it never was. `NotCounted` where its turns are not noted. Takes no
 /// memory.
-pub(crate) fn turns_since(tree: &Tree, counts: &Counts, container: NodeId) -> Result<i32, Fault>
+pub(crate) fn turns_since(
+    tree: &Tree,
+    counts: &Counts,
+    container: NodeId,
+    turn: Turn,
+) -> Result<i32, Fault>
     ensures { let s = story_tree tree.now in let q = node_place s container in
-        result ≡ rules.turns_since place_order q (flags_at (at s q)) 0 (counts_in s counts.now) }
+        result ≡ rules.turns_since place_order q (flags_at (at s q)) turn (counts_in s counts.now) }
 {
-    counts.turns_since(tree.number_of(container), tree.flags(container), TURN)
+    counts.turns_since(tree.number_of(container), tree.flags(container), turn)
 }
 
-// A container is entered, as at its start. The one error is a refused request for memory, which is made only for a row that is
-// not there.
-fn enter(tree: &Tree, counts: &mut Counts, container: NodeId) -> Result<(), Fault>
+// A container is entered in a turn, as at its start. The one error is a refused request for memory, which is made only for a row
+// that is not there.
+fn enter(tree: &Tree, counts: &mut Counts, container: NodeId, turn: Turn) -> Result<(), Fault>
     ensures ok { let s = story_tree tree.now in let q = node_place s container in
-        OnOk result (counts_in s counts.new ≡ rules.visited place_order q (flags_at (at s q)) true 0 (counts_in s counts.old)) }
+        OnOk result (counts_in s counts.new ≡ rules.visited place_order q (flags_at (at s q)) true turn (counts_in s counts.old)) }
     ensures fault { IfErr result (λ f. f ≡ Fault.OutOfMemory) }
     ensures memory { let s = story_tree tree.now in let q = node_place s container in
         OnErr result (rules.adds_row place_order q (flags_at (at s q)) (counts_in s counts.old) ≡ true) }
 {
-    counts.visit(tree.number_of(container), tree.flags(container), true, TURN)
+    counts.visit(tree.number_of(container), tree.flags(container), true, turn)
 }
 
 // The containers on the way down from a content are entered, to the first content that holds no other, which is given. The one
@@ -59,16 +62,17 @@ fn enter_passed<'a>(
     tree: &'a Tree,
     counts: &mut Counts,
     node: NodeId,
+    turn: Turn,
 ) -> Result<(Spot, Option<&'a Content>), Fault>
     ensures here { let s = story_tree tree.now in IfOk result (λ r. place_of s r.0 ≡ entered s (node_place s node)) }
     ensures found { let s = story_tree tree.now in IfOk result (λ r. option_map (λ c. view c.now) r.1 ≡ at s (place_of s r.0)) }
-    ensures ok { let s = story_tree tree.now in OnOk result (counts_in s counts.new ≡ all_visited s 0 (passed_places s (node_place s node)) (counts_in s counts.old)) }
+    ensures ok { let s = story_tree tree.now in OnOk result (counts_in s counts.new ≡ all_visited s turn (passed_places s (node_place s node)) (counts_in s counts.old)) }
     ensures fault { IfErr result (λ f. f ≡ Fault.OutOfMemory) }
     ensures memory { let s = story_tree tree.now in OnErr result (adds_rows s (passed_places s (node_place s node)) (counts_in s counts.old) ≡ true) }
 {
     let mut last = node;
     while let Some(first) = tree.first(last) {
-        enter(tree, counts, last)?;
+        enter(tree, counts, last, turn)?;
         last = first;
     }
     let here = Spot {
@@ -77,7 +81,7 @@ fn enter_passed<'a>(
     };
     let found = tree.content(here);
     if is_container(found) {
-        enter(tree, counts, last)?;
+        enter(tree, counts, last, turn)?;
     }
     Ok((here, found))
 }
@@ -92,24 +96,49 @@ fn is_container(found: Option<&Content>) -> bool
     }
 }
 
-// The containers around a place are entered where flow lands there from another place. The one error is a refused request for
-// memory.
-fn enter_landed(
+/// The containers around a place are entered in a turn where flow lands there from another place. The one error is a refused
+/// request for memory, which is made only for a row that is not there; nothing has changed then.
+pub(crate) fn enter_landed(
     tree: &Tree,
     counts: &mut Counts,
     previous: Option<Spot>,
     place: Spot,
+    turn: Turn,
 ) -> Result<(), Fault>
-    ensures ok { let s = story_tree tree.now in OnOk result (counts_in s counts.new ≡ all_visited s 0 (entered_places s (option_map (place_of s) previous) (place_of s place)) (counts_in s counts.old)) }
+    ensures ok { let s = story_tree tree.now in OnOk result (counts_in s counts.new ≡ all_visited s turn (entered_places s (option_map (place_of s) previous) (place_of s place)) (counts_in s counts.old)) }
     ensures fault { IfErr result (λ f. f ≡ Fault.OutOfMemory) }
+    ensures kept { OnErr result (counts.new ≡ counts.old) }
     ensures memory { let s = story_tree tree.now in OnErr result (adds_rows s (entered_places s (option_map (place_of s) previous) (place_of s place)) (counts_in s counts.old) ≡ true) }
 {
-    let mut rest = tree.upward(place);
-    while let Some(next) = tree.next_entered(previous, rest) {
-        enter(tree, counts, next.node)?;
-        rest = next;
+    enter_all(tree, counts, previous, tree.upward(place), turn)
+}
+
+// The containers that a walk upward still enters are entered, all of them or none.
+fn enter_all(
+    tree: &Tree,
+    counts: &mut Counts,
+    previous: Option<Spot>,
+    rest: Upward,
+    turn: Turn,
+) -> Result<(), Fault>
+    ensures ok { let s = story_tree tree.now in OnOk result (counts_in s counts.new ≡ all_visited s turn (still_entered s (option_map (place_of s) previous) rest) (counts_in s counts.old)) }
+    ensures fault { IfErr result (λ f. f ≡ Fault.OutOfMemory) }
+    ensures kept { OnErr result (counts.new ≡ counts.old) }
+    ensures memory { let s = story_tree tree.now in OnErr result (adds_rows s (still_entered s (option_map (place_of s) previous) rest) (counts_in s counts.old) ≡ true) }
+{
+    let Some(next) = tree.next_entered(previous, rest) else {
+        return Ok(());
+    };
+    let container = tree.number_of(next.node);
+    let noted = counts.noted(container);
+    counts.visit(container, tree.flags(next.node), true, turn)?;
+    match enter_all(tree, counts, previous, next, turn) {
+        Ok(()) => Ok(()),
+        Err(fault) => {
+            counts.restore(container, noted);
+            Err(fault)
+        }
     }
-    Ok(())
 }
 
 impl Machine {
@@ -141,23 +170,30 @@ impl Machine {
             self.threads.put(Some(place));
             return Ok((place, None));
         };
-        let (here, found) = enter_passed(tree, &mut self.counts, node)?;
+        let (here, found) = enter_passed(tree, &mut self.counts, node, self.turn)?;
         self.threads.put(Some(here));
         Ok((here, found))
     }
 
     /// Flow has landed: the containers around are entered, where the landing enters any. The one error is a refused request for
-    /// memory, which is made only for a container that is entered for the first time.
+    /// memory, which is made only for a container that is entered for the first time; nothing has changed then.
     pub(crate) fn enter_around(&mut self, tree: &Tree, enters: bool) -> Result<(), Fault>
         ensures ok { let s = story_tree tree.now in OnOk result (config_of s self.new ≡ (if enters then entering_around s (config_of s self.old) else config_of s self.old)) }
         ensures fault { IfErr result (λ f. f ≡ Fault.OutOfMemory) }
         ensures memory { let s = story_tree tree.now in let c = config_of s self.old in
             OnErr result ((enters && adds_rows s (around s c.flow.threads) c.shared.counts) ≡ true) }
+        ensures kept { let s = story_tree tree.now in OnErr result (config_of s self.new ≡ config_of s self.old) }
         ensures globals { self.new.globals ≡ self.old.globals }
     {
         match self.threads.place() {
             Some(place) if enters => {
-                enter_landed(tree, &mut self.counts, self.threads.top().previous(), place)
+                enter_landed(
+                    tree,
+                    &mut self.counts,
+                    self.threads.top().previous(),
+                    place,
+                    self.turn,
+                )
             }
             _ => Ok(()),
         }

@@ -3,7 +3,6 @@
 ghost use Rattle.std.specs.Prelude.{◌≡◌, ℕ, Bool, false, Option, option_map};
 ghost use Rattle.ink_check.specs.Words.{story_tree};
 ghost use Rattle.ink_model.specs.Acceptance.{lands_to, written_target};
-ghost use Rattle.ink_model.specs.Counts.{CountsOf};
 ghost use Rattle.ink_model.specs.Effect.{Fields, Effect};
 ghost use Rattle.ink_model.specs.Page.{Page};
 ghost use Rattle.ink_model.specs.Step.Diverts as rules;
@@ -12,7 +11,7 @@ ghost use Rattle.ink_model.specs.Store.{Values};
 ghost use Rattle.ink_model.specs.Variables.{read};
 ghost use Rattle.ink_model.specs.declared.value.Value.TheVariants.{Target};
 ghost use Rattle.ink_step.specs.Performs.{Decides, Performs, fields, landing_of, led_as};
-ghost use Rattle.ink_step.specs.Words.{seen_by};
+ghost use Rattle.ink_step.specs.Words.{Rest, seen_by};
 ghost use Rattle.ink_tree.specs.Nodes.{place_of};
 
 use crate::operands::top;
@@ -38,8 +37,8 @@ pub(crate) fn divert<'a>(
     threads: &Threads<Spot>,
 ) -> Result<Transfer<'a>, Fault>
     requires { let s = story_tree story.now in written_target s (place_of s here) ≡ lands_to s (place_of s here) to.now }
-    ensures { let s = story_tree story.now in (evaluating : Bool) (fresh : Option ℕ) (page : Page) (counts : CountsOf ℕ)
-        → Performs s false (divert s (place_of s here) (seen_by s threads.now counts) to.now conditional (fields evaluating fresh stack.old.items page globals.now)) (fields evaluating fresh stack.new.items page globals.now) result }
+    ensures { let s = story_tree story.now in (evaluating : Bool) (fresh : Option ℕ) (page : Page) (rest : Rest)
+        → Performs s false (divert s (place_of s here) (seen_by s threads.now rest) to.now conditional (fields evaluating fresh stack.old.items page globals.now)) (fields evaluating fresh stack.new.items page globals.now) result }
 {
     match is_wanted(conditional, stack) {
         Ok(true) => match destination(story, here, to, globals, threads) {
@@ -76,8 +75,8 @@ pub(crate) fn destination(
     threads: &Threads<Spot>,
 ) -> Result<Landing, Fault>
     requires { let s = story_tree story.now in written_target s (place_of s here) ≡ lands_to s (place_of s here) to.now }
-    ensures { let s = story_tree story.now in (counts : CountsOf ℕ)
-        → led_as s result ≡ led_to s (place_of s here) (seen_by s threads.now counts) to.now globals.now }
+    ensures { let s = story_tree story.now in (rest : Rest)
+        → led_as s result ≡ led_to s (place_of s here) (seen_by s threads.now rest) to.now globals.now }
 {
     match to {
         Destination::Path(_) => match written_landing(story, here) {
@@ -131,7 +130,7 @@ pub(crate) fn landing_on(story: &Story, path: &Path) -> Option<Landing>
 }
 
 /// Where the written path of the content at a place leads.
-fn written_landing(story: &Story, here: Spot) -> Option<Spot>
+pub(crate) fn written_landing(story: &Story, here: Spot) -> Option<Spot>
     ensures { let s = story_tree story.now in option_map (place_of s) result ≡ written_target s (place_of s here) }
 {
     let Some(node) = story.tree().node(here) else {

@@ -3,12 +3,11 @@
 ghost use Rattle.std.specs.Prelude.{◌≡◌, ℕ, Bool, false, Option};
 ghost use Rattle.ink_check.specs.Words.{story_tree};
 ghost use Rattle.ink_model.specs.Acceptance.{lands_to, written_target};
-ghost use Rattle.ink_model.specs.Counts.{CountsOf};
 ghost use Rattle.ink_model.specs.Page.{Page};
 ghost use Rattle.ink_model.specs.Step.Calls.{call, return_tunnel};
 ghost use Rattle.ink_model.specs.Store.{Values};
 ghost use Rattle.ink_step.specs.Performs.{Performs, fields};
-ghost use Rattle.ink_step.specs.Words.{seen_by};
+ghost use Rattle.ink_step.specs.Words.{Rest, seen_by};
 ghost use Rattle.ink_tree.specs.Nodes.{place_of};
 
 use crate::diverting::{destination, is_wanted, landing_on};
@@ -35,8 +34,8 @@ pub(crate) fn call<'a>(
     threads: &Threads<Spot>,
 ) -> Result<Transfer<'a>, Fault>
     requires { let s = story_tree story.now in written_target s (place_of s here) ≡ lands_to s (place_of s here) to.now }
-    ensures { let s = story_tree story.now in (evaluating : Bool) (fresh : Option ℕ) (page : Page) (counts : CountsOf ℕ)
-        → Performs s false (call kind s (place_of s here) (seen_by s threads.now counts) to.now conditional (fields evaluating fresh stack.old.items page globals.now)) (fields evaluating fresh stack.new.items page globals.now) result }
+    ensures { let s = story_tree story.now in (evaluating : Bool) (fresh : Option ℕ) (page : Page) (rest : Rest)
+        → Performs s false (call kind s (place_of s here) (seen_by s threads.now rest) to.now conditional (fields evaluating fresh stack.old.items page globals.now)) (fields evaluating fresh stack.new.items page globals.now) result }
 {
     match is_wanted(conditional, stack) {
         Ok(true) => match destination(story, here, to, globals, threads) {

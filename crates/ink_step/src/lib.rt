@@ -1,12 +1,14 @@
 //! The machine that runs a story forward.
 #![tactic(auto)]
 
+mod choosing;
 mod counting;
 mod diverting;
 mod evaluating;
 mod flow;
 mod frames;
 mod machine;
+mod offering;
 mod opening;
 mod operands;
 mod questions;

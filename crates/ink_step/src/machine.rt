@@ -6,23 +6,26 @@ ghost use Rattle.ink_model.specs.Session.{is_loose};
 ghost use Rattle.ink_model.specs.Store.{store, stored};
 ghost use Rattle.ink_model.specs.Tree.{StoryTree};
 
+use ink_choice::Choices;
 use ink_model::Value;
 use ink_out::Output;
 use ink_stack::Threads;
 use ink_tree::Spot;
 use ink_value::EvalStack;
-use ink_vars::{Counts, Globals};
+use ink_vars::{Counts, Globals, Turn};
 use std::alloc::Global;
 
-/// What changes while a story runs: a configuration, but for choices and the turn, which no content writes yet.
+/// What changes while a story runs: a configuration.
 #[derive(Drop)]
 pub struct Machine {
     pub(crate) threads: Threads<Spot>,
     pub(crate) stack: EvalStack,
+    pub(crate) choices: Choices<Spot>,
     pub(crate) safe: bool,
     pub(crate) output: Output,
     pub(crate) globals: Globals,
     pub(crate) counts: Counts,
+    pub(crate) turn: Turn,
     pub(crate) alloc: Global,
 }
 
@@ -67,6 +70,7 @@ impl Machine {
         ensures { (s : StoryTree) → config_of s self.new ≡ settled (config_of s self.old) }
     {
         self.threads.clear_numbers();
+        self.choices.clear_numbers();
         self.output.clear();
     }
 
@@ -74,6 +78,6 @@ impl Machine {
     pub(crate) fn is_loose(&self) -> bool
         ensures { (s : StoryTree) → result ≡ is_loose (config_of s self.now) }
     {
-        !self.can_go_on() && !self.safe
+        !self.can_go_on() && self.choices.len() == 0 && !self.safe
     }
 }

@@ -10,12 +10,13 @@ ghost use Rattle.ink_tree.specs.Nodes.{place_of};
 
 use crate::machine::Machine;
 use ink_check::Story;
+use ink_choice::Choices;
 use ink_model::Fault;
 use ink_out::Output;
 use ink_stack::Threads;
 use ink_tree::Spot;
 use ink_value::EvalStack;
-use ink_vars::{Counts, Globals};
+use ink_vars::{Counts, Globals, Turn};
 use std::alloc::Global;
 
 /// Declarations that could not be run: why, and the globals as they stood before the step that faulted.
@@ -65,10 +66,12 @@ impl Machine {
         Machine {
             threads: Threads::new(alloc, Some(place)),
             stack: EvalStack::new(alloc),
+            choices: Choices::new(alloc),
             safe: false,
             output: Output::new(alloc),
             globals,
             counts: Counts::new(alloc),
+            turn: Turn::first(),
             alloc,
         }
     }

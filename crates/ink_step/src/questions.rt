@@ -3,7 +3,6 @@
 ghost use Rattle.std.specs.Prelude.{◌≡◌, ℕ, Bool, true, false, Option, option_map, reverse};
 ghost use Rattle.ink_check.specs.Words.{story_tree};
 ghost use Rattle.ink_model.specs.Acceptance.{counted_container, leads};
-ghost use Rattle.ink_model.specs.Counts.{CountsOf};
 ghost use Rattle.ink_model.specs.Frames.{ThreadsOf};
 ghost use Rattle.ink_model.specs.Memory.{visit_asks};
 ghost use Rattle.ink_model.specs.Page.{Page};
@@ -16,18 +15,18 @@ ghost use Rattle.ink_model.specs.Tree.{StoryTree, at, leaf};
 ghost use Rattle.ink_model.specs.declared.content.Leaf.TheVariants.{Count};
 ghost use Rattle.ink_step.specs.Asked.{Answers, IsContainer, asked_place, asked_of, visits_in};
 ghost use Rattle.ink_step.specs.Performs.{Changes, fields};
-ghost use Rattle.ink_step.specs.Words.{counts_in, seen_by};
+ghost use Rattle.ink_step.specs.Words.{Rest, counts_in, seen_by};
 ghost use Rattle.ink_tree.specs.Nodes.{node_place, place_of};
 ghost use Rattle.ink_tree.specs.declared.spot.Spot.{Spot as Place};
 
-use crate::counting::{TURN, turns_since, visits_of};
+use crate::counting::{turns_since, visits_of};
 use crate::diverting::landing_by;
 use crate::operands::push;
 use ink_check::Story;
 use ink_model::{Content, Fault, Text, Value};
 use ink_tree::{NodeId, Spot};
 use ink_value::EvalStack;
-use ink_vars::Counts;
+use ink_vars::{Counts, Turn};
 
 /// The visits of the container to which a content's path leads are pushed. `NotCounted` where they are not counted.
 pub(crate) fn push_count(
@@ -38,8 +37,8 @@ pub(crate) fn push_count(
     path: &Text,
 ) -> Result<(), Fault>
     requires { let s = story_tree story.now in at s (place_of s here) ≡ Some (leaf (Count path.now)) }
-    ensures { let s = story_tree story.now in (threads : ThreadsOf Place) (evaluating : Bool) (fresh : Option ℕ) (page : Page) (globals : Values)
-        → let seen = seen_by s threads counts.now in Changes (visit_asks s seen (leads s (place_of s here) path.now))
+    ensures { let s = story_tree story.now in (threads : ThreadsOf Place) (rest : Rest) (evaluating : Bool) (fresh : Option ℕ) (page : Page) (globals : Values)
+        → let seen = seen_by s threads (record rest { counts = counts.now }) in Changes (visit_asks s seen (leads s (place_of s here) path.now))
         (push_count s seen (place_of s here) path.now (fields evaluating fresh stack.old.items page globals)) (fields evaluating fresh stack.new.items page globals) result }
 {
     let visits = visits_in(story, counts, counted(story, here))?;
@@ -53,8 +52,8 @@ pub(crate) fn push_visit(
     counts: &Counts,
     stack: &mut EvalStack,
 ) -> Result<(), Fault>
-    ensures { let s = story_tree story.now in (threads : ThreadsOf Place) (evaluating : Bool) (fresh : Option ℕ) (page : Page) (globals : Values)
-        → let seen = seen_by s threads counts.now in Changes (visit_asks s seen (above (reverse (place_of s here))))
+    ensures { let s = story_tree story.now in (threads : ThreadsOf Place) (rest : Rest) (evaluating : Bool) (fresh : Option ℕ) (page : Page) (globals : Values)
+        → let seen = seen_by s threads (record rest { counts = counts.now }) in Changes (visit_asks s seen (above (reverse (place_of s here))))
         (push_visit s seen (place_of s here) (fields evaluating fresh stack.old.items page globals)) (fields evaluating fresh stack.new.items page globals) result }
 {
     let visits = visits_in(story, counts, holder(story, here))?;
@@ -62,22 +61,27 @@ pub(crate) fn push_visit(
 }
 
 /// The number of the turn is pushed.
-pub(crate) fn push_turn(stack: &mut EvalStack) -> Result<(), Fault>
-    ensures { (s : StoryTree) (threads : ThreadsOf Place) (counts : CountsOf ℕ) (evaluating : Bool) (fresh : Option ℕ) (page : Page) (globals : Values)
-        → Changes true (push_turn s (seen_by s threads counts) (fields evaluating fresh stack.old.items page globals)) (fields evaluating fresh stack.new.items page globals) result }
+pub(crate) fn push_turn(stack: &mut EvalStack, turn: Turn) -> Result<(), Fault>
+    ensures { (s : StoryTree) (threads : ThreadsOf Place) (rest : Rest) (evaluating : Bool) (fresh : Option ℕ) (page : Page) (globals : Values)
+        → Changes true (push_turn s (seen_by s threads (record rest { turn = turn })) (fields evaluating fresh stack.old.items page globals)) (fields evaluating fresh stack.new.items page globals) result }
 {
-    push(stack, Value::Int(TURN as i32))
+    push(stack, Value::Int(turn.number() as i32))
 }
 
 /// In the place of a target on top: how many turns ago the container that it names was entered last, -1 where it never was or is
 /// no container. `StackEmpty` where nothing is there, `BadTarget` where it is no target or leads nowhere, `NotCounted` where
 /// the container's turns are not noted.
-pub(crate) fn push_turns(story: &Story, counts: &Counts, stack: &mut EvalStack) -> Result<(), Fault>
-    ensures { let s = story_tree story.now in (threads : ThreadsOf Place) (evaluating : Bool) (fresh : Option ℕ) (page : Page) (globals : Values)
-        → Changes false (push_turns s (seen_by s threads counts.now) (fields evaluating fresh stack.old.items page globals)) (fields evaluating fresh stack.new.items page globals) result }
+pub(crate) fn push_turns(
+    story: &Story,
+    counts: &Counts,
+    stack: &mut EvalStack,
+    turn: Turn,
+) -> Result<(), Fault>
+    ensures { let s = story_tree story.now in (threads : ThreadsOf Place) (rest : Rest) (evaluating : Bool) (fresh : Option ℕ) (page : Page) (globals : Values)
+        → Changes false (push_turns s (seen_by s threads (record rest { counts = counts.now; turn = turn })) (fields evaluating fresh stack.old.items page globals)) (fields evaluating fresh stack.new.items page globals) result }
 {
     let place = asked_place(story, stack)?;
-    let turns = turns_there(story, counts, place)?;
+    let turns = turns_there(story, counts, place, turn)?;
     answer(stack, turns)
 }
 
@@ -89,8 +93,8 @@ pub(crate) fn push_read_count(
     counts: &Counts,
     stack: &mut EvalStack,
 ) -> Result<(), Fault>
-    ensures { let s = story_tree story.now in (threads : ThreadsOf Place) (evaluating : Bool) (fresh : Option ℕ) (page : Page) (globals : Values)
-        → Changes false (push_read_count s (seen_by s threads counts.now) (fields evaluating fresh stack.old.items page globals)) (fields evaluating fresh stack.new.items page globals) result }
+    ensures { let s = story_tree story.now in (threads : ThreadsOf Place) (rest : Rest) (evaluating : Bool) (fresh : Option ℕ) (page : Page) (globals : Values)
+        → Changes false (push_read_count s (seen_by s threads (record rest { counts = counts.now })) (fields evaluating fresh stack.old.items page globals)) (fields evaluating fresh stack.new.items page globals) result }
 {
     let place = asked_place(story, stack)?;
     let visits = visits_there(story, counts, place)?;
@@ -98,7 +102,7 @@ pub(crate) fn push_read_count(
 }
 
 /// The container for whose visits the content at a place asks.
-fn counted(story: &Story, here: Spot) -> Option<NodeId>
+pub(crate) fn counted(story: &Story, here: Spot) -> Option<NodeId>
     ensures { let s = story_tree story.now in option_map (node_place s) result ≡ counted_container s (place_of s here) }
 {
     let Some(node) = story.tree().node(here) else {
@@ -118,7 +122,11 @@ fn holder(story: &Story, here: Spot) -> Option<NodeId>
 }
 
 /// The visits of a container. `NotCounted` where they are not counted, or there is none.
-fn visits_in(story: &Story, counts: &Counts, container: Option<NodeId>) -> Result<i32, Fault>
+pub(crate) fn visits_in(
+    story: &Story,
+    counts: &Counts,
+    container: Option<NodeId>,
+) -> Result<i32, Fault>
     ensures { let s = story_tree story.now in result ≡ visits_in s (counts_in s counts.now) (option_map (node_place s) container) }
 {
     match container {
@@ -143,12 +151,12 @@ fn asked_place(story: &Story, stack: &EvalStack) -> Result<Spot, Fault>
 
 /// How many turns ago the container at a place was entered last, -1 where it never was, or what is there is no container.
 /// `NotCounted` where its turns are not noted.
-fn turns_there(story: &Story, counts: &Counts, place: Spot) -> Result<i32, Fault>
-    ensures { let s = story_tree story.now in (threads : ThreadsOf Place)
-        → result ≡ rules.turns_there s (seen_by s threads counts.now) (place_of s place) }
+fn turns_there(story: &Story, counts: &Counts, place: Spot, turn: Turn) -> Result<i32, Fault>
+    ensures { let s = story_tree story.now in (threads : ThreadsOf Place) (rest : Rest)
+        → result ≡ rules.turns_there s (seen_by s threads (record rest { counts = counts.now; turn = turn })) (place_of s place) }
 {
     match container(story, place) {
-        Some(container) => turns_since(story.tree(), counts, container),
+        Some(container) => turns_since(story.tree(), counts, container, turn),
         None => Ok(-1),
     }
 }
@@ -156,8 +164,8 @@ fn turns_there(story: &Story, counts: &Counts, place: Spot) -> Result<i32, Fault
 /// How often the container at a place was visited, 0 where what is there is no container. `NotCounted` where its visits are not
 /// counted.
 fn visits_there(story: &Story, counts: &Counts, place: Spot) -> Result<i32, Fault>
-    ensures { let s = story_tree story.now in (threads : ThreadsOf Place)
-        → result ≡ rules.visits_there s (seen_by s threads counts.now) (place_of s place) }
+    ensures { let s = story_tree story.now in (threads : ThreadsOf Place) (rest : Rest)
+        → result ≡ rules.visits_there s (seen_by s threads (record rest { counts = counts.now })) (place_of s place) }
 {
     match container(story, place) {
         Some(container) => visits_of(story.tree(), counts, container),

@@ -1,7 +1,6 @@
 //! Variables are read, declared and assigned (docs/VARIABLES.md).
 
 ghost use Rattle.std.specs.Prelude.{◌≡◌, ◌≤◌, ℕ, Bool, not, Option, OnOk, is_ok, is_some};
-ghost use Rattle.ink_model.specs.Counts.{CountsOf};
 ghost use Rattle.ink_model.specs.Effect.{Fields, Stores};
 ghost use Rattle.ink_model.specs.Frames.{map_thread};
 ghost use Rattle.ink_model.specs.Page.{Page};
@@ -13,7 +12,7 @@ ghost use Rattle.ink_model.specs.Tree.{StoryTree};
 ghost use Rattle.ink_model.specs.VariableMemory.{assign_asks, declare_asks, on_popped};
 ghost use Rattle.ink_model.specs.Variables as rules;
 ghost use Rattle.ink_step.specs.Performs.{Changes, Keeps, Performs, fields};
-ghost use Rattle.ink_step.specs.Words.{seen_by};
+ghost use Rattle.ink_step.specs.Words.{Rest, seen_by};
 ghost use Rattle.ink_tree.specs.Nodes.{place_of};
 ghost use Rattle.ink_vars.specs.Words.{held_by, with_variable};
 
@@ -34,8 +33,8 @@ pub(crate) fn push_variable(
     threads: &Threads<Spot>,
     name: &Text,
 ) -> Result<(), Fault>
-    ensures { (s : StoryTree) (counts : CountsOf ℕ) (evaluating : Bool) (fresh : Option ℕ) (page : Page)
-        → let seen = seen_by s threads.now counts in Changes (is_ok (rules.read globals.now seen.thread name.now))
+    ensures { (s : StoryTree) (rest : Rest) (evaluating : Bool) (fresh : Option ℕ) (page : Page)
+        → let seen = seen_by s threads.now rest in Changes (is_ok (rules.read globals.now seen.thread name.now))
         (effects.push_variable name.now seen (fields evaluating fresh stack.old.items page globals.now)) (fields evaluating fresh stack.new.items page globals.now) result }
 {
     match read(alloc, globals, threads, name.as_str()) {
@@ -53,8 +52,8 @@ pub(crate) fn push_pointer(
     name: &Shared<Text>,
     frame: i32,
 ) -> Result<(), Fault>
-    ensures { (s : StoryTree) (counts : CountsOf ℕ) (fresh : Option ℕ) (page : Page) (globals : Values)
-        → Changes evaluating (effects.push_pointer name.now frame (seen_by s threads.now counts) (fields evaluating fresh stack.old.items page globals))
+    ensures { (s : StoryTree) (rest : Rest) (fresh : Option ℕ) (page : Page) (globals : Values)
+        → Changes evaluating (effects.push_pointer name.now frame (seen_by s threads.now rest) (fields evaluating fresh stack.old.items page globals))
         (fields evaluating fresh stack.new.items page globals) result }
 {
     if !evaluating {
@@ -75,11 +74,11 @@ pub(crate) fn declare<'a>(
     scope: Scope,
     name: &'a Text,
 ) -> Result<Transfer<'a>, Fault>
-    ensures effect { (s : StoryTree) (counts : CountsOf ℕ) (evaluating : Bool) (fresh : Option ℕ) (page : Page)
-        → let seen = seen_by s threads.old counts in Performs s (on_popped (popped stack.old.items) (declare_asks globals.now seen.thread scope name.now))
+    ensures effect { (s : StoryTree) (rest : Rest) (evaluating : Bool) (fresh : Option ℕ) (page : Page)
+        → let seen = seen_by s threads.old rest in Performs s (on_popped (popped stack.old.items) (declare_asks globals.now seen.thread scope name.now))
         (effects.declare scope name.now seen (fields evaluating fresh stack.old.items page globals.now)) (fields evaluating fresh stack.new.items page globals.now) result }
-    ensures threads { (s : StoryTree) (counts : CountsOf ℕ) (evaluating : Bool) (fresh : Option ℕ) (page : Page)
-        → OnOk result (Keeps s (effects.declare scope name.now (seen_by s threads.old counts) (fields evaluating fresh stack.old.items page globals.now)) threads.old threads.new) }
+    ensures threads { (s : StoryTree) (rest : Rest) (evaluating : Bool) (fresh : Option ℕ) (page : Page)
+        → OnOk result (Keeps s (effects.declare scope name.now (seen_by s threads.old rest) (fields evaluating fresh stack.old.items page globals.now)) threads.old threads.new) }
     ensures frame { threads.new.thread.frame ≡ record threads.old.thread.frame { temps = threads.new.thread.frame.temps } }
 {
     let Some(value) = top(stack) else {
@@ -102,11 +101,11 @@ pub(crate) fn assign<'a>(
     threads: &mut Threads<Spot>,
     name: &'a Text,
 ) -> Result<Transfer<'a>, Fault>
-    ensures effect { (s : StoryTree) (counts : CountsOf ℕ) (evaluating : Bool) (fresh : Option ℕ) (page : Page)
-        → let seen = seen_by s threads.old counts in Performs s (on_popped (popped stack.old.items) (assign_asks globals.now seen.thread name.now))
+    ensures effect { (s : StoryTree) (rest : Rest) (evaluating : Bool) (fresh : Option ℕ) (page : Page)
+        → let seen = seen_by s threads.old rest in Performs s (on_popped (popped stack.old.items) (assign_asks globals.now seen.thread name.now))
         (effects.assign name.now seen (fields evaluating fresh stack.old.items page globals.now)) (fields evaluating fresh stack.new.items page globals.now) result }
-    ensures threads { (s : StoryTree) (counts : CountsOf ℕ) (evaluating : Bool) (fresh : Option ℕ) (page : Page)
-        → OnOk result (Keeps s (effects.assign name.now (seen_by s threads.old counts) (fields evaluating fresh stack.old.items page globals.now)) threads.old threads.new) }
+    ensures threads { (s : StoryTree) (rest : Rest) (evaluating : Bool) (fresh : Option ℕ) (page : Page)
+        → OnOk result (Keeps s (effects.assign name.now (seen_by s threads.old rest) (fields evaluating fresh stack.old.items page globals.now)) threads.old threads.new) }
     ensures frame { threads.new.thread.frame ≡ record threads.old.thread.frame { temps = threads.new.thread.frame.temps } }
 {
     let Some(value) = top(stack) else {

@@ -15,7 +15,7 @@ pub(crate) struct Landing {
 }
 
 /// Where flow goes once a content has been performed. A global that the content stores is stored last, after flow has
-/// moved: a fault on the way leaves the globals as they were.
+/// moved and may have followed a choice: a fault on the way leaves the globals as they were.
 #[derive(Drop)]
 pub(crate) enum Transfer<'a> {
     /// On, after the content.

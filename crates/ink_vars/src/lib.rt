@@ -6,9 +6,11 @@ mod globals;
 mod places;
 mod pointers;
 mod slots;
+mod turn;
 mod variables;
 
-pub use counts::Counts;
+pub use counts::{Counts, Noted};
 pub use globals::Globals;
 pub use places::{Name, Variable};
+pub use turn::Turn;
 pub use variables::{assign, assigned, declare, declared, kept, look, point, read};

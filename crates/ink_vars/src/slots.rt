@@ -1,11 +1,11 @@
 //! Rows by number, which are kept in an array, so that each is found at once.
 
-ghost use Rattle.std.specs.Prelude.{◌≡◌, ◌<◌, ◌≤◌, None, length, true, unwrap_or, OnOk, OnErr, IfSome, if◌then◌else◌};
+ghost use Rattle.std.specs.Prelude.{◌≡◌, ◌<◌, ◌≤◌, ℕ, List, None, length, true, unwrap_or, OnOk, OnErr, IfSome, if◌then◌else◌};
 ghost use Rattle.std.specs.Ordering.{nat_cmp};
 ghost use Rattle.ink_model.specs.Counts.{one_more};
 ghost use Rattle.ink_model.specs.Rows.{row, with_row};
 ghost use Rattle.ink_model.specs.declared.limits.TheConstants.{MAX_COUNT};
-ghost use Rattle.ink_vars.specs.Slots.{AreCounts, rows_from};
+ghost use Rattle.ink_vars.specs.Slots.{AreCounts, Differs, rows_from};
 
 use ink_model::MAX_COUNT;
 use std::alloc::AllocError;
@@ -70,5 +70,15 @@ pub(crate) fn put(slots: &mut [Option<u32>], number: usize, value: u32, wanted: 
 {
     if wanted {
         slots[number] = Some(value);
+    }
+}
+
+/// Puts what was in the row of a number back, or takes the row away where there was none.
+pub(crate) fn put_back(slots: &mut [Option<u32>], number: usize, before: Option<u32>)
+    ensures rows { (rows : List (ℕ × ℕ)) → before ≡ row nat_cmp number rows → Differs number (rows_from 0 slots.old) rows → rows_from 0 slots.new ≡ rows }
+    ensures counts { AreCounts slots.old → IfSome before (λ n. n ≤ MAX_COUNT) → AreCounts slots.new }
+{
+    if number < slots.len() {
+        slots[number] = before;
     }
 }

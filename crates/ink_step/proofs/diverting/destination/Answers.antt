@@ -7,8 +7,8 @@ use Rattle.ink_step.proofs.diverting.destination.Goals as goal
 use Rattle.ink_step.specs.Words.{seen_by}
 
 pub returns-in-Variable : goal.returns-in-Variable
-returns-in-Variable c counts =
+returns-in-Variable c rest =
     let s = story_tree c.args.story.now in
     let globals = c.args.globals.now in
     let thread = c.args.threads.now.thread in
-    held_to s _ (seen_by s c.args.threads.now counts) _ globals _ thread _ c.in-Variable.is refl (c.landing_in.ensures ∙ ap (λ name. led_by s (read globals thread name)) c.as_str.ensures)
+    held_to s _ (seen_by s c.args.threads.now rest) _ globals _ thread _ c.in-Variable.is refl (c.landing_in.ensures ∙ ap (λ name. led_by s (read globals thread name)) c.as_str.ensures)

@@ -7,22 +7,22 @@ use Rattle.ink_step.proofs.diverting.divert.Goals as goal
 use Rattle.ink_tree.specs.Nodes.{place_of}
 
 pub returns-in-Ok : goal.returns-in-Ok
-returns-in-Ok c evaluating fresh page counts =
+returns-in-Ok c evaluating fresh page rest =
     let s = story_tree c.args.story.now in
-    let so = divert_to s (place_of s c.args.here) (seen_by s c.args.threads.now counts) c.args.to.now in
+    let so = divert_to s (place_of s c.args.here) (seen_by s c.args.threads.now rest) c.args.to.now in
     let new = fields evaluating fresh c.is_wanted.new.stack.items page c.args.globals.now in
-    performed s _ new _ so _ _ c.in-Ok-true.field-0-test (c.in-Ok-true.ensures evaluating fresh page c.args.globals.now so) (lands_there s _ new c.in-Ok.landing _ (c.in-Ok.ensures counts))
+    performed s _ new _ so _ _ c.in-Ok-true.field-0-test (c.in-Ok-true.ensures evaluating fresh page c.args.globals.now so) (lands_there s _ new c.in-Ok.landing _ (c.in-Ok.ensures rest))
 
 pub returns-in-Err-destination : goal.returns-in-Err-destination
-returns-in-Err-destination c evaluating fresh page counts =
+returns-in-Err-destination c evaluating fresh page rest =
     let s = story_tree c.args.story.now in
-    let so = divert_to s (place_of s c.args.here) (seen_by s c.args.threads.now counts) c.args.to.now in
+    let so = divert_to s (place_of s c.args.here) (seen_by s c.args.threads.now rest) c.args.to.now in
     let new = fields evaluating fresh c.is_wanted.new.stack.items page c.args.globals.now in
-    performed s _ new _ so _ _ c.in-Ok-true.field-0-test (c.in-Ok-true.ensures evaluating fresh page c.args.globals.now so) (leads_nowhere s _ new _ _ _ (c.in-Err-destination.ensures counts))
+    performed s _ new _ so _ _ c.in-Ok-true.field-0-test (c.in-Ok-true.ensures evaluating fresh page c.args.globals.now so) (leads_nowhere s _ new _ _ _ (c.in-Err-destination.ensures rest))
 
 pub returns-in-Ok-false : goal.returns-in-Ok-false
-returns-in-Ok-false c evaluating fresh page counts =
+returns-in-Ok-false c evaluating fresh page rest =
     let s = story_tree c.args.story.now in
-    let so = divert_to s (place_of s c.args.here) (seen_by s c.args.threads.now counts) c.args.to.now in
+    let so = divert_to s (place_of s c.args.here) (seen_by s c.args.threads.now rest) c.args.to.now in
     let new = fields evaluating fresh c.is_wanted.new.stack.items page c.args.globals.now in
     passed s _ new _ so _ c.in-Ok-false.field-0-test (c.in-Ok-false.ensures evaluating fresh page c.args.globals.now so)

@@ -3,18 +3,18 @@ use Rattle.ink_step.proofs.Stored.{assigns_keeping, assigns_nowhere, assigns_the
 use Rattle.ink_step.proofs.storing.assign.Goals as goal
 
 pub returns-in-Ok-clause-effect : goal.returns-in-Ok-clause-effect
-returns-in-Ok-clause-effect c s counts evaluating fresh page =
+returns-in-Ok-clause-effect c s rest evaluating fresh page =
     let f = fields evaluating fresh c.args.stack.now.items page c.args.globals.now in
-    assigns_there s c.args.threads.now counts f c.args.name.now c.top.new.stack.items c.in-Some.value c.in-Some.ensures c.in-Ok.variable c.store.result (rw c.as_str.ensures at c.in-Ok.ensures)
+    assigns_there s c.args.threads.now rest f c.args.name.now c.top.new.stack.items c.in-Some.value c.in-Some.ensures c.in-Ok.variable c.store.result (rw c.as_str.ensures at c.in-Ok.ensures)
     (c.store.ensures.effect s (record f { stack = c.top.new.stack.items }))
 
 pub returns-in-Ok-clause-threads : goal.returns-in-Ok-clause-threads
-returns-in-Ok-clause-threads c s counts evaluating fresh page =
+returns-in-Ok-clause-threads c s rest evaluating fresh page =
     let f = fields evaluating fresh c.args.stack.now.items page c.args.globals.now in
-    assigns_keeping s c.args.threads.now counts f c.args.name.now c.top.new.stack.items c.in-Some.value c.in-Some.ensures c.in-Ok.variable c.store.new.threads c.store.result
+    assigns_keeping s c.args.threads.now rest f c.args.name.now c.top.new.stack.items c.in-Some.value c.in-Some.ensures c.in-Ok.variable c.store.new.threads c.store.result
     (rw c.as_str.ensures at c.in-Ok.ensures) (c.store.ensures.threads c.args.globals.now)
 
 pub returns-in-Err-clause-effect : goal.returns-in-Err-clause-effect
-returns-in-Err-clause-effect c s counts evaluating fresh page =
+returns-in-Err-clause-effect c s rest evaluating fresh page =
     let f = fields evaluating fresh c.args.stack.now.items page c.args.globals.now in
-    assigns_nowhere s c.args.threads.now counts f c.args.name.now c.top.new.stack.items c.in-Some.value c.in-Some.ensures c.in-Err.fault (rw c.as_str.ensures at c.in-Err.ensures)
+    assigns_nowhere s c.args.threads.now rest f c.args.name.now c.top.new.stack.items c.in-Some.value c.in-Some.ensures c.in-Err.fault (rw c.as_str.ensures at c.in-Err.ensures)

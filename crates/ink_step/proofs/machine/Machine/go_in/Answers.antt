@@ -14,4 +14,4 @@ returns-in_default-clause-ok c =
     let p = place_of s c.args.place in
     let machine = c.args.self.now in
     went_in s p machine c.args.place c.put.new.self c.put.ensures machine.counts (goes_nowhere_in s p c.in_default.ensures)
-    (ap (λ ps. all_visited s 0 ps (counts_in s machine.counts)) (sym (passes_none s p c.in_default.ensures)))
+    (ap (λ ps. all_visited s machine.turn ps (counts_in s machine.counts)) (sym (passes_none s p c.in_default.ensures)))

@@ -5,9 +5,10 @@ use Rattle.ink_model.specs.Memory.{leaf_asks}
 use Rattle.ink_model.specs.Step.{leaf_effect}
 use Rattle.ink_model.specs.Tree.{leaf}
 use Rattle.ink_model.specs.declared.content.Leaf.TheVariants as leaves
-use Rattle.ink_step.specs.Performs.{Keeps, Performs}
-use Rattle.ink_step.specs.Words.{config_of}
+use Rattle.ink_step.specs.Performs.{Keeps, KeepsChoices, Performs}
+use Rattle.ink_step.specs.Words.{config_of, rest_of}
 use Rattle.ink_step.proofs.Landings.{leaf_landing}
+use Rattle.ink_step.proofs.Offered.{moved_ok}
 use Rattle.ink_step.proofs.Stored.{fields_kept}
 use Rattle.ink_step.proofs.Unstored.{control_keeps, when_ok}
 use Rattle.ink_step.proofs.machine.Machine.perform_leaf.Goals as goal
@@ -40,7 +41,7 @@ returns-in-Divert-clause-effect c =
     let old = fields_of (config_of s c.args.self.now) in
     let new = record old { stack = c.divert.new.stack.items } in
     subst (λ l. Performs s (leaf_asks s p seen l old) (leaf_effect s p seen l old) new c.divert.result) (sym c.in-Divert.is)
-    (c.divert.ensures old.evaluating old.fresh old.page c.args.self.now.counts)
+    (c.divert.ensures old.evaluating old.fresh old.page (rest_of c.args.self.now))
 
 pub returns-in-Call-clause-effect : goal.returns-in-Call-clause-effect
 returns-in-Call-clause-effect c =
@@ -50,7 +51,7 @@ returns-in-Call-clause-effect c =
     let old = fields_of (config_of s c.args.self.now) in
     let new = record old { stack = c.call.new.stack.items } in
     subst (λ l. Performs s (leaf_asks s p seen l old) (leaf_effect s p seen l old) new c.call.result) (sym c.in-Call.is)
-    (c.call.ensures old.evaluating old.fresh old.page c.args.self.now.counts)
+    (c.call.ensures old.evaluating old.fresh old.page (rest_of c.args.self.now))
 
 pub returns-in-Tunnel-clause-effect : goal.returns-in-Tunnel-clause-effect
 returns-in-Tunnel-clause-effect c =
@@ -60,7 +61,7 @@ returns-in-Tunnel-clause-effect c =
     let old = fields_of (config_of s c.args.self.now) in
     let new = record old { stack = c.call-in-Tunnel.new.stack.items } in
     subst (λ l. Performs s (leaf_asks s p seen l old) (leaf_effect s p seen l old) new c.call-in-Tunnel.result) (sym c.in-Tunnel.is)
-    (c.call-in-Tunnel.ensures old.evaluating old.fresh old.page c.args.self.now.counts)
+    (c.call-in-Tunnel.ensures old.evaluating old.fresh old.page (rest_of c.args.self.now))
 
 pub returns-in-Count-clause-effect : goal.returns-in-Count-clause-effect
 returns-in-Count-clause-effect c =
@@ -70,7 +71,7 @@ returns-in-Count-clause-effect c =
     let old = fields_of (config_of s c.args.self.now) in
     let new = record old { stack = c.push_count.new.stack.items } in
     subst (λ l. Performs s (leaf_asks s p seen l old) (leaf_effect s p seen l old) new c.moving-in-Count.result) (sym c.in-Count.is)
-    (subst (λ r. Performs s (leaf_asks s p seen (leaves.Count c.in-Count.path) old) (leaf_effect s p seen (leaves.Count c.in-Count.path) old) new r) (sym c.moving-in-Count.ensures) (c.push_count.ensures c.args.self.now.threads old.evaluating old.fresh old.page old.globals s))
+    (subst (λ r. Performs s (leaf_asks s p seen (leaves.Count c.in-Count.path) old) (leaf_effect s p seen (leaves.Count c.in-Count.path) old) new r) (sym c.moving-in-Count.ensures) (c.push_count.ensures c.args.self.now.threads (rest_of c.args.self.now) old.evaluating old.fresh old.page old.globals s))
 
 pub returns-in-Variable-clause-effect : goal.returns-in-Variable-clause-effect
 returns-in-Variable-clause-effect c =
@@ -80,7 +81,7 @@ returns-in-Variable-clause-effect c =
     let old = fields_of (config_of s c.args.self.now) in
     let new = record old { stack = c.push_variable.new.stack.items } in
     subst (λ l. Performs s (leaf_asks s p seen l old) (leaf_effect s p seen l old) new c.moving-in-Variable.result) (sym c.in-Variable.is)
-    (subst (λ r. Performs s (leaf_asks s p seen (leaves.Variable c.in-Variable.name) old) (leaf_effect s p seen (leaves.Variable c.in-Variable.name) old) new r) (sym c.moving-in-Variable.ensures) (c.push_variable.ensures s c.args.self.now.counts old.evaluating old.fresh old.page s))
+    (subst (λ r. Performs s (leaf_asks s p seen (leaves.Variable c.in-Variable.name) old) (leaf_effect s p seen (leaves.Variable c.in-Variable.name) old) new r) (sym c.moving-in-Variable.ensures) (c.push_variable.ensures s (rest_of c.args.self.now) old.evaluating old.fresh old.page s))
 
 pub returns-in-Pointer-clause-effect : goal.returns-in-Pointer-clause-effect
 returns-in-Pointer-clause-effect c =
@@ -91,7 +92,7 @@ returns-in-Pointer-clause-effect c =
     let new = record old { stack = c.push_pointer.new.stack.items } in
     let l = leaves.Pointer c.in-Pointer.name c.in-Pointer.frame in
     let is : to_z w32 (of_z w32 c.in-Pointer.frame) ≡ c.in-Pointer.frame = search (rules, to_z-of_z) in
-    let pushed = rw (is, c.is_evaluating-evaluating.ensures) at (c.push_pointer.ensures s c.args.self.now.counts old.fresh old.page old.globals s) in
+    let pushed = rw (is, c.is_evaluating-evaluating.ensures) at (c.push_pointer.ensures s (rest_of c.args.self.now) old.fresh old.page old.globals s) in
     subst (λ l. Performs s (leaf_asks s p seen l old) (leaf_effect s p seen l old) new c.moving-in-Pointer.result) (sym c.in-Pointer.is)
     (subst (λ r. Performs s (leaf_asks s p seen l old) (leaf_effect s p seen l old) new r) (sym c.moving-in-Pointer.ensures) pushed)
 
@@ -106,7 +107,7 @@ returns-in-Declare-clause-effect c =
     subst (λ l. Performs s (leaf_asks s p seen l old) (leaf_effect s p seen l old) new c.declare.result) (sym c.in-Declare.is)
     (subst (λ f. Performs s (leaf_asks s p seen l old) (leaf_effect s p seen l old) f c.declare.result)
     (fields_kept c.args.self.now.threads c.declare.new.threads c.declare.new.stack.items old.page old.globals c.declare.ensures.frame)
-    (c.declare.ensures.effect s c.args.self.now.counts old.evaluating old.fresh old.page))
+    (c.declare.ensures.effect s (rest_of c.args.self.now) old.evaluating old.fresh old.page))
 
 pub returns-in-Declare-clause-threads : goal.returns-in-Declare-clause-threads
 returns-in-Declare-clause-threads c =
@@ -115,7 +116,7 @@ returns-in-Declare-clause-threads c =
     let seen = context_of (config_of s c.args.self.now) in
     let old = fields_of (config_of s c.args.self.now) in
     subst (λ l. OnOk c.declare.result (Keeps s (leaf_effect s p seen l old) c.args.self.now.threads c.declare.new.threads)) (sym c.in-Declare.is)
-    (c.declare.ensures.threads s c.args.self.now.counts old.evaluating old.fresh old.page)
+    (c.declare.ensures.threads s (rest_of c.args.self.now) old.evaluating old.fresh old.page)
 
 pub returns-in-DeclareTemp-clause-effect : goal.returns-in-DeclareTemp-clause-effect
 returns-in-DeclareTemp-clause-effect c =
@@ -128,7 +129,7 @@ returns-in-DeclareTemp-clause-effect c =
     subst (λ l. Performs s (leaf_asks s p seen l old) (leaf_effect s p seen l old) new c.declare-in-DeclareTemp.result) (sym c.in-DeclareTemp.is)
     (subst (λ f. Performs s (leaf_asks s p seen l old) (leaf_effect s p seen l old) f c.declare-in-DeclareTemp.result)
     (fields_kept c.args.self.now.threads c.declare-in-DeclareTemp.new.threads c.declare-in-DeclareTemp.new.stack.items old.page old.globals c.declare-in-DeclareTemp.ensures.frame)
-    (c.declare-in-DeclareTemp.ensures.effect s c.args.self.now.counts old.evaluating old.fresh old.page))
+    (c.declare-in-DeclareTemp.ensures.effect s (rest_of c.args.self.now) old.evaluating old.fresh old.page))
 
 pub returns-in-DeclareTemp-clause-threads : goal.returns-in-DeclareTemp-clause-threads
 returns-in-DeclareTemp-clause-threads c =
@@ -137,7 +138,7 @@ returns-in-DeclareTemp-clause-threads c =
     let seen = context_of (config_of s c.args.self.now) in
     let old = fields_of (config_of s c.args.self.now) in
     subst (λ l. OnOk c.declare-in-DeclareTemp.result (Keeps s (leaf_effect s p seen l old) c.args.self.now.threads c.declare-in-DeclareTemp.new.threads)) (sym c.in-DeclareTemp.is)
-    (c.declare-in-DeclareTemp.ensures.threads s c.args.self.now.counts old.evaluating old.fresh old.page)
+    (c.declare-in-DeclareTemp.ensures.threads s (rest_of c.args.self.now) old.evaluating old.fresh old.page)
 
 pub returns-in-Assign-clause-effect : goal.returns-in-Assign-clause-effect
 returns-in-Assign-clause-effect c =
@@ -150,7 +151,7 @@ returns-in-Assign-clause-effect c =
     let performs : Performs s (leaf_asks s p seen l old) (leaf_effect s p seen l old) new c.assign.result =
     subst (λ f. Performs s (leaf_asks s p seen l old) (leaf_effect s p seen l old) f c.assign.result)
     (fields_kept c.args.self.now.threads c.assign.new.threads c.assign.new.stack.items old.page old.globals c.assign.ensures.frame)
-    (c.assign.ensures.effect s c.args.self.now.counts old.evaluating old.fresh old.page) in
+    (c.assign.ensures.effect s (rest_of c.args.self.now) old.evaluating old.fresh old.page) in
     elim c.in-Assign.is [
       | inl is ↦ subst (λ l. Performs s (leaf_asks s p seen l old) (leaf_effect s p seen l old) new c.assign.result) (sym is) performs
       | inr is ↦ subst (λ l. Performs s (leaf_asks s p seen l old) (leaf_effect s p seen l old) new c.assign.result) (sym is) performs
@@ -162,8 +163,31 @@ returns-in-Assign-clause-threads c =
     let p = place_of s c.args.here in
     let seen = context_of (config_of s c.args.self.now) in
     let old = fields_of (config_of s c.args.self.now) in
-    let keeps = c.assign.ensures.threads s c.args.self.now.counts old.evaluating old.fresh old.page in
+    let keeps = c.assign.ensures.threads s (rest_of c.args.self.now) old.evaluating old.fresh old.page in
     elim c.in-Assign.is [
       | inl is ↦ subst (λ l. OnOk c.assign.result (Keeps s (leaf_effect s p seen l old) c.args.self.now.threads c.assign.new.threads)) (sym is) keeps
       | inr is ↦ subst (λ l. OnOk c.assign.result (Keeps s (leaf_effect s p seen l old) c.args.self.now.threads c.assign.new.threads)) (sym is) keeps
     ]
+
+pub returns-in-Choice-clause-effect : goal.returns-in-Choice-clause-effect
+returns-in-Choice-clause-effect c =
+    let s = story_tree c.args.story.now in
+    let p = place_of s c.args.here in
+    let seen = context_of (config_of s c.args.self.now) in
+    let old = fields_of (config_of s c.args.self.now) in
+    let new = record old { stack = c.offer.new.stack.items } in
+    let l = leaves.Choice c.in-Choice.target c.in-Choice.flags in
+    subst (λ l. Performs s (leaf_asks s p seen l old) (leaf_effect s p seen l old) new c.moving-in-Choice.result) (sym c.in-Choice.is)
+    (subst (λ r. Performs s (leaf_asks s p seen l old) (leaf_effect s p seen l old) new r) (sym c.moving-in-Choice.ensures)
+    (c.offer.ensures.effect (rest_of c.args.self.now) old.evaluating old.fresh old.page old.globals s))
+
+pub returns-in-Choice-clause-choices : goal.returns-in-Choice-clause-choices
+returns-in-Choice-clause-choices c =
+    let s = story_tree c.args.story.now in
+    let p = place_of s c.args.here in
+    let seen = context_of (config_of s c.args.self.now) in
+    let old = fields_of (config_of s c.args.self.now) in
+    let l = leaves.Choice c.in-Choice.target c.in-Choice.flags in
+    subst (λ l. OnOk c.moving-in-Choice.result (KeepsChoices s (leaf_effect s p seen l old) c.args.self.now.choices c.offer.new.choices)) (sym c.in-Choice.is)
+    (subst (λ r. OnOk r (KeepsChoices s (leaf_effect s p seen l old) c.args.self.now.choices c.offer.new.choices)) (sym c.moving-in-Choice.ensures)
+    (moved_ok c.offer.result _ (c.offer.ensures.choices (rest_of c.args.self.now) old.evaluating old.fresh old.page old.globals)))
