@@ -1,14 +1,13 @@
 -- The blank ends of texts, and of two texts that are joined.
-use Rattle.std.proofs.Common.{◌≡◌, ℕ, zero, suc, ◌+◌, ◌-◌, ◌<◌, ◌≤◌, Bool, true, false, ◌||◌, cond, eqb, ◌==◌, List, [], ◌∷◌, ◌++◌, reverse, length, get_or, take, drop, refl, sym, ap, ◌∙◌, arith, inl, inr}
+use Rattle.std.proofs.Common.{◌≡◌, ℕ, zero, suc, ◌+◌, ◌-◌, ◌<◌, ◌≤◌, Bool, true, false, cond, eqb, ◌==◌, List, [], ◌∷◌, ◌++◌, reverse, length, get_or, take, drop, refl, sym, ap, ◌∙◌, arith, inl, inr}
 use Rattle.std.specs.List.{prefix_len, suffix_len}
 use Rattle.std.specs.Str.{IsUtf8, IsCharBoundary}
 use Rattle.std.proofs.lemmas.Bool.{cases_lt, eqb-true, or_cases, cases_Bool}
-use Rattle.std.proofs.lemmas.List.{take_at, drop_at, append-nil, length-drop, length-reverse, reverse-append, reverse-reverse, take-append-drop, get_or-reverse}
+use Rattle.std.proofs.lemmas.List.{drop_at, append-nil, length-drop, length-reverse, reverse-append, reverse-reverse, take-append-drop, get_or-reverse}
 use Rattle.std.proofs.lemmas.List.Sums.{prefix_len-le-length, suffix_len-le-length, prefix_len_passes}
 use Rattle.std.proofs.lemmas.Str.{IsCharBoundary-start, IsCharBoundary-end, IsCharBoundary-before_ascii, IsCharBoundary-after_ascii}
 use Rattle.std.proofs.Math.Numerals.{one-add, add-one}
 use Rattle.ink_model.specs.Bytes.{is_blank, trimmed, without}
-use Rattle.ink_model.specs.Choices.{trimmed_text}
 
 -- ---- the ends by their lengths
 
