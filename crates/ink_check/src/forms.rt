@@ -8,7 +8,7 @@ ghost use Rattle.ink_tree.specs.Nodes.{story_tree};
 
 use crate::leading::follow;
 use crate::link::{Link, Purpose};
-use ink_model::flags::is_once_only;
+use ink_model::choice_flags::is_once_only;
 use ink_model::{Destination, Failure, Leaf};
 use ink_tree::{NodeId, Tree};
 use std::alloc::Global;

@@ -1,14 +1,13 @@
 -- The blank ends of texts, and of two texts that are joined.
-use Rattle.std.proofs.Common.{◌≡◌, ℕ, zero, suc, ◌+◌, ◌-◌, ◌<◌, ◌≤◌, Bool, true, false, ◌||◌, cond, eqb, ◌==◌, List, [], ◌∷◌, ◌++◌, reverse, length, get_or, take, drop, refl, sym, ap, ◌∙◌, arith, inl, inr}
+use Rattle.std.proofs.Common.{◌≡◌, ℕ, zero, suc, ◌+◌, ◌-◌, ◌<◌, ◌≤◌, Bool, true, false, cond, eqb, ◌==◌, List, [], ◌∷◌, ◌++◌, reverse, length, get_or, take, drop, refl, sym, ap, ◌∙◌, arith, inl, inr}
 use Rattle.std.specs.List.{prefix_len, suffix_len}
 use Rattle.std.specs.Str.{IsUtf8, IsCharBoundary}
 use Rattle.std.proofs.lemmas.Bool.{cases_lt, eqb-true, or_cases, cases_Bool}
-use Rattle.std.proofs.lemmas.List.{take_at, drop_at, append-nil, length-drop, length-reverse, reverse-append, reverse-reverse, take-append-drop, get_or-reverse}
+use Rattle.std.proofs.lemmas.List.{drop_at, append-nil, length-drop, length-reverse, reverse-append, reverse-reverse, take-append-drop, get_or-reverse}
 use Rattle.std.proofs.lemmas.List.Sums.{prefix_len-le-length, suffix_len-le-length, prefix_len_passes}
 use Rattle.std.proofs.lemmas.Str.{IsCharBoundary-start, IsCharBoundary-end, IsCharBoundary-before_ascii, IsCharBoundary-after_ascii}
 use Rattle.std.proofs.Math.Numerals.{one-add, add-one}
 use Rattle.ink_model.specs.Bytes.{is_blank, trimmed, without}
-use Rattle.ink_model.specs.Choices.{trimmed_text}
 
 -- ---- the ends by their lengths
 
@@ -103,7 +102,7 @@ end_kept : (test : ℕ → Bool) (a b ys : List ℕ) → without test (reverse b
 end_kept test a b [] h e = absurd (cc)
 end_kept test a b (y ∷ ys) h e =
     sym (ap reverse (ap (without test) (reverse-append a b) ∙ without_some test (reverse b) (reverse a) y ys h)
-      ∙ reverse-append (y ∷ ys) (reverse a) ∙ ap (λ xs. xs ++ reverse (y ∷ ys)) (reverse-reverse a))
+    ∙ reverse-append (y ∷ ys) (reverse a) ∙ ap (λ xs. xs ++ reverse (y ∷ ys)) (reverse-reverse a))
 
 pub end_second : (test : ℕ → Bool) (a b p : List ℕ) → p ≡ trimmed test b → (length p == 0) ≡ false → a ++ p ≡ trimmed test (a ++ b)
 end_second test a b p h e =

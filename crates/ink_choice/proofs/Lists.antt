@@ -1,11 +1,13 @@
 -- Lists of choices, seen one after another.
-use Rattle.std.proofs.Common.{◌≡◌, ◌≢◌, ◌∙◌, ℕ, zero, suc, ◌+◌, ◌<◌, ◌≤◌, Bool, true, false, not, ◌||◌, List, [], ◌∷◌, ◌++◌, length, map, get_or, take, drop, Option, Some, None, option_map, ap, sym, refl, append_assoc, add-one, arith, inl, inr}
+use Rattle.std.proofs.Common.{◌≡◌, ◌≢◌, ◌∙◌, ℕ, zero, suc, ◌+◌, ◌<◌, ◌≤◌, Bool, true, false, not, ◌||◌, List, [], ◌∷◌, ◌++◌, length, map, get_or, take, drop, Option, Some, None, Err, option_map, ap, sym, refl, append_assoc, add-one, arith, inl, inr}
 use Rattle.std.specs.List.{remove}
-use Rattle.std.proofs.lemmas.Bool.{cases_Bool}
+use Rattle.std.proofs.lemmas.Bool.{cases_Bool, le-ltb}
 use Rattle.std.proofs.lemmas.List.{drop_all, drop_more, take_more}
-use Rattle.ink_choice.specs.Words.{FindsIndex, Takes}
-use Rattle.ink_model.specs.Choices.{behind, none_visible, shown, shown_choice, taken, taken_of, visible}
+use Rattle.ink_choice.specs.Words.{Adds, FindsIndex, Takes}
+use Rattle.ink_model.specs.Choices.{added, behind, none_visible, shown, shown_choice, taken, taken_of, visible}
 use Rattle.ink_model.specs.Configuration.{ChoiceOf}
+use Rattle.ink_model.specs.declared.fault.Fault.TheVariants.{TooDeep}
+use Rattle.ink_model.specs.declared.limits.TheConstants.{MAX_CHOICES}
 use Rattle.ink_model.specs.declared.passage.Shown.{Shown}
 
 not_true : (b : Bool) → not b ≡ true → b ≡ false
@@ -148,3 +150,7 @@ module _ {P : Type 0} where
   pub copied_one : (cs done : List (ChoiceOf P)) (i : ℕ) (x y : ChoiceOf P) → i < length cs → x ≡ get_or cs i x → done ≡ take i cs → y ≡ x → done ++ y ∷ [] ≡ take (i + 1) cs
   copied_one cs done i x y h is e made =
       ap (λ xs. xs ++ y ∷ []) e ∙ ap (λ z. take i cs ++ z ∷ []) (made ∙ is) ∙ sym (take_more cs i x h)
+
+  -- there is no room for one more
+  pub full : (c : ChoiceOf P) (cs : List (ChoiceOf P)) → MAX_CHOICES ≤ length cs → Adds (added c cs) cs cs (Err TooDeep)
+  full c cs h = rw (le-ltb (length cs) MAX_CHOICES h) (refl, refl)

@@ -1,5 +1,5 @@
 -- What was found on a stack by its depths; a stack's values are listed from the top down.
-use Rattle.std.specs.Prelude.{List, reverse, drop, ◌++◌}
+use Rattle.std.specs.Prelude.{List, reverse, drop}
 use Rattle.ink_choice.specs.declared.operands.Operands.{Operands}
 use Rattle.ink_choice.specs.declared.operands.Words.{Words}
 use Rattle.ink_model.specs.Choices as rules

@@ -1,10 +1,10 @@
 //! The choices that are offered.
 
 ghost use Rattle.std.specs.Prelude.{◌≡◌, ◌≢◌, ◌≤◌, ◌||◌, [], not, length, map, IfOk, OnErr};
+ghost use Rattle.ink_model.specs.declared.limits.TheConstants.{MAX_CHOICES};
 ghost use Rattle.ink_choice.specs.Words.{Adds, FindsIndex, Takes};
 ghost use Rattle.ink_model.specs.Choices as rules;
 ghost use Rattle.ink_model.specs.Configuration.{unnumbered_choice};
-ghost use Rattle.ink_model.specs.declared.limits.TheConstants.{MAX_CHOICES};
 
 use crate::choice::{Choice, copied_tags, copied_text};
 use ink_model::{Fault, MAX_CHOICES, Seq, Shown};
@@ -18,7 +18,7 @@ pub struct Choices<P> {
 }
 
 impl<P> Model for Choices<P> {
-    ghost use Rattle.std.specs.Prelude.{List, length, ◌≤◌};
+    ghost use Rattle.std.specs.Prelude.{◌≤◌, List, length};
     ghost use Rattle.ink_model.specs.Configuration.{ChoiceOf};
     ghost use Rattle.ink_model.specs.declared.limits.TheConstants.{MAX_CHOICES};
 
@@ -48,9 +48,9 @@ impl<P: Copy> Choices<P> {
         Ok(Choices { items })
     }
 
-    /// How many there are, the invisible ones counted. Takes no memory.
+    /// How many there are, the invisible ones counted: 1,000 at the most. Takes no memory.
     pub fn len(&self) -> usize
-        ensures number { result ≡ length self.now }
+        ensures count { result ≡ length self.now }
         ensures most { result ≤ MAX_CHOICES }
     {
         self.items.len()
@@ -58,10 +58,11 @@ impl<P: Copy> Choices<P> {
 
     /// Adds a choice behind the others. `TooDeep` where there are 1,000; `OutOfMemory` for a refused request for memory. On an
     /// error nothing has changed (docs/CHOICES.md, "The list").
+    #[tactic(auto, using(crate::proofs::Lists::full))]
     pub fn add(&mut self, choice: Choice<P>) -> Result<(), Fault>
         ensures { Adds (rules.added choice self.old) self.old self.new result }
     {
-        if self.items.len() >= MAX_CHOICES {
+        if self.len() >= MAX_CHOICES {
             return Err(Fault::TooDeep);
         }
         if self.items.push(choice).is_err() {

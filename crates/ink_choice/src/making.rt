@@ -9,7 +9,7 @@ ghost use Rattle.ink_model.specs.Choices.{choice_tags, has_any};
 use crate::choice::Choice;
 use crate::operands::{Operands, find_operands, pop_all, push_tags};
 use crate::texts::joined;
-use ink_model::flags::{is_invisible_default, is_once_only};
+use ink_model::choice_flags::{is_invisible_default, is_once_only};
 use ink_model::{Fault, Seq, Shared, Text};
 use ink_stack::Threads;
 use ink_value::EvalStack;

@@ -5,7 +5,7 @@ ghost use Rattle.ink_choice.specs.Operands.{operands_of, words_of};
 ghost use Rattle.ink_model.specs.Choices as rules;
 ghost use Rattle.ink_model.specs.Choices.{tags_first};
 
-use ink_model::flags::{has_choice_only_text, has_start_text, is_conditional};
+use ink_model::choice_flags::{has_choice_only_text, has_start_text, is_conditional};
 use ink_model::{Fault, Shared, Text, Value};
 use ink_value::{EvalStack, is_true};
 use std::alloc::AllocError;

@@ -1,6 +1,7 @@
 //! The plain types of compiled ink stories. The definitions of the rules stand in `specs/`.
 #![tactic(auto)]
 
+pub mod choice_flags;
 mod command;
 mod content;
 mod fault;

@@ -14,7 +14,7 @@ use Rattle.serde_json.specs.Find.{of_integer}
 use Rattle.serde_json.specs.Written.{items_outline}
 use Rattle.serde_json.proofs.OnLiterals.{serde_json_on_literals}
 use Rattle.serde_json.proofs.Texts.{print-outline}
-use Rattle.ink_model.specs.Answer.{Reply, Acts, Breaks, Shows, reply_data, passage_data, answer, items_of}
+use Rattle.ink_model.specs.Answer.{Reply, Acts, Breaks, Counts, Shows, reply_data, passage_data, answer, items_of}
 use Rattle.ink_model.specs.declared.fault.Fault.{Fault}
 use Rattle.ink_model.specs.declared.host.Event.{Event}
 use Rattle.ink_model.specs.declared.passage.Passage.{Passage}
@@ -109,3 +109,9 @@ pub number_answer : (z : ℤ) → answer (Shows (value.Int z)) ≡ codes "{\"val
 unfolding answer serde_json_on_literals
 number_answer (pos n) = ap (λ t. codes "{\"value\":" ++ t) (append_assoc (signed_decimal (pos n)) (125 ∷ []) (10 ∷ []))
 number_answer (negsuc n) = ap (λ t. codes "{\"value\":" ++ t) (append_assoc (signed_decimal (negsuc n)) (125 ∷ []) (10 ∷ []))
+
+-- the answer that tells how often a container was visited
+pub visits_answer : (z : ℤ) → answer (Counts z) ≡ codes "{\"visits\":" ++ (signed_decimal z ++ codes "}\n")
+unfolding answer serde_json_on_literals
+visits_answer (pos n) = ap (λ t. codes "{\"visits\":" ++ t) (append_assoc (signed_decimal (pos n)) (125 ∷ []) (10 ∷ []))
+visits_answer (negsuc n) = ap (λ t. codes "{\"visits\":" ++ t) (append_assoc (signed_decimal (negsuc n)) (125 ∷ []) (10 ∷ []))

@@ -8,3 +8,4 @@ pub mod Playings
 pub mod Supporting
 pub mod Spelling
 pub mod Restarts
+pub mod Paths

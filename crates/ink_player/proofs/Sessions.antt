@@ -1,5 +1,5 @@
 -- How a session goes on by a line, and how it ends.
-use Rattle.std.proofs.Common.{◌≡◌, ℕ, ◌+◌, ◌<◌, ◌≤◌, List, [], ◌∷◌, ◌++◌, length, false, cond, ◌==◌, Option, Result, Ok, Err, ap, ◌∙◌, sym, refl, subst, inl, inr, arith, append_assoc, append-nil, length-append}
+use Rattle.std.proofs.Common.{◌≡◌, ◌⊎◌, ℕ, ◌+◌, ◌<◌, ◌≤◌, List, [], ◌∷◌, ◌++◌, length, false, cond, ◌==◌, Option, Some, None, Result, Ok, Err, ap, ◌∙◌, sym, refl, subst, inl, inr, arith, append_assoc, append-nil, length-append}
 use Rattle.std.specs.List.{AllByRecursion}
 use Rattle.std.specs.Io.KnownBytes.{Appends, IsAtEnd}
 use Rattle.std.proofs.KnownBytes.{Appends-nil, Appends-trans, Consumes-trans}
@@ -7,17 +7,19 @@ use Rattle.ink_model.specs.Answer.{Reply, Refuses, answer}
 use Rattle.ink_model.specs.Bytes.{has_newline, onto}
 use Rattle.ink_model.specs.Command.{NeedsMemory, command_of, lines_of}
 use Rattle.ink_model.specs.Run.{Made}
-use Rattle.ink_model.specs.Session.{Does, Serves, Session}
+use Rattle.ink_model.specs.Session.{Does, LineFails, Serves, Session}
 use Rattle.ink_model.specs.State.{State}
 use Rattle.ink_model.specs.Step.{Bound}
 use Rattle.ink_model.specs.Tree.{StoryTree}
 use Rattle.ink_model.specs.declared.command.Command.{Command}
+use Rattle.ink_model.specs.declared.command.Command.TheVariants as command
 use Rattle.ink_model.specs.declared.fault.Refusal.TheVariants as refusal
 use Rattle.ink_player.specs.Buffered.{Buffered}
 use Rattle.ink_player.specs.Ends.{Falls}
 use Rattle.ink_player.specs.Input.{Takes}
 use Rattle.ink_player.specs.Lines.{TakesLine, GivesLine}
 use Rattle.ink_player.specs.Serving.{IsLine, spelled, Splits, IsFirst, ServesFront, IsLongInput, HasRoom, RunEnds, Runs, Answered, Answers, WritesText, ServesLine}
+use Rattle.ink_player.specs.Visits.{PathFails}
 use Rattle.ink_model.specs.declared.limits.TheConstants.{MAX_LINE}
 use Rattle.ink_player.specs.declared.end.RunFault.{RunFault}
 use Rattle.ink_player.specs.declared.end.RunFault.TheVariants as fault
@@ -262,6 +264,21 @@ module _ (s : StoryTree) (host : Bound) (made : List Made) where
   pub answers_as : (text line : List ℕ) (h i : Option (List ℕ)) (old new : State) (r : Result (Unit {0}) RunFault) → text ≡ line → Answers s host made text h i old new r
       → Answers s host made line h i old new r
   answers_as text line h i old new r e p = subst (λ l. Answers s host made l h i old new r) e p
+
+-- memory was refused for reading the path
+path_unread : (s : StoryTree) (host : Bound) (line : List ℕ) (k : Option Command) (old : State) (reply : Reply) (new : State) → k ≡ command_of line → PathFails k old reply new → Serves s host [] line old reply new
+unfolding Serves
+path_unread s host line (Some (command.Visits path)) old reply new e p = inr (refl, subst (λ x. LineFails x old reply new) e (tt, p.1))
+path_unread s host line None old reply new e p = absurd p
+path_unread s host line (Some command.Through) old reply new e p = absurd p
+path_unread s host line (Some (command.Set name value)) old reply new e p = absurd p
+path_unread s host line (Some (command.Get name)) old reply new e p = absurd p
+path_unread s host line (Some command.Restart) old reply new e p = absurd p
+
+pub serves_command : (s : StoryTree) (host : Bound) (line : List ℕ) (k : Option Command) (old : State) (reply : Reply) (new : State) → k ≡ command_of line
+    → Does s host [] k old reply new ⊎ PathFails k old reply new → Serves s host [] line old reply new
+serves_command s host line k old reply new e (inl p) = serves_by s host [] line k old reply new e p
+serves_command s host line k old reply new e (inr p) = path_unread s host line k old reply new e p
 
 -- memory was refused for reading the line
 pub serves_unread : (s : StoryTree) (host : Bound) (line : List ℕ) (st : State) → NeedsMemory (command_of line) → Serves s host [] line st (Refuses refusal.OutOfMemory) st

@@ -8,3 +8,4 @@ pub mod Lines
 pub mod Serving
 pub mod Playing
 pub mod Commands
+pub mod Visits

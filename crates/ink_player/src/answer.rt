@@ -1,12 +1,13 @@
 //! Answers as they are written (docs/PROTOCOL.md, "Answers").
 
-ghost use Rattle.std.specs.Prelude.{◌≡◌, [], ◌∷◌, OnOk, IfOk, IfSome, map, codes};
+ghost use Rattle.std.specs.Fmt.{signed_decimal};
+ghost use Rattle.std.specs.Prelude.{◌≡◌, [], ◌∷◌, ◌++◌, OnOk, IfOk, IfSome, map, codes};
 ghost use Rattle.json.specs.Print.{IsPrintable};
 ghost use Rattle.json.specs.Reads.{token_of};
 ghost use Rattle.json.specs.Token as tokens;
 ghost use Rattle.serde_json.specs.Data.{Data, array, string, number};
 ghost use Rattle.serde_json.specs.Find.{of_integer};
-ghost use Rattle.ink_model.specs.Answer.{answer, refusal_data, reply_data, reply_of_events, reply_of_halt, Acts, Breaks, Shows, items_of, passage_data, shown_data};
+ghost use Rattle.ink_model.specs.Answer.{answer, refusal_data, reply_data, reply_of_events, reply_of_halt, Acts, Breaks, Counts, Shows, items_of, passage_data, shown_data};
 ghost use Rattle.ink_model.specs.ValueJson.{value_data};
 ghost use Rattle.ink_player.specs.Answers.{Added, data_tokens};
 ghost use Rattle.ink_player.specs.Replies.{reply_by};
@@ -22,6 +23,7 @@ pub(crate) enum Outcome {
     Passage(Result<Passage, Halt>),
     Events(Result<Seq<Event>, Halt>),
     Value(Result<Value, Refusal>),
+    Visits(Result<i32, Refusal>),
     Refused(Refusal),
 }
 
@@ -55,30 +57,31 @@ pub(crate) fn answer_text(
 {
     let mut empty = buffer;
     empty.clear();
-    match shown_number(&outcome) {
-        Some(number) => number_text(empty, number),
+    match told_number(&outcome) {
+        Some((front, number)) => number_text(empty, front, number),
         None => written_text(alloc, empty, outcome),
     }
 }
 
-// The number that a command's call returned, if it returned one.
-fn shown_number(outcome: &Outcome) -> Option<i32>
-    ensures { IfSome result (λ number. reply_by outcome.now ≡ Shows (Value.Int number)) }
+// The number that a command's call returned, if it returned one, and what stands before it in the answer.
+fn told_number(outcome: &Outcome) -> Option<(&'static str, i32)>
+    ensures { IfSome result (λ told. answer (reply_by outcome.now) ≡ told.0.now ++ (signed_decimal told.1 ++ codes "}\n")) }
 {
     match outcome {
-        Outcome::Value(Ok(Value::Int(number))) => Some(*number),
+        Outcome::Value(Ok(Value::Int(number))) => Some(("{\"value\":", *number)),
+        Outcome::Visits(Ok(visits)) => Some(("{\"visits\":", *visits)),
         _ => None,
     }
 }
 
-// The answer that shows a number, without the writer of JSON.
-fn number_text(empty: Vec<u8>, number: i32) -> Result<Vec<u8>, AllocError>
+// An answer that tells a number, without the writer of JSON.
+fn number_text(empty: Vec<u8>, front: &str, number: i32) -> Result<Vec<u8>, AllocError>
     requires { empty.items ≡ [] }
-    ensures { IfOk result (λ text. text.items ≡ answer (Shows (Value.Int number))) }
+    ensures { IfOk result (λ text. text.items ≡ front.now ++ (signed_decimal number ++ codes "}\n")) }
 {
     let mut digits = itoa::Buffer::new();
     let mut text = empty;
-    text.extend_from_slice(b"{\"value\":")?;
+    text.extend_from_slice(front.as_bytes())?;
     text.extend_from_slice(digits.format(number).as_bytes())?;
     text.extend_from_slice(b"}\n")?;
     Ok(text)
@@ -102,8 +105,10 @@ fn write_reply(alloc: Global, out: &mut Writer, outcome: Outcome) -> Result<(), 
         Outcome::Passage(Ok(passage)) => write_passage(out, &passage),
         Outcome::Events(Ok(_)) => write_done(out),
         Outcome::Value(Ok(value)) => write_shown(alloc, out, &value),
+        Outcome::Visits(Ok(visits)) => write_visits(out, visits),
         Outcome::Passage(Err(halt)) | Outcome::Events(Err(halt)) => write_halt(out, halt),
-        Outcome::Value(Err(refusal)) | Outcome::Refused(refusal) => write_refusal(out, refusal),
+        Outcome::Value(Err(refusal)) | Outcome::Visits(Err(refusal)) | Outcome::Refused(refusal) =>
+            write_refusal(out, refusal),
     }
 }
 
@@ -216,6 +221,15 @@ fn write_shown(alloc: Global, out: &mut Writer, value: &Value) -> Result<(), All
     put(out, Token::BeginObject)?;
     put(out, Token::Key("value"))?;
     write_value(alloc, out, value)?;
+    put(out, Token::EndObject)
+}
+
+fn write_visits(out: &mut Writer, visits: i32) -> Result<(), AllocError>
+    ensures { OnOk result (Added out.old out.new (data_tokens (reply_data (Counts visits)))) }
+{
+    put(out, Token::BeginObject)?;
+    put(out, Token::Key("visits"))?;
+    put_integer(out, visits)?;
     put(out, Token::EndObject)
 }
 

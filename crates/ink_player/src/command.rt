@@ -1,7 +1,7 @@
 //! The commands that lines spell (docs/PROTOCOL.md, "Command lines").
 
 ghost use Rattle.std.specs.Prelude.{◌≡◌, IfOk, OnErr, option_map, option_and_then};
-ghost use Rattle.ink_model.specs.Command.{NeedsMemory, command_of, command_word, get_command as get_of, set_command as set_of};
+ghost use Rattle.ink_model.specs.Command.{NeedsMemory, command_of, command_word, get_command as get_of, set_command as set_of, visits_command as visits_of};
 ghost use Rattle.ink_model.specs.Bytes.{after as after_word, at_space as parts_at_space};
 ghost use Rattle.ink_player.specs.Commands.{command_by};
 
@@ -9,13 +9,14 @@ use crate::given::given_of;
 use ink_model::Given;
 use std::alloc::{AllocError, Global};
 
-/// A command of a line, with the name where it stands in the line. The value of `Set` is none where the line has JSON of
-/// another kind than a value has, or no JSON.
+/// A command of a line, with the name or the path where it stands in the line. The value of `Set` is none where the line has
+/// JSON of another kind than a value has, or no JSON.
 #[derive(Drop)]
 pub(crate) enum LineCommand<'a> {
     Through,
     Set { name: &'a str, value: Option<Given> },
     Get { name: &'a str },
+    Visits { path: &'a str },
     Restart,
 }
 
@@ -47,8 +48,11 @@ fn command_in(alloc: Global, text: &str) -> Result<Option<LineCommand<'_>>, Allo
     if let Some(name) = after("get ", text) {
         return Ok(get_command(name));
     }
-    match after("set ", text) {
-        Some(rest) => set_line(alloc, rest),
+    if let Some(rest) = after("set ", text) {
+        return set_line(alloc, rest);
+    }
+    match after("visits ", text) {
+        Some(path) => Ok(visits_command(path)),
         None => Ok(None),
     }
 }
@@ -74,6 +78,15 @@ fn get_command(name: &str) -> Option<LineCommand<'_>>
         return None;
     }
     Some(LineCommand::Get { name })
+}
+
+fn visits_command(path: &str) -> Option<LineCommand<'_>>
+    ensures { option_map command_by result ≡ visits_of path.now }
+{
+    if path.is_empty() {
+        return None;
+    }
+    Some(LineCommand::Visits { path })
 }
 
 fn set_line(alloc: Global, text: &str) -> Result<Option<LineCommand<'_>>, AllocError>

@@ -13,6 +13,7 @@ mod player;
 mod playing;
 mod session;
 mod supported;
+mod visits;
 mod watched;
 
 pub use desk::Desk;

@@ -1,7 +1,7 @@
 //! The player.
 
 ghost use Rattle.std.specs.Prelude.{◌≡◌, [], Some, IfOk, IfErr, Ok};
-ghost use Rattle.ink_model.specs.Answer.{Breaks, reply_of, reply_of_events, reply_of_halt, reply_of_value};
+ghost use Rattle.ink_model.specs.Answer.{Breaks, reply_of, reply_of_events, reply_of_halt, reply_of_value, reply_of_visits};
 ghost use Rattle.ink_model.specs.Configuration.{Configuration};
 ghost use Rattle.ink_model.specs.Opening.{opening, opened};
 ghost use Rattle.ink_model.specs.Supported.{unsupported};
@@ -11,6 +11,7 @@ ghost use Rattle.ink_model.specs.State.{is_running, fault_in};
 ghost use Rattle.ink_model.specs.Step.{nothing_bound};
 
 use crate::desk::Desk;
+use crate::visits::visits_by;
 use ink_check::Story;
 use ink_model::{Event, Fault, Given, Halt, MAX_TEXT, Passage, Refusal, Seq, Value};
 use ink_step::{Machine, Unopened};
@@ -37,6 +38,7 @@ impl Player {
     ghost use Rattle.ink_check.specs.Words.{story_tree};
     ghost use Rattle.ink_model.specs.Store.{Values};
     ghost use Rattle.ink_step.specs.Steps.{FailsToOpen};
+    ghost use Rattle.ink_player.specs.Visits.{TellsVisits};
     ghost use Rattle.ink_player.specs.Words.{desk_of, state_of, story_of};
 
     /// Opens a story at its start, with the globals that it declares (docs/RUNNING.md, "Opening"). All of its content is
@@ -134,6 +136,18 @@ impl Player {
         match value.clone_in(self.alloc) {
             Ok(copy) => Ok(copy),
             Err(_) => Err(Refusal::OutOfMemory),
+        }
+    }
+
+    /// How often the container at a path was visited (docs/PROTOCOL.md, "Command lines"). Refused with `Broken` after a fault;
+    /// with `NoSuchPath` where the text is no path, or a relative one, or where it leads to nothing whose visits are counted; and
+    /// with `OutOfMemory` where memory for the path was refused.
+    pub fn visits(&self, path: &str) -> Result<i32, Refusal>
+        ensures { TellsVisits (story_of self.now) path.now (state_of self.now) (reply_of_visits result) (state_of self.now) }
+    {
+        match self.broken {
+            Some(fault) => Err(Refusal::Broken(fault)),
+            None => visits_by(self.alloc, &self.story, &self.machine, path),
         }
     }
 

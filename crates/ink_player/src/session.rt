@@ -1,6 +1,6 @@
 //! Sessions over command lines (docs/PROTOCOL.md, "Sessions").
 
-ghost use Rattle.std.specs.Prelude.{◌≡◌, ℕ, List, [], ◌||◌, ◌≤◌, ◌+◌, length, option_map};
+ghost use Rattle.std.specs.Prelude.{◌≡◌, ℕ, List, [], ◌||◌, ◌⊎◌, ◌≤◌, ◌+◌, length, option_map};
 ghost use Rattle.ink_model.specs.Answer.{Refuses};
 ghost use Rattle.ink_model.specs.Session.{Does, Serves, Set};
 ghost use Rattle.ink_model.specs.Step.{nothing_bound};
@@ -9,6 +9,7 @@ ghost use Rattle.ink_player.specs.Replies.{reply_by};
 ghost use Rattle.ink_player.specs.Words.{state_of, story_of};
 ghost use Rattle.ink_player.specs.Ends.{Reports, reads_fail, writes_fail};
 ghost use Rattle.ink_player.specs.Serving.{Answers, Runs, SamePlay, ServesNext, WritesText};
+ghost use Rattle.ink_player.specs.Visits.{PathFails};
 ghost use Rattle.ink_model.specs.declared.limits.TheConstants.{MAX_INPUT};
 
 use crate::answer::{Outcome, answer_text, fixed_answer};
@@ -186,7 +187,7 @@ fn write_answer<T: Sink>(sink: &mut T, text: &[u8]) -> Result<(), RunFault>
     }
 }
 
-// Performs the command of a line, unless memory is refused for reading it.
+// Performs the command of a line, unless memory is refused for reading it, or the path in it.
 fn outcome_of(alloc: Global, player: &mut Player, line: &[u8]) -> Outcome
     ensures serves { Serves (story_of player.old) nothing_bound [] line.now (state_of player.old) (reply_by result) (state_of player.new) }
     ensures same { SamePlay player.old player.new }
@@ -197,14 +198,17 @@ fn outcome_of(alloc: Global, player: &mut Player, line: &[u8]) -> Outcome
     }
 }
 
+// Performs a command, unless memory is refused for reading its path.
 fn perform(player: &mut Player, command: Option<LineCommand<'_>>) -> Outcome
-    ensures does { Does (story_of player.old) nothing_bound [] (option_map command_by command.entry) (state_of player.old) (reply_by result) (state_of player.new) }
+    ensures does { Does (story_of player.old) nothing_bound [] (option_map command_by command.entry) (state_of player.old) (reply_by result) (state_of player.new)
+        ⊎ PathFails (option_map command_by command.entry) (state_of player.old) (reply_by result) (state_of player.new) }
     ensures same { SamePlay player.old player.new }
 {
     match command {
         Some(LineCommand::Through) => Outcome::Passage(player.through()),
         Some(LineCommand::Set { name, value }) => set(player, name, value),
         Some(LineCommand::Get { name }) => Outcome::Value(player.get(name)),
+        Some(LineCommand::Visits { path }) => Outcome::Visits(player.visits(path)),
         Some(LineCommand::Restart) => Outcome::Events(player.restart()),
         None => Outcome::Refused(Refusal::BadCommand),
     }

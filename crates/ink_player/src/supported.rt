@@ -70,14 +70,13 @@ fn supports(leaf: &Leaf) -> bool
         | Leaf::Tunnel { .. }
         | Leaf::Declare(_)
         | Leaf::Assign(_)
-        | Leaf::Variable(_) => true,
-        Leaf::Control(control) => supports_control(*control),
-        Leaf::Pointer(..)
-        | Leaf::External { .. }
+        | Leaf::Variable(_)
+        | Leaf::Pointer(..)
         | Leaf::DeclareTemp(_)
         | Leaf::AssignTemp(_)
-        | Leaf::Count(_)
-        | Leaf::Choice { .. } => false,
+        | Leaf::Count(_) => true,
+        Leaf::Control(control) => supports_control(*control),
+        Leaf::External { .. } | Leaf::Choice { .. } => false,
     }
 }
 
@@ -99,11 +98,11 @@ fn supports_control(control: Control) -> bool
         | Control::End
         | Control::Return
         | Control::ReturnTunnel
-        | Control::Thread => true,
-        Control::ChoiceCount
+        | Control::Thread
         | Control::Turn
         | Control::Turns
         | Control::ReadCount
-        | Control::Visit => false,
+        | Control::Visit => true,
+        Control::ChoiceCount => false,
     }
 }

@@ -17,3 +17,4 @@ pub mod Kept
 pub mod Numbered
 pub mod Leaves
 pub mod Down
+pub mod Firsts

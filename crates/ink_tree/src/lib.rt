@@ -9,6 +9,8 @@ mod linking;
 mod listing;
 mod lookup;
 mod moving;
+mod names;
+mod naming;
 mod node;
 mod order;
 mod path;

@@ -1,12 +1,12 @@
 //! Where paths lead (docs/STORY_FORMAT.md, "Paths").
 
 ghost use Rattle.std.specs.Prelude.{◌≡◌, option_map};
-ghost use Rattle.ink_model.specs.Path.{by_name, listed_index, stepped, stepped_last, target, walked};
+ghost use Rattle.ink_model.specs.Path.{by_name, stepped, stepped_last, target, walked};
 ghost use Rattle.ink_model.specs.Tree.{at};
 ghost use Rattle.ink_model.specs.declared.place.Part.TheVariants.{Index};
 
 use crate::spot::{NodeId, Spot};
-use crate::tree::{Tree, index_in};
+use crate::tree::Tree;
 use ink_model::{Part, Path};
 
 impl Tree {
@@ -72,14 +72,6 @@ impl Tree {
         }
         let index = self.listed_index(here, name)?;
         self.child_at(here, index)
-    }
-
-    // The index in content of the first container that gives itself a name.
-    fn listed_index(&self, here: NodeId, name: &str) -> Option<u32>
-        ensures { result ≡ listed_index name.now (at (story_tree self.now) (node_place (story_tree self.now) here)) }
-    {
-        let _width = self.kept(here).width;
-        index_in(self.inside(here)?, name)
     }
 
     // The last component, an index of which may be a container's end.

@@ -15,10 +15,12 @@ ghost use Rattle.ink_model.specs.declared.fault.Cause.TheVariants.{OutOfMemory};
 ghost use Rattle.ink_model.specs.declared.place.Part.TheVariants.{Index};
 ghost use Rattle.ink_tree.specs.Contents.{has_name};
 ghost use Rattle.ink_tree.specs.Kept.{KeepsAll, AreLinked, leaf_in};
+ghost use Rattle.ink_tree.specs.Names.{AreNamed};
 ghost use Rattle.ink_tree.specs.Order.{keys_rise};
 
 use crate::children::Children;
 use crate::listing::list_story;
+use crate::names::Listed;
 use crate::node::{Links, Node};
 use crate::spot::{NodeId, Spot};
 use ink_json::RawStory;
@@ -33,11 +35,13 @@ pub struct Tree {
     pub(crate) nodes: Vec<Node>,
     pub(crate) children: Children,
     pub(crate) links: Vec<Links>,
+    pub(crate) lists: Vec<Listed>,
     ghost many: { length nodes.items ≡ length (places (tree raw)) },
     ghost rising: { keys_rise (tree raw) ≡ true },
     ghost spelled: { IsSpelled (tree raw) },
     ghost kept: { KeepsAll (tree raw) nodes.items },
     ghost linked: { AreLinked (tree raw) links.items },
+    ghost named: { AreNamed (tree raw) lists.items },
 }
 
 impl Tree {
@@ -68,8 +72,10 @@ impl Tree {
             nodes,
             children,
             links: Vec::new(alloc),
+            lists: Vec::new(alloc),
         };
         let links = bare.link_all()?;
+        let lists = bare.list_names()?;
         let Tree {
             alloc,
             raw,
@@ -83,6 +89,7 @@ impl Tree {
             nodes,
             children,
             links,
+            lists,
         })
     }
 
@@ -231,7 +238,7 @@ impl Tree {
         if let Some(node) = self.child_by_name(root, name) {
             return Some(node);
         }
-        let index = index_in(self.raw.at(&[])?, name)?;
+        let index = self.listed_index(root, name)?;
         self.child_at(root, index)
     }
 }

@@ -5,14 +5,17 @@ use crate::content::shown_content;
 use crate::words::{number, show_parts};
 use ink_check::check;
 use ink_json::read_story;
-use ink_model::flags::{counts_at_start, counts_visits, is_once_only, notes_turns};
+use ink_model::choice_flags::{
+    has_choice_only_text, has_start_text, is_conditional, is_invisible_default, is_once_only,
+};
+use ink_model::flags::{counts_at_start, counts_visits, notes_turns};
 use ink_model::{Cause, Part, ReadRefusal};
 use std::alloc::{AllocError, Global};
 
 /// `form CONTENT` is answered by what the content is read as, alone in the root's list. The others are answered by `read`, or
 /// by the refusal and its place, if that is not the root: `story STORY`; `marked STORY`, with a byte order mark in front;
 /// `element CONTENT`, in a list; and `root CONTAINER`, which is checked too and `accepted`. `flags NUMBER` is answered by what
-/// the flags of a container, or of a choice, say.
+/// the flags of a container say, and `choice NUMBER` by those of a choice.
 pub(crate) fn answer(alloc: Global, question: &str) -> Answer {
     let (word, rest) = first_word(question);
     match word {
@@ -22,19 +25,36 @@ pub(crate) fn answer(alloc: Global, question: &str) -> Answer {
         "element" => read_element(alloc, rest),
         "root" => accepted(alloc, rest),
         "flags" => flags(alloc, number(rest)?),
+        "choice" => choice_flags(alloc, number(rest)?),
         _ => Err(NoAnswer::NoQuestion),
     }
 }
 
 fn flags(alloc: Global, flags: u8) -> Answer {
-    let mut said = String::new(alloc);
-    for (is_so, word) in [
+    let words = [
         (counts_visits(flags), "visits"),
         (notes_turns(flags), "turns"),
         (counts_at_start(flags), "start"),
+    ];
+    said(alloc, &words)
+}
+
+fn choice_flags(alloc: Global, flags: u8) -> Answer {
+    let words = [
+        (is_conditional(flags), "condition"),
+        (has_start_text(flags), "start"),
+        (has_choice_only_text(flags), "only"),
+        (is_invisible_default(flags), "default"),
         (is_once_only(flags), "once"),
-    ] {
-        if is_so {
+    ];
+    said(alloc, &words)
+}
+
+/// The words of what is so.
+fn said(alloc: Global, words: &[(bool, &str)]) -> Answer {
+    let mut said = String::new(alloc);
+    for (is_so, word) in words {
+        if *is_so {
             append(&mut said, word)?;
         }
     }

@@ -1,6 +1,6 @@
-use Rattle.std.proofs.Common.{◌≡◌, ◌∙◌, ◌+◌, ◌<◌, ◌||◌, true, false, not, ap, arith, get_or, length, suc, sym}
+use Rattle.std.proofs.Common.{◌≡◌, ◌∙◌, ◌<◌, ◌||◌, true, not, ap, arith, get_or, length, suc, sym}
 use Rattle.std.proofs.lemmas.List.{get_or_default}
-use Rattle.ink_choice.proofs.Lists.{Passed, found_here, passed_one, passed_over}
+use Rattle.ink_choice.proofs.Lists.{found_here, passed_one, passed_over}
 use Rattle.ink_choice.proofs.choices.index_of.Goals.{then-can_take+else-left-eq0, else-can_take}
 use Rattle.ink_choice.proofs.choices.index_of.Goals as goal
 

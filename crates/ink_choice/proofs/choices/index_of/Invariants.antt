@@ -1,4 +1,4 @@
-use Rattle.std.proofs.Common.{◌≡◌, ◌||◌, not}
+use Rattle.std.proofs.Common.{◌||◌, not}
 use Rattle.ink_choice.proofs.Lists.{Passed}
 use Rattle.ink_choice.proofs.choices.index_of.Given as goal
 

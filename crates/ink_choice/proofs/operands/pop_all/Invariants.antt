@@ -1,4 +1,4 @@
-use Rattle.std.proofs.Common.{◌≡◌, ◌+◌, drop, reverse}
+use Rattle.std.proofs.Common.{◌≡◌, drop, reverse}
 use Rattle.ink_choice.proofs.operands.pop_all.Given as goal
 
 abbrev pub invariant-loop : goal.invariant-loop

@@ -1,4 +1,4 @@
-use Rattle.std.proofs.Common.{◌<◌, ◌∙◌, arith, length, rules, sym}
+use Rattle.std.proofs.Common.{◌<◌, ◌∙◌, arith, length, sym}
 use Rattle.ink_choice.proofs.Lists.{counts_none, counts_one}
 use Rattle.ink_choice.proofs.choices.Choices.count_visible.Goals.{then-is_visible, else-is_visible}
 use Rattle.ink_choice.proofs.choices.Choices.count_visible.Goals as goal

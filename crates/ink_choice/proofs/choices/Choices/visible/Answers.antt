@@ -1,4 +1,4 @@
-use Rattle.std.proofs.Common.{◌≡◌, ◌≢◌, ◌<◌, ◌∙◌, [], arith, length, rules, sym}
+use Rattle.std.proofs.Common.{◌≢◌, ◌<◌, ◌∙◌, [], arith, length, sym}
 use Rattle.std.proofs.lemmas.Result.{err_from_is_err_and}
 use Rattle.ink_model.specs.Choices.{visible}
 use Rattle.ink_choice.proofs.Lists.{shows_none, shows_one, some_shown}

@@ -21,8 +21,8 @@ returns-in_err-index-clause-place c =
     let s = story_tree c.args.self.now in
     let name = c.args.name.now in
     let none : at s (Name name ∷ []) ≡ None = ap (λ p. at s (p ++ Name name ∷ [])) (sym (root_place s)) ∙ c.in_default.ensures in
-    ap (option_map (node_place s)) c.from_residual-in_err-index.ensures
-    ∙ knot_from_list name s None none (c.in_err-index.ensures ∙ ap (listed_index name) c.in_ok-at.ensures.found)
+    ap (option_map (node_place s)) c.from_residual.ensures
+    ∙ knot_from_list name s None none (c.in_err-index.ensures ∙ ap (λ p. listed_index name (at s p)) (root_place s))
 
 pub returns-clause-place : goal.returns-clause-place
 returns-clause-place c =
@@ -30,6 +30,6 @@ returns-clause-place c =
     let name = c.args.name.now in
     let i = c.in_ok-index.index in
     let none : at s (Name name ∷ []) ≡ None = ap (λ p. at s (p ++ Name name ∷ [])) (sym (root_place s)) ∙ c.in_default.ensures in
-    let listed : Some i ≡ listed_index name (Some s) = c.in_ok-index.ensures ∙ ap (listed_index name) c.in_ok-at.ensures.found in
+    let listed : Some i ≡ listed_index name (Some s) = c.in_ok-index.ensures ∙ ap (λ p. listed_index name (at s p)) (root_place s) in
     must_find s (Index i ∷ []) c.child_at.result (subst (λ p. Finds s (p ++ Index i ∷ []) c.child_at.result) (root_place s) c.child_at.ensures) (listed_there name s i listed)
     ∙ knot_from_list name s (Some i) none listed
