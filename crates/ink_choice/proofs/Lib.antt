@@ -2,3 +2,4 @@ pub mod Ends
 pub mod Lists
 pub mod Depths
 pub mod Makings
+pub mod Nth

@@ -1,6 +1,6 @@
 //! The choices that are offered.
 
-ghost use Rattle.std.specs.Prelude.{◌≡◌, ◌≢◌, ◌≤◌, ◌||◌, [], not, length, map, IfOk, OnErr};
+ghost use Rattle.std.specs.Prelude.{◌≡◌, ◌≢◌, ◌≤◌, ◌||◌, [], not, length, map, option_map, slice_get, IfOk, OnErr};
 ghost use Rattle.ink_model.specs.declared.limits.TheConstants.{MAX_CHOICES};
 ghost use Rattle.ink_choice.specs.Words.{Adds, FindsIndex, Takes};
 ghost use Rattle.ink_model.specs.Choices as rules;
@@ -104,6 +104,16 @@ impl<P: Copy> Choices<P> {
         ensures { result ≡ rules.only_invisible self.now }
     {
         !self.items.is_empty() && none_visible(self.items.as_slice())
+    }
+
+    /// The n-th visible one, counted from 0; none where there are not so many. Takes no memory.
+    pub fn visible_at(&self, number: usize) -> Option<&Choice<P>>
+        ensures { option_map (λ c. c.now) result ≡ slice_get (rules.visible self.now) number }
+    {
+        match index_of(self.items.as_slice(), number, false) {
+            Some(index) => Some(&self.items[index]),
+            None => None,
+        }
     }
 
     /// Takes a choice out of the list: the n-th visible one, counted from 0, or where none is visible the n-th. None where there

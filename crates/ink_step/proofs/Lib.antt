@@ -23,3 +23,4 @@ pub mod Stored
 pub mod Unstored
 pub mod Offered
 pub mod Shows
+pub mod Chosen

@@ -2,15 +2,19 @@
 
 ghost use Rattle.std.specs.Prelude.{◌≡◌, true, IfErr, OnErr, OnOk};
 ghost use Rattle.ink_check.specs.Words.{story_tree};
-ghost use Rattle.ink_model.specs.Choosing.{chosen, default_asks, default_choice, jumped, open_choice, stopped_by};
+ghost use Rattle.ink_model.specs.Choosing.{chosen, default_asks, default_choice, jumped, open_choice, stopped_by, taken_up};
+ghost use Rattle.ink_model.specs.Configuration.{map_choice};
+ghost use Rattle.ink_model.specs.Tree.{StoryTree};
 ghost use Rattle.ink_model.specs.Visits.{entering_around, entering_asks};
 ghost use Rattle.ink_step.specs.Steps.{Chooses, StepEnds};
 ghost use Rattle.ink_step.specs.Words.{config_of};
 ghost use Rattle.ink_tree.specs.Nodes.{place_of};
 
+use crate::counting::enter_landed;
 use crate::flow::StepEnd;
 use crate::machine::Machine;
 use ink_check::Story;
+use ink_choice::Choice;
 use ink_model::{Fault, Refusal};
 use ink_tree::Spot;
 use std::alloc::AllocError;
@@ -22,7 +26,29 @@ impl Machine {
         ensures { let s = story_tree story.now in let c = config_of s self.old in let choice = default_choice c.flow.choices in
             StepEnds (default_asks s choice c) (stopped_by s choice c) self.old.globals (config_of s self.new) result }
     {
-        Ok(StepEnd::Stopped)
+        if !self.choices.only_invisible() {
+            return Ok(StepEnd::Stopped);
+        }
+        match self.choices.take(0) {
+            Some(choice) => {
+                self.take_up(choice);
+                match self.enter_around(story.tree(), true) {
+                    Ok(()) => Ok(StepEnd::Went),
+                    Err(fault) => Err(fault),
+                }
+            }
+            None => Ok(StepEnd::Stopped),
+        }
+    }
+
+    // Flow is where a choice leads, in the choice's thread alone, and no choice is left.
+    fn take_up(&mut self, choice: Choice<Spot>)
+        ensures { (s : StoryTree) → config_of s self.new ≡ taken_up (map_choice (place_of s) choice) (config_of s self.old) }
+    {
+        let Choice { target, thread, .. } = choice;
+        self.threads.replace(thread);
+        self.threads.put(Some(target));
+        self.choices.clear();
     }
 
     /// Takes the n-th of the choices that are shown, counted from 0: the threads are the choice's copy alone, no choice is left,
@@ -32,7 +58,31 @@ impl Machine {
     pub fn choose(&mut self, story: &Story, number: usize) -> Result<(), Refusal>
         ensures { let s = story_tree story.now in let c = config_of s self.old in Chooses s (open_choice number c) c (config_of s self.new) result }
     {
-        Err(Refusal::NotAChoice)
+        if self.can_go_on() {
+            return Err(Refusal::NotAChoice);
+        }
+        let Some(choice) = self.choices.visible_at(number) else {
+            return Err(Refusal::NotAChoice);
+        };
+        let turn = self.turn.next();
+        match enter_landed(
+            story.tree(),
+            &mut self.counts,
+            choice.thread.previous(),
+            choice.target,
+            turn,
+        ) {
+            Ok(()) => {}
+            Err(_) => return Err(Refusal::OutOfMemory),
+        }
+        match self.choices.take(number) {
+            Some(choice) => {
+                self.turn = turn;
+                self.take_up(choice);
+                Ok(())
+            }
+            None => Err(Refusal::NotAChoice),
+        }
     }
 
     /// Ends all threads and choices, and lands at a place, in the next turn. The one error is a refused request for memory,
@@ -43,6 +93,17 @@ impl Machine {
         ensures err { let s = story_tree story.now in OnErr result (config_of s self.new ≡ config_of s self.old) }
         ensures memory { let s = story_tree story.now in OnErr result (entering_asks s (jumped (place_of s place) (config_of s self.old)) ≡ true) }
     {
-        Ok(())
+        let turn = self.turn.next();
+        match enter_landed(story.tree(), &mut self.counts, None, place, turn) {
+            Ok(()) => {
+                self.threads.reset();
+                self.threads.put(Some(place));
+                self.choices.clear();
+                self.safe = true;
+                self.turn = turn;
+                Ok(())
+            }
+            Err(_) => Err(AllocError),
+        }
     }
 }

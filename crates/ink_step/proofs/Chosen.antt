@@ -1,0 +1,130 @@
+-- Choices over spots and over places; where they lead.
+use Rattle.std.proofs.Common.{◌≡◌, ◌∙◌, ap, sym, refl, subst, ℕ, zero, suc, List, [], ◌∷◌, map, Bool, true, false, true≢false, not, ◌&&◌, ◌||◌, if◌then◌else◌, slice_get, Option, Some, None, option_map, Result, Ok, Err}
+use Rattle.ink_choice.proofs.Nth.{taken_visible}
+use Rattle.ink_choice.specs.Words.{Takes}
+use Rattle.ink_model.specs.Choices.{has_any, none_visible, only_invisible, taken, visible}
+use Rattle.ink_model.specs.Choosing.{chosen, default_asks, default_choice, open_choice, stopped_by, taken_up}
+use Rattle.ink_model.specs.Configuration.{ChoiceOf, Configuration, can_go_on, map_choice}
+use Rattle.ink_model.specs.Counts.{CountsOf, one_more}
+use Rattle.ink_model.specs.Entered.{entered_places}
+use Rattle.ink_model.specs.Tree.{StoryTree}
+use Rattle.ink_model.specs.Visits.{all_visited, entering_around, entering_asks}
+use Rattle.ink_model.specs.declared.fault.Fault.{Fault}
+use Rattle.ink_model.specs.declared.fault.Fault.TheVariants.{OutOfMemory}
+use Rattle.ink_model.specs.declared.fault.Refusal.TheVariants as refusal
+use Rattle.ink_model.specs.declared.place.Part.{Part}
+use Rattle.ink_step.specs.Steps.{Chooses, StepEnds}
+use Rattle.ink_step.specs.Words.{config_of, counts_in}
+use Rattle.ink_step.specs.declared.machine.Machine.{Machine}
+use Rattle.ink_tree.specs.Nodes.{place_of}
+use Rattle.ink_tree.specs.declared.spot.Spot.{Spot}
+use Rattle.ink_step.specs.declared.flow.StepEnd.TheVariants as ends
+
+-- ---- what is taken
+
+module _ {P : Type 0} where
+  takes_first : (r : Option (ChoiceOf P × List (ChoiceOf P))) (old new : List (ChoiceOf P)) (x : ChoiceOf P) → Takes r old new (Some x) → option_map (λ r. r.0) r ≡ Some x
+  takes_first None old new x h = absurd h
+  takes_first (Some r) old new x h = ap Some (sym h.0)
+
+  takes_some : (r : Option (ChoiceOf P × List (ChoiceOf P))) (old new : List (ChoiceOf P)) (x : ChoiceOf P) → option_map (λ r. r.0) r ≡ Some x → Takes r old new None → ⊥
+  takes_some None old new x h t = absurd (cc)
+  takes_some (Some r) old new x h t = t
+
+  -- where there is an n-th visible one, it is taken
+  pub takes_visible : (n : ℕ) (cs new : List (ChoiceOf P)) (x y : ChoiceOf P) → Some x ≡ slice_get (visible cs) n → Takes (taken n cs) cs new (Some y) → Some y ≡ slice_get (visible cs) n
+  takes_visible n cs new x y h t = sym (takes_first (taken n cs) cs new y t) ∙ taken_visible n cs x (sym h) ∙ h
+
+  pub takes_any : (n : ℕ) (cs new : List (ChoiceOf P)) (x : ChoiceOf P) → Some x ≡ slice_get (visible cs) n → Takes (taken n cs) cs new None → ⊥
+  takes_any n cs new x h = takes_some (taken n cs) cs new x (taken_visible n cs x (sym h))
+
+  -- where none is visible, the first is
+  first_taken : (cs : List (ChoiceOf P)) → none_visible cs ≡ true → option_map (λ r. r.0) (taken 0 cs) ≡ slice_get cs 0
+  first_taken [] h = refl
+  first_taken (c ∷ cs) h = rw h refl
+
+-- ---- under other places
+
+module _ {P Q : Type 0} (f : P → Q) where
+  none_alike : (cs : List (ChoiceOf P)) → none_visible (map (map_choice f) cs) ≡ none_visible cs
+  none_alike [] = refl
+  none_alike (c ∷ cs) = ap (λ b. c.hidden && b) (none_alike cs)
+
+  only_alike : (cs : List (ChoiceOf P)) → only_invisible (map (map_choice f) cs) ≡ only_invisible cs
+  only_alike [] = refl
+  only_alike (c ∷ cs) = none_alike (c ∷ cs)
+
+  none_of : (cs : List (ChoiceOf P)) → only_invisible cs ≡ true → none_visible cs ≡ true
+  none_of [] h = refl
+  none_of (c ∷ cs) h = h
+
+  nth_alike : {A B : Type 0} (g : A → B) (xs : List A) (n : ℕ) → slice_get (map g xs) n ≡ option_map g (slice_get xs n)
+  nth_alike g [] n = refl
+  nth_alike g (x ∷ xs) zero = refl
+  nth_alike g (x ∷ xs) (suc n) = nth_alike g xs n
+
+  visible_by : (c : ChoiceOf P) (cs : List (ChoiceOf P)) (b : Bool) → visible (map (map_choice f) cs) ≡ map (map_choice f) (visible cs)
+      → (if b then visible (map (map_choice f) cs) else map_choice f c ∷ visible (map (map_choice f) cs)) ≡ map (map_choice f) (if b then visible cs else c ∷ visible cs)
+  visible_by c cs true on = on
+  visible_by c cs false on = ap (λ xs. map_choice f c ∷ xs) on
+
+  visible_alike : (cs : List (ChoiceOf P)) → visible (map (map_choice f) cs) ≡ map (map_choice f) (visible cs)
+  visible_alike [] = refl
+  visible_alike (c ∷ cs) = visible_by c cs c.hidden (visible_alike cs)
+
+  pub open_alike : (cs : List (ChoiceOf P)) (n : ℕ) (o : Option (ChoiceOf P)) → o ≡ slice_get (visible cs) n → slice_get (visible (map (map_choice f) cs)) n ≡ option_map (map_choice f) o
+  open_alike cs n o h = ap (λ xs. slice_get xs n) (visible_alike cs) ∙ nth_alike (map_choice f) (visible cs) n ∙ ap (option_map (map_choice f)) (sym h)
+
+  pub no_default : (cs : List (ChoiceOf P)) → only_invisible cs ≡ false → default_choice (map (map_choice f) cs) ≡ None
+  no_default cs h = ap (λ b. if b then option_map (λ r. r.0) (taken 0 (map (map_choice f) cs)) else None) (only_alike cs ∙ h)
+
+  pub is_default : (cs new : List (ChoiceOf P)) (x : ChoiceOf P) → only_invisible cs ≡ true → Takes (taken 0 cs) cs new (Some x) → default_choice (map (map_choice f) cs) ≡ Some (map_choice f x)
+  is_default cs new x h t =
+      let first : slice_get cs 0 ≡ Some x = sym (first_taken cs (none_of cs h)) ∙ takes_first (taken 0 cs) cs new x t in
+      ap (λ b. if b then option_map (λ r. r.0) (taken 0 (map (map_choice f) cs)) else None) (only_alike cs ∙ h)
+      ∙ first_taken (map (map_choice f) cs) (none_alike cs ∙ none_of cs h)
+      ∙ nth_alike (map_choice f) cs 0 ∙ ap (option_map (map_choice f)) first
+
+-- ---- where flow stops
+
+module _ (s : StoryTree) (old new : Configuration) (d : Option (ChoiceOf (List Part))) where
+  pub stays_stopped : d ≡ None → new ≡ old → StepEnds (default_asks s d old) (stopped_by s d old) old.shared.globals new (Ok ends.Stopped)
+  stays_stopped none is = subst (λ o. StepEnds (default_asks s o old) (stopped_by s o old) old.shared.globals new (Ok ends.Stopped)) (sym none) is
+
+  module _ (x : ChoiceOf (List Part)) (some : d ≡ Some x) where
+    pub follows_default : new ≡ entering_around s (taken_up x old) → StepEnds (default_asks s d old) (stopped_by s d old) old.shared.globals new (Ok ends.Went)
+    follows_default is = subst (λ o. StepEnds (default_asks s o old) (stopped_by s o old) old.shared.globals new (Ok ends.Went)) (sym some) is
+
+    pub short_of_default : (fault : Fault) → fault ≡ OutOfMemory → entering_asks s (taken_up x old) ≡ true → new.shared.globals ≡ old.shared.globals
+        → StepEnds (default_asks s d old) (stopped_by s d old) old.shared.globals new (Err fault)
+    short_of_default fault short adds same =
+        subst (λ o. StepEnds (default_asks s o old) (stopped_by s o old) old.shared.globals new (Err fault)) (sym some) ((short, adds), same)
+
+-- ---- where a host chooses
+
+module _ (s : StoryTree) (n : ℕ) (old new : Configuration) (stopped : can_go_on old ≡ false) where
+  pub open_is : open_choice n old ≡ slice_get (visible old.flow.choices) n
+  open_is = ap (λ b. if b then None else slice_get (visible old.flow.choices) n) stopped
+
+  pub chooses_none : slice_get (visible old.flow.choices) n ≡ None → new ≡ old → Chooses s (open_choice n old) old new (Err refusal.NotAChoice)
+  chooses_none none is = subst (λ o. Chooses s o old new (Err refusal.NotAChoice)) (sym (open_is ∙ none)) (refl, is)
+
+  module _ (x : ChoiceOf (List Part)) (some : slice_get (visible old.flow.choices) n ≡ Some x) where
+    pub chooses_one : new ≡ entering_around s (chosen x old) → Chooses s (open_choice n old) old new (Ok (tt {0}))
+    chooses_one is = subst (λ o. Chooses s o old new (Ok (tt {0}))) (sym (open_is ∙ some)) is
+
+    pub chooses_short : entering_asks s (chosen x old) ≡ true → new ≡ old → Chooses s (open_choice n old) old new (Err refusal.OutOfMemory)
+    chooses_short adds is = subst (λ o. Chooses s o old new (Err refusal.OutOfMemory)) (sym (open_is ∙ some)) (refl, adds, is)
+
+-- the machine whose flow a choice took up, after the containers around had been entered in the next turn
+module _ (s : StoryTree) (m : Machine) (x : ChoiceOf Spot) (cs : List (ChoiceOf Spot)) (counts : CountsOf ℕ) (turn : ℕ) where
+  abbrev up_in : ℕ → CountsOf (List Part) → Configuration
+  up_in t cts = taken_up (map_choice (place_of s) x) (record (config_of s m) { shared = record { globals = m.globals; counts = cts; turn = t } })
+
+  abbrev entered_by : List (List Part)
+  entered_by = entered_places s (option_map (place_of s) x.thread.previous) (place_of s x.target)
+
+  pub chosen_lands : (new : Machine) → config_of s new ≡ taken_up (map_choice (place_of s) x) (config_of s (record m { choices = cs; counts = counts; turn = turn }))
+      → turn ≡ one_more m.turn → counts_in s counts ≡ all_visited s turn entered_by (counts_in s m.counts)
+      → config_of s new ≡ entering_around s (chosen (map_choice (place_of s) x) (config_of s m))
+  chosen_lands new is next entering = is ∙ ap (up_in turn) entering ∙ ap (λ t. up_in t (all_visited s t entered_by (counts_in s m.counts))) next
