@@ -9,3 +9,5 @@ pub mod Supporting
 pub mod Spelling
 pub mod Restarts
 pub mod Paths
+pub mod Landings
+pub mod Numbers
