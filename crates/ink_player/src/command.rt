@@ -134,13 +134,13 @@ fn number_of(digits: &str) -> u32
     digits.parse::<u32>().unwrap()
 }
 
-fn jump_command(path: &str) -> Option<LineCommand<'_>>
-    ensures { option_map command_by result ≡ jump_of path.now }
+fn jump_command(target: &str) -> Option<LineCommand<'_>>
+    ensures { option_map command_by result ≡ jump_of target.now }
 {
-    if path.is_empty() {
+    if target.is_empty() {
         return None;
     }
-    Some(LineCommand::Jump { path })
+    Some(LineCommand::Jump { path: target })
 }
 
 fn set_line(alloc: Global, text: &str) -> Result<Option<LineCommand<'_>>, AllocError>

@@ -177,8 +177,8 @@ impl Player {
         ensures story { story_of self.new ≡ story_of self.old }
         ensures desk { desk_of self.new ≡ desk_of self.old }
     {
-        if let Some(fault) = self.broken {
-            return Err(Refusal::Broken(fault));
+        if let Some(cause) = self.broken {
+            return Err(Refusal::Broken(cause));
         }
         self.machine.choose(&self.story, number as usize)
     }
@@ -192,8 +192,8 @@ impl Player {
         ensures story { story_of self.new ≡ story_of self.old }
         ensures desk { desk_of self.new ≡ desk_of self.old }
     {
-        if let Some(fault) = self.broken {
-            return Err(Refusal::Broken(fault));
+        if let Some(reason) = self.broken {
+            return Err(Refusal::Broken(reason));
         }
         let place = match landing_by(self.alloc, &self.story, path) {
             Ok(place) => place,
