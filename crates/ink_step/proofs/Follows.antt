@@ -1,5 +1,6 @@
 -- Where flow goes after a content, and so how a step ends.
 use Rattle.std.proofs.Common.{◌≡◌, ◌∙◌, ◌||◌, ap, sym, refl, subst, inl, inr, ℕ, List, map, Bool, true, false, Option, Some, None, Result, Ok, Err}
+use Rattle.ink_model.specs.Choosing.{following, following_asks}
 use Rattle.ink_model.specs.Configuration.{ChoiceOf, Configuration, current_place, ended, map_choice, with_choices, with_threads}
 use Rattle.ink_model.specs.Counts.{CountsOf}
 use Rattle.ink_model.specs.Effect.{Fields, Effect, Moves, Stores, Offers, Lands, Calls, Returns, Forks, Done, Ends, Fails, fields_of, with_fields, with_thread}
@@ -16,7 +17,7 @@ use Rattle.ink_model.specs.Tree.{StoryTree}
 use Rattle.ink_model.specs.declared.fault.Fault.{Fault}
 use Rattle.ink_model.specs.declared.fault.Fault.TheVariants.{OutOfMemory}
 use Rattle.ink_model.specs.declared.place.Part.{Part}
-use Rattle.ink_step.specs.Performs.{Keeps, KeepsChoices, Performs, offered_by, stored_by}
+use Rattle.ink_step.specs.Performs.{Keeps, KeepsChoices, Performs, offered_by, stored_by, unstored}
 use Rattle.ink_step.specs.Reaches.{ReachesAs}
 use Rattle.ink_step.specs.Steps.{StepEnds}
 use Rattle.ink_step.specs.Words.{config_of, counts_in}
@@ -88,7 +89,7 @@ ends_reached asking c reached ts w (Err f) h = ends_broken asking c (with_flow t
 
 module _ (s : StoryTree) (asking : Bool) (c d : Configuration) (r : Result StepEnd Fault) where
   abbrev Follows : Effect → Type 0
-  Follows e = StepEnds (asking || move_asks s e c) (move s e c) c.shared.globals d r
+  Follows e = StepEnds (asking || move_asks s e c) (move s (unstored c.shared.globals e) c) c.shared.globals d r
 
   abbrev stale_now : Configuration
   stale_now = with_threads (on_top (staled (depth_of (written_in c))) c.flow.threads) c
@@ -206,12 +207,16 @@ module _ (s : StoryTree) (old mid : Machine) (safely : mid.safe ≡ old.safe) (c
   asks_alike (Ends f) = refl
   asks_alike (Fails g) = refl
 
+  -- of a whole step
+  abbrev Steps : Bool → Effect → Configuration → Values → Configuration → Result StepEnd Fault → Type 0
+  Steps asking e c globals d r = StepEnds ((asking || move_asks s e c) || following_asks s (move s e c)) (following s (move s e c)) globals d r
+
   pub ends_after : (asking : Bool) (e : Effect) (globals : Values) (d : Configuration) (r : Result StepEnd Fault) → Keeps s e old.threads mid.threads → KeepsChoices s e old.choices mid.choices
-      → StepEnds (asking || move_asks s e (config_of s mid)) (move s e (config_of s mid)) globals d r → StepEnds (asking || move_asks s e (config_of s old)) (move s e (config_of s old)) globals d r
+      → Steps asking e (config_of s mid) globals d r → Steps asking e (config_of s old) globals d r
   ends_after asking e globals d r keeps offers h =
-      let alike = subst (λ c. StepEnds (asking || move_asks s e c) (move s e c) globals d r) (is_kept e keeps offers) h in
-      let moves = subst (λ o. StepEnds (asking || move_asks s e (kept e)) o globals d r) (goes_alike e) alike in
-      subst (λ b. StepEnds (asking || b) (move s e (config_of s old)) globals d r) (asks_alike e) moves
+      let alike = subst (λ c. Steps asking e c globals d r) (is_kept e keeps offers) h in
+      let moves = subst (λ o. StepEnds ((asking || move_asks s e (kept e)) || following_asks s o) (following s o) globals d r) (goes_alike e) alike in
+      subst (λ b. StepEnds ((asking || b) || following_asks s (move s e (config_of s old))) (following s (move s e (config_of s old))) globals d r) (asks_alike e) moves
 
 -- after performing, the thread has the temporaries that the effect stores
 pub kept_stays : (s : StoryTree) (e : Effect) (old new : ThreadsOf Spot) → Keeps s e old new → Keeps s e new new

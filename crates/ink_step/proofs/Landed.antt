@@ -1,6 +1,7 @@
 -- Flow lands, and the containers around are entered; a step goes in before it performs.
 use Rattle.std.proofs.Common.{◌≡◌, ◌∙◌, ◌||◌, ◌&&◌, ap, sym, refl, subst, inl, inr, List, Bool, true, false, true≢false, cond, nat_lt, Option, Some, is_some, option_map, Result, Ok, Err}
 use Rattle.ink_model.specs.Asks.{going_in_asks}
+use Rattle.ink_model.specs.Choosing.{following, following_asks}
 use Rattle.ink_model.specs.Configuration.{Configuration, current_place, with_choices, with_globals, with_threads}
 use Rattle.ink_model.specs.Effect.{Effect, Moves, Stores, Offers, Lands, Calls, Returns, Forks, Done, Ends, Fails, context_of, fields_of}
 use Rattle.ink_model.specs.Flow.{Written, moved_on, Reached, Reaches, Halts, Breaks, called, reach, returned}
@@ -20,7 +21,7 @@ use Rattle.ink_model.specs.declared.frame.FrameKind.{FrameKind}
 use Rattle.ink_model.specs.declared.limits.TheConstants.{MAX_FRAMES}
 use Rattle.ink_model.specs.declared.place.Part.{Part}
 use Rattle.ink_model.specs.declared.value.Value.{Value}
-use Rattle.ink_step.specs.Performs.{Performs, landing_of, offered_by, stored_by}
+use Rattle.ink_step.specs.Performs.{Performs, landing_of, offered_by, stored_by, unstored}
 use Rattle.ink_step.specs.Reaches.{ReachesAs}
 use Rattle.ink_step.specs.Steps.{StepEnds}
 use Rattle.ink_step.specs.declared.flow.StepEnd.{StepEnd}
@@ -83,7 +84,7 @@ module _ (s : StoryTree) (asking : Bool) (c d : Configuration) (globals : Values
 
 module _ (s : StoryTree) (asking : Bool) (c d : Configuration) (r : Result StepEnd Fault) where
   abbrev Follows : Effect → Type 0
-  Follows e = StepEnds (asking || move_asks s e c) (move s e c) c.shared.globals d r
+  Follows e = StepEnds (asking || move_asks s e c) (move s (unstored c.shared.globals e) c) c.shared.globals d r
 
   -- the thread has the temporaries that the effect stores
   abbrev HasStored : Effect → Type 0
@@ -109,13 +110,10 @@ module _ (s : StoryTree) (asking : Bool) (c d : Configuration) (r : Result StepE
   goes_on (Fails f) h has offers go = absurd h
 
   module _ (name : Name) (v : Value) where
-    abbrev after_storing : Configuration
-    after_storing = with_globals (store (name_of name) v c.shared.globals) c
-
     pub goes_storing : (e : Effect) → Performs s asking e (fields_of c) (Ok (transfer.Store name v)) → HasStored e
-        → (is_some (stored (name_of name) c.shared.globals) || asking ≡ true → GoesOn asking after_storing) → Follows e
+        → GoesOn asking c → Follows e
     goes_storing (Moves f) h has go = absurd h
-    goes_storing (Stores t f) h has go = subst (λ g. Follows (Stores t g)) (sym h.0) (subst (λ ts. GoesOn asking (with_threads ts after_storing)) has (go h.1))
+    goes_storing (Stores t f) h has go = subst (λ g. Follows (Stores t g)) (sym h.0) (subst (λ ts. GoesOn asking (with_threads ts c)) has go)
     goes_storing (Offers cs f) h has go = absurd h
     goes_storing (Lands l f) h has go = absurd h
     goes_storing (Calls k l f) h has go = absurd h
@@ -177,21 +175,22 @@ module _ (s : StoryTree) (asking : Bool) (c d : Configuration) (r : Result StepE
 -- ---- a step
 
 module _ (s : StoryTree) (p : List Part) (old new : Configuration) (at_p : current_place old ≡ Some p) where
+  -- what is performed at a place, from a configuration
+  abbrev Performing : List Part → Option StoryTree → Configuration → Result StepEnd Fault → Type 0
+  Performing here found m r =
+      let e = effect s here found (context_of m) (fields_of m) in
+      StepEnds ((content_asks s here found (context_of m) (fields_of m) || move_asks s e m) || following_asks s (move s e m)) (following s (move s e m)) old.shared.globals new r
+
   -- a step goes in, performs what stands there and moves
   pub ends_performed : (here : List Part) (found : Option StoryTree) (mid : Configuration) (r : Result StepEnd Fault) → here ≡ entered s p → found ≡ at s here → mid ≡ gone_in s p old
-      → StepEnds (content_asks s here found (context_of mid) (fields_of mid) || move_asks s (effect s here found (context_of mid) (fields_of mid)) mid)
-      (move s (effect s here found (context_of mid) (fields_of mid)) mid) old.shared.globals new r
-      → StepEnds (asks s old) (step s nothing_bound old) old.shared.globals new r
+      → Performing here found mid r → StepEnds (asks s old) (step s nothing_bound old) old.shared.globals new r
   unfolding step asks
   ends_performed here found mid r is stands went h =
-      let gone = subst (λ m. StepEnds (content_asks s here found (context_of m) (fields_of m) || move_asks s (effect s here found (context_of m) (fields_of m)) m)
-      (move s (effect s here found (context_of m) (fields_of m)) m) old.shared.globals new r) went h in
+      let gone = subst (λ m. Performing here found m r) went h in
       let m = gone_in s p old in
-      let there = subst (λ f. StepEnds (content_asks s here f (context_of m) (fields_of m) || move_asks s (effect s here f (context_of m) (fields_of m)) m)
-      (move s (effect s here f (context_of m) (fields_of m)) m) old.shared.globals new r) stands gone in
-      let entering = subst (λ q. StepEnds (content_asks s q (at s q) (context_of m) (fields_of m) || move_asks s (effect s q (at s q) (context_of m) (fields_of m)) m)
-      (move s (effect s q (at s q) (context_of m) (fields_of m)) m) old.shared.globals new r) is there in
-      let whole = ends_more (going_in_asks s p old) _ (move s (effect s (entered s p) (at s (entered s p)) (context_of m) (fields_of m)) m) _ new r entering in
+      let there = subst (λ f. Performing here f m r) stands gone in
+      let entering = subst (λ q. Performing q (at s q) m r) is there in
+      let whole = ends_more (going_in_asks s p old) _ (following s (move s (effect s (entered s p) (at s (entered s p)) (context_of m) (fields_of m)) m)) _ new r entering in
       subst (λ o. StepEnds (asks_at s o old) (step_at s nothing_bound o old) old.shared.globals new r) (sym at_p) whole
 
   -- memory for a container on the way was refused

@@ -1,8 +1,9 @@
 -- What performing a content does, beside its effect.
 use Rattle.std.specs.Prelude.{◌≡◌, ◌⊎◌, ◌||◌, ℕ, List, length, map, Bool, true, false, Option, Some, None, is_some, option_map, Result, Ok, Err}
-use Rattle.ink_model.specs.Configuration.{ChoiceOf, map_choice}
+use Rattle.ink_model.specs.Configuration.{ChoiceOf, map_choice, with_globals}
 use Rattle.ink_model.specs.Effect.{Fields, Effect, Landing as Goal, Moves, Stores, Offers, Lands, Calls, Returns, Forks, Done, Ends, Fails}
 use Rattle.ink_model.specs.Frames.{ThreadOf, ThreadsOf, map_threads, mode_in, on_top}
+use Rattle.ink_model.specs.Move.{Outcome, Next, Stop}
 use Rattle.ink_model.specs.Page.{Page}
 use Rattle.ink_model.specs.Store.{Values, store, stored}
 use Rattle.ink_model.specs.Tree.{StoryTree}
@@ -58,6 +59,17 @@ Performs s asks e new result = ⊥
 abbrev pub stored_by : Effect → ThreadOf (List Part) → ThreadOf (List Part)
 stored_by (Stores t f) u = t
 stored_by e u = u
+
+-- An effect that stores a global, before that is done: the globals are still these.
+abbrev pub unstored : Values → Effect → Effect
+unstored globals (Stores t f) = Stores t (record f { globals = globals })
+unstored globals e = e
+
+-- with the globals that an effect stores
+abbrev pub storing_in : Effect → Outcome → Outcome
+storing_in (Stores t f) (Next c) = Next (with_globals f.globals c)
+storing_in (Stores t f) (Stop c) = Stop (with_globals f.globals c)
+storing_in e o = o
 
 -- the choices, with those of an effect
 abbrev pub offered_by : Effect → List (ChoiceOf (List Part)) → List (ChoiceOf (List Part))

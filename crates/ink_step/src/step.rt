@@ -2,25 +2,23 @@
 
 ghost use Rattle.std.specs.Prelude.{◌≡◌, ◌||◌, Bool, true, Some, Ok, OnOk, is_some, nat_lt, option_map};
 ghost use Rattle.ink_check.specs.Words.{story_tree};
-ghost use Rattle.ink_model.specs.Configuration.{with_globals};
-ghost use Rattle.ink_model.specs.Effect.{Effect, context_of, fields_of};
+ghost use Rattle.ink_model.specs.Choosing.{following, following_asks};
+ghost use Rattle.ink_model.specs.Effect.{Effect, Fields, context_of, fields_of};
 ghost use Rattle.ink_model.specs.Flow.{called, moved_on, reach, returned};
 ghost use Rattle.ink_model.specs.Frames.{mode_in, on_top};
 ghost use Rattle.ink_model.specs.Memory.{asks, content_asks, control_asks, leaf_asks};
-ghost use Rattle.ink_model.specs.Move.{going, landing, may_enter, move as moved, place_to, written_in};
+ghost use Rattle.ink_model.specs.Move.{Outcome, going, landing, may_enter, move as moved, place_to, written_in};
 ghost use Rattle.ink_model.specs.MoveMemory.{landed_asks, move_asks, moved_asks, returned_asks};
 ghost use Rattle.ink_model.specs.Place.{next_place};
 ghost use Rattle.ink_model.specs.Step.{control_effect, effect, leaf_effect, step, nothing_bound};
-ghost use Rattle.ink_model.specs.Store.{store, stored};
 ghost use Rattle.ink_model.specs.Threads.{frame_count};
 ghost use Rattle.ink_model.specs.Tree.{StoryTree, at, leaf};
 ghost use Rattle.ink_model.specs.View.{view};
 ghost use Rattle.ink_model.specs.declared.limits.TheConstants.{MAX_FRAMES};
-ghost use Rattle.ink_step.specs.Performs.{Keeps, KeepsChoices, Performs, landing_of};
+ghost use Rattle.ink_step.specs.Performs.{Keeps, KeepsChoices, Performs, landing_of, storing_in, unstored};
 ghost use Rattle.ink_step.specs.Steps.{StepEnds};
 ghost use Rattle.ink_step.specs.Words.{config_of};
 ghost use Rattle.ink_tree.specs.Nodes.{place_of};
-ghost use Rattle.ink_vars.specs.Words.{name_of};
 
 use crate::diverting::divert;
 use crate::evaluating::{begin_eval, duplicate, end_eval, operate, pop, push_target, push_value};
@@ -37,7 +35,6 @@ use crate::writing::{output_top, write_glue, write_newline, write_text};
 use ink_check::Story;
 use ink_model::{Content, Control, Fault, FrameKind, Leaf, Scope, Value};
 use ink_tree::Spot;
-use ink_vars::Name;
 
 impl Machine {
     /// One step: goes down to the first content, performs it and moves. Where flow has stopped it stays stopped. After a fault
@@ -49,21 +46,47 @@ impl Machine {
             return Ok(StepEnd::Stopped);
         };
         let (here, found) = self.go_in(story.tree(), place)?;
-        match self.act(story, here, found) {
+        self.act(story, here, found)
+    }
+
+    /// What stands where flow is has its effect, and flow moves; where it stops it may follow a choice.
+    fn act(&mut self, story: &Story, here: Spot, found: Option<&Content>) -> Result<StepEnd, Fault>
+        requires { let s = story_tree story.now in option_map (λ c. view c.now) found ≡ at s (place_of s here) }
+        ensures { let s = story_tree story.now in let p = place_of s here in let stands = option_map (λ c. view c.now) found.entry in let c = config_of s self.old in
+            let e = effect s p stands (context_of c) (fields_of c) in
+            StepEnds ((content_asks s p stands (context_of c) (fields_of c) || move_asks s e c) || following_asks s (moved s e c)) (following s (moved s e c)) self.old.globals (config_of s self.new) result }
+    {
+        let transfer = self.perform(story, here, found)?;
+        let end = self.go(story, &transfer)?;
+        self.store(transfer, end)
+    }
+
+    /// Flow goes where a content sends it; where it stops it may follow a choice. No global is stored yet.
+    fn go(&mut self, story: &Story, transfer: &Transfer<'_>) -> Result<StepEnd, Fault>
+        ensures ends { let s = story_tree story.now in (asks : Bool) (e : Effect) → Performs s asks e (fields_of (config_of s self.old)) (Ok transfer.now) → Keeps s e self.old.threads self.old.threads → KeepsChoices s e self.old.choices self.old.choices
+            → let o = moved s (unstored self.old.globals e) (config_of s self.old) in
+            StepEnds ((asks || move_asks s e (config_of s self.old)) || following_asks s o) (following s o) self.old.globals (config_of s self.new) result }
+        ensures globals { OnOk result (self.new.globals ≡ self.old.globals) }
+    {
+        match self.follow(story, transfer) {
             Ok(StepEnd::Stopped) => self.follow_default(story),
             end => end,
         }
     }
 
-    /// What stands where flow is has its effect, and flow moves.
-    fn act(&mut self, story: &Story, here: Spot, found: Option<&Content>) -> Result<StepEnd, Fault>
-        requires { let s = story_tree story.now in option_map (λ c. view c.now) found ≡ at s (place_of s here) }
-        ensures { let s = story_tree story.now in let p = place_of s here in let stands = option_map (λ c. view c.now) found.entry in let c = config_of s self.old in
-            let e = effect s p stands (context_of c) (fields_of c) in
-            StepEnds (content_asks s p stands (context_of c) (fields_of c) || move_asks s e c) (moved s e c) self.old.globals (config_of s self.new) result }
+    /// A global is stored, where a content hands one on, and the step ends so. The one error is `OutOfMemory` for a refused
+    /// request for memory, which is made only for a global that is not there, and leaves the globals as they were.
+    fn store(&mut self, transfer: Transfer<'_>, end: StepEnd) -> Result<StepEnd, Fault>
+        ensures { (s : StoryTree) (asks whole : Bool) (e : Effect) (f : Fields) (o : Outcome) → (asks ≡ true → whole ≡ true) → f.globals ≡ self.old.globals → Performs s asks e f (Ok transfer.entry)
+            → StepEnds whole o self.old.globals (config_of s self.old) (Ok end) → StepEnds whole (storing_in e o) self.old.globals (config_of s self.new) result }
     {
-        let transfer = self.perform(story, here, found)?;
-        self.follow(story, transfer)
+        match transfer {
+            Transfer::Store(name, value) => match self.globals.put(name.as_str(), value) {
+                Ok(()) => Ok(end),
+                Err(_) => Err(Fault::OutOfMemory),
+            },
+            _ => Ok(end),
+        }
     }
 
     /// Performs what was found at a place: an empty container, or nothing, is passed over.
@@ -281,11 +304,12 @@ impl Machine {
         transfer
     }
 
-    /// Flow goes where a content sends it, and then a global is stored. Temporaries that the content stores are set already, and
-    /// what it offers is offered.
-    fn follow(&mut self, story: &Story, transfer: Transfer<'_>) -> Result<StepEnd, Fault>
-        ensures { let s = story_tree story.now in (asks : Bool) (e : Effect) → Performs s asks e (fields_of (config_of s self.old)) (Ok transfer.entry) → Keeps s e self.old.threads self.old.threads → KeepsChoices s e self.old.choices self.old.choices
-            → StepEnds (asks || move_asks s e (config_of s self.old)) (moved s e (config_of s self.old)) self.old.globals (config_of s self.new) result }
+    /// Flow goes where a content sends it. Temporaries that the content stores are set already, and what it offers is offered; a
+    /// global is stored after that.
+    fn follow(&mut self, story: &Story, transfer: &Transfer<'_>) -> Result<StepEnd, Fault>
+        ensures ends { let s = story_tree story.now in (asks : Bool) (e : Effect) → Performs s asks e (fields_of (config_of s self.old)) (Ok transfer.now) → Keeps s e self.old.threads self.old.threads → KeepsChoices s e self.old.choices self.old.choices
+            → StepEnds (asks || move_asks s e (config_of s self.old)) (moved s (unstored self.old.globals e) (config_of s self.old)) self.old.globals (config_of s self.new) result }
+        ensures globals { self.new.globals ≡ self.old.globals }
     {
         match transfer {
             Transfer::Next => self.go_on(story),
@@ -293,10 +317,10 @@ impl Machine {
                 self.threads.end_freshness(self.output.depth());
                 self.go_on(story)
             }
-            Transfer::Store(name, value) => self.go_on_storing(story, name, value),
-            Transfer::Land(to) => self.go_to(story, to),
-            Transfer::Call(kind, to) => self.go_into(story, kind, to),
-            Transfer::Return(kind, to) => self.go_back(story, kind, to),
+            Transfer::Store(..) => self.go_on(story),
+            Transfer::Land(to) => self.go_to(story, *to),
+            Transfer::Call(kind, to) => self.go_into(story, *kind, *to),
+            Transfer::Return(kind, to) => self.go_back(story, *kind, *to),
             Transfer::Fork => fork(
                 story.tree(),
                 &mut self.threads,
@@ -322,8 +346,9 @@ impl Machine {
 
     /// Flow lands, which may enter containers around.
     fn go_to(&mut self, story: &Story, to: Landing) -> Result<StepEnd, Fault>
-        ensures { let s = story_tree story.now in let c = config_of s self.old in let how = reach (place_of s to.place) in
+        ensures ends { let s = story_tree story.now in let c = config_of s self.old in let how = reach (place_of s to.place) in
             StepEnds (landed_asks s to.enters c.shared.counts (how c.flow.threads (written_in c))) (landing s to.enters how c) self.old.globals (config_of s self.new) result }
+        ensures globals { self.new.globals ≡ self.old.globals }
     {
         let end = land(&mut self.threads, to.place);
         self.enter_around(story.tree(), to.enters)?;
@@ -332,9 +357,10 @@ impl Machine {
 
     /// Flow lands in a frame of this kind, which may enter containers around.
     fn go_into(&mut self, story: &Story, kind: FrameKind, to: Landing) -> Result<StepEnd, Fault>
-        ensures { let s = story_tree story.now in let c = config_of s self.old in let how = called kind (place_of s to.place) in
+        ensures ends { let s = story_tree story.now in let c = config_of s self.old in let how = called kind (place_of s to.place) in
             StepEnds (nat_lt (frame_count c.flow.threads.thread) MAX_FRAMES || landed_asks s to.enters c.shared.counts (how c.flow.threads (written_in c)))
             (landing s to.enters how c) self.old.globals (config_of s self.new) result }
+        ensures globals { self.new.globals ≡ self.old.globals }
     {
         let end = flow::call(&mut self.threads, &mut self.output, kind, to.place)?;
         self.enter_around(story.tree(), to.enters)?;
@@ -348,9 +374,10 @@ impl Machine {
         kind: FrameKind,
         to: Option<Landing>,
     ) -> Result<StepEnd, Fault>
-        ensures { let s = story_tree story.now in let c = config_of s self.old in let goal = option_map (landing_of s) to in let how = returned (next_place s) kind (place_to goal) in
+        ensures ends { let s = story_tree story.now in let c = config_of s self.old in let goal = option_map (landing_of s) to in let how = returned (next_place s) kind (place_to goal) in
             StepEnds (returned_asks (next_place s) kind (place_to goal) c.flow.threads (written_in c) || landed_asks s (may_enter goal) c.shared.counts (how c.flow.threads (written_in c)))
             (landing s (may_enter goal) how c) self.old.globals (config_of s self.new) result }
+        ensures globals { self.new.globals ≡ self.old.globals }
     {
         let end = give_back(
             story.tree(),
@@ -366,8 +393,9 @@ impl Machine {
 
     /// Flow goes on after the content.
     fn go_on(&mut self, story: &Story) -> Result<StepEnd, Fault>
-        ensures { let s = story_tree story.now in let c = config_of s self.old in
+        ensures ends { let s = story_tree story.now in let c = config_of s self.old in
             StepEnds (moved_asks (next_place s) c.flow.threads (written_in c)) (going (moved_on (next_place s)) c) self.old.globals (config_of s self.new) result }
+        ensures globals { self.new.globals ≡ self.old.globals }
     {
         move_on(
             story.tree(),
@@ -375,30 +403,6 @@ impl Machine {
             &mut self.stack,
             &mut self.output,
         )
-    }
-
-    /// Flow goes on after the content, and then a global is stored.
-    fn go_on_storing(
-        &mut self,
-        story: &Story,
-        name: Name<'_>,
-        value: Value,
-    ) -> Result<StepEnd, Fault>
-        ensures { let s = story_tree story.now in let c = with_globals (store (name_of name.entry) value self.old.globals) (config_of s self.old) in (asks : Bool) → is_some (stored (name_of name.entry) self.old.globals) || asks ≡ true
-            → StepEnds (asks || moved_asks (next_place s) c.flow.threads (written_in c)) (going (moved_on (next_place s)) c) self.old.globals (config_of s self.new) result }
-    {
-        match move_on(
-            story.tree(),
-            &mut self.threads,
-            &mut self.stack,
-            &mut self.output,
-        ) {
-            Ok(end) => match self.globals.put(name.as_str(), value) {
-                Ok(()) => Ok(end),
-                Err(_) => Err(Fault::OutOfMemory),
-            },
-            Err(fault) => Err(fault),
-        }
     }
 }
 

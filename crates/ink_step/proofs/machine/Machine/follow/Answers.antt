@@ -17,16 +17,16 @@ use Rattle.ink_step.proofs.Staled.{staled_alike}
 use Rattle.ink_step.proofs.machine.Machine.follow.Goals as goal
 use Rattle.ink_tree.specs.Nodes.{place_of}
 
-pub returns-in-Next : goal.returns-in-Next
-returns-in-Next c asks e h has offers =
+pub returns-in-Next-clause-ends : goal.returns-in-Next-clause-ends
+returns-in-Next-clause-ends c asks e h has offers =
     let s = story_tree c.args.story.now in
     let old = config_of s c.args.self.now in
     let new = config_of s c.go_on.new.self in
     goes_on s asks old new c.go_on.result e (subst (λ t. Performs s asks e (fields_of old) (Ok t)) c.in-Next.is h) has offers
-    (ends_more asks _ (going (moved_on (next_place s)) old) _ new c.go_on.result c.go_on.ensures)
+    (ends_more asks _ (going (moved_on (next_place s)) old) _ new c.go_on.result c.go_on.ensures.ends)
 
-pub returns-in-Wrote : goal.returns-in-Wrote
-returns-in-Wrote c asks e h has offers =
+pub returns-in-Wrote-clause-ends : goal.returns-in-Wrote-clause-ends
+returns-in-Wrote-clause-ends c asks e h has offers =
     let s = story_tree c.args.story.now in
     let machine = c.args.self.now in
     let old = config_of s machine in
@@ -35,36 +35,36 @@ returns-in-Wrote c asks e h has offers =
     ∙ ap (λ n. with_threads (map_threads (place_of s) (on_top (staled n) machine.threads)) old) c.depth.ensures
     ∙ ap (λ ts. with_threads ts old) (staled_alike (place_of s) _ machine.threads) in
     goes_after_text s asks old new c.go_on-in-Wrote.result e (subst (λ t. Performs s asks e (fields_of old) (Ok t)) c.in-Wrote.is h)
-    (subst (λ d. StepEnds (moved_asks (next_place s) d.flow.threads (written_in d)) (going (moved_on (next_place s)) d) machine.globals new c.go_on-in-Wrote.result) stale c.go_on-in-Wrote.ensures)
+    (subst (λ d. StepEnds (moved_asks (next_place s) d.flow.threads (written_in d)) (going (moved_on (next_place s)) d) machine.globals new c.go_on-in-Wrote.result) stale c.go_on-in-Wrote.ensures.ends)
 
-pub returns-in-Store : goal.returns-in-Store
-returns-in-Store c asks e h has offers =
+pub returns-in-Store-clause-ends : goal.returns-in-Store-clause-ends
+returns-in-Store-clause-ends c asks e h has offers =
     let s = story_tree c.args.story.now in
     let old = config_of s c.args.self.now in
-    let new = config_of s c.go_on_storing.new.self in
-    goes_storing s asks old new c.go_on_storing.result c.in-Store.name c.in-Store.value e (subst (λ t. Performs s asks e (fields_of old) (Ok t)) c.in-Store.is h) has
-    (c.go_on_storing.ensures asks)
+    let new = config_of s c.go_on-in-Store.new.self in
+    goes_storing s asks old new c.go_on-in-Store.result _ _ e (subst (λ t. Performs s asks e (fields_of old) (Ok t)) c.in-Store.is h) has
+    (ends_more asks _ (going (moved_on (next_place s)) old) _ new c.go_on-in-Store.result c.go_on-in-Store.ensures.ends)
 
-pub returns-in-Land : goal.returns-in-Land
-returns-in-Land c asks e h has offers =
+pub returns-in-Land-clause-ends : goal.returns-in-Land-clause-ends
+returns-in-Land-clause-ends c asks e h has offers =
     let s = story_tree c.args.story.now in
     let old = config_of s c.args.self.now in
-    goes_there s asks old (config_of s c.go_to.new.self) c.go_to.result c.in-Land.to e (subst (λ t. Performs s asks e (fields_of old) (Ok t)) c.in-Land.is h) c.go_to.ensures
+    goes_there s asks old (config_of s c.go_to.new.self) c.go_to.result c.in-Land.to e (subst (λ t. Performs s asks e (fields_of old) (Ok t)) c.in-Land.is h) c.go_to.ensures.ends
 
-pub returns-in-Call : goal.returns-in-Call
-returns-in-Call c asks e h has offers =
+pub returns-in-Call-clause-ends : goal.returns-in-Call-clause-ends
+returns-in-Call-clause-ends c asks e h has offers =
     let s = story_tree c.args.story.now in
     let old = config_of s c.args.self.now in
-    goes_into s asks old (config_of s c.go_into.new.self) c.go_into.result c.in-Call.kind c.in-Call.to e (subst (λ t. Performs s asks e (fields_of old) (Ok t)) c.in-Call.is h) c.go_into.ensures
+    goes_into s asks old (config_of s c.go_into.new.self) c.go_into.result c.in-Call.kind c.in-Call.to e (subst (λ t. Performs s asks e (fields_of old) (Ok t)) c.in-Call.is h) c.go_into.ensures.ends
 
-pub returns-in-Return : goal.returns-in-Return
-returns-in-Return c asks e h has offers =
+pub returns-in-Return-clause-ends : goal.returns-in-Return-clause-ends
+returns-in-Return-clause-ends c asks e h has offers =
     let s = story_tree c.args.story.now in
     let old = config_of s c.args.self.now in
-    goes_back s asks old (config_of s c.go_back.new.self) c.go_back.result c.in-Return.kind c.in-Return.to e (subst (λ t. Performs s asks e (fields_of old) (Ok t)) c.in-Return.is h) c.go_back.ensures
+    goes_back s asks old (config_of s c.go_back.new.self) c.go_back.result c.in-Return.kind c.in-Return.to e (subst (λ t. Performs s asks e (fields_of old) (Ok t)) c.in-Return.is h) c.go_back.ensures.ends
 
-pub returns-in-End : goal.returns-in-End
-returns-in-End c asks e h has offers =
+pub returns-in-End-clause-ends : goal.returns-in-End-clause-ends
+returns-in-End-clause-ends c asks e h has offers =
     let s = story_tree c.args.story.now in
     let old = config_of s c.args.self.now in
     let new = config_of s (record c.args.self.now { threads = c.end.new.threads; choices = c.clear.new.self; safe = true }) in

@@ -13,8 +13,8 @@ use Rattle.ink_step.proofs.Landed.{lands_broken}
 use Rattle.ink_step.proofs.machine.Machine.go_back.Goals as goal
 use Rattle.ink_tree.specs.Nodes.{place_of}
 
-pub returns-in_err-end : goal.returns-in_err-end
-returns-in_err-end c =
+pub returns-in_err-end-clause-ends : goal.returns-in_err-end-clause-ends
+returns-in_err-end-clause-ends c =
     let s = story_tree c.args.story.now in
     let machine = c.args.self.now in
     let old = config_of s machine in

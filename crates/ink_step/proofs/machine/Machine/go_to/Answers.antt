@@ -11,8 +11,8 @@ use Rattle.ink_step.proofs.Landed.{lands, lands_short}
 use Rattle.ink_step.proofs.machine.Machine.go_to.Goals as goal
 use Rattle.ink_tree.specs.Nodes.{place_of}
 
-pub returns-in_err-enter_around : goal.returns-in_err-enter_around
-returns-in_err-enter_around c =
+pub returns-in_err-enter_around-clause-ends : goal.returns-in_err-enter_around-clause-ends
+returns-in_err-enter_around-clause-ends c =
     let s = story_tree c.args.story.now in
     let machine = c.args.self.now in
     let old = config_of s machine in
@@ -26,8 +26,8 @@ returns-in_err-enter_around c =
     (lands_short s false old new machine.globals (map_threads (place_of s) threads) (written_in old) c.in_err-enter_around.field-0.0 short.globals to.enters _ c.land-end.result (λ e. tt)
     (c.land-end.ensures s (written_in old)) short.fault adds)
 
-pub returns : goal.returns
-returns c =
+pub returns-clause-ends : goal.returns-clause-ends
+returns-clause-ends c =
     let s = story_tree c.args.story.now in
     let machine = c.args.self.now in
     let old = config_of s machine in

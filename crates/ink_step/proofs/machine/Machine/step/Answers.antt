@@ -1,6 +1,7 @@
 use Rattle.std.proofs.Common.{◌≡◌, ◌∙◌, ◌||◌, ap, option_map, rules, subst, sym, true, Err}
 use Rattle.ink_check.specs.Words.{story_tree}
 use Rattle.ink_model.specs.Asks.{going_in_asks}
+use Rattle.ink_model.specs.Choosing.{following, following_asks}
 use Rattle.ink_model.specs.Effect.{context_of, fields_of}
 use Rattle.ink_model.specs.Memory.{asks, content_asks}
 use Rattle.ink_model.specs.Move.{move}
@@ -47,6 +48,6 @@ returns c =
     let mid = config_of s inside in
     let new = config_of s c.act.new.self in
     let e = effect s (place_of s spot) found (context_of mid) (fields_of mid) in
-    let performed = subst (λ vs. StepEnds (content_asks s (place_of s spot) found (context_of mid) (fields_of mid) || move_asks s e mid) (move s e mid) vs new c.act.result) went.globals c.act.ensures in
+    let performed = subst (λ vs. StepEnds ((content_asks s (place_of s spot) found (context_of mid) (fields_of mid) || move_asks s e mid) || following_asks s (move s e mid)) (following s (move s e mid)) vs new c.act.result) went.globals c.act.ensures in
     ends_performed s (place_of s place) (config_of s machine) new (ap (option_map (place_of s)) (sym c.place.ensures ∙ c.in-Some.is)) (place_of s spot) found mid
     c.act.result is_here is_found is_in performed
