@@ -100,9 +100,12 @@ answer_from_tokens r start end text line none no_tokens added is ends =
     ends ∙ ap (λ t. t ++ 10 ∷ []) (is ∙ ap (λ b. b ++ print end.tokens) before ∙ ap print tokens ∙ print-outline (reply_data r))
 
 -- the answer of what is done and tells nothing
-pub done_text : (events : List Event) → answer (Acts events) ≡ codes "{\"events\":[]}\n"
+pub done_answer : answer (Acts []) ≡ codes "{\"events\":[]}\n"
 unfolding answer serde_json_on_literals
-done_text events = ap (λ (es : List Event). answer (Acts es)) (no_events events)
+done_answer = refl
+
+pub acts_alike : (events : List Event) → answer (Acts []) ≡ answer (Acts events)
+acts_alike events = ap (λ (es : List Event). answer (Acts es)) (sym (no_events events))
 
 -- the answer that shows a number
 pub number_answer : (z : ℤ) → answer (Shows (value.Int z)) ≡ codes "{\"value\":" ++ (signed_decimal z ++ codes "}\n")

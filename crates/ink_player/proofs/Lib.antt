@@ -9,3 +9,4 @@ pub mod Supporting
 pub mod Spelling
 pub mod Restarts
 pub mod Paths
+pub mod Numbers

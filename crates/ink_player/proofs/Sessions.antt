@@ -19,7 +19,7 @@ use Rattle.ink_player.specs.Ends.{Falls}
 use Rattle.ink_player.specs.Input.{Takes}
 use Rattle.ink_player.specs.Lines.{TakesLine, GivesLine}
 use Rattle.ink_player.specs.Serving.{IsLine, spelled, Splits, IsFirst, ServesFront, IsLongInput, HasRoom, RunEnds, Runs, Answered, Answers, WritesText, ServesLine}
-use Rattle.ink_player.specs.Visits.{PathFails}
+use Rattle.ink_player.specs.Paths.{PathFails}
 use Rattle.ink_model.specs.declared.limits.TheConstants.{MAX_LINE}
 use Rattle.ink_player.specs.declared.end.RunFault.{RunFault}
 use Rattle.ink_player.specs.declared.end.RunFault.TheVariants as fault
@@ -269,10 +269,12 @@ module _ (s : StoryTree) (host : Bound) (made : List Made) where
 path_unread : (s : StoryTree) (host : Bound) (line : List ℕ) (k : Option Command) (old : State) (reply : Reply) (new : State) → k ≡ command_of line → PathFails k old reply new → Serves s host [] line old reply new
 unfolding Serves
 path_unread s host line (Some (command.Visits path)) old reply new e p = inr (refl, subst (λ x. LineFails x old reply new) e (tt, p.1))
+path_unread s host line (Some (command.Jump path)) old reply new e p = inr (refl, subst (λ x. LineFails x old reply new) e (tt, p.1))
 path_unread s host line None old reply new e p = absurd p
 path_unread s host line (Some command.Through) old reply new e p = absurd p
 path_unread s host line (Some (command.Set name value)) old reply new e p = absurd p
 path_unread s host line (Some (command.Get name)) old reply new e p = absurd p
+path_unread s host line (Some (command.Choose number)) old reply new e p = absurd p
 path_unread s host line (Some command.Restart) old reply new e p = absurd p
 
 pub serves_command : (s : StoryTree) (host : Bound) (line : List ℕ) (k : Option Command) (old : State) (reply : Reply) (new : State) → k ≡ command_of line

@@ -8,4 +8,5 @@ pub mod Lines
 pub mod Serving
 pub mod Playing
 pub mod Commands
+pub mod Paths
 pub mod Visits

@@ -7,41 +7,23 @@ use Rattle.ink_model.specs.Entered.{flags_at}
 use Rattle.ink_model.specs.Path.{read_path}
 use Rattle.ink_model.specs.Rows.{place_order}
 use Rattle.ink_model.specs.Session.{FailsAllocation, Visits}
-use Rattle.ink_model.specs.State.{State, Condition, Ready, Broken}
+use Rattle.ink_model.specs.State.{State}
 use Rattle.ink_model.specs.Tree.{StoryTree, at}
 use Rattle.ink_model.specs.Visits.{counted_visits, visits_by}
-use Rattle.ink_model.specs.declared.command.Command.{Command}
-use Rattle.ink_model.specs.declared.command.Command.TheVariants as command
-use Rattle.ink_model.specs.declared.fault.Cause.{Cause}
-use Rattle.ink_model.specs.declared.fault.Cause.TheVariants as cause
 use Rattle.ink_model.specs.declared.fault.Refusal.{Refusal}
 use Rattle.ink_model.specs.declared.fault.Refusal.TheVariants as refusal
 use Rattle.ink_model.specs.declared.place.Part.{Part}
+use Rattle.ink_player.specs.Paths.{ReadsPath}
 
 -- the visits of what stands at a place, if they are counted
 abbrev pub visits_at : StoryTree → List Part → Configuration → Option ℤ
 visits_at s q c = counted_visits (visits_of place_order q (flags_at (at s q)) c.shared.counts)
-
--- why a path was not read
-abbrev pub refusal_of : Cause → Refusal
-refusal_of cause.OutOfMemory = refusal.OutOfMemory
-refusal_of c = refusal.NoSuchPath
 
 -- The visits by a path; or why not: they are not counted there, or it is a path for which memory was refused.
 abbrev pub FindsVisits : StoryTree → List ℕ → Configuration → Result ℤ Refusal → Type 0
 FindsVisits s path c (Ok visits) = visits_by s path c ≡ Some visits
 FindsVisits s path c (Err r) = ((r ≡ refusal.NoSuchPath) × (visits_by s path c ≡ None)) ⊎ ((r ≡ refusal.OutOfMemory) × IsSome (read_path path))
 
--- memory is asked for a path, and a broken player reads none
-abbrev pub ReadsPath : List ℕ → Condition → Type 0
-ReadsPath path (Broken f globals) = ⊥
-ReadsPath path (Ready c) = IsSome (read_path path)
-
 -- `visits`, for whose path memory may be refused
 abbrev pub TellsVisits : StoryTree → List ℕ → State → Reply → State → Type 0
 TellsVisits s path old reply new = Visits s path old reply new ⊎ (ReadsPath path old.condition × FailsAllocation old reply new)
-
--- of a command whose line was read only the path may still need memory
-abbrev pub PathFails : Option Command → State → Reply → State → Type 0
-PathFails (Some (command.Visits path)) old reply new = ReadsPath path old.condition × FailsAllocation old reply new
-PathFails k old reply new = ⊥

@@ -24,6 +24,7 @@ pub(crate) enum Outcome {
     Events(Result<Seq<Event>, Halt>),
     Value(Result<Value, Refusal>),
     Visits(Result<i32, Refusal>),
+    Landing(Result<(), Refusal>),
     Refused(Refusal),
 }
 
@@ -33,6 +34,7 @@ pub(crate) fn fixed_answer(outcome: &Outcome) -> Option<&'static str>
 {
     match outcome {
         Outcome::Events(events) => done_answer(events),
+        Outcome::Landing(Ok(())) => Some(done_text()),
         _ => None,
     }
 }
@@ -41,9 +43,15 @@ fn done_answer(events: &Result<Seq<Event>, Halt>) -> Option<&'static str>
     ensures { IfSome result (λ text. text.now ≡ answer (reply_of_events events.now)) }
 {
     match events {
-        Ok(_) => Some("{\"events\":[]}\n"),
+        Ok(_) => Some(done_text()),
         Err(_) => None,
     }
+}
+
+fn done_text() -> &'static str
+    ensures { result.now ≡ answer (Acts []) }
+{
+    "{\"events\":[]}\n"
 }
 
 /// What a command's call returned, as the line that is written, its newline at the end, in the memory of a buffer whose
@@ -106,9 +114,12 @@ fn write_reply(alloc: Global, out: &mut Writer, outcome: Outcome) -> Result<(), 
         Outcome::Events(Ok(_)) => write_done(out),
         Outcome::Value(Ok(value)) => write_shown(alloc, out, &value),
         Outcome::Visits(Ok(visits)) => write_visits(out, visits),
+        Outcome::Landing(Ok(())) => write_done(out),
         Outcome::Passage(Err(halt)) | Outcome::Events(Err(halt)) => write_halt(out, halt),
-        Outcome::Value(Err(refusal)) | Outcome::Visits(Err(refusal)) | Outcome::Refused(refusal) =>
-            write_refusal(out, refusal),
+        Outcome::Value(Err(refusal))
+        | Outcome::Visits(Err(refusal))
+        | Outcome::Landing(Err(refusal))
+        | Outcome::Refused(refusal) => write_refusal(out, refusal),
     }
 }
 

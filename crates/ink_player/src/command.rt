@@ -1,13 +1,17 @@
 //! The commands that lines spell (docs/PROTOCOL.md, "Command lines").
 
-ghost use Rattle.std.specs.Prelude.{◌≡◌, IfOk, OnErr, option_map, option_and_then};
-ghost use Rattle.ink_model.specs.Command.{NeedsMemory, command_of, command_word, get_command as get_of, set_command as set_of, visits_command as visits_of};
-ghost use Rattle.ink_model.specs.Bytes.{after as after_word, at_space as parts_at_space};
+ghost use Rattle.std.specs.Prelude.{◌≡◌, ◌≤◌, ◌<◌, length, true, IfOk, OnErr, option_map, option_and_then};
+ghost use Rattle.std.specs.List.{list_all};
+ghost use Rattle.ink_model.specs.Command.{NeedsMemory, choose_command as choose_of, command_of, command_word, get_command as get_of, jump_command as jump_of, set_command as set_of, visits_command as visits_of};
+ghost use Rattle.ink_model.specs.Bytes.{after as after_word, at_space as parts_at_space, is_digit as digit, number_from};
 ghost use Rattle.ink_player.specs.Commands.{command_by};
 
 use crate::given::given_of;
 use ink_model::Given;
 use std::alloc::{AllocError, Global};
+
+// The most digits of a choice's number.
+const MAX_DIGITS: usize = 9;
 
 /// A command of a line, with the name or the path where it stands in the line. The value of `Set` is none where the line has
 /// JSON of another kind than a value has, or no JSON.
@@ -17,11 +21,13 @@ pub(crate) enum LineCommand<'a> {
     Set { name: &'a str, value: Option<Given> },
     Get { name: &'a str },
     Visits { path: &'a str },
+    Choose { number: u32 },
+    Jump { path: &'a str },
     Restart,
 }
 
 /// The command of a line, without its newline (docs/PROTOCOL.md, "Command lines"). A line that is no text, or no
-/// command, has none. The one error is a refused request for memory, and only a line with a name makes one.
+/// command, has none. The one error is a refused request for memory, and only a line with a name or a path makes one.
 pub(crate) fn read_command(
     alloc: Global,
     line: &[u8],
@@ -51,8 +57,14 @@ fn command_in(alloc: Global, text: &str) -> Result<Option<LineCommand<'_>>, Allo
     if let Some(rest) = after("set ", text) {
         return set_line(alloc, rest);
     }
-    match after("visits ", text) {
-        Some(path) => Ok(visits_command(path)),
+    if let Some(path) = after("visits ", text) {
+        return Ok(visits_command(path));
+    }
+    if let Some(number) = after("choose ", text) {
+        return Ok(choose_command(number));
+    }
+    match after("jump ", text) {
+        Some(path) => Ok(jump_command(path)),
         None => Ok(None),
     }
 }
@@ -87,6 +99,48 @@ fn visits_command(path: &str) -> Option<LineCommand<'_>>
         return None;
     }
     Some(LineCommand::Visits { path })
+}
+
+// A number has 1 to 9 digits.
+fn choose_command(digits: &str) -> Option<LineCommand<'_>>
+    ensures { option_map command_by result ≡ choose_of digits.now }
+{
+    if digits.is_empty() || digits.len() > MAX_DIGITS || !is_number(digits) {
+        return None;
+    }
+    let number = number_of(digits);
+    Some(LineCommand::Choose { number })
+}
+
+fn is_number(text: &str) -> bool
+    ensures { result ≡ list_all digit text.now }
+{
+    text.as_bytes().iter().all(|byte| is_digit(*byte))
+}
+
+fn is_digit(byte: u8) -> bool
+    ensures { result ≡ digit byte }
+{
+    b'0' <= byte && byte <= b'9'
+}
+
+// The number that digits are.
+fn number_of(digits: &str) -> u32
+    requires filled { 0 < length digits.now }
+    requires few { length digits.now ≤ 9 }
+    requires digits { list_all digit digits.now ≡ true }
+    ensures { result ≡ number_from 0 digits.now }
+{
+    digits.parse::<u32>().unwrap()
+}
+
+fn jump_command(target: &str) -> Option<LineCommand<'_>>
+    ensures { option_map command_by result ≡ jump_of target.now }
+{
+    if target.is_empty() {
+        return None;
+    }
+    Some(LineCommand::Jump { path: target })
 }
 
 fn set_line(alloc: Global, text: &str) -> Result<Option<LineCommand<'_>>, AllocError>

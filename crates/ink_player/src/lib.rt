@@ -9,6 +9,7 @@ mod given;
 mod input;
 mod lines;
 mod output;
+mod path;
 mod player;
 mod playing;
 mod session;

@@ -1,7 +1,7 @@
 //! The player.
 
 ghost use Rattle.std.specs.Prelude.{◌≡◌, [], Some, IfOk, IfErr, Ok};
-ghost use Rattle.ink_model.specs.Answer.{Breaks, reply_of, reply_of_events, reply_of_halt, reply_of_value, reply_of_visits};
+ghost use Rattle.ink_model.specs.Answer.{Breaks, reply_of, reply_of_events, reply_of_halt, reply_of_landing, reply_of_value, reply_of_visits};
 ghost use Rattle.ink_model.specs.Configuration.{Configuration};
 ghost use Rattle.ink_model.specs.Opening.{opening, opened};
 ghost use Rattle.ink_model.specs.Supported.{unsupported};
@@ -9,11 +9,13 @@ ghost use Rattle.ink_model.specs.Session.{Through, Set, Get, Restart, settable};
 ghost use Rattle.ink_model.specs.Run as rules;
 ghost use Rattle.ink_model.specs.State.{is_running, fault_in};
 ghost use Rattle.ink_model.specs.Step.{nothing_bound};
+ghost use Rattle.ink_model.specs.Turns.{Choose, ShowsChoices};
 
 use crate::desk::Desk;
+use crate::path::landing_by;
 use crate::visits::visits_by;
 use ink_check::Story;
-use ink_model::{Event, Fault, Given, Halt, MAX_TEXT, Passage, Refusal, Seq, Value};
+use ink_model::{Event, Fault, Given, Halt, MAX_TEXT, Passage, Refusal, Seq, Shown, Value};
 use ink_step::{Machine, Unopened};
 use std::alloc::Global;
 
@@ -38,6 +40,7 @@ impl Player {
     ghost use Rattle.ink_check.specs.Words.{story_tree};
     ghost use Rattle.ink_model.specs.Store.{Values};
     ghost use Rattle.ink_step.specs.Steps.{FailsToOpen};
+    ghost use Rattle.ink_player.specs.Paths.{JumpsTo};
     ghost use Rattle.ink_player.specs.Visits.{TellsVisits};
     ghost use Rattle.ink_player.specs.Words.{desk_of, state_of, story_of};
 
@@ -148,6 +151,57 @@ impl Player {
         match self.broken {
             Some(fault) => Err(Refusal::Broken(fault)),
             None => visits_by(self.alloc, &self.story, &self.machine, path),
+        }
+    }
+
+    /// The choices that are there to choose, in their order; none while flow has not stopped. Refused with `Broken` after a fault,
+    /// and with `OutOfMemory` where memory for them was refused; none takes none.
+    pub fn choices(&self) -> Result<Seq<Shown>, Refusal>
+        ensures { ShowsChoices (state_of self.now) result }
+    {
+        if let Some(fault) = self.broken {
+            return Err(Refusal::Broken(fault));
+        }
+        match self.machine.choices() {
+            Ok(choices) => Ok(choices),
+            Err(_) => Err(Refusal::OutOfMemory),
+        }
+    }
+
+    /// Takes the choice with this number among those that `choices` shows, from 0: flow goes on where it leads, in the next turn
+    /// (docs/RUNNING.md, "Choosing and jumping"). Refused with `Broken` after a fault; with `NotAChoice` where flow has not stopped
+    /// or there is no such choice; and with `OutOfMemory` where memory was refused, which is asked for only where a container is
+    /// entered for the first time. Nothing has changed then.
+    pub fn choose(&mut self, number: u32) -> Result<(), Refusal>
+        ensures does { Choose (story_of self.old) number (state_of self.old) (reply_of_landing result) (state_of self.new) }
+        ensures story { story_of self.new ≡ story_of self.old }
+        ensures desk { desk_of self.new ≡ desk_of self.old }
+    {
+        if let Some(cause) = self.broken {
+            return Err(Refusal::Broken(cause));
+        }
+        self.machine.choose(&self.story, number as usize)
+    }
+
+    /// Ends all threads and choices, and lands where a path leads, in the next turn (docs/RUNNING.md, "Choosing and jumping").
+    /// Refused with `Broken` after a fault; with `NoSuchPath` where the text is no path, or a relative one, or where it leads to
+    /// nothing; and with `OutOfMemory` where memory was refused, for the path or for a container that is entered for the first time.
+    /// Nothing has changed then.
+    pub fn jump(&mut self, path: &str) -> Result<(), Refusal>
+        ensures does { JumpsTo (story_of self.old) path.now (state_of self.old) (reply_of_landing result) (state_of self.new) }
+        ensures story { story_of self.new ≡ story_of self.old }
+        ensures desk { desk_of self.new ≡ desk_of self.old }
+    {
+        if let Some(reason) = self.broken {
+            return Err(Refusal::Broken(reason));
+        }
+        let place = match landing_by(self.alloc, &self.story, path) {
+            Ok(place) => place,
+            Err(refusal) => return Err(refusal),
+        };
+        match self.machine.jump(&self.story, place) {
+            Ok(()) => Ok(()),
+            Err(_) => Err(Refusal::OutOfMemory),
         }
     }
 

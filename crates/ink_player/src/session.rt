@@ -9,7 +9,7 @@ ghost use Rattle.ink_player.specs.Replies.{reply_by};
 ghost use Rattle.ink_player.specs.Words.{state_of, story_of};
 ghost use Rattle.ink_player.specs.Ends.{Reports, reads_fail, writes_fail};
 ghost use Rattle.ink_player.specs.Serving.{Answers, Runs, SamePlay, ServesNext, WritesText};
-ghost use Rattle.ink_player.specs.Visits.{PathFails};
+ghost use Rattle.ink_player.specs.Paths.{PathFails};
 ghost use Rattle.ink_model.specs.declared.limits.TheConstants.{MAX_INPUT};
 
 use crate::answer::{Outcome, answer_text, fixed_answer};
@@ -209,6 +209,8 @@ fn perform(player: &mut Player, command: Option<LineCommand<'_>>) -> Outcome
         Some(LineCommand::Set { name, value }) => set(player, name, value),
         Some(LineCommand::Get { name }) => Outcome::Value(player.get(name)),
         Some(LineCommand::Visits { path }) => Outcome::Visits(player.visits(path)),
+        Some(LineCommand::Choose { number }) => Outcome::Landing(player.choose(number)),
+        Some(LineCommand::Jump { path }) => Outcome::Landing(player.jump(path)),
         Some(LineCommand::Restart) => Outcome::Events(player.restart()),
         None => Outcome::Refused(Refusal::BadCommand),
     }

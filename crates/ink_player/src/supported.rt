@@ -74,9 +74,10 @@ fn supports(leaf: &Leaf) -> bool
         | Leaf::Pointer(..)
         | Leaf::DeclareTemp(_)
         | Leaf::AssignTemp(_)
+        | Leaf::Choice { .. }
         | Leaf::Count(_) => true,
         Leaf::Control(control) => supports_control(*control),
-        Leaf::External { .. } | Leaf::Choice { .. } => false,
+        Leaf::External { .. } => false,
     }
 }
 
@@ -99,10 +100,10 @@ fn supports_control(control: Control) -> bool
         | Control::Return
         | Control::ReturnTunnel
         | Control::Thread
+        | Control::ChoiceCount
         | Control::Turn
         | Control::Turns
         | Control::ReadCount
         | Control::Visit => true,
-        Control::ChoiceCount => false,
     }
 }

@@ -1,16 +1,16 @@
 //! Visits by a path (docs/PROTOCOL.md, "Command lines").
 
-ghost use Rattle.std.specs.Prelude.{◌≡◌, option_and_then, option_map};
+ghost use Rattle.std.specs.Prelude.{◌≡◌, option_and_then};
 ghost use Rattle.ink_check.specs.Words as check;
 ghost use Rattle.ink_model.specs.Path.{absolute_target};
-ghost use Rattle.ink_player.specs.Visits.{FindsVisits, refusal_of, visits_at};
+ghost use Rattle.ink_player.specs.Visits.{FindsVisits, visits_at};
 ghost use Rattle.ink_step.specs.Words.{config_of};
-ghost use Rattle.ink_tree.specs.Nodes.{place_of, story_tree};
 
+use crate::path::{absolute_spot, refusal_of};
 use ink_check::Story;
-use ink_model::{Cause, Path, Refusal};
+use ink_model::{Path, Refusal};
 use ink_step::Machine;
-use ink_tree::{NodeId, Spot, Tree, read_path};
+use ink_tree::read_path;
 use std::alloc::Global;
 
 /// How often the container at a path was visited. Refused with `NoSuchPath` where the text is no path, or a relative one, or
@@ -33,16 +33,6 @@ pub(crate) fn visits_by(
     }
 }
 
-// Why a path was not read: it is none, unless memory was refused.
-fn refusal_of(cause: Cause) -> Refusal
-    ensures { result ≡ refusal_of cause }
-{
-    match cause {
-        Cause::OutOfMemory => Refusal::OutOfMemory,
-        _ => Refusal::NoSuchPath,
-    }
-}
-
 // The visits of the container to which a path leads; none where it leads to nothing that is counted.
 fn counted(story: &Story, machine: &Machine, path: &Path) -> Option<i32>
     ensures { let s = check.story_tree story.now in
@@ -52,14 +42,4 @@ fn counted(story: &Story, machine: &Machine, path: &Path) -> Option<i32>
     let spot = absolute_spot(tree, path)?;
     let container = tree.node(spot)?;
     machine.visits(story, container).ok()
-}
-
-// Where a path leads, if it is not relative.
-fn absolute_spot(tree: &Tree, path: &Path) -> Option<Spot>
-    ensures { let s = story_tree tree.now in option_map (place_of s) result ≡ absolute_target s path.now }
-{
-    if path.relative {
-        return None;
-    }
-    tree.resolve(NodeId { number: 0 }, path)
 }

@@ -4,7 +4,8 @@
 //! - `supported`: the place of the first content that is not supported yet, or `all`
 //! - `opened`: `Player::open`, which hands back a story whose declarations fault
 //! - `through`: the passage's text, ` #TAG` for each tag, ` more` and ` loose`
-//! - `restart`, `can_continue`, `get NAME`, `set NAME VALUE`, `visits PATH`
+//! - `choices`: each text and its tags as a passage has them, apart by ` | `; `none` where there is none
+//! - `restart`, `can_continue`, `get NAME`, `set NAME VALUE`, `visits PATH`, `choose N`, `jump PATH`
 //!
 //! A fault or a refusal is told by its name. Where memory is refused, the calls up to the next story are not made.
 
@@ -16,7 +17,7 @@ use crate::tally::{Tally, Verdict};
 use crate::words::{encode, shown_parts, shown_value, value_of};
 use ink_check::{Story, check};
 use ink_json::read_story;
-use ink_model::{Event, Fault, Given, Halt, Passage, Seq, Value};
+use ink_model::{Event, Fault, Given, Halt, Passage, Refusal, Seq, Shared, Text, Value};
 use ink_player::{Desk, OpenFault, PlayEnd, PlayFault, Player, open_story, runnable};
 use std::alloc::{AllocError, Global};
 
@@ -150,6 +151,9 @@ fn said(alloc: Global, player: &mut Player, call: &str) -> Answer {
         "get" => got(alloc, player, rest),
         "set" => set(alloc, player, rest),
         "visits" => visits(alloc, player, rest),
+        "choices" => choices(alloc, player),
+        "choose" => choose(alloc, player, rest),
+        "jump" => landed(alloc, player.jump(rest)),
         _ => Err(NoAnswer::NoQuestion),
     }
 }
@@ -166,17 +170,23 @@ fn passage(alloc: Global, outcome: Result<Passage, Halt>) -> Answer {
 }
 
 fn show_passage(said: &mut String, passage: &Passage) -> Result<(), AllocError> {
-    said.push('^')?;
-    encode(said, passage.text.as_str())?;
-    for tag in passage.tags.as_slice() {
-        said.push_str(" #")?;
-        encode(said, tag.get().as_str())?;
-    }
+    show_text(said, &passage.text, passage.tags.as_slice())?;
     if passage.more {
         said.push_str(" more")?;
     }
     if passage.loose {
         said.push_str(" loose")?;
+    }
+    Ok(())
+}
+
+/// A text, with its tags behind it.
+fn show_text(said: &mut String, text: &Text, tags: &[Shared<Text>]) -> Result<(), AllocError> {
+    said.push('^')?;
+    encode(said, text.as_str())?;
+    for tag in tags {
+        said.push_str(" #")?;
+        encode(said, tag.get().as_str())?;
     }
     Ok(())
 }
@@ -196,6 +206,35 @@ fn got(alloc: Global, player: &Player, name: &str) -> Answer {
 fn visits(alloc: Global, player: &Player, path: &str) -> Answer {
     let visits = player.visits(path)?;
     Ok(format!(in alloc; "{visits}")?)
+}
+
+fn choices(alloc: Global, player: &Player) -> Answer {
+    let choices = player.choices()?;
+    let mut said = String::new(alloc);
+    for choice in choices.as_slice() {
+        if !said.is_empty() {
+            said.push_str(" | ")?;
+        }
+        show_text(&mut said, &choice.text, choice.tags.as_slice())?;
+    }
+    if said.is_empty() {
+        said.push_str("none")?;
+    }
+    Ok(said)
+}
+
+fn choose(alloc: Global, player: &mut Player, number: &str) -> Answer {
+    match number.parse::<u32>() {
+        Ok(number) => landed(alloc, player.choose(number)),
+        Err(_) => Err(NoAnswer::NoQuestion),
+    }
+}
+
+fn landed(alloc: Global, outcome: Result<(), Refusal>) -> Answer {
+    match outcome {
+        Ok(()) => text(alloc, "done"),
+        Err(refusal) => Err(NoAnswer::from(refusal)),
+    }
 }
 
 fn set(alloc: Global, player: &mut Player, rest: &str) -> Answer {

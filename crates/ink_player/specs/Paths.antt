@@ -1,0 +1,42 @@
+-- Where a host's path leads, and which commands ask for memory to read one (docs/PROTOCOL.md, "Command lines").
+use Rattle.std.specs.Prelude.{◌≡◌, ◌⊎◌, ℕ, List, IsSome, Option, Some, None, Result, Ok, Err}
+use Rattle.ink_model.specs.Answer.{Reply}
+use Rattle.ink_model.specs.Choosing.{jump_place}
+use Rattle.ink_model.specs.Path.{read_path}
+use Rattle.ink_model.specs.Session.{FailsAllocation}
+use Rattle.ink_model.specs.State.{State, Condition, Ready, Broken}
+use Rattle.ink_model.specs.Tree.{StoryTree}
+use Rattle.ink_model.specs.Turns.{Jump}
+use Rattle.ink_model.specs.declared.command.Command.{Command}
+use Rattle.ink_model.specs.declared.command.Command.TheVariants as command
+use Rattle.ink_model.specs.declared.fault.Cause.{Cause}
+use Rattle.ink_model.specs.declared.fault.Cause.TheVariants as cause
+use Rattle.ink_model.specs.declared.fault.Refusal.{Refusal}
+use Rattle.ink_model.specs.declared.fault.Refusal.TheVariants as refusal
+use Rattle.ink_tree.specs.Nodes.{place_of}
+use Rattle.ink_tree.specs.declared.spot.Spot.{Spot}
+
+-- why a path was not read
+abbrev pub refusal_of : Cause → Refusal
+refusal_of cause.OutOfMemory = refusal.OutOfMemory
+refusal_of c = refusal.NoSuchPath
+
+-- Where a path lands; or why not: it lands nowhere, or it is a path for which memory was refused.
+abbrev pub FindsPlace : StoryTree → List ℕ → Result Spot Refusal → Type 0
+FindsPlace s path (Ok spot) = jump_place s path ≡ Some (place_of s spot)
+FindsPlace s path (Err r) = ((r ≡ refusal.NoSuchPath) × (jump_place s path ≡ None)) ⊎ ((r ≡ refusal.OutOfMemory) × IsSome (read_path path))
+
+-- memory is asked for a path, and a broken player reads none
+abbrev pub ReadsPath : List ℕ → Condition → Type 0
+ReadsPath path (Broken f globals) = ⊥
+ReadsPath path (Ready c) = IsSome (read_path path)
+
+-- `jump`, for whose path memory may be refused
+abbrev pub JumpsTo : StoryTree → List ℕ → State → Reply → State → Type 0
+JumpsTo s path old reply new = Jump s path old reply new ⊎ (ReadsPath path old.condition × FailsAllocation old reply new)
+
+-- of a command whose line was read only the path may still need memory
+abbrev pub PathFails : Option Command → State → Reply → State → Type 0
+PathFails (Some (command.Visits path)) old reply new = ReadsPath path old.condition × FailsAllocation old reply new
+PathFails (Some (command.Jump path)) old reply new = ReadsPath path old.condition × FailsAllocation old reply new
+PathFails k old reply new = ⊥
