@@ -1,8 +1,8 @@
 #!/usr/bin/env python3
-"""Times reading, checking and running stories of 1, 4 and 16 MiB, long arithmetic, long passages, command lines, calls and
-visits, and prints the times side by side.
+"""Times reading, checking and running stories of 1, 4 and 16 MiB, long arithmetic, long passages, command lines, calls,
+visits and choices, and prints the times side by side.
 
-    bench/bench.py [--program PROGRAM] [--worker WORKER] [reading] [arithmetic] [passages] [commands] [calls] [visits]
+    bench/bench.py [--program PROGRAM] [--worker WORKER] [reading] [arithmetic] [passages] [commands] [calls] [visits] [choices]
         ./inkplay, crates/inkbench and all of them, unless others are named
 
 Each time is the least of three runs, in milliseconds, with the program's start in it. The last column is the time at
@@ -238,7 +238,42 @@ def visits(program, _worker):
         print("%-34s %9d %9.0f %12.0f" % ("", containers, loop('{"#f":3}'), loop("null")))
 
 
-BENCHES = {"reading": reading, "arithmetic": steps, "passages": passages, "commands": commands, "calls": calls, "visits": visits}
+def offering(depth, threads=40):
+    """Threads that offer two choices each, in so many functions; each choice leads back to them."""
+    return ('{"inkVersion":21,"root":[[{"->":"down"},null],"done",{"down":["ev",{"VAR?":"n"},1,"-",{"VAR=":"n","re":true},{"VAR?":"n"},0,">","/ev",{"f()":"down","c":true},{"->":"offer"},null],'
+            '"offer":[%s"done",null],"t":["ev","str","^one","/str","/ev",{"*":"go","flg":4},"ev","str","^two","/str","/ev",{"*":"go","flg":4},"done",null],'
+            '"go":["^.",{"->":"offer"},null],"global decl":["ev",%d,{"VAR=":"n"},"/ev","end",null]}]}' % ('"thread",{"->":"t"},' * threads, depth))
+
+
+def crossings(size):
+    """Knots with two choices each, which lead to others."""
+    def crossing(number, of):
+        return ('"knot_%d":[["^You are at the crossing number %d, and it rains.","\\n","ev","str","^Stay","/str","/ev",{"*":".^.^.c-0","flg":4},'
+                '"ev","str","^Go on","/str","/ev",{"*":".^.^.c-1","flg":4},"done",null],{"c-0":["^You stay.","\\n",{"->":"knot_%d"},{"#f":5}],'
+                '"c-1":["^You go on.","\\n",{"->":"knot_%d"},{"#f":5}],"#f":3}]' % (number, number, number, (number * 7 + 1) % of))
+    count = (size - 100) // (len(crossing(99999, 100000)) + 1)
+    return '{"inkVersion":21,"root":[[{"->":"knot_0"},null],"done",{' + ",".join(crossing(n, count) for n in range(count)) + "}]}"
+
+
+def choices(program, _worker):
+    """Turns with 80 choices, and a walk over a story of 1 MiB."""
+    print("%-34s %9s %9s %12s" % ("turns with 80 choices", "depth", "turns", "us a turn"))
+    for depth in (1, 50, 400):
+        for turns in (50, 200):
+            story = offering(depth) + "\nthrough\n"
+            took = best(program, story + "choose 5\nthrough\n" * turns)[0] - best(program, story)[0]
+            print("%-34s %9d %9d %12.0f" % ("", depth, turns, took * 1e3 / turns))
+    print("%-34s %9s %12s" % ("a walk over a story of 1 MiB", "commands", "ns each"))
+    story = crossings(MIB)
+    start = best(program, story + "\n")[0]
+    for count in (5000, 20000):
+        took, written = best(program, story + "\n" + "through\nchoose 1\n" * (count // 2))
+        if b"refused" in written or b"fault" in written:
+            sys.exit("bench: %r" % written[:300])
+        print("%-34s %9d %12.0f" % ("", count, (took - start) * 1e6 / count))
+
+
+BENCHES = {"reading": reading, "arithmetic": steps, "passages": passages, "commands": commands, "calls": calls, "visits": visits, "choices": choices}
 
 
 def main():
