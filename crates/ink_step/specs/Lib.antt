@@ -4,3 +4,4 @@ pub mod Stacks
 pub mod Reaches
 pub mod Steps
 pub mod Asked
+pub mod Parts
