@@ -12,6 +12,10 @@ pub mod Shown
 pub mod ShownExamples
 pub mod Clean
 pub mod Value
+pub mod Told
+pub mod Same
+pub mod Host
+pub mod Events
 pub mod Path
 pub mod Places
 pub mod Entered

@@ -1,10 +1,12 @@
 -- A forward run, by its moments (docs/RUNNING.md, "Runs").
-use Rattle.std.specs.Prelude.{ℕ, zero, suc, List, [], ◌∷◌, ◌++◌, map, Bool, true, if◌then◌else◌, Option, Some, None}
+use Rattle.std.specs.Prelude.{ℕ, zero, suc, List, [], ◌∷◌, ◌++◌, Bool, true, if◌then◌else◌, Option, Some, None}
 use Rattle.ink_model.specs.declared.limits.TheConstants.{MAX_STEPS}
 use Rattle.ink_model.specs.Bytes.{fits_text}
 use Rattle.ink_model.specs.Tree.{StoryTree}
 use Rattle.ink_model.specs.Place.{entered}
 use Rattle.ink_model.specs.Choosing.{following}
+pub use Rattle.ink_model.specs.Events.{Made, answers_of}
+use Rattle.ink_model.specs.Host.{value_given}
 use Rattle.ink_model.specs.Configuration.{Configuration, current_place, begun, put_at}
 use Rattle.ink_model.specs.Effect.{Fields, Effect, Fails, fields_of, pushing}
 use Rattle.ink_model.specs.Move.{Outcome, Next, Stop, Wants, Faults, move}
@@ -12,18 +14,11 @@ use Rattle.ink_model.specs.Step.{Bound, step}
 use Rattle.ink_model.specs.declared.fault.Fault.{Fault}
 use Rattle.ink_model.specs.declared.fault.Fault.TheVariants.{HostRefused, OutOfSteps, TooDeep}
 use Rattle.ink_model.specs.declared.host.Given.{Given}
-use Rattle.ink_model.specs.declared.host.Given.TheVariants as given
 use Rattle.ink_model.specs.declared.place.Part.{Part}
 use Rattle.ink_model.specs.declared.value.Value.{Value}
 use Rattle.ink_model.specs.declared.value.Value.TheVariants as value
 
 -- ---- answers of the host's objects
-
-abbrev pub value_given : Given → Value
-value_given (given.Int z) = value.Int z
-value_given (given.Bool b) = value.Bool b
-value_given (given.Text t) = value.Text t
-value_given given.Void = value.Void
 
 -- a text that is given is within its limit
 abbrev pub fits_value : Value → Bool
@@ -42,16 +37,6 @@ answered_at s v (Some p) c = following s (move s (push_answer v (fields_of c)) (
 abbrev pub answered : StoryTree → Configuration → Option Given → Outcome
 answered s c None = Faults HostRefused
 answered s c (Some g) = answered_at s (value_given g) (current_place c) c
-
--- a call that was made, and what came of it
-pub record Made : Type 0 where
-  pub name : List ℕ
-  pub arguments : List Value
-  pub gave : Option Given
-
--- what the calls gave, in order
-abbrev pub answers_of : List Made → List (Option Given)
-answers_of made = map (λ m. m.gave) made
 
 -- ---- moments
 

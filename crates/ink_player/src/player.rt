@@ -6,7 +6,7 @@ ghost use Rattle.ink_model.specs.Configuration.{Configuration};
 ghost use Rattle.ink_model.specs.Opening.{opening, opened};
 ghost use Rattle.ink_model.specs.Supported.{unsupported};
 ghost use Rattle.ink_model.specs.Session.{Through, Set, Get, Restart, settable};
-ghost use Rattle.ink_model.specs.Run as rules;
+ghost use Rattle.ink_model.specs.Host as rules;
 ghost use Rattle.ink_model.specs.State.{is_running, fault_in};
 ghost use Rattle.ink_model.specs.Step.{nothing_bound};
 ghost use Rattle.ink_model.specs.Turns.{Choose, ShowsChoices};

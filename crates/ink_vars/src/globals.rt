@@ -2,6 +2,8 @@
 
 ghost use Rattle.std.specs.Prelude.{◌≡◌, ◌≢◌, [], false, is_some, is_ok, length, option_map, slice_get, IfOk, IfErr, OnOk, OnErr};
 ghost use Rattle.ink_model.specs.Store.{stored, store};
+ghost use Rattle.ink_vars.specs.Changes.{number_of};
+ghost use Rattle.ink_vars.specs.Globals.{DifferInName};
 
 use indexmap::IndexMap;
 use ink_model::Value;
@@ -64,11 +66,21 @@ impl Globals {
         self.values.contains_key(name)
     }
 
-    /// How many globals there are.
+    /// How many globals there are, each with a name of its own.
     pub fn len(&self) -> usize
-        ensures { result ≡ length self.now }
+        ensures len { result ≡ length self.now }
+        ensures names { DifferInName self.now }
     {
         self.values.len()
+    }
+
+    /// The number of a global in order of declaration, which is its index; where there is no such global, that of the next
+    /// new one.
+    pub fn number_of(&self, name: &str) -> usize
+        ensures { result ≡ number_of name.now self.now }
+    {
+        let next = self.values.len();
+        self.values.get_index_of(name).unwrap_or(next)
     }
 
     /// The name and the value of the global at an index, in the order in which they were declared; none past the last. Takes
