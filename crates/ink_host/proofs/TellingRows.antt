@@ -1,0 +1,185 @@
+-- Rows of watchers, changed by name.
+use Rattle.std.proofs.Common.{◌≡◌, ◌∙◌, refl, sym, ap, ℕ, List, [], ◌∷◌, ◌++◌, Bool, true, false, cond, if◌then◌else◌, Some, None, String, Global, string_bytes, bytes_eq, append_assoc, Result, Ok, Err, OnOk, OnErr}
+use Rattle.std.specs.Map.{keys_of, lookup, set_value}
+use Rattle.std.specs.String.{string_eq}
+use Rattle.std.specs.List.{IsDistinct, AllByRecursion}
+use Rattle.std.proofs.lemmas.Slice.Eq.{bytes_eq-Decides}
+use Rattle.std.proofs.lemmas.List.{append-nil}
+use Rattle.ink_model.specs.declared.host.Event.{Event}
+use Rattle.ink_model.specs.declared.host.Event.TheVariants.{Call, Saw}
+use Rattle.ink_model.specs.declared.value.Value.{Value}
+use Rattle.ink_host.specs.declared.objects.Seen.{Seen}
+use Rattle.ink_host.specs.Desk.{Rows, Resting, each, seen_by, shown}
+use Rattle.ink_host.specs.Telling.{Watching, Stand, change, heard, standing}
+
+-- ---- names
+
+pub same_name : (m n : List ℕ) → bytes_eq m n ≡ true → m ≡ n
+same_name m n h = (bytes_eq-Decides m n).0 h
+
+pub other_name : (m n : List ℕ) → bytes_eq m n ≡ false → bytes_eq n m ≡ false
+other_name m n h = by (bytes_eq n m) refl
+  where
+    by : (b : Bool) → bytes_eq n m ≡ b → bytes_eq n m ≡ false
+    by false e = e
+    by true e = absurd (cc ((bytes_eq-Decides m n).1 (sym (same_name n m e)), h))
+
+-- ---- rows
+
+pub each-each : {X Y Z : Type 0} (g : List ℕ → Y → Z) (f : List ℕ → X → Y) (rows : Rows X) → each g (each f rows) ≡ each (λ n x. g n (f n x)) rows
+each-each g f [] = refl
+each-each g f (r ∷ rows) = ap (λ rs. (r.0, g r.0 (f r.0 r.1)) ∷ rs) (each-each g f rows)
+
+pub each-same : {X Y : Type 0} (f g : List ℕ → X → Y) → ((n : List ℕ) (x : X) → f n x ≡ g n x) → (rows : Rows X) → each f rows ≡ each g rows
+each-same f g h [] = refl
+each-same f g h (r ∷ rows) = ap (λ y. (r.0, y) ∷ each f rows) (h r.0 r.1) ∙ ap (λ rs. (r.0, g r.0 r.1) ∷ rs) (each-same f g h rows)
+
+abbrev pub watching : List Seen → Bool → Watching
+watching log resting = record { log = log; resting = resting }
+
+pub known : (l m : List Seen) (r s : Bool) → l ≡ m → r ≡ s → watching l r ≡ watching m s
+known l m r s p q = ap (λ x. watching x r) p ∙ ap (λ x. watching m x) q
+
+-- ---- a write in a map
+
+module _ {W : Type 0} (log : W → List Seen) (at_rest : W → Bool) where
+  abbrev pub state : W → Watching
+  state w = record { log = log w; resting = at_rest w }
+
+  pub change-absent : (n : List ℕ) (f : Watching → Watching) (es : List (String Global × W)) → lookup (λ k. bytes_eq n (string_bytes k)) es ≡ None
+      → standing string_bytes log at_rest es ≡ change n f (standing string_bytes log at_rest es)
+  change-absent n f [] h = refl
+  change-absent n f (e ∷ es) h = by (bytes_eq n (string_bytes e.0)) (change-absent n f es) h
+    where
+      by : (b : Bool) → (lookup (λ k. bytes_eq n (string_bytes k)) es ≡ None → standing string_bytes log at_rest es ≡ change n f (standing string_bytes log at_rest es))
+          → cond b (Some e.1) (lookup (λ k. bytes_eq n (string_bytes k)) es) ≡ None
+          → (string_bytes e.0, state e.1) ∷ standing string_bytes log at_rest es
+          ≡ (string_bytes e.0, if b then f (state e.1) else state e.1) ∷ change n f (standing string_bytes log at_rest es)
+      by true more k = absurd (cc)
+      by false more k = ap (λ rs. (string_bytes e.0, state e.1) ∷ rs) (more k)
+
+  -- no key past an equal one
+  past : (n : List ℕ) (key : String Global) (es : List (String Global × W)) → bytes_eq n (string_bytes key) ≡ true
+      → AllByRecursion (λ k. string_eq key k ≡ false) (keys_of es) → lookup (λ k. bytes_eq n (string_bytes k)) es ≡ None
+  past n key [] h a = refl
+  past n key (e ∷ es) h a =
+      let other : bytes_eq n (string_bytes e.0) ≡ false = ap (λ m. bytes_eq m (string_bytes e.0)) (same_name n (string_bytes key) h) ∙ a.0 in
+      ap (λ b. cond b (Some e.1) (lookup (λ k. bytes_eq n (string_bytes k)) es)) other ∙ past n key es h a.1
+
+  pub change-write : (n : List ℕ) (f : Watching → Watching) (es : List (String Global × W)) (w v : W) → IsDistinct string_eq (keys_of es)
+      → lookup (λ k. bytes_eq n (string_bytes k)) es ≡ Some w → state v ≡ f (state w)
+      → standing string_bytes log at_rest (set_value (λ k. bytes_eq n (string_bytes k)) es v) ≡ change n f (standing string_bytes log at_rest es)
+  unfolding IsDistinct
+  change-write n f [] w v d h s = refl
+  change-write n f (e ∷ es) w v d h s = by (bytes_eq n (string_bytes e.0)) refl (change-write n f es w v d.1) h
+    where
+      by : (b : Bool) → bytes_eq n (string_bytes e.0) ≡ b
+          → (lookup (λ k. bytes_eq n (string_bytes k)) es ≡ Some w → state v ≡ f (state w) → standing string_bytes log at_rest (set_value (λ k. bytes_eq n (string_bytes k)) es v) ≡ change n f (standing string_bytes log at_rest es))
+          → cond b (Some e.1) (lookup (λ k. bytes_eq n (string_bytes k)) es) ≡ Some w
+          → standing string_bytes log at_rest (cond b ((e.0, v) ∷ es) (e ∷ set_value (λ k. bytes_eq n (string_bytes k)) es v))
+          ≡ (string_bytes e.0, if b then f (state e.1) else state e.1) ∷ change n f (standing string_bytes log at_rest es)
+      by true is more k =
+          let same : w ≡ e.1 = cc in
+          ap (λ t. (string_bytes e.0, t) ∷ standing string_bytes log at_rest es) (s ∙ ap (λ x. f (state x)) same)
+          ∙ ap (λ rs. (string_bytes e.0, f (state e.1)) ∷ rs) (change-absent n f es (past n e.0 es is d.0))
+      by false is more k = ap (λ rs. (string_bytes e.0, state e.1) ∷ rs) (more k s)
+
+  -- what stands of the one that is found
+  pub stands_found : (n : List ℕ) (b : Bool) (es : List (String Global × W)) (w : W) → lookup (λ k. bytes_eq n (string_bytes k)) es ≡ Some w
+      → Stand (bytes_eq n) b (standing string_bytes log at_rest es) → at_rest w ≡ b
+  stands_found n b [] w h a = absurd (cc)
+  stands_found n b (e ∷ es) w h a = by (bytes_eq n (string_bytes e.0)) (stands_found n b es w) h a.0 a.1
+    where
+      by : (t : Bool) → (lookup (λ k. bytes_eq n (string_bytes k)) es ≡ Some w → Stand (bytes_eq n) b (standing string_bytes log at_rest es) → at_rest w ≡ b)
+          → cond t (Some e.1) (lookup (λ k. bytes_eq n (string_bytes k)) es) ≡ Some w → (t ≡ true → at_rest e.1 ≡ b) → Stand (bytes_eq n) b (standing string_bytes log at_rest es) → at_rest w ≡ b
+      by true more k here rest = let same : w ≡ e.1 = cc in ap at_rest same ∙ here refl
+      by false more k here rest = more k rest
+
+  -- all at rest
+  pub stand-resting : (test : List ℕ → Bool) (es : List (String Global × W)) → Resting at_rest (shown string_bytes (λ w. w) es) → Stand test true (standing string_bytes log at_rest es)
+  stand-resting test [] h = tt
+  stand-resting test (e ∷ es) h = (λ _. h.0, stand-resting test es h.1)
+
+  pub resting-stand : (es : List (String Global × W)) → Stand (λ n. true) true (standing string_bytes log at_rest es) → Resting at_rest (shown string_bytes (λ w. w) es)
+  resting-stand [] h = tt
+  resting-stand (e ∷ es) h = (h.0 refl, resting-stand es h.1)
+
+-- ---- who is at rest after a change of all rows
+
+pub stand-each : (test over : List ℕ → Bool) (b d : Bool) (g : List ℕ → Watching → Watching) (rows : Rows Watching)
+    → ((n : List ℕ) (s : Watching) → over n ≡ true → (test n ≡ true → s.resting ≡ b) → (g n s).resting ≡ d) → Stand test b rows → Stand over d (each g rows)
+stand-each test over b d g [] h a = tt
+stand-each test over b d g (r ∷ rows) h a = (λ t. h r.0 r.1 t a.0, stand-each test over b d g rows h a.1)
+
+pub stand-fewer : (test over : List ℕ → Bool) (b : Bool) (rows : Rows Watching) → ((n : List ℕ) → over n ≡ true → test n ≡ true) → Stand test b rows → Stand over b rows
+stand-fewer test over b [] h a = tt
+stand-fewer test over b (r ∷ rows) h a = (λ t. a.0 (h r.0 t), stand-fewer test over b rows h a.1)
+
+-- ---- events
+
+pub seen_by-append : (m : List ℕ) (es fs : List Event) → seen_by m (es ++ fs) ≡ seen_by m es ++ seen_by m fs
+seen_by-append m [] fs = refl
+seen_by-append m (Call to arguments gave n ∷ es) fs = seen_by-append m es fs
+seen_by-append m (Saw of n v ∷ es) fs = by (bytes_eq m of) (seen_by-append m es fs)
+  where
+    by : (b : Bool) → seen_by m (es ++ fs) ≡ seen_by m es ++ seen_by m fs
+        → (if b then (record { stamp = n; name = of; value = v }) ∷ seen_by m (es ++ fs) else seen_by m (es ++ fs))
+        ≡ (if b then (record { stamp = n; name = of; value = v }) ∷ seen_by m es else seen_by m es) ++ seen_by m fs
+    by true more = ap (λ xs. (record { stamp = n; name = of; value = v }) ∷ xs) more
+    by false more = more
+
+-- the watcher of one name hears one event
+abbrev pub hears : ℕ → List ℕ → Value → Watching → Watching
+hears stamp n v s = watching (s.log ++ (record { stamp = stamp; name = n; value = v }) ∷ []) s.resting
+
+pub heard-one : (n : List ℕ) (stamp : ℕ) (v : Value) (rows : Rows Watching) → change n (hears stamp n v) rows ≡ heard (Saw n stamp v ∷ []) rows
+heard-one n stamp v [] = refl
+heard-one n stamp v (r ∷ rows) = ap (λ s. (r.0, s) ∷ change n (hears stamp n v) rows) (by (bytes_eq n r.0) refl) ∙ ap (λ rs. (r.0, now) ∷ rs) (heard-one n stamp v rows)
+  where
+    now : Watching
+    now = watching (r.1.log ++ (if bytes_eq r.0 n then (record { stamp = stamp; name = n; value = v }) ∷ [] else [])) r.1.resting
+
+    by : (b : Bool) → bytes_eq n r.0 ≡ b → (if b then hears stamp n v r.1 else r.1)
+        ≡ watching (r.1.log ++ (if bytes_eq r.0 n then (record { stamp = stamp; name = n; value = v }) ∷ [] else [])) r.1.resting
+    by true e =
+        let back : bytes_eq r.0 n ≡ true = (bytes_eq-Decides r.0 n).1 (sym (same_name n r.0 e)) in
+        ap (λ b. watching (r.1.log ++ (if b then (record { stamp = stamp; name = n; value = v }) ∷ [] else [])) r.1.resting) (sym back)
+    by false e =
+        known r.1.log (r.1.log ++ []) r.1.resting r.1.resting (sym (append-nil r.1.log)) refl
+        ∙ ap (λ b. watching (r.1.log ++ (if b then (record { stamp = stamp; name = n; value = v }) ∷ [] else [])) r.1.resting) (sym (other_name n r.0 e))
+
+pub heard-more : (es : List Event) (e : Event) (rows : Rows Watching) → heard (e ∷ []) (heard es rows) ≡ heard (es ++ e ∷ []) rows
+heard-more es e [] = refl
+heard-more es e (r ∷ rows) =
+    let log = r.1.log in
+    ap (λ l. (r.0, watching l r.1.resting) ∷ heard (e ∷ []) (heard es rows))
+    (append_assoc log (seen_by r.0 es) (seen_by r.0 (e ∷ [])) ∙ ap (λ xs. log ++ xs) (sym (seen_by-append r.0 es (e ∷ []))))
+    ∙ ap (λ rs. (r.0, watching (log ++ seen_by r.0 (es ++ e ∷ [])) r.1.resting) ∷ rs) (heard-more es e rows)
+
+pub heard-none : (rows : Rows Watching) → rows ≡ heard [] rows
+heard-none [] = refl
+heard-none (r ∷ rows) = ap (λ l. (r.0, watching l r.1.resting) ∷ rows) (sym (append-nil r.1.log)) ∙ ap (λ rs. (r.0, watching (r.1.log ++ []) r.1.resting) ∷ rs) (heard-none rows)
+
+pub stand-heard : (test : List ℕ → Bool) (b : Bool) (es : List Event) (rows : Rows Watching) → Stand test b rows → Stand test b (heard es rows)
+stand-heard test b es [] a = tt
+stand-heard test b es (r ∷ rows) a = (a.0, stand-heard test b es rows a.1)
+
+pub on_ok : {A E P Q : Type 0} (r : Result A E) → (P → Q) → OnOk r P → OnOk r Q
+on_ok (Ok x) f p = f p
+on_ok (Err e) f p = tt
+
+pub on_err : {A E P Q : Type 0} (r : Result A E) → (P → Q) → OnErr r P → OnErr r Q
+on_err (Ok x) f p = tt
+on_err (Err e) f p = f p
+
+pub change-nothing : (n : List ℕ) (rows : Rows Watching) → change n (λ s. s) rows ≡ rows
+change-nothing n [] = refl
+change-nothing n (r ∷ rows) = ap (λ s. (r.0, s) ∷ change n (λ s. s) rows) (by (bytes_eq n r.0)) ∙ ap (λ rs. r ∷ rs) (change-nothing n rows)
+  where
+    by : (b : Bool) → (if b then r.1 else r.1) ≡ r.1
+    by true = refl
+    by false = refl
+
+pub if_err : {A E P : Type 0} (r : Result A E) → P → OnErr r P
+if_err (Ok x) p = tt
+if_err (Err e) p = p
