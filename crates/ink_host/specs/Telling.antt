@@ -2,6 +2,7 @@
 use Rattle.std.specs.Prelude.{◌≡◌, ℕ, List, [], ◌∷◌, Bool, true, false, bytes_eq, ◌||◌, if◌then◌else◌}
 use Rattle.ink_host.specs.declared.objects.Seen.{Seen}
 use Rattle.ink_model.specs.declared.host.Change.{Change}
+use Rattle.ink_model.specs.declared.host.Event.{Event}
 use Rattle.ink_host.specs.Desk.{Rows, each, shown, told_of}
 
 -- ---- changes
