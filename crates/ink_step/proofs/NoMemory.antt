@@ -17,7 +17,8 @@ use Rattle.ink_model.specs.Output.{closes_string_of, closes_tag_of, begins_funct
 use Rattle.ink_model.specs.Page.{Page, Section, SectionKind, string_section, tag_section}
 use Rattle.ink_model.specs.Place.{entered, next_place}
 use Rattle.ink_model.specs.Run as running
-use Rattle.ink_model.specs.Run.{Moment, At, Faulted, Waits, Made, answered, answered_at, came, cut_off, moment, moment_after, next, push_answer, run, value_given, fits_value}
+use Rattle.ink_model.specs.Run.{Moment, At, Faulted, Waits, Made, answered, answered_at, came, cut_off, moment, moment_after, next, push_answer, run, fits_value}
+use Rattle.ink_model.specs.Host.{value_given}
 use Rattle.ink_model.specs.Path.{above, is_container}
 use Rattle.ink_model.specs.Stack.{applied_to, on_top, popped, taken}
 use Rattle.ink_model.specs.Threads as threads
