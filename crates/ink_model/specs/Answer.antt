@@ -1,5 +1,6 @@
 -- Answers (docs/PROTOCOL.md, "Answers").
 use Rattle.std.specs.Prelude.{ℕ, ℤ, List, [], ◌∷◌, ◌++◌, map, codes, Result, Ok, Err}
+pub use Rattle.ink_model.specs.Events.{items_of}
 use Rattle.ink_model.specs.ValueJson.{value_data}
 use Rattle.serde_json.specs.Data.{Data, boolean, number, string, array, object, Items, no_items, item, no_members, member}
 use Rattle.serde_json.specs.Find.{of_integer}
@@ -10,6 +11,7 @@ use Rattle.ink_model.specs.declared.fault.Refusal.{Refusal}
 use Rattle.ink_model.specs.declared.fault.Refusal.TheVariants as refusal
 use Rattle.ink_model.specs.declared.fault.Halt.{Halt}
 use Rattle.ink_model.specs.declared.fault.Halt.TheVariants as halt
+use Rattle.ink_model.specs.Events.{event_data}
 use Rattle.ink_model.specs.declared.host.Event.{Event}
 use Rattle.ink_model.specs.declared.passage.Passage.{Passage}
 use Rattle.ink_model.specs.declared.value.Value.{Value}
@@ -63,6 +65,8 @@ fault_name fault.BadTarget = codes "BadTarget"
 fault_name fault.BadPointer = codes "BadPointer"
 fault_name fault.NotCounted = codes "NotCounted"
 fault_name fault.NoTemp = codes "NoTemp"
+fault_name fault.UnsafeInString = codes "UnsafeInString"
+fault_name fault.Unbound = codes "Unbound"
 fault_name fault.HostRefused = codes "HostRefused"
 fault_name fault.StopInString = codes "StopInString"
 fault_name fault.TooDeep = codes "TooDeep"
@@ -79,19 +83,11 @@ refusal_name refusal.BadCommand = codes "BadCommand"
 refusal_name (refusal.Broken f) = codes "Broken"
 refusal_name refusal.OutOfMemory = codes "OutOfMemory"
 
-abbrev pub items_of : List Data → Items
-items_of [] = no_items
-items_of (d ∷ ds) = item d (items_of ds)
-
 abbrev pub texts_data : List (List ℕ) → Data
 texts_data ts = array (items_of (map string ts))
 
 abbrev pub shown_data : Shown → Data
 shown_data choice = object (member (codes "tags") (texts_data choice.tags) (member (codes "text") (string choice.text) no_members))
-
--- there is no event yet
-abbrev pub event_data : Event → Data
-event_data e = elim e [ ]
 
 abbrev pub events_data : List Event → Data
 events_data events = array (items_of (map event_data events))

@@ -17,11 +17,12 @@ use Rattle.ink_model.specs.Clean.{clean}
 use Rattle.ink_model.specs.Configuration.{Configuration, with_globals, start, fresh_at, ended, with_safe, put_at, moved, settled, begun, can_go_on}
 use Rattle.ink_model.specs.Effect.{with_mode, with_page, with_stack}
 use Rattle.ink_model.specs.Step.{Bound, Faults, step, nothing_bound, Next, Stop}
-use Rattle.ink_model.specs.Run.{Made, Moment, moment, next, run, through, cut_off, answered_at, At, Stopped}
+use Rattle.ink_model.specs.Run.{Made, Moment, moment, next, run, through, cut_off, answered, At, Stopped}
 use Rattle.ink_model.specs.Command.{lines_of, command_of}
 use Rattle.ink_model.specs.Answer.{answer, Tells, Acts, Shows, Refuses, Breaks}
 use Rattle.ink_model.specs.Bytes.{fits_text}
 use Rattle.ink_model.specs.declared.limits.TheConstants.{MAX_STACK}
+use Rattle.ink_model.specs.Effect.{Fields}
 use Rattle.ink_model.specs.Memory.{GetsTo, asks}
 use Rattle.ink_model.specs.Session.{Session, Serves, Set, Get, Restart, passage}
 use Rattle.ink_model.specs.State.{State, Ready, Broken}
@@ -448,13 +449,17 @@ unfolding start fresh_at
 an_absent_variable = (refl, refl)
 
 -- an answer of the host is pushed within the stack's limit, and no text over its limit is
-a_full_stack : (s : StoryTree) (p : List Part) (c : Configuration) → nat_lt (length c.flow.stack) MAX_STACK ≡ false
-    → answered_at s (value.Int (pos 1)) (Some p) c ≡ Faults fault.TooDeep
-a_full_stack s p c full = rw full refl
+a_full_stack : (s : StoryTree) (f : Fields) (c : Configuration) → nat_lt (length f.stack) MAX_STACK ≡ false
+    → answered s f c (Some (given.Int (pos 1))) ≡ Faults fault.TooDeep
+a_full_stack s f c full = rw full refl
 
-a_long_answer : (s : StoryTree) (p : List Part) (c : Configuration) (t : List ℕ) → fits_text t ≡ false
-    → answered_at s (value.Text t) (Some p) c ≡ Faults fault.TooDeep
-a_long_answer s p c t long = rw long refl
+a_long_answer : (s : StoryTree) (f : Fields) (c : Configuration) (t : List ℕ) → fits_text t ≡ false
+    → answered s f c (Some (given.Text t)) ≡ Faults fault.TooDeep
+a_long_answer s f c t long = rw long refl
+
+-- a refusal is a fault
+a_refusal_of_the_host : (s : StoryTree) (f : Fields) (c : Configuration) → answered s f c None ≡ Faults fault.HostRefused
+a_refusal_of_the_host s f c = refl
 
 -- declarations that fault leave the globals as they stood before the step that faulted
 abbrev declaring_half : StoryTree

@@ -12,6 +12,8 @@ pub mod Shown
 pub mod ShownExamples
 pub mod Clean
 pub mod Value
+pub mod Host
+pub mod Events
 pub mod Path
 pub mod Places
 pub mod Entered

@@ -3,7 +3,7 @@ use Rattle.std.specs.Prelude.{◌≡◌, ◌<◌, ◌≤◌, ◌⊎◌, ℕ, Lis
 unfoldable pub use Rattle.ink_model.specs.Asks.{asks, asks_at, asks_for, content_asks, control_asks, going_in_asks, has_top, is_found_late, leaf_asks, offer_asks, operator_asks, output_asks, stopping_asks, visit_asks}
 use Rattle.ink_model.specs.Tree.{StoryTree}
 use Rattle.ink_model.specs.Configuration.{Configuration, begun}
-use Rattle.ink_model.specs.Step.Host.{Bound, nothing_bound}
+use Rattle.ink_model.specs.Host.{Bound, nothing_bound}
 use Rattle.ink_model.specs.Run.{At, Stopped, Made, answers_of, moment}
 use Rattle.ink_model.specs.Opening.{declaring}
 use Rattle.ink_model.specs.Answer.{Reply, Breaks}
@@ -58,7 +58,7 @@ pub record GetsTo (s : StoryTree) (b : Bound) (c : Configuration) (made : List M
   pub steps : ℕ
   pub within : steps < MAX_STEPS
   pub got_there : moment s b c (answers_of made) steps ≡ At reached [] made
-  pub asking : asks s reached ≡ true
+  pub asking : asks s b reached ≡ true
 
 -- A run stopped, and its passage is made in memory.
 pub record StopsAt (s : StoryTree) (b : Bound) (c : Configuration) (made : List Made) (reached : Configuration) : Type 0 where

@@ -6,8 +6,9 @@ use Rattle.ink_model.specs.Mark.{tags}
 use Rattle.ink_model.specs.Shown.{shown_text}
 use Rattle.ink_model.specs.Clean.{clean}
 use Rattle.ink_model.specs.Configuration.{Configuration, ChoiceOf, can_go_on, settled, with_globals}
-use Rattle.ink_model.specs.Step.Host.{Bound}
-use Rattle.ink_model.specs.Run.{value_given, Made, answers_of, Moment, Stopped, Faulted, through}
+use Rattle.ink_model.specs.Host.{Bound}
+use Rattle.ink_model.specs.Host.{value_given}
+use Rattle.ink_model.specs.Run.{Made, answers_of, Moment, Stopped, Faulted, through}
 use Rattle.ink_model.specs.Memory.{FallsShort, OpensShort, holds_memory}
 pub use Rattle.ink_model.specs.Changed.{FailsAllocation, Keeps, with_condition}
 use Rattle.ink_model.specs.Command.{command_of, NeedsMemory}

@@ -55,6 +55,10 @@ pub enum Fault {
     NotCounted,
     #[error("NoTemp")]
     NoTemp,
+    #[error("UnsafeInString")]
+    UnsafeInString,
+    #[error("Unbound")]
+    Unbound,
     #[error("HostRefused")]
     HostRefused,
     #[error("StopInString")]
@@ -112,6 +116,8 @@ impl Fault {
             Fault::BadPointer => "BadPointer",
             Fault::NotCounted => "NotCounted",
             Fault::NoTemp => "NoTemp",
+            Fault::UnsafeInString => "UnsafeInString",
+            Fault::Unbound => "Unbound",
             Fault::HostRefused => "HostRefused",
             Fault::StopInString => "StopInString",
             Fault::TooDeep => "TooDeep",

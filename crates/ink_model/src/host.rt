@@ -1,7 +1,12 @@
-//! What a host gives, and what happened between it and a player.
+//! What a host's objects are asked and answer, and what happened between them and a player (docs/HOST.md).
 
+ghost use Rattle.std.specs.Prelude.{◌≡◌, IfOk, OnErr};
+
+use crate::seq::Seq;
 use crate::shared::Shared;
 use crate::text::Text;
+use crate::value::Value;
+use std::alloc::{AllocError, Global};
 
 /// What a host object answers.
 #[derive(Drop)]
@@ -12,6 +17,45 @@ pub enum Given {
     Void,
 }
 
-/// What happened between a player and the objects of its host. No form of content makes an event yet.
+impl Given {
+    ghost use Rattle.ink_model.specs.Host.{shares};
+
+    /// A copy, which shares a text: it asks for no memory. The one error is a count of owners that is full.
+    pub fn clone_in(&self, _alloc: Global) -> Result<Given, AllocError>
+        ensures copy { IfOk result (λ copy. copy ≡ self.now) }
+        ensures memory { OnErr result (shares self.now) }
+    {
+        match self {
+            Given::Int(number) => Ok(Given::Int(*number)),
+            Given::Bool(truth) => Ok(Given::Bool(*truth)),
+            Given::Text(text) => Ok(Given::Text(text.share()?)),
+            Given::Void => Ok(Given::Void),
+        }
+    }
+}
+
+/// Why a host object gives no answer: it refuses the call, or was itself refused memory.
+#[derive(Clone, Copy, Debug, PartialEq, Eq, thiserror::Error)]
+pub enum HostFault {
+    #[error("Refused")]
+    Refused,
+    #[error("OutOfMemory")]
+    OutOfMemory,
+}
+
+/// What happened between a player and the objects of its host: a turn function was called and gave an answer, none where it
+/// refused; or a watcher saw the new value of a global. Stamps number all events of a player, from 0.
 #[derive(Drop)]
-pub enum Event {}
+pub enum Event {
+    Call {
+        name: Text,
+        arguments: Seq<Value>,
+        gave: Option<Given>,
+        stamp: u64,
+    },
+    Saw {
+        name: Text,
+        stamp: u64,
+        value: Value,
+    },
+}
