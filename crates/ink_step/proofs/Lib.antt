@@ -19,6 +19,7 @@ pub mod Keys
 pub mod Visits
 pub mod Goings
 pub mod Places
+pub mod Settings
 pub mod Stored
 pub mod Unstored
 pub mod Asked
