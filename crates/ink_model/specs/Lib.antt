@@ -23,6 +23,7 @@ pub mod Supported
 pub mod Operator
 pub mod Joining
 pub mod Store
+pub mod Told
 pub mod Stack
 pub mod Page
 pub mod Frames
