@@ -3,5 +3,6 @@ pub mod Performs
 pub mod Stacks
 pub mod Reaches
 pub mod Steps
+pub mod Runs
 pub mod Asked
 pub mod Parts

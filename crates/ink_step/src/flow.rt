@@ -28,6 +28,7 @@ use ink_value::EvalStack;
 pub enum StepEnd {
     Went,
     Stopped,
+    WantsCall,
 }
 
 /// Flow moves on to the place after the one where it is. Off the end of a function it goes on after the call, and off the end
