@@ -17,13 +17,13 @@ use Rattle.ink_step.specs.declared.flow.StepEnd.TheVariants as ends
 went : (s : StoryTree) (asking : Bool) (old new : Configuration) (o : Outcome) → StepEnds asking o old.shared.globals new (Ok ends.Went) → came s old o [] [] ≡ At new [] []
 went s asking old new (Next c) h = ap (λ d. At d [] []) (sym h)
 went s asking old new (Stop c) h = absurd h
-went s asking old new (Wants name arguments c) h = absurd h
+went s asking old new (Wants name arguments after c) h = absurd h
 went s asking old new (Faults f) h = absurd h
 
 stopped : (s : StoryTree) (asking : Bool) (old new : Configuration) (o : Outcome) → StepEnds asking o old.shared.globals new (Ok ends.Stopped) → came s old o [] [] ≡ Stopped new [] []
 stopped s asking old new (Next c) h = absurd h
 stopped s asking old new (Stop c) h = ap (λ d. Stopped d [] []) (sym h)
-stopped s asking old new (Wants name arguments c) h = absurd h
+stopped s asking old new (Wants name arguments after c) h = absurd h
 stopped s asking old new (Faults f) h = absurd h
 
 -- a fault of the story, or a step that asks for memory and got none; the globals stay
@@ -31,7 +31,7 @@ faulted : (s : StoryTree) (asking : Bool) (old new : Configuration) (f : Fault) 
     → ((came s old o [] [] ≡ Faulted f old [] []) ⊎ ((f ≡ OutOfMemory) × (asking ≡ true))) × (new.shared.globals ≡ old.shared.globals)
 faulted s asking old new f (Next c) h = (inr h.0, h.1)
 faulted s asking old new f (Stop c) h = (inr h.0, h.1)
-faulted s asking old new f (Wants name arguments c) h = (inr h.0, h.1)
+faulted s asking old new f (Wants name arguments after c) h = (inr h.0, h.1)
 faulted s asking old new f (Faults g) h = elim h.0 [
   | inl same ↦ (inl (ap (λ x. Faulted x old [] []) (sym same)), h.1)
   | inr short ↦ (inr short, h.1)

@@ -1,16 +1,17 @@
 -- How steps and runs end, beside the definitions.
-use Rattle.std.specs.Prelude.{◌≡◌, List, [], ◌⊎◌, Bool, true, Option, Some, None, Result, Ok, Err}
+use Rattle.std.specs.Prelude.{◌≡◌, ℕ, List, [], ◌∷◌, ◌⊎◌, Bool, true, false, Option, Some, None, is_some, Result, Ok, Err}
 use Rattle.ink_model.specs.Answer as answer
 use Rattle.ink_model.specs.Answer.{Reply, Tells}
 use Rattle.ink_model.specs.Choosing.{chosen}
 use Rattle.ink_model.specs.Configuration.{ChoiceOf, Configuration}
+use Rattle.ink_model.specs.Events.{calls}
+use Rattle.ink_model.specs.Host.{Bound, nothing_bound, turn_function}
 use Rattle.ink_model.specs.Memory.{GetsTo, OpensShort}
-use Rattle.ink_model.specs.Move.{Outcome, Next, Stop, Faults}
+use Rattle.ink_model.specs.Move.{Outcome, Next, Stop, Wants, Faults}
 use Rattle.ink_model.specs.Opening.{opening}
 use Rattle.ink_model.specs.Run as run
-use Rattle.ink_model.specs.Run.{Faulted, moment, cut_off}
+use Rattle.ink_model.specs.Run.{Faulted, answered, moment, cut_off}
 use Rattle.ink_model.specs.State.{Condition, Ready, Broken}
-use Rattle.ink_model.specs.Step.Host.{nothing_bound}
 use Rattle.ink_model.specs.Store.{Values}
 use Rattle.ink_model.specs.Tree.{StoryTree}
 use Rattle.ink_model.specs.Visits.{entering_around, entering_asks}
@@ -18,9 +19,12 @@ use Rattle.ink_model.specs.declared.fault.Fault.{Fault}
 use Rattle.ink_model.specs.declared.fault.Fault.TheVariants.{OutOfMemory}
 use Rattle.ink_model.specs.declared.fault.Refusal.{Refusal}
 use Rattle.ink_model.specs.declared.fault.Refusal.TheVariants as refusal
+use Rattle.ink_model.specs.declared.host.Event.{Event}
+use Rattle.ink_model.specs.declared.host.Given.{Given}
 use Rattle.ink_model.specs.declared.limits.TheConstants.{MAX_STEPS}
 use Rattle.ink_model.specs.declared.passage.Passage.{Passage}
 use Rattle.ink_model.specs.declared.place.Part.{Part}
+use Rattle.ink_step.specs.External.{made_call}
 use Rattle.ink_step.specs.declared.flow.StepEnd.{StepEnd}
 use Rattle.ink_step.specs.declared.flow.StepEnd.TheVariants as ends
 
@@ -32,6 +36,26 @@ StepEnds asks (Stop c) globals new (Ok ends.Stopped) = new ≡ c
 StepEnds asks (Faults g) globals new (Err f) = ((f ≡ g) ⊎ ((f ≡ OutOfMemory) × (asks ≡ true))) × (new.shared.globals ≡ globals)
 StepEnds asks outcome globals new (Err f) = ((f ≡ OutOfMemory) × (asks ≡ true)) × (new.shared.globals ≡ globals)
 StepEnds asks outcome globals new result = ⊥
+
+-- a turn function is to be called
+abbrev pub wants : Outcome → Bool
+wants (Wants name arguments f d) = true
+wants outcome = false
+
+-- The same of a step that may call turn functions. Where the outcome wants one, that is bound to one, and it was called once, and
+-- the step ends as with what it gave; or memory was refused before that, and nothing was called. The events of the step count
+-- on from a stamp.
+abbrev pub StepMakes : StoryTree → Bound → ℕ → Bool → Outcome → List Event → Values → Configuration → Result StepEnd Fault → Type 0
+StepMakes s b n asks (Wants name arguments f d) es globals new result =
+    (b name ≡ Some turn_function)
+    × (((gave : Option Given) × (es ≡ calls n (made_call name arguments gave ∷ [])) × StepEnds (is_some gave) (answered s f d gave) globals new result)
+    ⊎ ((es ≡ []) × (result ≡ Err OutOfMemory) × (asks ≡ true) × (new.shared.globals ≡ globals)))
+StepMakes s b n asks outcome es globals new result = (es ≡ []) × StepEnds asks outcome globals new result
+
+-- A quiet step calls none: where its outcome wants one, it says so and has changed nothing.
+abbrev pub Steps : Bool → StoryTree → Bound → ℕ → Bool → Outcome → List Event → Values → Configuration → Configuration → Result StepEnd Fault → Type 0
+Steps true s b n asks (Wants name arguments f d) es globals old new result = (result ≡ Ok ends.WantsCall) × (es ≡ []) × (new ≡ old)
+Steps quiet s b n asks outcome es globals old new result = StepMakes s b n asks outcome es globals new result
 
 -- A run ended with a fault, or with OutOfMemory at a step that asks for memory, at a configuration with these globals.
 pub record RunFalls (s : StoryTree) (start : Configuration) (globals : Values) (f : Fault) : Type 0 where
