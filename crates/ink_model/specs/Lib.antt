@@ -12,6 +12,7 @@ pub mod Shown
 pub mod ShownExamples
 pub mod Clean
 pub mod Value
+pub mod Same
 pub mod Host
 pub mod Events
 pub mod Path
