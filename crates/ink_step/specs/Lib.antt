@@ -1,5 +1,6 @@
 pub mod Words
 pub mod Performs
+pub mod External
 pub mod Stacks
 pub mod Reaches
 pub mod Steps

@@ -18,6 +18,7 @@ use Rattle.ink_model.specs.declared.fault.Refusal.TheVariants as refusal
 use Rattle.ink_model.specs.declared.host.Event.{Event}
 use Rattle.ink_model.specs.declared.host.Given.{Given}
 use Rattle.ink_model.specs.declared.place.Part.{Part}
+use Rattle.ink_step.specs.External.{made_call}
 use Rattle.ink_step.specs.declared.flow.StepEnd.{StepEnd}
 use Rattle.ink_step.specs.declared.flow.StepEnd.TheVariants as ends
 
@@ -30,14 +31,25 @@ StepEnds asks (Faults g) globals new (Err f) = ((f ≡ g) ⊎ ((f ≡ OutOfMemor
 StepEnds asks outcome globals new (Err f) = ((f ≡ OutOfMemory) × (asks ≡ true)) × (new.shared.globals ≡ globals)
 StepEnds asks outcome globals new result = ⊥
 
--- A step does what its outcome says, with these events, the first with stamp n. Where a turn function is wanted, a quiet step only says so,
--- and nothing has changed; else it is called, or memory is refused before that.
-abbrev pub Steps : Bool → StoryTree → Bound → ℕ → Bool → Outcome → List Event → Values → Configuration → Configuration → Result StepEnd Fault → Type 0
-Steps true s b n asks (Wants name arguments f d) es globals old new result = ⊥
-Steps false s b n asks (Wants name arguments f d) es globals old new result = (b name ≡ Some turn_function)
-    × (((gave : Option Given) × (es ≡ calls n (record { name = name; arguments = arguments; gave = gave } ∷ [])) × StepEnds (is_some gave) (answered s f d gave) globals new result)
+-- a turn function is to be called
+abbrev pub wants : Outcome → Bool
+wants (Wants name arguments f d) = true
+wants outcome = false
+
+-- The same of a step that may call turn functions. Where the outcome wants one, that is bound to one, and it was called once, and
+-- the step ends as with what it gave; or memory was refused before that, and nothing was called. The events of the step count
+-- on from a stamp.
+abbrev pub StepMakes : StoryTree → Bound → ℕ → Bool → Outcome → List Event → Values → Configuration → Result StepEnd Fault → Type 0
+StepMakes s b n asks (Wants name arguments f d) es globals new result =
+    (b name ≡ Some turn_function)
+    × (((gave : Option Given) × (es ≡ calls n (made_call name arguments gave ∷ [])) × StepEnds (is_some gave) (answered s f d gave) globals new result)
     ⊎ ((es ≡ []) × (result ≡ Err OutOfMemory) × (asks ≡ true) × (new.shared.globals ≡ globals)))
-Steps quiet s b n asks outcome es globals old new result = (es ≡ []) × StepEnds asks outcome globals new result
+StepMakes s b n asks outcome es globals new result = (es ≡ []) × StepEnds asks outcome globals new result
+
+-- A quiet step calls none: where its outcome wants one, it says so and has changed nothing.
+abbrev pub Steps : Bool → StoryTree → Bound → ℕ → Bool → Outcome → List Event → Values → Configuration → Configuration → Result StepEnd Fault → Type 0
+Steps true s b n asks (Wants name arguments f d) es globals old new result = (result ≡ Ok ends.WantsCall) × (es ≡ []) × (new ≡ old)
+Steps quiet s b n asks outcome es globals old new result = StepMakes s b n asks outcome es globals new result
 
 -- A story does not open: its declarations fault, with these globals, or a step of theirs asks for memory and gets none.
 abbrev pub FailsToOpen : StoryTree → Fault → Values → Type 0

@@ -2,7 +2,7 @@
 
 ghost use Rattle.std.specs.Prelude.{◌≡◌, ◌≢◌, [], IfOk, OnErr};
 ghost use Rattle.ink_model.specs.Session.{passage, RunsThrough};
-ghost use Rattle.ink_model.specs.Step.Host.{nothing_bound};
+ghost use Rattle.ink_model.specs.Host.{nothing_bound};
 ghost use Rattle.ink_model.specs.Tree.{StoryTree};
 ghost use Rattle.ink_model.specs.Turns.{open_choices};
 ghost use Rattle.ink_check.specs.Words.{story_tree};

@@ -1,6 +1,7 @@
 //! Which globals were assigned since a moment, and what they were then.
 
 ghost use Rattle.std.specs.Prelude.{◌≡◌, ◌≢◌, ◌<◌, ◌++◌, ◌∷◌, ℕ, [], false, true, None, length, slice_get, slice_index_or, IfOk, OnOk, OnErr};
+ghost use Rattle.std.specs.Option.{option_copied};
 ghost use Rattle.ink_model.specs.Store.{Values, store};
 ghost use Rattle.ink_model.specs.declared.value.Value.{Value};
 ghost use Rattle.ink_vars.specs.Changes.{Marks, Tracks, changed_numbers, has_changed, noted_at, number_of, with_noted};
@@ -58,7 +59,7 @@ impl Changes {
     {
         let mut copy = Changes::new(alloc);
         for before in &self.noted {
-            let value = copied(alloc, &before.value)?;
+            let value = copied(alloc, before.value.as_ref())?;
             copy.add(before.number, value)?;
         }
         Ok(copy)
@@ -69,9 +70,8 @@ impl Changes {
         ensures none { self.new ≡ [] }
         ensures tracks { (now : Values) → Tracks now self.new now }
     {
-        while let Some(before) = self.noted.pop() {
-            self.marked[before.number] = false;
-        }
+        clear_marks(&mut self.marked, &self.noted);
+        self.noted.clear();
     }
 
     /// Notes what the global of a name is, where it was not noted since the moment; called before it is put. The one error is
@@ -83,14 +83,11 @@ impl Changes {
         ensures tracks { (start : Values) → Tracks start self.old globals.now → Tracks start self.new globals.now }
         ensures stored { OnOk result ((start : Values) (value : Value) → Tracks start self.old globals.now → Tracks start self.new (store name.now value globals.now)) }
     {
-        let number = globals.number_of(name).unwrap_or(globals.len());
+        let number = globals.number_of(name);
         if is_marked(&self.marked, number) {
             return Ok(());
         }
-        let value = match globals.pair(number) {
-            Some((_, value)) => Some(value.clone_in(self.alloc)?),
-            None => None,
-        };
+        let value = copied(self.alloc, globals.get(name))?;
         self.add(number, value)
     }
 
@@ -139,8 +136,8 @@ fn has_changed(before: &Before, globals: &Globals) -> bool
     }
 }
 
-fn copied(alloc: Global, value: &Option<Value>) -> Result<Option<Value>, AllocError>
-    ensures { IfOk result (λ copy. copy ≡ value.now) }
+fn copied(alloc: Global, value: Option<&Value>) -> Result<Option<Value>, AllocError>
+    ensures { IfOk result (λ copy. copy ≡ option_copied value.entry) }
 {
     match value {
         Some(value) => Ok(Some(value.clone_in(alloc)?)),
@@ -152,6 +149,16 @@ fn is_marked(marked: &[bool], number: usize) -> bool
     ensures { result ≡ slice_index_or marked.now number false }
 {
     number < marked.len() && marked[number]
+}
+
+// Takes away the marks of what was noted.
+fn clear_marks(marked: &mut [bool], noted: &[Before])
+    requires { Marks marked.old noted.now }
+    ensures { Marks marked.new [] }
+{
+    for before in noted {
+        marked[before.number] = false;
+    }
 }
 
 // Makes room for the mark of a number. The marks stay as they are.

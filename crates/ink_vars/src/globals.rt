@@ -1,6 +1,6 @@
 //! The globals of a running story.
 
-ghost use Rattle.std.specs.Prelude.{◌≡◌, ◌≢◌, [], false, is_some, is_ok, length, option_map, slice_get, IfOk, IfErr, IfSome, OnOk, OnErr};
+ghost use Rattle.std.specs.Prelude.{◌≡◌, ◌≢◌, [], false, is_some, is_ok, length, option_map, slice_get, IfOk, IfErr, OnOk, OnErr};
 ghost use Rattle.ink_model.specs.Store.{stored, store};
 ghost use Rattle.ink_vars.specs.Changes.{number_of};
 
@@ -72,12 +72,13 @@ impl Globals {
         self.values.len()
     }
 
-    /// The number of a global in order of declaration, which is its index; none where there is no such global.
-    pub fn number_of(&self, name: &str) -> Option<usize>
-        ensures number { IfSome result (λ number. number ≡ number_of name.now self.now) }
-        ensures found { is_some result ≡ is_some (stored name.now self.now) }
+    /// The number of a global in order of declaration, which is its index; where there is no such global, that of the next
+    /// new one.
+    pub fn number_of(&self, name: &str) -> usize
+        ensures { result ≡ number_of name.now self.now }
     {
-        self.values.get_index_of(name)
+        let next = self.values.len();
+        self.values.get_index_of(name).unwrap_or(next)
     }
 
     /// The name and the value of the global at an index, in the order in which they were declared; none past the last. Takes

@@ -1,7 +1,7 @@
 use Rattle.std.proofs.Common.{◌≡◌, rules, subst, sym, [], Err}
 use Rattle.ink_check.specs.Words.{story_tree}
 use Rattle.ink_model.specs.Session.{RunsThrough}
-use Rattle.ink_model.specs.Step.Host.{nothing_bound}
+use Rattle.ink_model.specs.Host.{nothing_bound}
 use Rattle.ink_model.specs.declared.fault.Fault.TheVariants.{OutOfMemory}
 use Rattle.ink_step.specs.Steps.{left_by, reply_of_run}
 use Rattle.ink_step.specs.Words.{config_of}
