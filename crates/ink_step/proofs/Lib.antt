@@ -8,6 +8,9 @@ pub mod Follows
 pub mod Landed
 pub mod Stopping
 pub mod Moments
+pub mod Growing
+pub mod Runnings
+pub mod Telling
 pub mod Passages
 pub mod Openings
 pub mod NoMemory

@@ -182,25 +182,19 @@ module _ (s : StoryTree) where
       stores_it (Asks name arguments k) o end new is p h = absurd p
       stores_it (Fails g) o end new is p h = absurd p
 
-      or_then : (a b : Bool) → a ≡ false → a || b ≡ true → b ≡ true
-      or_then true b lacks h = absurd (true≢false lacks)
-      or_then false b lacks h = h
-
       pub stores_short : (allows : asks ≡ true → whole ≡ true) (e : Effect) (o : Outcome) (d : Configuration) → d.shared.globals ≡ c.shared.globals
-          → is_some (stored (name_of name) c.shared.globals) ≡ false → Performs s asks e f (Ok (transfer.Store name v)) → StepEnds whole (storing_in e o) c.shared.globals d (Err OutOfMemory)
-      stores_short allows (Stores t k) o d kept absent p =
-          let lacking : is_some (stored (name_of name) f.globals) ≡ false = ap (λ vs. is_some (stored (name_of name) vs)) same ∙ absent in
-          ends_short whole (storing_in (Stores t k) o) c.shared.globals d OutOfMemory (refl, allows (or_then _ asks lacking p.1)) kept
-      stores_short allows (Moves k) o d kept absent p = absurd p
-      stores_short allows (Offers cs k) o d kept absent p = absurd p
-      stores_short allows (Lands to k) o d kept absent p = absurd p
-      stores_short allows (Calls kind to k) o d kept absent p = absurd p
-      stores_short allows (Returns kind to k) o d kept absent p = absurd p
-      stores_short allows (Forks k) o d kept absent p = absurd p
-      stores_short allows (Done k) o d kept absent p = absurd p
-      stores_short allows (Ends k) o d kept absent p = absurd p
-      stores_short allows (Asks name arguments k) o d kept absent p = absurd p
-      stores_short allows (Fails g) o d kept absent p = absurd p
+          → Performs s asks e f (Ok (transfer.Store name v)) → StepEnds whole (storing_in e o) c.shared.globals d (Err OutOfMemory)
+      stores_short allows (Stores t k) o d kept p = ends_short whole (storing_in (Stores t k) o) c.shared.globals d OutOfMemory (refl, allows p.1) kept
+      stores_short allows (Moves k) o d kept p = absurd p
+      stores_short allows (Offers cs k) o d kept p = absurd p
+      stores_short allows (Lands to k) o d kept p = absurd p
+      stores_short allows (Calls kind to k) o d kept p = absurd p
+      stores_short allows (Returns kind to k) o d kept p = absurd p
+      stores_short allows (Forks k) o d kept p = absurd p
+      stores_short allows (Done k) o d kept p = absurd p
+      stores_short allows (Ends k) o d kept p = absurd p
+      stores_short allows (Asks name arguments k) o d kept p = absurd p
+      stores_short allows (Fails g) o d kept p = absurd p
 
     -- no global is stored
     pub stores_none : (e : Effect) (o : Outcome) (end : StepEnd) (t : Transfer) → ((name : Name) (v : Value) → t ≢ transfer.Store name v) → Performs s asks e f (Ok t)

@@ -1,6 +1,6 @@
 //! One step of the machine: enter, effect, move (docs/RUNNING.md, "Steps").
 
-ghost use Rattle.std.specs.Prelude.{◌≡◌, ◌||◌, Bool, true, Some, Ok, OnOk, is_some, nat_lt, option_map};
+ghost use Rattle.std.specs.Prelude.{◌≡◌, ◌||◌, Bool, List, true, Some, Ok, OnOk, is_some, nat_lt, option_map};
 ghost use Rattle.ink_check.specs.Words.{story_tree};
 ghost use Rattle.ink_model.specs.Choosing.{following, following_asks};
 ghost use Rattle.ink_model.specs.Effect.{Effect, Fields, context_of, fields_of};
@@ -16,7 +16,11 @@ ghost use Rattle.ink_model.specs.Tree.{StoryTree, at, leaf};
 ghost use Rattle.ink_model.specs.View.{view};
 ghost use Rattle.ink_model.specs.declared.limits.TheConstants.{MAX_FRAMES};
 ghost use Rattle.ink_step.specs.Performs.{Keeps, KeepsChoices, Performs, landing_of, storing_in, unstored};
-ghost use Rattle.ink_step.specs.Steps.{StepEnds};
+ghost use Rattle.ink_host.specs.Desk.{Grew, bound_by};
+ghost use Rattle.ink_model.specs.Store.{Values};
+ghost use Rattle.ink_model.specs.declared.host.Event.{Event as Happening};
+ghost use Rattle.ink_step.specs.Steps.{StepEnds, Steps};
+ghost use Rattle.ink_vars.specs.Changes.{Tracks};
 ghost use Rattle.ink_step.specs.Words.{config_of};
 ghost use Rattle.ink_tree.specs.Nodes.{place_of};
 
@@ -33,6 +37,7 @@ use crate::storing::{assign, declare, push_pointer, push_variable};
 use crate::transfer::{Landing, Transfer, after_text, moving};
 use crate::writing::{output_top, write_glue, write_newline, write_text};
 use ink_check::Story;
+use ink_host::{Desk, PureFn, TurnFn, Watcher};
 use ink_model::{Content, Control, Fault, FrameKind, Leaf, Scope, Value};
 use ink_tree::Spot;
 
@@ -40,8 +45,16 @@ impl Machine {
     /// One step: goes down to the first content, performs it and moves; where flow stops so, it may follow a choice. Where flow had
     /// stopped before it stays stopped. After a fault the globals are as they were, and the machine is of no more use but for
     /// them.
-    pub fn step(&mut self, story: &Story) -> Result<StepEnd, Fault>
-        ensures { let s = story_tree story.now in StepEnds (asks s (config_of s self.old)) (step s nothing_bound (config_of s self.old)) self.old.globals (config_of s self.new) result }
+    pub fn step<P: PureFn, T: TurnFn, W: Watcher>(
+        &mut self,
+        story: &Story,
+        desk: &mut Desk<P, T, W>,
+        quiet: bool,
+    ) -> Result<StepEnd, Fault>
+        ensures steps { let s = story_tree story.now in let b = bound_by P.meaning desk.old.functions in let c = config_of s self.old in
+            (es : List Happening) × Grew T.log W.log desk.old es desk.new × Steps quiet s b desk.old.next (asks s b c) (step s b c) es self.old.globals c (config_of s self.new) result }
+        ensures watchers { desk.new.watchers ≡ desk.old.watchers }
+        ensures tracks { (start : Values) → Tracks start self.old.changes self.old.globals → Tracks start self.new.changes self.new.globals }
     {
         let Some(place) = self.threads.place() else {
             return Ok(StepEnd::Stopped);
@@ -75,17 +88,19 @@ impl Machine {
         }
     }
 
-    /// A global is stored, where a content hands one on, and the step ends so. The one error is `OutOfMemory` for a refused
-    /// request for memory, which is made only for a global that is not there, and leaves the globals as they were.
+    /// A global is stored, where a content hands one on, and the step ends so; what it was is noted before. The one error is
+    /// `OutOfMemory` for a refused request for memory, which leaves the globals as they were.
     fn store(&mut self, transfer: Transfer<'_>, end: StepEnd) -> Result<StepEnd, Fault>
-        ensures { (s : StoryTree) (asks whole : Bool) (e : Effect) (f : Fields) (o : Outcome) → (asks ≡ true → whole ≡ true) → f.globals ≡ self.old.globals → Performs s asks e f (Ok transfer.entry)
+        ensures tracks { (start : Values) → Tracks start self.old.changes self.old.globals → Tracks start self.new.changes self.new.globals }
+        ensures stored { (s : StoryTree) (asks whole : Bool) (e : Effect) (f : Fields) (o : Outcome) → (asks ≡ true → whole ≡ true) → f.globals ≡ self.old.globals → Performs s asks e f (Ok transfer.entry)
             → StepEnds whole o self.old.globals (config_of s self.old) (Ok end) → StepEnds whole (storing_in e o) self.old.globals (config_of s self.new) result }
     {
         match transfer {
-            Transfer::Store(name, value) => match self.globals.put(name.as_str(), value) {
-                Ok(()) => Ok(end),
-                Err(_) => Err(Fault::OutOfMemory),
-            },
+            Transfer::Store(name, value) => {
+                self.changes.note(&self.globals, name.as_str())?;
+                self.globals.put(name.as_str(), value)?;
+                Ok(end)
+            }
             _ => Ok(end),
         }
     }

@@ -1,7 +1,8 @@
 //! The globals of a running story.
 
-ghost use Rattle.std.specs.Prelude.{◌≡◌, ◌≢◌, [], false, is_some, is_ok, length, option_map, slice_get, IfOk, IfErr, OnOk, OnErr};
+ghost use Rattle.std.specs.Prelude.{◌≡◌, ◌==◌, ◌≢◌, [], false, is_some, is_ok, length, option_map, slice_get, IfOk, IfErr, OnOk, OnErr};
 ghost use Rattle.ink_model.specs.Store.{stored, store};
+ghost use Rattle.ink_vars.specs.Globals.{HasDistinctNames};
 ghost use Rattle.ink_vars.specs.Changes.{number_of};
 
 use indexmap::IndexMap;
@@ -63,6 +64,14 @@ impl Globals {
         ensures { result ≡ is_some (stored name.now self.now) }
     {
         self.values.contains_key(name)
+    }
+
+    /// Whether there are none. Takes no memory.
+    pub fn is_empty(&self) -> bool
+        ensures empty { result ≡ (length self.now == 0) }
+        ensures names { HasDistinctNames self.now }
+    {
+        self.values.len() == 0
     }
 
     /// How many globals there are.

@@ -68,7 +68,7 @@ returns c =
     let new = config_of s c.store.new.self in
     let flows = c.in_ok-end.ensures.ends asking e performs.effect (kept_stays s e old.threads mid.threads performs.threads) (offered_stay s e old.choices mid.choices performs.choices) in
     let kept = c.in_ok-end.ensures.globals in
-    let stores = c.store.ensures s asking whole e (fields_of during) (following s o) allows (sym kept) performs.effect
+    let stores = c.store.ensures.stored s asking whole e (fields_of during) (following s o) allows (sym kept) performs.effect
     (subst (λ vs. StepEnds whole (following s o) vs (config_of s flowed) (Ok c.in_ok-end.end)) (sym kept) flows) in
     let stored = ends_stored s mid.globals during (asking || move_asks s e during) e mid.globals new c.store.result
     (subst (λ vs. StepEnds whole (storing_in e (following s o)) vs new c.store.result) kept stores) in
