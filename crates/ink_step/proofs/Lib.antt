@@ -25,3 +25,4 @@ pub mod Asked
 pub mod Offered
 pub mod Shows
 pub mod Chosen
+pub mod Unasked
