@@ -29,3 +29,4 @@ pub mod Asked
 pub mod Offered
 pub mod Shows
 pub mod Chosen
+pub mod Unasked

@@ -1,5 +1,5 @@
 -- Calls of external functions, beside the definitions (docs/HOST.md, "Calls").
-use Rattle.std.specs.Prelude.{◌≡◌, ◌⊎◌, ℕ, List, [], ◌∷◌, Bool, true, false, Option, Some, None, is_some, Result, Err}
+use Rattle.std.specs.Prelude.{◌≡◌, ◌⊎◌, ℕ, List, [], ◌∷◌, Bool, true, false, Option, Some, None, is_some, Result, Ok, Err}
 use Rattle.ink_model.specs.Effect.{Effect, Fields, Asks}
 use Rattle.ink_model.specs.Events.{Made, calls}
 use Rattle.ink_model.specs.Step.Host.{answering}
@@ -31,6 +31,11 @@ external_in found = None
 -- what a turn function was called with, and what it gave
 abbrev pub made_call : List ℕ → List Value → Option Given → Made
 made_call name arguments gave = record { name = name; arguments = arguments; gave = gave }
+
+-- a condition is true, and no fault
+abbrev pub is_true_of : Result Bool Fault → Bool
+is_true_of (Ok truth) = truth
+is_true_of (Err f) = false
 
 -- the effect asks a turn function
 abbrev pub is_asking : Effect → Bool

@@ -23,7 +23,7 @@ use ink_stack::Threads;
 use ink_tree::{Spot, Tree};
 use ink_value::EvalStack;
 
-/// How a step ended: flow went on, or it has stopped; or a turn function is to be called, where a step was to call none.
+/// How a step ended: flow went on, or it has stopped; or a turn function would be called, by a step that is to call none.
 #[derive(Clone, Copy)]
 pub enum StepEnd {
     Went,

@@ -5,6 +5,7 @@ mod choosing;
 mod counting;
 mod diverting;
 mod evaluating;
+mod external;
 mod flow;
 mod frames;
 mod machine;

@@ -14,7 +14,7 @@ loop-step-preserved g c =
     let s = story_tree c.args.story.now in
     record {
       ran = ran_on g.T.TurnFn.log g.W.Watcher.log g.P.PureFn.meaning s c.args.desk.now (config_of s c.args.self.now) c.loop-step._step c.loop-step.desk c.step.new.desk
-        (config_of s c.loop-step.self) (config_of s c.step.new.self) c.loop-step.invariant.ran _ c.in-Went.is c.in_ok-step.ensures.steps;
+        (config_of s c.loop-step.self) (config_of s c.step.new.self) c.loop-step.invariant.ran _ c.in-Went.is c.in_ok-step.ensures.step;
       watchers = c.in_ok-step.ensures.watchers ∙ c.loop-step.invariant.watchers;
       tracks = λ start h. c.in_ok-step.ensures.tracks start (c.loop-step.invariant.tracks start h);
     }
@@ -23,7 +23,7 @@ pub returns-in-Stopped-clause-runs : goal.returns-in-Stopped-clause-runs
 returns-in-Stopped-clause-runs g c =
     let s = story_tree c.args.story.now in
     ran_to_stop g.T.TurnFn.log g.W.Watcher.log g.P.PureFn.meaning s c.args.desk.now (config_of s c.args.self.now) c.loop-step._step c.loop-step.desk c.step.new.desk
-    (config_of s c.loop-step.self) (config_of s c.step.new.self) c.loop-step.invariant.ran _ (omega arith) c.in-Stopped.is c.in_ok-step.ensures.steps
+    (config_of s c.loop-step.self) (config_of s c.step.new.self) c.loop-step.invariant.ran _ (omega arith) c.in-Stopped.is c.in_ok-step.ensures.step
 
 pub returns-in-Stopped-clause-watchers : goal.returns-in-Stopped-clause-watchers
 returns-in-Stopped-clause-watchers g c = c.in_ok-step.ensures.watchers ∙ c.loop-step.invariant.watchers
@@ -37,7 +37,7 @@ returns-in_err-step-clause-runs g c =
     let is : c.from_residual.result ≡ Err c.in_err-step.field-0.0 = search rules in
     subst (λ r. EndsRun g.T.TurnFn.log g.W.Watcher.log g.P.PureFn.meaning s c.args.desk.now (config_of s c.args.self.now) c.step.new.desk (config_of s c.step.new.self) r) (sym is)
     (ran_to_fault g.T.TurnFn.log g.W.Watcher.log g.P.PureFn.meaning s c.args.desk.now (config_of s c.args.self.now) c.loop-step._step c.loop-step.desk c.step.new.desk
-    (config_of s c.loop-step.self) (config_of s c.step.new.self) c.loop-step.invariant.ran _ (omega arith) c.in_err-step.ensures.steps)
+    (config_of s c.loop-step.self) (config_of s c.step.new.self) c.loop-step.invariant.ran _ (omega arith) c.in_err-step.ensures.step)
 
 pub returns-in_err-step-clause-watchers : goal.returns-in_err-step-clause-watchers
 returns-in_err-step-clause-watchers g c = c.in_err-step.ensures.watchers ∙ c.loop-step.invariant.watchers
