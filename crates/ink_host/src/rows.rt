@@ -49,7 +49,8 @@ pub(crate) fn ask_at<P: PureFn, T>(
 {
     match functions.get(name) {
         Some(Bound::Pure(function)) => function.ask(arguments),
-        _ => unreachable!(),
+        Some(Bound::Turn(_)) => unreachable!(),
+        None => unreachable!(),
     }
 }
 
@@ -67,7 +68,8 @@ pub(crate) fn call_at<P, T: TurnFn>(
 {
     match functions.get_mut(name) {
         Some(Bound::Turn(function)) => function.call(stamp, arguments),
-        _ => unreachable!(),
+        Some(Bound::Pure(_)) => unreachable!(),
+        None => unreachable!(),
     }
 }
 

@@ -1,0 +1,16 @@
+use Rattle.std.proofs.Common.{◌∙◌, ap, sym, Some}
+use Rattle.ink_host.specs.Desk.{answer_of, at}
+use Rattle.ink_host.proofs.Entries.{found, rows_of}
+use Rattle.ink_host.proofs.rows.ask_at.Goals as goal
+
+pub returns-clause-answer : goal.returns-clause-answer
+returns-clause-answer g c given is =
+    ap (λ b. answer_of g.P.PureFn.meaning b c.args.arguments.now)
+      (sym (found c.args.name.now c.args.functions.now.entries) ∙ sym c.in-Some-Pure.ensures.value ∙ ap Some c.in-Some-Pure.field-0-is)
+    ∙ c.ask.ensures.answer given is
+
+pub returns-clause-refused : goal.returns-clause-refused
+returns-clause-refused g c is =
+    ap (λ b. answer_of g.P.PureFn.meaning b c.args.arguments.now)
+      (sym (found c.args.name.now c.args.functions.now.entries) ∙ sym c.in-Some-Pure.ensures.value ∙ ap Some c.in-Some-Pure.field-0-is)
+    ∙ c.ask.ensures.refused is
