@@ -97,7 +97,19 @@ module _ {W : Type 0} (at_rest : W → Bool) where
   rest-kept (Ok old) name w rows new h rest ok err = let P : Rows W → Type 0 = λ rs. Resting at_rest rs in subst P (sym ok) (rest-put name w rows h rest)
   rest-kept (Err back) name w rows new h rest ok err = let P : Rows W → Type 0 = λ rs. Resting at_rest rs in subst P (sym err) rest
 
+  pub rest-keeps : (o : Result (Option W) W) (name : List ℕ) (w : W) (old new : List (String Global × W)) → at_rest w ≡ true → Resting at_rest (rows_of old)
+      → OnOk o (rows_of new ≡ put name w (rows_of old)) → OnErr o (new ≡ old) → Resting at_rest (rows_of new)
+  rest-keeps (Ok was) name w old new h rest ok err = rest-kept (Ok was) name w (rows_of old) (rows_of new) h rest ok tt
+  rest-keeps (Err back) name w old new h rest ok err = rest-kept (Err back) name w (rows_of old) (rows_of new) h rest tt (ap rows_of err)
+
 -- ---- calls
+
+module _ {P T : Type 0} where
+  pub turn-not-pure : (t : T) (p : P) → ◌≡◌ {A = Option (Bound P T)} (Some (bound.Turn t)) (Some (bound.Pure p)) → ⊥
+  turn-not-pure t p h = cc
+
+  pub none-not-some : (b : Bound P T) → ◌≡◌ {A = Option (Bound P T)} None (Some b) → ⊥
+  none-not-some b h = cc
 
 pub bytes_eq-sym : (a b : List ℕ) → bytes_eq a b ≡ bytes_eq b a
 bytes_eq-sym a b =
@@ -114,7 +126,7 @@ module _ {P T : Type 0} (log : T → List Called) where
   other name k arguments gave n (bound.Turn l) h =
       by (bytes_eq k name) h
     where
-      by : (b : Bool) → b ≡ false → bound.Turn l ≡ bound.Turn (l ++ (if b then (record { stamp = n; arguments = arguments; gave = gave }) ∷ [] else []))
+      by : (b : Bool) → b ≡ false → ◌≡◌ {A = Bound P (List Called)} (bound.Turn l) (bound.Turn (l ++ (if b then (record { stamp = n; arguments = arguments; gave = gave }) ∷ [] else [])))
       by true e = absurd (cc)
       by false e = ap (λ m. bound.Turn m) (sym (append-nil l))
 
@@ -130,10 +142,10 @@ module _ {P T : Type 0} (log : T → List Called) where
   -- the function of the name is called
   this : (name k : List ℕ) (arguments : List Value) (gave : Option Given) (n : ℕ) (t t' : T) → bytes_eq k name ≡ true
       → log t' ≡ log t ++ (record { stamp = n; arguments = arguments; gave = gave }) ∷ []
-      → bound.Turn (log t') ≡ bound.Turn (log t ++ called_by k (Call name arguments gave n ∷ []))
+      → ◌≡◌ {A = Bound P (List Called)} (bound.Turn (log t')) (bound.Turn (log t ++ called_by k (Call name arguments gave n ∷ [])))
   this name k arguments gave n t t' h more = by (bytes_eq k name) h
     where
-      by : (b : Bool) → b ≡ true → bound.Turn (log t') ≡ bound.Turn (log t ++ (if b then (record { stamp = n; arguments = arguments; gave = gave }) ∷ [] else []))
+      by : (b : Bool) → b ≡ true → ◌≡◌ {A = Bound P (List Called)} (bound.Turn (log t')) (bound.Turn (log t ++ (if b then (record { stamp = n; arguments = arguments; gave = gave }) ∷ [] else [])))
       by true e = ap (λ l. bound.Turn l) more
       by false e = absurd (cc)
 
@@ -153,7 +165,7 @@ module _ {P T : Type 0} (log : T → List Called) where
           → logs log (rows_of (cond b ((e.0, bound.Turn t') ∷ es) (e ∷ set_value (λ k. bytes_eq name (string_bytes k)) es (bound.Turn t'))))
           ≡ each (called (Call name arguments gave n ∷ [])) (logs log (rows_of (e ∷ es)))
       by true is rest k =
-          let same : bound.Turn t ≡ e.1 = cc in
+          let same : ◌≡◌ {A = Bound P T} (bound.Turn t) e.1 = cc in
           let key : name ≡ string_bytes e.0 = (bytes_eq-Decides name (string_bytes e.0)).0 is in
           ap (λ rows. onto (string_bytes e.0) (bound.Turn (log t')) rows) (others name e.0 arguments gave n es key apart.0)
           ∙ ap (λ b. onto (string_bytes e.0) b (each (called (Call name arguments gave n ∷ [])) (logs log (rows_of es))))
@@ -176,7 +188,7 @@ module _ {P T : Type 0} (log : T → List Called) where
           → cond b (Some e.1) (lookup (λ k. bytes_eq name (string_bytes k)) es) ≡ Some (bound.Turn t)
           → logs log (rows_of (cond b ((e.0, bound.Turn t') ∷ es) (e ∷ set_value (λ k. bytes_eq name (string_bytes k)) es (bound.Turn t')))) ≡ logs log (rows_of (e ∷ es))
       by true rest k =
-          let same : bound.Turn t ≡ e.1 = cc in
+          let same : ◌≡◌ {A = Bound P T} (bound.Turn t) e.1 = cc in
           let row : Bound P (List Called) → Rows (Bound P (List Called)) = λ b. (string_bytes e.0, b) ∷ logs log (rows_of es) in
           ap (λ l. row (bound.Turn l)) more ∙ ap (λ b. row (by_log log b)) same
       by false rest k = ap (λ rows. (string_bytes e.0, by_log log e.1) ∷ rows) (rest k)
