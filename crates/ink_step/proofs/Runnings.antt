@@ -21,7 +21,8 @@ use Rattle.ink_step.specs.Runs.{AreBound, RunsToStop}
 use Rattle.ink_step.specs.Steps.{Steps}
 use Rattle.ink_step.specs.declared.flow.StepEnd.{StepEnd}
 use Rattle.ink_step.specs.declared.flow.StepEnd.TheVariants as ends
-use Rattle.ink_step.proofs.Growing.{bound-kept, calls_on, grew-grew, grew-none}
+use Rattle.ink_host.proofs.Laws.{bound-same, grew-grew, grew-none}
+use Rattle.ink_step.proofs.Growing.{calls_on}
 use Rattle.ink_step.proofs.Openings.{runs_alone}
 use Rattle.ink_step.proofs.Moments.{Did, GotTo, begins, did, run_faulted, run_out, run_stopped, run_went}
 
@@ -54,7 +55,7 @@ module _ {P T W : Type 0} (turn_log : T → List Called) (watch_log : W → List
 
   module _ (n : ℕ) (before after : DeskView P T W) (old new : Configuration) (ran : Ran n before old) where
     same_bound : bound_by meaning before.functions ≡ bound_first
-    same_bound = bound-kept turn_log watch_log meaning first before (calls first.next ran.made) ran.grew
+    same_bound = bound-same turn_log watch_log meaning first before (calls first.next ran.made) ran.grew
 
     did_in : (result : Result StepEnd Fault) (h : Stepped before old after new result) → Did s bound_first ran.made before.next h.0 old new result
     did_in result h = did s bound_first ran.made before.next h.0 old new result
