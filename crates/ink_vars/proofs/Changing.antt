@@ -1,7 +1,8 @@
 -- The globals that have changed, by what was noted.
 use Rattle.std.proofs.Common.{◌≡◌, ◌≢◌, ◌∙◌, ◌<◌, ◌≤◌, ◌+◌, ◌-◌, ◌⊎◌, ℕ, zero, suc, Bool, true, false, not, ◌&&◌, ◌||◌, bytes_eq, eqb, if◌then◌else◌, List, [], ◌∷◌, ◌++◌, Option, Some, None, ap, arith, drop, get_or, inl, inr, length, nat_cmp, nat_lt, refl, slice_get, subst, sym}
 use Rattle.std.proofs.lemmas.Bool.{cases_Bool, cases_lt, eq-eqb, eqb-true, eqb-false}
-use Rattle.std.proofs.lemmas.List.{drop_more}
+use Rattle.std.proofs.Math.Seq.{append_snoc}
+use Rattle.std.proofs.lemmas.List.{append-nil, drop_all, drop_more}
 use Rattle.std.proofs.lemmas.List.Recursion.{is_sum_by}
 use Rattle.std.proofs.lemmas.List.Sorted.{IsNonDecreasingBy-from_sort, sum_by-IsPermutation}
 use Rattle.std.proofs.lemmas.Slice.Eq.{bytes_eq-Decides}
@@ -216,3 +217,26 @@ module _ (now : Values) (bs : List Before) (i : ℕ) (b : Before) (within : i < 
   next_picked d e =
       ap (picked now) (drop_more bs i b within ∙ ap (λ x. x ∷ drop (i + 1) bs) (sym is))
       ∙ ap (λ x. if x then b.number ∷ picked now (drop (i + 1) bs) else picked now (drop (i + 1) bs)) e
+
+  pub picked_more : (numbers more all : List ℕ) → more ≡ numbers ++ b.number ∷ [] → changed_to b.value (slice_get now b.number) ≡ true → numbers ++ picked now (drop i bs) ≡ all
+      → more ++ picked now (drop (i + 1) bs) ≡ all
+  picked_more numbers more all pushed e h =
+      ap (λ ns. ns ++ picked now (drop (i + 1) bs)) pushed ∙ append_snoc numbers b.number (picked now (drop (i + 1) bs))
+      ∙ ap (λ ns. numbers ++ ns) (sym (next_picked true e)) ∙ h
+
+  pub picked_same : (numbers more all : List ℕ) → more ≡ numbers → changed_to b.value (slice_get now b.number) ≡ false → numbers ++ picked now (drop i bs) ≡ all
+      → more ++ picked now (drop (i + 1) bs) ≡ all
+  picked_same numbers more all same e h =
+      ap (λ ns. ns ++ picked now (drop (i + 1) bs)) same ∙ ap (λ ns. numbers ++ ns) (sym (next_picked false e)) ∙ h
+
+past_end : (es : Values) (n : ℕ) → length es ≤ n → slice_get es n ≡ None
+past_end [] n h = refl
+past_end (e ∷ es) zero h = absurd (omega (arith, h))
+past_end (e ∷ es) (suc n) h = past_end es n (omega (arith, h))
+
+-- one that is not there has not changed
+pub not_there : (now : Values) (b : Before) → length now ≤ b.number → changed_to b.value (slice_get now b.number) ≡ false
+not_there now b h = ap (changed_to b.value) (past_end now b.number h)
+
+pub all_picked : (now : Values) (bs : List Before) (i : ℕ) (numbers : List ℕ) → length bs ≤ i → numbers ++ picked now (drop i bs) ≡ picked now bs → numbers ≡ picked now bs
+all_picked now bs i numbers past h = sym (append-nil numbers) ∙ ap (λ xs. numbers ++ picked now xs) (sym (drop_all i bs past)) ∙ h
