@@ -1,6 +1,6 @@
 -- The globals that have changed, by what was noted.
-use Rattle.std.proofs.Common.{◌≡◌, ◌≢◌, ◌∙◌, ◌<◌, ◌≤◌, ◌+◌, ◌-◌, ◌⊎◌, ℕ, zero, suc, Bool, true, false, not, ◌&&◌, ◌||◌, bytes_eq, eqb, if◌then◌else◌, List, [], ◌∷◌, ◌++◌, Option, Some, None, ap, arith, drop, get_or, inl, inr, length, nat_cmp, nat_lt, refl, slice_get, subst, sym}
-use Rattle.std.proofs.lemmas.Bool.{cases_Bool, cases_lt, eq-eqb, eqb-true, eqb-false}
+use Rattle.std.proofs.Common.{◌≡◌, ◌∙◌, ◌<◌, ◌≤◌, ◌+◌, ◌-◌, ◌⊎◌, ℕ, zero, suc, Bool, true, false, not, bytes_eq, eqb, if◌then◌else◌, List, [], ◌∷◌, ◌++◌, Option, Some, None, ap, arith, drop, get_or, inl, inr, length, nat_cmp, refl, slice_get, subst, sym}
+use Rattle.std.proofs.lemmas.Bool.{cases_Bool, cases_lt, eq-eqb, eqb-true}
 use Rattle.std.proofs.Math.Seq.{append_snoc}
 use Rattle.std.proofs.lemmas.List.{append-nil, drop_all, drop_more}
 use Rattle.std.proofs.lemmas.List.Recursion.{is_sum_by}
@@ -9,7 +9,6 @@ use Rattle.std.proofs.lemmas.Slice.Eq.{bytes_eq-Decides}
 use Rattle.std.specs.Bool.{⊤}
 use Rattle.std.specs.List.{sum_by}
 use Rattle.std.specs.List.Sorted.{IsNonDecreasingBy, IsPermutation, IsSorted}
-use Rattle.ink_model.specs.Same.{same_value}
 use Rattle.ink_model.specs.Store.{Values, stored}
 use Rattle.ink_model.specs.declared.value.Value.{Value}
 use Rattle.ink_value.proofs.SameValues.{values_are}
@@ -141,6 +140,7 @@ absent_then name bs n (e ∷ es) h = by (bytes_eq name e.0) refl h (absent_then 
     over None rest t on = rw t on
     over (Some None) rest t on = on
     over (Some (Some v)) rest t on = rw t on
+
     by : (t : Bool) → bytes_eq name e.0 ≡ t → (if t then Some e.1 else stored name es) ≡ None → (stored name es ≡ None → stored name (as_they_were bs (suc n) es) ≡ None)
         → stored name (as_they_were bs n (e ∷ es)) ≡ None
     by true t k on = absurd (cc)
@@ -207,7 +207,7 @@ pub changed_are : (start now : Values) (bs : List Before) (marked : List Bool) (
 changed_are start now bs marked ns tracks marks differ moved sorted =
     listed start 0 now ns (rising ns (IsNonDecreasingBy-from_sort (λ x. x) ns sorted))
     (λ i. ap (λ k. among k ns) (omega arith) ∙ among_moved i (picked now bs) ns moved ∙ once_picked now bs i (omega (arith, marks i, one_at_most (get_or marked i false)))
-        ∙ ap one (tie start now bs tracks.were differ i (slice_get now i) refl))
+    ∙ ap one (tie start now bs tracks.were differ i (slice_get now i) refl))
 
 -- ---- a loop's step
 

@@ -1,5 +1,5 @@
 -- Which globals were assigned since a moment, and what they were then (docs/RUNNING.md, "Globals").
-use Rattle.std.specs.Prelude.{◌≡◌, ◌≤◌, ⊤, ℕ, zero, suc, ◌+◌, List, [], ◌∷◌, ◌++◌, length, slice_index_or, Bool, true, false, not, bytes_eq, if◌then◌else◌, ◌==◌, Option, Some, None, is_some}
+use Rattle.std.specs.Prelude.{◌≡◌, ◌≤◌, ⊤, ℕ, suc, ◌+◌, List, [], ◌∷◌, ◌++◌, length, slice_index_or, Bool, true, false, not, bytes_eq, if◌then◌else◌, ◌==◌, Option, Some, None, is_some}
 use Rattle.ink_model.specs.Same.{same_value}
 use Rattle.ink_model.specs.Store.{Values, stored}
 use Rattle.ink_model.specs.declared.value.Value.{Value}
