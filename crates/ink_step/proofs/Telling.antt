@@ -9,7 +9,7 @@ use Rattle.ink_model.specs.declared.host.Change.{Change}
 use Rattle.ink_model.specs.declared.value.Value.{Value}
 use Rattle.ink_host.specs.Telling.{OncePerName}
 use Rattle.ink_vars.specs.Changes.{changed_from, changed_numbers, differs}
-use Rattle.ink_vars.specs.Globals.{HasDistinctNames}
+use Rattle.ink_vars.specs.Globals.{DifferInName}
 
 -- ---- by numbers
 
@@ -115,18 +115,18 @@ module _ (watches : List ℕ → Bool) (start : Values) where
 
   -- ---- no name comes twice
 
-  others_told : (name : List ℕ) (es : Values) → list_all (λ d. not (bytes_eq name d.0)) es ≡ true → list_all (λ d. not (bytes_eq name d.name)) (told watches start es) ≡ true
+  others_told : (name : List ℕ) (es : Values) → stored name es ≡ None → list_all (λ d. not (bytes_eq name d.name)) (told watches start es) ≡ true
   others_told name [] h = refl
   others_told name (e ∷ es) h = by (is_told watches start e) (bytes_eq name e.0) refl h (others_told name es)
     where
-      by : (b same : Bool) → bytes_eq name e.0 ≡ same → not same && list_all (λ d. not (bytes_eq name d.0)) es ≡ true
-          → (list_all (λ d. not (bytes_eq name d.0)) es ≡ true → list_all (λ d. not (bytes_eq name d.name)) (told watches start es) ≡ true)
+      by : (b same : Bool) → bytes_eq name e.0 ≡ same → (if same then Some e.1 else stored name es) ≡ None
+          → (stored name es ≡ None → list_all (λ d. not (bytes_eq name d.name)) (told watches start es) ≡ true)
           → list_all (λ d. not (bytes_eq name d.name)) (map change_of (cond b (e ∷ filter (is_told watches start) es) (filter (is_told watches start) es))) ≡ true
       by b true is h more = absurd (cc)
       by true false is h more = ap (λ x. not x && list_all (λ d. not (bytes_eq name d.name)) (told watches start es)) is ∙ more h
       by false false is h more = more h
 
-  pub told_once : (es : Values) → HasDistinctNames es → OncePerName (told watches start es)
+  pub told_once : (es : Values) → DifferInName es → OncePerName (told watches start es)
   told_once [] h = tt
   told_once (e ∷ es) h = by (is_told watches start e) (told_once es h.1)
     where

@@ -25,7 +25,7 @@ impl Machine {
         ensures once { IfOk result (λ cs. OncePerName cs) }
         ensures memory { OnErr result (self.now.changes ≢ []) }
     {
-        if self.globals.is_empty() || !desk.has_watchers() || self.changes.is_empty() {
+        if self.globals.len() == 0 || !desk.has_watchers() || self.changes.is_empty() {
             return Ok(Seq::new(self.alloc));
         }
         let mut told = Vec::new(self.alloc);
@@ -53,9 +53,6 @@ pub fn told_between<P: PureFn, T: TurnFn, W: Watcher>(
     ensures once { IfOk result (λ cs. OncePerName cs) }
     ensures memory { OnErr result (told (watches desk.now.watchers) old.now new.now ≢ []) }
 {
-    if new.is_empty() || !desk.has_watchers() {
-        return Ok(Seq::new(alloc));
-    }
     let mut told = Vec::new(alloc);
     for number in 0..new.len() {
         if let Some((name, value)) = new.pair(number) {

@@ -9,9 +9,9 @@ use Rattle.std.specs.Map.{keys_of}
 use Rattle.std.specs.String.{string_eq}
 use Rattle.ink_model.specs.Store.{Values, stored, store}
 use Rattle.ink_model.specs.declared.value.Value.{Value}
-use Rattle.ink_vars.specs.Globals.{values_of}
+use Rattle.ink_vars.specs.Globals.{DifferInName, values_of}
 
-other_way : (a b : List ℕ) → bytes_eq a b ≡ false → bytes_eq b a ≡ false
+pub other_way : (a b : List ℕ) → bytes_eq a b ≡ false → bytes_eq b a ≡ false
 other_way a b h =
     false_from_ne_true (bytes_eq b a) (λ t. true≢false (sym ((bytes_eq-Decides a b).1 (sym ((bytes_eq-Decides b a).0 t))) ∙ h))
 
@@ -43,6 +43,16 @@ absent_before (x ∷ xs) (suc i) e distinct at =
     let other : bytes_eq (string_bytes e.0) (string_bytes x.0) ≡ false =
     other_way (string_bytes x.0) (string_bytes e.0) (differs_from_all (λ k. bytes_eq (string_bytes x.0) k ≡ false) xs i e distinct.0 at) in
     rw other (absent_before xs i e distinct.1 at)
+
+-- no two of the entries have one name
+absent_from : (P : String Global) (es : List (String Global × Value)) → AllByRecursion (λ k. string_eq P k ≡ false) (keys_of es) → stored (string_bytes P) (values_of es) ≡ None
+absent_from x [] all = refl
+absent_from x (e ∷ es) all = ap (λ b. if b then Some e.1 else stored (string_bytes x) (values_of es)) all.0 ∙ absent_from x es all.1
+
+pub differ_in_name : (es : List (String Global × Value)) → IsDistinct string_eq (keys_of es) → DifferInName (values_of es)
+unfolding IsDistinct
+differ_in_name [] distinct = tt
+differ_in_name (e ∷ es) distinct = (absent_from e.0 es distinct.0, differ_in_name es distinct.1)
 
 at_values : (es : List (String Global × Value)) (i : ℕ) (e : String Global × Value) → slice_get es i ≡ Some e → slice_get (values_of es) i ≡ Some (string_bytes e.0, e.1)
 at_values [] i e at = absurd (cc)

@@ -6,4 +6,4 @@ pub mod Restored
 pub mod Marking
 pub mod Numbers
 pub mod Noting
-pub mod Distinct
+pub mod Changing

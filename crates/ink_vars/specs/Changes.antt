@@ -1,5 +1,5 @@
 -- Which globals were assigned since a moment, and what they were then (docs/RUNNING.md, "Globals").
-use Rattle.std.specs.Prelude.{◌≡◌, ◌≤◌, ⊤, ℕ, zero, suc, ◌+◌, List, [], ◌∷◌, ◌++◌, length, slice_get, slice_index_or, Bool, true, false, not, bytes_eq, if◌then◌else◌, ◌==◌, Option, Some, None, is_some}
+use Rattle.std.specs.Prelude.{◌≡◌, ◌≤◌, ⊤, ℕ, suc, ◌+◌, List, [], ◌∷◌, ◌++◌, length, slice_index_or, Bool, true, false, not, bytes_eq, if◌then◌else◌, ◌==◌, Option, Some, None, is_some}
 use Rattle.ink_model.specs.Same.{same_value}
 use Rattle.ink_model.specs.Store.{Values, stored}
 use Rattle.ink_model.specs.declared.value.Value.{Value}
@@ -61,13 +61,10 @@ changed_from start n (e ∷ es) =
 abbrev pub changed_numbers : Values → Values → List ℕ
 changed_numbers start now = changed_from start 0 now
 
--- what was noted differs from the globals now
-abbrev pub has_changed : Values → Before → Bool
-has_changed now b = changed_to b.value (slice_get now b.number)
-  where
-    changed_to : Option Value → Option (List ℕ × Value) → Bool
-    changed_to was None = false
-    changed_to was (Some e) = differs was e.1
+-- a global that is there now differs from what it was
+abbrev pub changed_to : Option Value → Option (List ℕ × Value) → Bool
+changed_to was None = false
+changed_to was (Some e) = differs was e.1
 
 -- ---- marks, which find what was noted at once
 

@@ -4,7 +4,7 @@ ghost use Rattle.std.specs.Prelude.{◌≡◌, ◌==◌, ◌≢◌, ◌<◌, ◌
 ghost use Rattle.std.specs.Option.{option_copied};
 ghost use Rattle.ink_model.specs.Store.{Values, store};
 ghost use Rattle.ink_model.specs.declared.value.Value.{Value};
-ghost use Rattle.ink_vars.specs.Changes.{Marks, Tracks, changed_numbers, has_changed, noted_at, number_of, with_noted};
+ghost use Rattle.ink_vars.specs.Changes.{Marks, Tracks, changed_numbers, changed_to, noted_at, number_of, with_noted};
 
 use crate::globals::Globals;
 use ink_model::Value;
@@ -121,9 +121,10 @@ pub fn changed(
     ensures numbers { (start : Values) → Tracks start changes.now globals.now → IfOk result (λ numbers. numbers.items ≡ changed_numbers start globals.now) }
     ensures memory { OnErr result (changes.now ≢ []) }
 {
+    let there = globals.len();
     let mut numbers = Vec::new(alloc);
     for before in &changes.noted {
-        if has_changed(before, globals) {
+        if before.number < there && has_changed(before, globals) {
             numbers.push(before.number)?;
         }
     }
@@ -132,7 +133,7 @@ pub fn changed(
 }
 
 fn has_changed(before: &Before, globals: &Globals) -> bool
-    ensures { result ≡ has_changed globals.now before.now }
+    ensures { result ≡ changed_to before.now.value (slice_get globals.now before.now.number) }
 {
     let Some((_, value)) = globals.pair(before.number) else {
         return false;

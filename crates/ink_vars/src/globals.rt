@@ -1,9 +1,9 @@
 //! The globals of a running story.
 
-ghost use Rattle.std.specs.Prelude.{◌≡◌, ◌==◌, ◌≢◌, [], false, is_some, is_ok, length, option_map, slice_get, IfOk, IfErr, OnOk, OnErr};
+ghost use Rattle.std.specs.Prelude.{◌≡◌, ◌≢◌, [], false, is_some, is_ok, length, option_map, slice_get, IfOk, IfErr, OnOk, OnErr};
 ghost use Rattle.ink_model.specs.Store.{stored, store};
-ghost use Rattle.ink_vars.specs.Globals.{HasDistinctNames};
 ghost use Rattle.ink_vars.specs.Changes.{number_of};
+ghost use Rattle.ink_vars.specs.Globals.{DifferInName};
 
 use indexmap::IndexMap;
 use ink_model::Value;
@@ -66,17 +66,10 @@ impl Globals {
         self.values.contains_key(name)
     }
 
-    /// Whether there are none. Takes no memory.
-    pub fn is_empty(&self) -> bool
-        ensures empty { result ≡ (length self.now == 0) }
-        ensures names { HasDistinctNames self.now }
-    {
-        self.values.len() == 0
-    }
-
-    /// How many globals there are.
+    /// How many globals there are, each with a name of its own.
     pub fn len(&self) -> usize
-        ensures { result ≡ length self.now }
+        ensures len { result ≡ length self.now }
+        ensures names { DifferInName self.now }
     {
         self.values.len()
     }

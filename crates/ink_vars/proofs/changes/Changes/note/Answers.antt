@@ -1,7 +1,7 @@
-use Rattle.std.proofs.Common.{◌≡◌, ◌∙◌, ◌∷◌, ◌++◌, [], false, is_some, refl, subst, sym}
+use Rattle.std.proofs.Common.{◌≡◌, ◌∙◌, false, is_some, refl, subst, sym}
 use Rattle.std.proofs.lemmas.Result.{on_ok_weaker}
 use Rattle.ink_model.specs.Store.{store}
-use Rattle.ink_vars.specs.Changes.{Tracks, noted_at, number_of, with_noted}
+use Rattle.ink_vars.specs.Changes.{Tracks, noted_at, number_of}
 use Rattle.ink_vars.proofs.Noting.{either_way, more_noted, none_of, noted, noted_is_marked, on_error, same_noted}
 use Rattle.ink_vars.proofs.changes.Changes.note.Goals as goal
 
