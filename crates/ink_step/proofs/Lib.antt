@@ -26,3 +26,4 @@ pub mod Offered
 pub mod Shows
 pub mod Chosen
 pub mod Unasked
+pub mod Makes

@@ -30,6 +30,7 @@ use ink_tree::Spot;
 use ink_value::{EvalStack, is_true};
 
 /// A call of an external function: its name, the number of its arguments, and whether a condition decides.
+#[derive(Clone, Copy)]
 pub(crate) struct External<'a> {
     pub name: &'a str,
     pub arguments: usize,
