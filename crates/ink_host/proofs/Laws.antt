@@ -48,6 +48,10 @@ seen_by-append name (Saw of n v ∷ es) fs = by (bytes_eq name of) (seen_by-appe
     by true h = let one : Seen = record { stamp = n; name = of; value = v } in ap (λ l. one ∷ l) h
     by false h = h
 
+pub pushed : (b : Bool) (new xs ys : List Event) (e : Event) → new ≡ (if b then xs ++ e ∷ [] else xs) → b ≡ true → xs ≡ ys → new ≡ ys ++ e ∷ []
+pushed true new xs ys e h is same = h ∙ ap (λ zs. zs ++ e ∷ []) same
+pushed false new xs ys e h is same = absurd (cc)
+
 -- ---- rows
 
 pub at-each : {X Y : Type 0} (change : List ℕ → X → Y) (name : List ℕ) (rows : Rows X) → at name (each change rows) ≡ option_map (change name) (at name rows)
@@ -120,6 +124,19 @@ told-told es fs (r ∷ rows) =
     ap (λ l. heard r.0 l (grown fs (grown es rows))) (append_assoc r.1 (seen_by r.0 es) (seen_by r.0 fs) ∙ ap (λ m. r.1 ++ m) (sym (seen_by-append r.0 es fs)))
     ∙ ap (heard r.0 (r.1 ++ seen_by r.0 (es ++ fs))) (told-told es fs rows)
 
+longer : (l : List Called) (c : Called) → l ≡ l ++ c ∷ [] → ⊥
+longer [] c h = absurd (cc)
+longer (d ∷ l) c h = longer l c (cc)
+
+more : {P : Type 0} (l : List Called) (name : List ℕ) (arguments : List Value) (gave : Option Given) (n : ℕ)
+    → ◌≡◌ {A = Option (Bound P (List Called))} (Some (bound.Turn l)) (Some (bound.Turn (l ++ called_by name (Call name arguments gave n ∷ [])))) → ⊥
+more {P} l name arguments gave n h = by (bytes_eq name name) ((bytes_eq-Decides name name).1 refl) h
+  where
+    by : (b : Bool) → b ≡ true
+        → ◌≡◌ {A = Option (Bound P (List Called))} (Some (bound.Turn l)) (Some (bound.Turn (l ++ (if b then (record { stamp = n; arguments = arguments; gave = gave }) ∷ [] else [])))) → ⊥
+    by true is k = let one : Called = record { stamp = n; arguments = arguments; gave = gave } in longer l one (cc)
+    by false is k = absurd (cc)
+
 -- ---- growing
 
 module _ {P T W : Type 0} (turn_log : T → List Called) (watch_log : W → List Seen) where
@@ -181,3 +198,14 @@ module _ {P T W : Type 0} (turn_log : T → List Called) (watch_log : W → List
     functions = functions ∙ uncalled (logs turn_log a.functions);
     watchers = untold (each (λ n w. watch_log w) a.watchers);
   }
+
+  -- A call that happened was made: no function can be left as it was.
+  pub not-uncalled : (a b : DeskView P T W) (name : List ℕ) (t : T) (arguments : List Value) (gave : Option Given) (n : ℕ)
+      → at name a.functions ≡ Some (bound.Turn t) → b.functions ≡ a.functions → Grew turn_log watch_log a (Call name arguments gave n ∷ []) b → ⊥
+  not-uncalled a b name t arguments gave n h same g =
+      let es : List Event = Call name arguments gave n ∷ [] in
+      let kind : Option (Bound P T) → Option (Bound P (List Called)) = option_map (by_log turn_log) in
+      let was : at name (logs turn_log a.functions) ≡ Some (bound.Turn (turn_log t)) = at-each (λ n b. by_log turn_log b) name a.functions ∙ ap kind h in
+      let now : at name (logs turn_log a.functions) ≡ option_map (called es name) (at name (logs turn_log a.functions)) =
+        ap (at name) (ap (logs turn_log) (sym same) ∙ g.functions) ∙ at-each (called es) name (logs turn_log a.functions) in
+      more (turn_log t) name arguments gave n (sym was ∙ now ∙ ap (option_map (called es name)) was)
