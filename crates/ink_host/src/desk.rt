@@ -11,7 +11,7 @@ ghost use Rattle.ink_host.specs.Desk as view;
 ghost use Rattle.ink_host.specs.declared.objects.Bound.TheVariants as bound;
 
 use crate::objects::{Bound, FnKind, PureFn, TurnFn, Watcher};
-use crate::rows::{ask_at, call_at, copied, keep};
+use crate::rows::{after, ask_at, call_at, copied, keep};
 use indexmap::IndexMap;
 use ink_model::{Event, Fault, Given, HostFault, Seq, Text, Value};
 use std::alloc::Global;
@@ -184,10 +184,10 @@ impl<P, T: TurnFn, W: Watcher> Desk<P, T, W> {
                         stamp,
                     })
                     .unwrap();
-                self.next = stamp.saturating_add(1);
+                self.next = after(stamp);
                 match copy {
-                    Ok(copy) => Ok(copy),
-                    Err(_) => Err(Fault::OutOfMemory),
+                    Ok(copy) => return Ok(copy),
+                    Err(_) => return Err(Fault::OutOfMemory),
                 }
             }
             Err(HostFault::Refused) => {
@@ -199,10 +199,10 @@ impl<P, T: TurnFn, W: Watcher> Desk<P, T, W> {
                         stamp,
                     })
                     .unwrap();
-                self.next = stamp.saturating_add(1);
-                Err(Fault::HostRefused)
+                self.next = after(stamp);
+                return Err(Fault::HostRefused);
             }
-            Err(HostFault::OutOfMemory) => Err(Fault::OutOfMemory),
+            Err(HostFault::OutOfMemory) => return Err(Fault::OutOfMemory),
         }
     }
 }

@@ -1,6 +1,7 @@
 //! Maps by name, as the desk has them.
 
 ghost use Rattle.std.specs.Prelude.{◌≡◌, [], ◌∷◌, Option, None, Some, Ok, Err, string_bytes, IfOk, IfErr, OnOk, OnErr};
+ghost use Rattle.ink_model.specs.Events as events;
 ghost use Rattle.ink_model.specs.declared.host.Event.TheVariants as event;
 ghost use Rattle.ink_model.specs.declared.host.Given.{Given as Answer};
 ghost use Rattle.ink_model.specs.declared.host.HostFault.TheVariants as fault;
@@ -49,7 +50,8 @@ pub(crate) fn ask_at<P: PureFn, T>(
 {
     match functions.get(name) {
         Some(Bound::Pure(function)) => function.ask(arguments),
-        _ => unreachable!(),
+        Some(Bound::Turn(_)) => unreachable!(),
+        None => unreachable!(),
     }
 }
 
@@ -67,8 +69,16 @@ pub(crate) fn call_at<P, T: TurnFn>(
 {
     match functions.get_mut(name) {
         Some(Bound::Turn(function)) => function.call(stamp, arguments),
-        _ => unreachable!(),
+        Some(Bound::Pure(_)) => unreachable!(),
+        None => unreachable!(),
     }
+}
+
+/// The stamp after one.
+pub(crate) fn after(stamp: u64) -> u64
+    ensures { result ≡ events.after stamp }
+{
+    if stamp < u64::MAX { stamp + 1 } else { stamp }
 }
 
 /// Copies of values. The one error is a refused request for memory, or a count of owners that is full.

@@ -1,0 +1,194 @@
+-- The entries of a map as rows.
+use Rattle.std.proofs.Common.{◌≡◌, ◌∙◌, ap, refl, sym, ℕ, List, [], ◌∷◌, ◌++◌, map, Bool, true, false, cond, is_some, Option, Some, None, IfSome, Result, Ok, Err, OnOk, OnErr, IfOk, subst, String, Global, string_bytes, bytes_eq, if◌then◌else◌}
+use Rattle.std.proofs.lemmas.List.{append-nil}
+use Rattle.std.proofs.lemmas.Slice.Eq.{bytes_eq-Decides}
+use Rattle.std.specs.Bool.{Decides, one_answer}
+use Rattle.std.specs.Map.{keys_of, lookup, remove_entry, set_value}
+use Rattle.std.specs.List.{AllByRecursion, IsDistinct}
+use Rattle.std.specs.String.{string_eq}
+use Rattle.indexmap.specs.IndexMap.{insert_entry}
+use Rattle.ink_model.specs.declared.host.Event.{Event}
+use Rattle.ink_model.specs.declared.host.Event.TheVariants.{Call}
+use Rattle.ink_model.specs.declared.host.Given.{Given}
+use Rattle.ink_model.specs.declared.value.Value.{Value}
+use Rattle.ink_host.specs.Desk.{DeskView, Resting, Rows, among, at, by_log, called, called_by, each, logs, names, put, shown, without}
+use Rattle.ink_host.specs.declared.objects.Bound.{Bound}
+use Rattle.ink_host.specs.declared.objects.Bound.TheVariants as bound
+use Rattle.ink_host.specs.declared.objects.Called.{Called}
+
+-- ---- rows of entries
+
+module _ {X : Type 0} where
+  abbrev pub rows_of : List (String Global × X) → Rows X
+  rows_of es = shown string_bytes (λ x. x) es
+
+  pub found : (name : List ℕ) (es : List (String Global × X)) → lookup (λ k. bytes_eq name (string_bytes k)) es ≡ at name (rows_of es)
+  found name [] = refl
+  found name (e ∷ es) = ap (λ r. if bytes_eq name (string_bytes e.0) then Some e.1 else r) (found name es)
+
+  pub kept : (key : String Global) (x : X) (es : List (String Global × X)) → rows_of (insert_entry string_eq es key x) ≡ put (string_bytes key) x (rows_of es)
+  kept key x [] = refl
+  kept key x (e ∷ es) = by (bytes_eq (string_bytes key) (string_bytes e.0)) (kept key x es)
+    where
+      by : (b : Bool) → rows_of (insert_entry string_eq es key x) ≡ put (string_bytes key) x (rows_of es)
+          → rows_of (if b then (e.0, x) ∷ es else e ∷ insert_entry string_eq es key x) ≡ (if b then (string_bytes e.0, x) ∷ rows_of es else (string_bytes e.0, e.1) ∷ put (string_bytes key) x (rows_of es))
+      by true more = refl
+      by false more = ap (λ rows. (string_bytes e.0, e.1) ∷ rows) more
+
+  pub removed : (name : List ℕ) (es : List (String Global × X)) → rows_of (remove_entry (λ k. bytes_eq name (string_bytes k)) es) ≡ without name (rows_of es)
+  removed name [] = refl
+  removed name (e ∷ es) = by (bytes_eq name (string_bytes e.0)) (removed name es)
+    where
+      by : (b : Bool) → rows_of (remove_entry (λ k. bytes_eq name (string_bytes k)) es) ≡ without name (rows_of es)
+          → rows_of (cond b es (e ∷ remove_entry (λ k. bytes_eq name (string_bytes k)) es)) ≡ (if b then rows_of es else (string_bytes e.0, e.1) ∷ without name (rows_of es))
+      by true more = refl
+      by false more = ap (λ rows. (string_bytes e.0, e.1) ∷ rows) more
+
+-- a name of a row is among the names
+pub watched : {X : Type 0} (name : List ℕ) (rows : Rows X) → is_some (at name rows) ≡ among (names rows) name
+watched name [] = refl
+watched name (r ∷ rows) = by (bytes_eq name r.0) (watched name rows)
+  where
+    by : (b : Bool) → is_some (at name rows) ≡ among (names rows) name → is_some (if b then Some r.1 else at name rows) ≡ (if b then true else among (names rows) name)
+    by true more = refl
+    by false more = more
+
+abbrev pub desk_of : {P T W : Type 0} → Rows (Bound P T) → Rows W → List Event → ℕ → DeskView P T W
+desk_of fs ws es n = record { functions = fs; watchers = ws; events = es; next = n }
+
+-- ---- rest
+
+module _ {W : Type 0} (at_rest : W → Bool) where
+  pub rest-put : (name : List ℕ) (w : W) (rows : Rows W) → at_rest w ≡ true → Resting at_rest rows → Resting at_rest (put name w rows)
+  rest-put name w [] h rest = (h, tt)
+  rest-put name w (r ∷ rows) h rest = by (bytes_eq name r.0) (rest-put name w rows h rest.1)
+    where
+      by : (b : Bool) → Resting at_rest (put name w rows) → Resting at_rest (if b then (r.0, w) ∷ rows else r ∷ put name w rows)
+      by true more = (h, rest.1)
+      by false more = (rest.0, more)
+
+  pub rest-without : (name : List ℕ) (rows : Rows W) → Resting at_rest rows → Resting at_rest (without name rows)
+  rest-without name [] rest = tt
+  rest-without name (r ∷ rows) rest = by (bytes_eq name r.0) (rest-without name rows rest.1)
+    where
+      by : (b : Bool) → Resting at_rest (without name rows) → Resting at_rest (if b then rows else r ∷ without name rows)
+      by true more = rest.1
+      by false more = (rest.0, more)
+
+  pub rest-at : (name : List ℕ) (rows : Rows W) (w : W) → Resting at_rest rows → at name rows ≡ Some w → at_rest w ≡ true
+  rest-at name [] w rest h = absurd (cc)
+  rest-at name (r ∷ rows) w rest h = by (bytes_eq name r.0) (rest-at name rows w rest.1) h
+    where
+      by : (b : Bool) → (at name rows ≡ Some w → at_rest w ≡ true) → (if b then Some r.1 else at name rows) ≡ Some w → at_rest w ≡ true
+      by true more k = let same : r.1 ≡ w = cc in ap at_rest (sym same) ∙ rest.0
+      by false more k = more k
+
+  pub rest-found : (o : Option W) (name : List ℕ) (rows : Rows W) → Resting at_rest rows → o ≡ at name rows → IfSome o (λ w. at_rest w ≡ true)
+  rest-found None name rows rest h = tt
+  rest-found (Some w) name rows rest h = rest-at name rows w rest (sym h)
+
+  pub rest-old : (o : Result (Option W) W) (name : List ℕ) (rows : Rows W) → Resting at_rest rows
+      → IfOk o (λ old. old ≡ at name rows) → IfOk o (λ old. IfSome old (λ w. at_rest w ≡ true))
+  rest-old (Ok old) name rows rest h = rest-found old name rows rest h
+  rest-old (Err w) name rows rest h = tt
+
+  pub rest-kept : (o : Result (Option W) W) (name : List ℕ) (w : W) (rows new : Rows W) → at_rest w ≡ true → Resting at_rest rows
+      → OnOk o (new ≡ put name w rows) → OnErr o (new ≡ rows) → Resting at_rest new
+  rest-kept (Ok old) name w rows new h rest ok err = let P : Rows W → Type 0 = λ rs. Resting at_rest rs in subst P (sym ok) (rest-put name w rows h rest)
+  rest-kept (Err back) name w rows new h rest ok err = let P : Rows W → Type 0 = λ rs. Resting at_rest rs in subst P (sym err) rest
+
+  pub rest-keeps : (o : Result (Option W) W) (name : List ℕ) (w : W) (old new : List (String Global × W)) → at_rest w ≡ true → Resting at_rest (rows_of old)
+      → OnOk o (rows_of new ≡ put name w (rows_of old)) → OnErr o (new ≡ old) → Resting at_rest (rows_of new)
+  rest-keeps (Ok was) name w old new h rest ok err = rest-kept (Ok was) name w (rows_of old) (rows_of new) h rest ok tt
+  rest-keeps (Err back) name w old new h rest ok err = rest-kept (Err back) name w (rows_of old) (rows_of new) h rest tt (ap rows_of err)
+
+-- ---- calls
+
+module _ {P T : Type 0} where
+  pub turn-not-pure : (t : T) (p : P) → ◌≡◌ {A = Option (Bound P T)} (Some (bound.Turn t)) (Some (bound.Pure p)) → ⊥
+  turn-not-pure t p h = cc
+
+  pub none-not-some : (b : Bound P T) → ◌≡◌ {A = Option (Bound P T)} None (Some b) → ⊥
+  none-not-some b h = cc
+
+pub bytes_eq-sym : (a b : List ℕ) → bytes_eq a b ≡ bytes_eq b a
+bytes_eq-sym a b =
+    one_answer {P = a ≡ b} (bytes_eq a b) (bytes_eq b a) (bytes_eq-Decides a b) ((λ h. sym ((bytes_eq-Decides b a).0 h)), (λ h. (bytes_eq-Decides b a).1 (sym h)))
+
+abbrev onto : {P : Type 0} → List ℕ → Bound P (List Called) → Rows (Bound P (List Called)) → Rows (Bound P (List Called))
+onto k b rows = (k, b) ∷ rows
+
+module _ {P T : Type 0} (log : T → List Called) where
+  -- a function of another name is not called
+  other : (name k : List ℕ) (arguments : List Value) (gave : Option Given) (n : ℕ) (b : Bound P (List Called)) → bytes_eq k name ≡ false
+      → b ≡ called (Call name arguments gave n ∷ []) k b
+  other name k arguments gave n (bound.Pure p) h = refl
+  other name k arguments gave n (bound.Turn l) h =
+      by (bytes_eq k name) h
+    where
+      by : (b : Bool) → b ≡ false → ◌≡◌ {A = Bound P (List Called)} (bound.Turn l) (bound.Turn (l ++ (if b then (record { stamp = n; arguments = arguments; gave = gave }) ∷ [] else [])))
+      by true e = absurd (cc)
+      by false e = ap (λ m. bound.Turn m) (sym (append-nil l))
+
+  others : (name : List ℕ) (key : String Global) (arguments : List Value) (gave : Option Given) (n : ℕ) (es : List (String Global × Bound P T))
+      → name ≡ string_bytes key → AllByRecursion (λ k. string_eq key k ≡ false) (keys_of es)
+      → logs log (rows_of es) ≡ each (called (Call name arguments gave n ∷ [])) (logs log (rows_of es))
+  others name key arguments gave n [] same all = refl
+  others name key arguments gave n (e ∷ es) same all =
+      let apart : bytes_eq (string_bytes e.0) name ≡ false = bytes_eq-sym (string_bytes e.0) name ∙ ap (λ m. bytes_eq m (string_bytes e.0)) same ∙ all.0 in
+      ap (λ b. onto (string_bytes e.0) b (logs log (rows_of es))) (other name (string_bytes e.0) arguments gave n (by_log log e.1) apart)
+      ∙ ap (onto (string_bytes e.0) (called (Call name arguments gave n ∷ []) (string_bytes e.0) (by_log log e.1))) (others name key arguments gave n es same all.1)
+
+  -- the function of the name is called
+  this : (name k : List ℕ) (arguments : List Value) (gave : Option Given) (n : ℕ) (t t' : T) → bytes_eq k name ≡ true
+      → log t' ≡ log t ++ (record { stamp = n; arguments = arguments; gave = gave }) ∷ []
+      → ◌≡◌ {A = Bound P (List Called)} (bound.Turn (log t')) (bound.Turn (log t ++ called_by k (Call name arguments gave n ∷ [])))
+  this name k arguments gave n t t' h more = by (bytes_eq k name) h
+    where
+      by : (b : Bool) → b ≡ true → ◌≡◌ {A = Bound P (List Called)} (bound.Turn (log t')) (bound.Turn (log t ++ (if b then (record { stamp = n; arguments = arguments; gave = gave }) ∷ [] else [])))
+      by true e = ap (λ l. bound.Turn l) more
+      by false e = absurd (cc)
+
+  pub called-write : (name : List ℕ) (arguments : List Value) (gave : Option Given) (n : ℕ) (t t' : T) (es : List (String Global × Bound P T))
+      → IsDistinct string_eq (keys_of es) → lookup (λ k. bytes_eq name (string_bytes k)) es ≡ Some (bound.Turn t)
+      → log t' ≡ log t ++ (record { stamp = n; arguments = arguments; gave = gave }) ∷ []
+      → logs log (rows_of (set_value (λ k. bytes_eq name (string_bytes k)) es (bound.Turn t'))) ≡ each (called (Call name arguments gave n ∷ [])) (logs log (rows_of es))
+  unfolding IsDistinct
+  called-write name arguments gave n t t' [] apart h more = refl
+  called-write name arguments gave n t t' (e ∷ es) apart h more =
+      by (bytes_eq name (string_bytes e.0)) refl (λ k. called-write name arguments gave n t t' es apart.1 k more) h
+    where
+      by : (b : Bool) → bytes_eq name (string_bytes e.0) ≡ b
+          → (lookup (λ k. bytes_eq name (string_bytes k)) es ≡ Some (bound.Turn t)
+            → logs log (rows_of (set_value (λ k. bytes_eq name (string_bytes k)) es (bound.Turn t'))) ≡ each (called (Call name arguments gave n ∷ [])) (logs log (rows_of es)))
+          → cond b (Some e.1) (lookup (λ k. bytes_eq name (string_bytes k)) es) ≡ Some (bound.Turn t)
+          → logs log (rows_of (cond b ((e.0, bound.Turn t') ∷ es) (e ∷ set_value (λ k. bytes_eq name (string_bytes k)) es (bound.Turn t'))))
+          ≡ each (called (Call name arguments gave n ∷ [])) (logs log (rows_of (e ∷ es)))
+      by true is rest k =
+          let same : ◌≡◌ {A = Bound P T} (bound.Turn t) e.1 = cc in
+          let key : name ≡ string_bytes e.0 = (bytes_eq-Decides name (string_bytes e.0)).0 is in
+          ap (λ rows. onto (string_bytes e.0) (bound.Turn (log t')) rows) (others name e.0 arguments gave n es key apart.0)
+          ∙ ap (λ b. onto (string_bytes e.0) b (each (called (Call name arguments gave n ∷ [])) (logs log (rows_of es))))
+            (this name (string_bytes e.0) arguments gave n t t' (bytes_eq-sym (string_bytes e.0) name ∙ is) more
+            ∙ ap (λ b. called (Call name arguments gave n ∷ []) (string_bytes e.0) (by_log log b)) same)
+      by false is rest k =
+          ap (λ b. onto (string_bytes e.0) b (logs log (rows_of (set_value (λ k. bytes_eq name (string_bytes k)) es (bound.Turn t')))))
+            (other name (string_bytes e.0) arguments gave n (by_log log e.1) (bytes_eq-sym (string_bytes e.0) name ∙ is))
+          ∙ ap (onto (string_bytes e.0) (called (Call name arguments gave n ∷ []) (string_bytes e.0) (by_log log e.1))) (rest k)
+
+  pub quiet-write : (name : List ℕ) (t t' : T) (es : List (String Global × Bound P T))
+      → lookup (λ k. bytes_eq name (string_bytes k)) es ≡ Some (bound.Turn t) → log t' ≡ log t
+      → logs log (rows_of (set_value (λ k. bytes_eq name (string_bytes k)) es (bound.Turn t'))) ≡ logs log (rows_of es)
+  quiet-write name t t' [] h more = refl
+  quiet-write name t t' (e ∷ es) h more = by (bytes_eq name (string_bytes e.0)) (λ k. quiet-write name t t' es k more) h
+    where
+      by : (b : Bool)
+          → (lookup (λ k. bytes_eq name (string_bytes k)) es ≡ Some (bound.Turn t)
+            → logs log (rows_of (set_value (λ k. bytes_eq name (string_bytes k)) es (bound.Turn t'))) ≡ logs log (rows_of es))
+          → cond b (Some e.1) (lookup (λ k. bytes_eq name (string_bytes k)) es) ≡ Some (bound.Turn t)
+          → logs log (rows_of (cond b ((e.0, bound.Turn t') ∷ es) (e ∷ set_value (λ k. bytes_eq name (string_bytes k)) es (bound.Turn t')))) ≡ logs log (rows_of (e ∷ es))
+      by true rest k =
+          let same : ◌≡◌ {A = Bound P T} (bound.Turn t) e.1 = cc in
+          let row : Bound P (List Called) → Rows (Bound P (List Called)) = λ b. (string_bytes e.0, b) ∷ logs log (rows_of es) in
+          ap (λ l. row (bound.Turn l)) more ∙ ap (λ b. row (by_log log b)) same
+      by false rest k = ap (λ rows. (string_bytes e.0, by_log log e.1) ∷ rows) (rest k)

@@ -1,0 +1,14 @@
+use Rattle.std.proofs.Common.{◌∙◌, ap}
+use Rattle.ink_host.specs.Desk.{at, without}
+use Rattle.ink_host.proofs.Entries.{desk_of, found, removed, rows_of}
+use Rattle.ink_host.proofs.desk.Desk.unbind.Goals as goal
+
+pub returns-clause-old : goal.returns-clause-old
+returns-clause-old g c =
+    c.shift_remove.ensures.value ∙ found c.args.name.now c.self.inside.functions.entries ∙ ap (λ d. at c.args.name.now d.functions) c.self.view_is
+
+pub returns-clause-left : goal.returns-clause-left
+returns-clause-left g c =
+    ap (λ rows. desk_of rows (rows_of c.self.inside.watchers.entries) c.self.inside.events.items c.self.inside.next)
+      (ap rows_of c.shift_remove.ensures.entries ∙ removed c.args.name.now c.self.inside.functions.entries)
+    ∙ ap (λ d. desk_of (without c.args.name.now d.functions) d.watchers d.events d.next) c.self.view_is
