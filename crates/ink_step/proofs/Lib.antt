@@ -27,3 +27,4 @@ pub mod Shows
 pub mod Chosen
 pub mod Unasked
 pub mod Makes
+pub mod Calls

@@ -2,20 +2,20 @@
 use Rattle.std.proofs.Common.{◌≡◌, ◌∙◌, ◌⊎◌, ◌||◌, ◌++◌, ap, sym, refl, subst, inl, inr, ℕ, List, [], ◌∷◌, Bool, true, false, if◌then◌else◌, Option, Some, None, is_some, Result, Ok, Err}
 use Rattle.ink_model.specs.Asks.{content_asks, external_asks}
 use Rattle.ink_model.specs.Choosing.{following, following_asks}
-use Rattle.ink_model.specs.Configuration.{ChoiceOf, Configuration}
-use Rattle.ink_model.specs.Effect.{Context, Fields, Effect, Moves, Stores, Offers, Lands, Calls, Returns, Forks, Done, Ends, Asks, Fails, or_else, or_fault, pushing}
+use Rattle.ink_model.specs.Configuration.{ChoiceOf, Configuration, current_place}
+use Rattle.ink_model.specs.Effect.{Context, Fields, Effect, Moves, Stores, Offers, Lands, Calls, Returns, Forks, Done, Ends, Asks, Fails, context_of, fields_of, or_else, or_fault}
 use Rattle.ink_model.specs.Frames.{ThreadsOf}
 use Rattle.ink_model.specs.Host.{Binding, Bound, fits_given, pure_function, turn_function, value_given}
 use Rattle.ink_model.specs.Move.{Outcome, Next, Stop, Wants, Faults, move}
 use Rattle.ink_model.specs.MoveMemory.{move_asks}
-use Rattle.ink_model.specs.Place.{knot}
+use Rattle.ink_model.specs.Place.{entered, knot}
 use Rattle.ink_model.specs.Run.{answered}
 use Rattle.ink_model.specs.Stack.{popped, pushed}
-use Rattle.ink_model.specs.Step.{effect}
+use Rattle.ink_model.specs.Step.{effect, gone_in, step, step_at}
 use Rattle.ink_model.specs.Step.Diverts.{where_true}
 use Rattle.ink_model.specs.Step.Host.{answering, arguments_on, call_bound, call_external, has_string, is_argument, with_arguments}
 use Rattle.ink_model.specs.Store.{Values}
-use Rattle.ink_model.specs.Tree.{StoryTree, leaf, container}
+use Rattle.ink_model.specs.Tree.{StoryTree, leaf, container, at}
 use Rattle.ink_model.specs.Value.{is_true}
 use Rattle.ink_model.specs.declared.content.Leaf.{Leaf}
 use Rattle.ink_model.specs.declared.content.Leaf.TheVariants as leaves
@@ -31,8 +31,9 @@ use Rattle.ink_step.specs.Steps.{StepEnds, StepMakes, Steps, wants}
 use Rattle.ink_step.specs.declared.flow.StepEnd.{StepEnd}
 use Rattle.ink_step.specs.declared.flow.StepEnd.TheVariants as ends
 use Rattle.ink_step.specs.declared.transfer.Transfer.{Transfer}
-use Rattle.ink_step.proofs.Follows.{ends_more, or_first, or_more}
-use Rattle.ink_step.proofs.Unasked.{wanted}
+use Rattle.ink_step.proofs.Follows.{ends_more, ends_unperformed, or_first, or_more}
+use Rattle.ink_step.proofs.Stopping.{broke}
+use Rattle.ink_step.proofs.Unasked.{other_acts, wanted}
 use Rattle.ink_tree.specs.declared.spot.Spot.{Spot}
 
 -- no content's effect is to be called
@@ -193,6 +194,22 @@ module _ (s : StoryTree) (b : Bound) (n : ℕ) (asking : Bool) (c d : Configurat
     makes (Ends f) es is h = other (Ends f) es refl h.0 (ended asking (Ends f) is h.1)
     makes (Fails g) es is h = other (Fails g) es refl h.0 (ended asking (Fails g) is h.1)
 
+err_same : (f g : Fault) → Err {A = Transfer} f ≡ Err g → f ≡ g
+err_same f g e = cc
+
+module _ (s : StoryTree) (b : Bound) (n : ℕ) (asking : Bool) (c d : Configuration) (new : Fields) (globals : Values) where
+  -- performing it faulted
+  pub makes_broken : (f : Fault) → d.shared.globals ≡ globals → (e : Effect) (es : List Event) → IsCall b e → PerformsCall s n asking e es new (Err f)
+      → StepMakes s b n ((asking || move_asks s e c) || following_asks s (move s e c)) (following s (move s e c)) es globals d (Err f)
+  makes_broken f same = makes s b n asking c d new globals (Err f) (Err f)
+      (λ asks e call performs. broke s _ (move s e c) globals d f (ends_unperformed s asks _ e new c d globals f performs same)) (λ is. (ap Err (err_same f OutOfMemory is), same))
+
+  -- flow went on from it
+  pub makes_ended : (t : Transfer) (r : Result StepEnd Fault) → ((asks : Bool) (e : Effect) → IsCall b e → Performs s asks e new (Ok t) → Ended s b n asking c d new globals (Ok t) r asks e)
+      → (e : Effect) (es : List Event) → IsCall b e → PerformsCall s n asking e es new (Ok t)
+      → StepMakes s b n ((asking || move_asks s e c) || following_asks s (move s e c)) (following s (move s e c)) es globals d r
+  makes_ended t r ended = makes s b n asking c d new globals (Ok t) r ended (λ is. absurd (cc))
+
 -- ---- a call that stands at a place
 
 module _ (s : StoryTree) (b : Bound) (p : List Part) (seen : Context) (f : Fields) where
@@ -229,3 +246,23 @@ module _ (s : StoryTree) (b : Bound) (p : List Part) (seen : Context) (f : Field
   found_call None k is = absurd (cc)
   found_call (Some (container name flags content named)) k is = absurd (cc)
   found_call (Some (leaf l)) k is = found_leaf l k is
+
+-- ---- whether a step wants a call
+
+module _ (s : StoryTree) (b : Bound) (p : List Part) (c : Configuration) (at_p : current_place c ≡ Some p) where
+  abbrev inside : Configuration
+  inside = gone_in s p c
+
+  abbrev Wanting : Option StoryTree → Bool
+  Wanting found = is_asking (effect s b (entered s p) found (context_of inside) (fields_of inside))
+
+  step_wants : wants (step s b c) ≡ Wanting (at s (entered s p))
+  unfolding step
+  step_wants = ap (λ o. wants (step_at s b o c)) at_p ∙ wanted s (effect s b (entered s p) (at s (entered s p)) (context_of inside) (fields_of inside)) inside
+
+  pub wants_none : (found : Option StoryTree) → found ≡ at s (entered s p) → external_in found ≡ None → false ≡ wants (step s b c)
+  wants_none found is other = sym (step_wants ∙ ap Wanting (sym is) ∙ other_acts s b (entered s p) found (context_of inside) (fields_of inside) other)
+
+  pub wants_call : (found : Option StoryTree) (k : Call) → found ≡ at s (entered s p) → external_in found ≡ Some k
+      → is_asking (call_external s b k.name k.arguments k.conditional (fields_of inside)) ≡ wants (step s b c)
+  wants_call found k is here = sym (step_wants ∙ ap Wanting (sym is) ∙ ap is_asking (found_call s b (entered s p) (context_of inside) (fields_of inside) found k here).0)
