@@ -1,15 +1,14 @@
 -- Laws of what happens between two states of a desk.
-use Rattle.std.proofs.Common.{◌≡◌, ◌∙◌, ap, refl, sym, subst, append_assoc, ℕ, List, [], ◌∷◌, ◌++◌, Bool, true, false, Option, Some, None, bytes_eq, if◌then◌else◌}
+use Rattle.std.proofs.Common.{◌≡◌, ◌∙◌, ap, refl, sym, subst, append_assoc, ℕ, List, [], ◌∷◌, ◌++◌, Bool, true, false, Option, Some, bytes_eq, if◌then◌else◌}
 use Rattle.std.proofs.lemmas.List.{append-nil}
 use Rattle.std.proofs.lemmas.Slice.Eq.{bytes_eq-Decides}
 use Rattle.std.specs.Option.{option_map}
 use Rattle.ink_model.specs.Events.{after, later}
-use Rattle.ink_model.specs.Host.{turn_function, pure_function}
 use Rattle.ink_model.specs.declared.host.Event.{Event}
 use Rattle.ink_model.specs.declared.host.Event.TheVariants.{Call, Saw}
 use Rattle.ink_model.specs.declared.host.Given.{Given}
 use Rattle.ink_model.specs.declared.value.Value.{Value}
-use Rattle.ink_host.specs.Desk.{DeskView, Grew, IsNumbered, Rows, among, at, bound_by, bound_in, by_log, called, called_by, each, grown, logs, names, pure_of, seen_by, stamp_of, told_of, watches}
+use Rattle.ink_host.specs.Desk.{DeskView, Grew, IsNumbered, Rows, among, at, bound_by, bound_in, by_log, called, called_by, each, grown, logs, names, pure_of, seen_by, told_of, watches}
 use Rattle.ink_host.specs.declared.objects.Bound.{Bound}
 use Rattle.ink_host.specs.declared.objects.Bound.TheVariants as bound
 use Rattle.ink_host.specs.declared.objects.Called.{Called}
@@ -32,7 +31,7 @@ called_by-append name (Call to arguments gave n ∷ es) fs = by (bytes_eq name t
   where
     by : (b : Bool) → called_by name (es ++ fs) ≡ called_by name es ++ called_by name fs
         → ◌≡◌ {A = List Called} (if b then (record { stamp = n; arguments = arguments; gave = gave }) ∷ called_by name (es ++ fs) else called_by name (es ++ fs))
-          ((if b then (record { stamp = n; arguments = arguments; gave = gave }) ∷ called_by name es else called_by name es) ++ called_by name fs)
+        ((if b then (record { stamp = n; arguments = arguments; gave = gave }) ∷ called_by name es else called_by name es) ++ called_by name fs)
     by true h = let one : Called = record { stamp = n; arguments = arguments; gave = gave } in ap (λ l. one ∷ l) h
     by false h = h
 called_by-append name (Saw of n v ∷ es) fs = called_by-append name es fs
@@ -44,7 +43,7 @@ seen_by-append name (Saw of n v ∷ es) fs = by (bytes_eq name of) (seen_by-appe
   where
     by : (b : Bool) → seen_by name (es ++ fs) ≡ seen_by name es ++ seen_by name fs
         → ◌≡◌ {A = List Seen} (if b then (record { stamp = n; name = of; value = v }) ∷ seen_by name (es ++ fs) else seen_by name (es ++ fs))
-          ((if b then (record { stamp = n; name = of; value = v }) ∷ seen_by name es else seen_by name es) ++ seen_by name fs)
+        ((if b then (record { stamp = n; name = of; value = v }) ∷ seen_by name es else seen_by name es) ++ seen_by name fs)
     by true h = let one : Seen = record { stamp = n; name = of; value = v } in ap (λ l. one ∷ l) h
     by false h = h
 
@@ -207,5 +206,5 @@ module _ {P T W : Type 0} (turn_log : T → List Called) (watch_log : W → List
       let kind : Option (Bound P T) → Option (Bound P (List Called)) = option_map (by_log turn_log) in
       let was : at name (logs turn_log a.functions) ≡ Some (bound.Turn (turn_log t)) = at-each (λ n b. by_log turn_log b) name a.functions ∙ ap kind h in
       let now : at name (logs turn_log a.functions) ≡ option_map (called es name) (at name (logs turn_log a.functions)) =
-        ap (at name) (ap (logs turn_log) (sym same) ∙ g.functions) ∙ at-each (called es) name (logs turn_log a.functions) in
+      ap (at name) (ap (logs turn_log) (sym same) ∙ g.functions) ∙ at-each (called es) name (logs turn_log a.functions) in
       more (turn_log t) name arguments gave n (sym was ∙ now ∙ ap (option_map (called es name)) was)
