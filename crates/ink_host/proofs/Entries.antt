@@ -1,8 +1,8 @@
 -- The entries of a map as rows.
-use Rattle.std.proofs.Common.{◌≡◌, ◌∙◌, ap, refl, sym, ℕ, List, [], ◌∷◌, ◌++◌, map, Bool, true, false, cond, is_some, Option, Some, None, IfSome, Result, Ok, Err, OnOk, OnErr, IfOk, subst, String, Global, string_bytes, bytes_eq, if◌then◌else◌}
+use Rattle.std.proofs.Common.{◌≡◌, ◌∙◌, ap, refl, sym, ℕ, List, [], ◌∷◌, ◌++◌, Bool, true, false, cond, is_some, Option, Some, None, IfSome, Result, Ok, Err, OnOk, OnErr, IfOk, subst, String, Global, string_bytes, bytes_eq, if◌then◌else◌}
 use Rattle.std.proofs.lemmas.List.{append-nil}
 use Rattle.std.proofs.lemmas.Slice.Eq.{bytes_eq-Decides}
-use Rattle.std.specs.Bool.{Decides, one_answer}
+use Rattle.std.specs.Bool.{one_answer}
 use Rattle.std.specs.Map.{keys_of, lookup, remove_entry, set_value}
 use Rattle.std.specs.List.{AllByRecursion, IsDistinct}
 use Rattle.std.specs.String.{string_eq}
@@ -11,7 +11,7 @@ use Rattle.ink_model.specs.declared.host.Event.{Event}
 use Rattle.ink_model.specs.declared.host.Event.TheVariants.{Call}
 use Rattle.ink_model.specs.declared.host.Given.{Given}
 use Rattle.ink_model.specs.declared.value.Value.{Value}
-use Rattle.ink_host.specs.Desk.{DeskView, Resting, Rows, among, at, by_log, called, called_by, each, logs, names, put, shown, without}
+use Rattle.ink_host.specs.Desk.{DeskView, Resting, Rows, among, at, by_log, called, each, logs, names, noting, put, shown, without}
 use Rattle.ink_host.specs.declared.objects.Bound.{Bound}
 use Rattle.ink_host.specs.declared.objects.Bound.TheVariants as bound
 use Rattle.ink_host.specs.declared.objects.Called.{Called}
@@ -140,55 +140,55 @@ module _ {P T : Type 0} (log : T → List Called) where
       ∙ ap (onto (string_bytes e.0) (called (Call name arguments gave n ∷ []) (string_bytes e.0) (by_log log e.1))) (others name key arguments gave n es same all.1)
 
   -- the function of the name is called
-  this : (name k : List ℕ) (arguments : List Value) (gave : Option Given) (n : ℕ) (t t' : T) → bytes_eq k name ≡ true
-      → log t' ≡ log t ++ (record { stamp = n; arguments = arguments; gave = gave }) ∷ []
-      → ◌≡◌ {A = Bound P (List Called)} (bound.Turn (log t')) (bound.Turn (log t ++ called_by k (Call name arguments gave n ∷ [])))
-  this name k arguments gave n t t' h more = by (bytes_eq k name) h
+  this : (name k : List ℕ) (arguments : List Value) (gave : Option Given) (n : ℕ) (b : Bound P (List Called)) → bytes_eq k name ≡ true
+      → noting (record { stamp = n; arguments = arguments; gave = gave }) b ≡ called (Call name arguments gave n ∷ []) k b
+  this name k arguments gave n (bound.Pure p) h = refl
+  this name k arguments gave n (bound.Turn l) h = by (bytes_eq k name) h
     where
-      by : (b : Bool) → b ≡ true → ◌≡◌ {A = Bound P (List Called)} (bound.Turn (log t')) (bound.Turn (log t ++ (if b then (record { stamp = n; arguments = arguments; gave = gave }) ∷ [] else [])))
-      by true e = ap (λ l. bound.Turn l) more
+      by : (b : Bool) → b ≡ true → ◌≡◌ {A = Bound P (List Called)} (bound.Turn (l ++ (record { stamp = n; arguments = arguments; gave = gave }) ∷ []))
+          (bound.Turn (l ++ (if b then (record { stamp = n; arguments = arguments; gave = gave }) ∷ [] else [])))
+      by true e = refl
       by false e = absurd (cc)
 
-  pub called-write : (name : List ℕ) (arguments : List Value) (gave : Option Given) (n : ℕ) (t t' : T) (es : List (String Global × Bound P T))
-      → IsDistinct string_eq (keys_of es) → lookup (λ k. bytes_eq name (string_bytes k)) es ≡ Some (bound.Turn t)
-      → log t' ≡ log t ++ (record { stamp = n; arguments = arguments; gave = gave }) ∷ []
-      → logs log (rows_of (set_value (λ k. bytes_eq name (string_bytes k)) es (bound.Turn t'))) ≡ each (called (Call name arguments gave n ∷ [])) (logs log (rows_of es))
+  pub called-write : (name : List ℕ) (arguments : List Value) (gave : Option Given) (n : ℕ) (b b' : Bound P T) (es : List (String Global × Bound P T))
+      → IsDistinct string_eq (keys_of es) → lookup (λ k. bytes_eq name (string_bytes k)) es ≡ Some b
+      → by_log log b' ≡ noting (record { stamp = n; arguments = arguments; gave = gave }) (by_log log b)
+      → logs log (rows_of (set_value (λ k. bytes_eq name (string_bytes k)) es b')) ≡ each (called (Call name arguments gave n ∷ [])) (logs log (rows_of es))
   unfolding IsDistinct
-  called-write name arguments gave n t t' [] apart h more = refl
-  called-write name arguments gave n t t' (e ∷ es) apart h more =
-      by (bytes_eq name (string_bytes e.0)) refl (λ k. called-write name arguments gave n t t' es apart.1 k more) h
+  called-write name arguments gave n b b' [] apart h more = refl
+  called-write name arguments gave n b b' (e ∷ es) apart h more =
+      by (bytes_eq name (string_bytes e.0)) refl (λ k. called-write name arguments gave n b b' es apart.1 k more) h
     where
-      by : (b : Bool) → bytes_eq name (string_bytes e.0) ≡ b
-          → (lookup (λ k. bytes_eq name (string_bytes k)) es ≡ Some (bound.Turn t)
-            → logs log (rows_of (set_value (λ k. bytes_eq name (string_bytes k)) es (bound.Turn t'))) ≡ each (called (Call name arguments gave n ∷ [])) (logs log (rows_of es)))
-          → cond b (Some e.1) (lookup (λ k. bytes_eq name (string_bytes k)) es) ≡ Some (bound.Turn t)
-          → logs log (rows_of (cond b ((e.0, bound.Turn t') ∷ es) (e ∷ set_value (λ k. bytes_eq name (string_bytes k)) es (bound.Turn t'))))
+      by : (yes : Bool) → bytes_eq name (string_bytes e.0) ≡ yes
+          → (lookup (λ k. bytes_eq name (string_bytes k)) es ≡ Some b
+          → logs log (rows_of (set_value (λ k. bytes_eq name (string_bytes k)) es b')) ≡ each (called (Call name arguments gave n ∷ [])) (logs log (rows_of es)))
+          → cond yes (Some e.1) (lookup (λ k. bytes_eq name (string_bytes k)) es) ≡ Some b
+          → logs log (rows_of (cond yes ((e.0, b') ∷ es) (e ∷ set_value (λ k. bytes_eq name (string_bytes k)) es b')))
           ≡ each (called (Call name arguments gave n ∷ [])) (logs log (rows_of (e ∷ es)))
       by true is rest k =
-          let same : ◌≡◌ {A = Bound P T} (bound.Turn t) e.1 = cc in
+          let same : b ≡ e.1 = cc in
           let key : name ≡ string_bytes e.0 = (bytes_eq-Decides name (string_bytes e.0)).0 is in
-          ap (λ rows. onto (string_bytes e.0) (bound.Turn (log t')) rows) (others name e.0 arguments gave n es key apart.0)
+          ap (λ rows. onto (string_bytes e.0) (by_log log b') rows) (others name e.0 arguments gave n es key apart.0)
           ∙ ap (λ b. onto (string_bytes e.0) b (each (called (Call name arguments gave n ∷ [])) (logs log (rows_of es))))
-            (this name (string_bytes e.0) arguments gave n t t' (bytes_eq-sym (string_bytes e.0) name ∙ is) more
-            ∙ ap (λ b. called (Call name arguments gave n ∷ []) (string_bytes e.0) (by_log log b)) same)
+          (more ∙ this name (string_bytes e.0) arguments gave n (by_log log b) (bytes_eq-sym (string_bytes e.0) name ∙ is)
+          ∙ ap (λ b. called (Call name arguments gave n ∷ []) (string_bytes e.0) (by_log log b)) same)
       by false is rest k =
-          ap (λ b. onto (string_bytes e.0) b (logs log (rows_of (set_value (λ k. bytes_eq name (string_bytes k)) es (bound.Turn t')))))
-            (other name (string_bytes e.0) arguments gave n (by_log log e.1) (bytes_eq-sym (string_bytes e.0) name ∙ is))
+          ap (λ b. onto (string_bytes e.0) b (logs log (rows_of (set_value (λ k. bytes_eq name (string_bytes k)) es b'))))
+          (other name (string_bytes e.0) arguments gave n (by_log log e.1) (bytes_eq-sym (string_bytes e.0) name ∙ is))
           ∙ ap (onto (string_bytes e.0) (called (Call name arguments gave n ∷ []) (string_bytes e.0) (by_log log e.1))) (rest k)
 
-  pub quiet-write : (name : List ℕ) (t t' : T) (es : List (String Global × Bound P T))
-      → lookup (λ k. bytes_eq name (string_bytes k)) es ≡ Some (bound.Turn t) → log t' ≡ log t
-      → logs log (rows_of (set_value (λ k. bytes_eq name (string_bytes k)) es (bound.Turn t'))) ≡ logs log (rows_of es)
-  quiet-write name t t' [] h more = refl
-  quiet-write name t t' (e ∷ es) h more = by (bytes_eq name (string_bytes e.0)) (λ k. quiet-write name t t' es k more) h
+  pub quiet-write : (name : List ℕ) (b b' : Bound P T) (es : List (String Global × Bound P T))
+      → lookup (λ k. bytes_eq name (string_bytes k)) es ≡ Some b → by_log log b' ≡ by_log log b
+      → logs log (rows_of (set_value (λ k. bytes_eq name (string_bytes k)) es b')) ≡ logs log (rows_of es)
+  quiet-write name b b' [] h more = refl
+  quiet-write name b b' (e ∷ es) h more = by (bytes_eq name (string_bytes e.0)) (λ k. quiet-write name b b' es k more) h
     where
-      by : (b : Bool)
-          → (lookup (λ k. bytes_eq name (string_bytes k)) es ≡ Some (bound.Turn t)
-            → logs log (rows_of (set_value (λ k. bytes_eq name (string_bytes k)) es (bound.Turn t'))) ≡ logs log (rows_of es))
-          → cond b (Some e.1) (lookup (λ k. bytes_eq name (string_bytes k)) es) ≡ Some (bound.Turn t)
-          → logs log (rows_of (cond b ((e.0, bound.Turn t') ∷ es) (e ∷ set_value (λ k. bytes_eq name (string_bytes k)) es (bound.Turn t')))) ≡ logs log (rows_of (e ∷ es))
+      by : (yes : Bool)
+          → (lookup (λ k. bytes_eq name (string_bytes k)) es ≡ Some b
+          → logs log (rows_of (set_value (λ k. bytes_eq name (string_bytes k)) es b')) ≡ logs log (rows_of es))
+          → cond yes (Some e.1) (lookup (λ k. bytes_eq name (string_bytes k)) es) ≡ Some b
+          → logs log (rows_of (cond yes ((e.0, b') ∷ es) (e ∷ set_value (λ k. bytes_eq name (string_bytes k)) es b'))) ≡ logs log (rows_of (e ∷ es))
       by true rest k =
-          let same : ◌≡◌ {A = Bound P T} (bound.Turn t) e.1 = cc in
-          let row : Bound P (List Called) → Rows (Bound P (List Called)) = λ b. (string_bytes e.0, b) ∷ logs log (rows_of es) in
-          ap (λ l. row (bound.Turn l)) more ∙ ap (λ b. row (by_log log b)) same
-      by false rest k = ap (λ rows. (string_bytes e.0, by_log log e.1) ∷ rows) (rest k)
+          let same : b ≡ e.1 = cc in
+          ap (λ b. onto (string_bytes e.0) b (logs log (rows_of es))) (more ∙ ap (by_log log) same)
+      by false rest k = ap (λ rows. onto (string_bytes e.0) (by_log log e.1) rows) (rest k)

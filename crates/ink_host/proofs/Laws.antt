@@ -1,15 +1,14 @@
 -- Laws of what happens between two states of a desk.
-use Rattle.std.proofs.Common.{◌≡◌, ◌∙◌, ap, refl, sym, subst, append_assoc, ℕ, List, [], ◌∷◌, ◌++◌, Bool, true, false, Option, Some, None, bytes_eq, if◌then◌else◌}
+use Rattle.std.proofs.Common.{◌≡◌, ◌∙◌, ap, refl, sym, subst, append_assoc, ℕ, List, [], ◌∷◌, ◌++◌, Bool, true, false, Option, Some, bytes_eq, if◌then◌else◌}
 use Rattle.std.proofs.lemmas.List.{append-nil}
 use Rattle.std.proofs.lemmas.Slice.Eq.{bytes_eq-Decides}
 use Rattle.std.specs.Option.{option_map}
 use Rattle.ink_model.specs.Events.{after, later}
-use Rattle.ink_model.specs.Host.{turn_function, pure_function}
 use Rattle.ink_model.specs.declared.host.Event.{Event}
 use Rattle.ink_model.specs.declared.host.Event.TheVariants.{Call, Saw}
 use Rattle.ink_model.specs.declared.host.Given.{Given}
 use Rattle.ink_model.specs.declared.value.Value.{Value}
-use Rattle.ink_host.specs.Desk.{DeskView, Grew, IsNumbered, Rows, among, at, bound_by, bound_in, by_log, called, called_by, each, grown, logs, names, pure_of, seen_by, stamp_of, told_of, watches}
+use Rattle.ink_host.specs.Desk.{DeskView, Grew, IsNumbered, Rows, among, at, bound_by, bound_in, by_log, called, called_by, each, grown, logs, names, pure_of, seen_by, told_of, watches}
 use Rattle.ink_host.specs.declared.objects.Bound.{Bound}
 use Rattle.ink_host.specs.declared.objects.Bound.TheVariants as bound
 use Rattle.ink_host.specs.declared.objects.Called.{Called}
@@ -32,7 +31,7 @@ called_by-append name (Call to arguments gave n ∷ es) fs = by (bytes_eq name t
   where
     by : (b : Bool) → called_by name (es ++ fs) ≡ called_by name es ++ called_by name fs
         → ◌≡◌ {A = List Called} (if b then (record { stamp = n; arguments = arguments; gave = gave }) ∷ called_by name (es ++ fs) else called_by name (es ++ fs))
-          ((if b then (record { stamp = n; arguments = arguments; gave = gave }) ∷ called_by name es else called_by name es) ++ called_by name fs)
+        ((if b then (record { stamp = n; arguments = arguments; gave = gave }) ∷ called_by name es else called_by name es) ++ called_by name fs)
     by true h = let one : Called = record { stamp = n; arguments = arguments; gave = gave } in ap (λ l. one ∷ l) h
     by false h = h
 called_by-append name (Saw of n v ∷ es) fs = called_by-append name es fs
@@ -44,9 +43,13 @@ seen_by-append name (Saw of n v ∷ es) fs = by (bytes_eq name of) (seen_by-appe
   where
     by : (b : Bool) → seen_by name (es ++ fs) ≡ seen_by name es ++ seen_by name fs
         → ◌≡◌ {A = List Seen} (if b then (record { stamp = n; name = of; value = v }) ∷ seen_by name (es ++ fs) else seen_by name (es ++ fs))
-          ((if b then (record { stamp = n; name = of; value = v }) ∷ seen_by name es else seen_by name es) ++ seen_by name fs)
+        ((if b then (record { stamp = n; name = of; value = v }) ∷ seen_by name es else seen_by name es) ++ seen_by name fs)
     by true h = let one : Seen = record { stamp = n; name = of; value = v } in ap (λ l. one ∷ l) h
     by false h = h
+
+pub pushed : (b : Bool) (new xs ys : List Event) (e : Event) → new ≡ (if b then xs ++ e ∷ [] else xs) → b ≡ true → xs ≡ ys → new ≡ ys ++ e ∷ []
+pushed true new xs ys e h is same = h ∙ ap (λ zs. zs ++ e ∷ []) same
+pushed false new xs ys e h is same = absurd (cc)
 
 -- ---- rows
 
@@ -120,6 +123,19 @@ told-told es fs (r ∷ rows) =
     ap (λ l. heard r.0 l (grown fs (grown es rows))) (append_assoc r.1 (seen_by r.0 es) (seen_by r.0 fs) ∙ ap (λ m. r.1 ++ m) (sym (seen_by-append r.0 es fs)))
     ∙ ap (heard r.0 (r.1 ++ seen_by r.0 (es ++ fs))) (told-told es fs rows)
 
+longer : (l : List Called) (c : Called) → l ≡ l ++ c ∷ [] → ⊥
+longer [] c h = absurd (cc)
+longer (d ∷ l) c h = longer l c (cc)
+
+more : {P : Type 0} (l : List Called) (name : List ℕ) (arguments : List Value) (gave : Option Given) (n : ℕ)
+    → ◌≡◌ {A = Option (Bound P (List Called))} (Some (bound.Turn l)) (Some (bound.Turn (l ++ called_by name (Call name arguments gave n ∷ [])))) → ⊥
+more {P} l name arguments gave n h = by (bytes_eq name name) ((bytes_eq-Decides name name).1 refl) h
+  where
+    by : (b : Bool) → b ≡ true
+        → ◌≡◌ {A = Option (Bound P (List Called))} (Some (bound.Turn l)) (Some (bound.Turn (l ++ (if b then (record { stamp = n; arguments = arguments; gave = gave }) ∷ [] else [])))) → ⊥
+    by true is k = let one : Called = record { stamp = n; arguments = arguments; gave = gave } in longer l one (cc)
+    by false is k = absurd (cc)
+
 -- ---- growing
 
 module _ {P T W : Type 0} (turn_log : T → List Called) (watch_log : W → List Seen) where
@@ -181,3 +197,14 @@ module _ {P T W : Type 0} (turn_log : T → List Called) (watch_log : W → List
     functions = functions ∙ uncalled (logs turn_log a.functions);
     watchers = untold (each (λ n w. watch_log w) a.watchers);
   }
+
+  -- A call that happened was made: no function can be left as it was.
+  pub not-uncalled : (a b : DeskView P T W) (name : List ℕ) (t : T) (arguments : List Value) (gave : Option Given) (n : ℕ)
+      → at name a.functions ≡ Some (bound.Turn t) → b.functions ≡ a.functions → Grew turn_log watch_log a (Call name arguments gave n ∷ []) b → ⊥
+  not-uncalled a b name t arguments gave n h same g =
+      let es : List Event = Call name arguments gave n ∷ [] in
+      let kind : Option (Bound P T) → Option (Bound P (List Called)) = option_map (by_log turn_log) in
+      let was : at name (logs turn_log a.functions) ≡ Some (bound.Turn (turn_log t)) = at-each (λ n b. by_log turn_log b) name a.functions ∙ ap kind h in
+      let now : at name (logs turn_log a.functions) ≡ option_map (called es name) (at name (logs turn_log a.functions)) =
+      ap (at name) (ap (logs turn_log) (sym same) ∙ g.functions) ∙ at-each (called es) name (logs turn_log a.functions) in
+      more (turn_log t) name arguments gave n (sym was ∙ now ∙ ap (option_map (called es name)) was)

@@ -1,2 +1,3 @@
+pub mod Callers
 pub mod Entries
 pub mod Laws

@@ -1,5 +1,5 @@
 -- The desk, as contracts see it: what is bound and who watches, by name, and what happened (docs/HOST.md).
-use Rattle.std.specs.Prelude.{◌≡◌, ℕ, List, [], ◌∷◌, ◌++◌, map, Bool, true, false, bytes_eq, Option, Some, None, is_some, if◌then◌else◌}
+use Rattle.std.specs.Prelude.{◌≡◌, ℕ, List, [], ◌∷◌, ◌++◌, map, Bool, true, false, bytes_eq, Option, Some, None, if◌then◌else◌}
 use Rattle.std.specs.Option.{option_map}
 use Rattle.ink_model.specs.Events.{after, later}
 use Rattle.ink_model.specs.Host as host
@@ -139,6 +139,11 @@ by_log log (bound.Turn t) = bound.Turn (log t)
 
 abbrev pub logs : {P T : Type 0} → (T → List Called) → Rows (Bound P T) → Rows (Bound P (List Called))
 logs log rows = each (λ n b. by_log log b) rows
+
+-- a turn function notes one call more
+abbrev pub noting : {P : Type 0} → Called → Bound P (List Called) → Bound P (List Called)
+noting c (bound.Pure p) = bound.Pure p
+noting c (bound.Turn log) = bound.Turn (log ++ c ∷ [])
 
 -- a function after these events, by its name
 abbrev pub called : {P : Type 0} → List Event → List ℕ → Bound P (List Called) → Bound P (List Called)

@@ -4,7 +4,7 @@ use Rattle.std.specs.List.{list_all}
 use Rattle.ink_model.specs.Events.{after}
 use Rattle.ink_model.specs.declared.host.Event.{Event}
 use Rattle.ink_model.specs.declared.host.Event.TheVariants.{Saw}
-use Rattle.ink_host.specs.declared.telling.Change.{Change}
+use Rattle.ink_model.specs.declared.host.Change.{Change}
 
 -- the changes that were told, of those with answers
 abbrev pub saws : ℕ → List Change → List Bool → List Event

@@ -5,7 +5,7 @@ ghost use Rattle.ink_model.specs.Events as events;
 ghost use Rattle.ink_model.specs.declared.host.Event.TheVariants as event;
 ghost use Rattle.ink_model.specs.declared.host.Given.{Given as Answer};
 ghost use Rattle.ink_model.specs.declared.host.HostFault.TheVariants as fault;
-ghost use Rattle.ink_host.specs.Desk.{answer_of, at, called, each, logs, put, shown};
+ghost use Rattle.ink_host.specs.Desk.{answer_of, at, by_log, called, each, logs, noting, put, shown};
 ghost use Rattle.ink_host.specs.declared.objects.Bound.TheVariants as bound;
 
 use crate::objects::{Bound, PureFn, TurnFn};
@@ -68,9 +68,25 @@ pub(crate) fn call_at<P, T: TurnFn>(
     ensures memory { result ≡ Err fault.OutOfMemory → logs T.log (shown string_bytes (λ b. b) functions.new.entries) ≡ logs T.log (shown string_bytes (λ b. b) functions.old.entries) }
 {
     match functions.get_mut(name) {
-        Some(Bound::Turn(function)) => function.call(stamp, arguments),
-        Some(Bound::Pure(_)) => unreachable!(),
+        Some(object) => call_bound(object, stamp, arguments),
         None => unreachable!(),
+    }
+}
+
+// Calls a turn function.
+fn call_bound<P, T: TurnFn>(
+    object: &mut Bound<P, T>,
+    stamp: u64,
+    arguments: &[Value],
+) -> Result<Given, HostFault>
+    requires { (t : T) × (object.old ≡ bound.Turn t) }
+    ensures answer { (g : Answer) → result ≡ Ok g → by_log T.log object.new ≡ noting (record { stamp = stamp; arguments = arguments.now; gave = Some g }) (by_log T.log object.old) }
+    ensures refused { result ≡ Err fault.Refused → by_log T.log object.new ≡ noting (record { stamp = stamp; arguments = arguments.now; gave = None }) (by_log T.log object.old) }
+    ensures memory { result ≡ Err fault.OutOfMemory → by_log T.log object.new ≡ by_log T.log object.old }
+{
+    match object {
+        Bound::Turn(function) => function.call(stamp, arguments),
+        Bound::Pure(_) => unreachable!(),
     }
 }
 

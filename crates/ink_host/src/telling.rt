@@ -7,14 +7,7 @@ ghost use Rattle.ink_host.specs.Telling.{OncePerName, Tells};
 
 use crate::desk::Desk;
 use crate::objects::{TurnFn, Watcher};
-use ink_model::{Text, Value};
-
-/// A global that has a new value.
-#[derive(Drop)]
-pub struct Change {
-    pub name: Text,
-    pub value: Value,
-}
+use ink_model::Change;
 
 /// Why not all changes were told: there was no room for them, and nobody was told anything, or a watcher was refused memory.
 #[derive(Clone, Copy, Debug, PartialEq, Eq)]

@@ -30,3 +30,5 @@ pub mod Offered
 pub mod Shows
 pub mod Chosen
 pub mod Unasked
+pub mod Makes
+pub mod Calls

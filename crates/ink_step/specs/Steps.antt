@@ -36,14 +36,13 @@ abbrev pub wants : Outcome → Bool
 wants (Wants name arguments f d) = true
 wants outcome = false
 
--- The same of a step that may call turn functions. Where the outcome wants one, that is bound to one, and it was called once, and
--- the step ends as with what it gave; or memory was refused before that, and nothing was called. The events of the step count
--- on from a stamp.
+-- The same of a step that may call turn functions. Where the outcome wants one, the name is bound to one, which was called once,
+-- and the step ends as with what it gave; or memory was refused before that, and nothing was called. The events of the step
+-- count on from a stamp.
 abbrev pub StepMakes : StoryTree → Bound → ℕ → Bool → Outcome → List Event → Values → Configuration → Result StepEnd Fault → Type 0
 StepMakes s b n asks (Wants name arguments f d) es globals new result =
-    (b name ≡ Some turn_function)
-    × (((gave : Option Given) × (es ≡ calls n (made_call name arguments gave ∷ [])) × StepEnds (is_some gave) (answered s f d gave) globals new result)
-    ⊎ ((es ≡ []) × (result ≡ Err OutOfMemory) × (asks ≡ true) × (new.shared.globals ≡ globals)))
+    ((gave : Option Given) × (b name ≡ Some turn_function) × (es ≡ calls n (made_call name arguments gave ∷ [])) × StepEnds (is_some gave) (answered s f d gave) globals new result)
+    ⊎ ((es ≡ []) × (result ≡ Err OutOfMemory) × (asks ≡ true) × (new.shared.globals ≡ globals))
 StepMakes s b n asks outcome es globals new result = (es ≡ []) × StepEnds asks outcome globals new result
 
 -- A quiet step calls none: where its outcome wants one, it says so and has changed nothing.

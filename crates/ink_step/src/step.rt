@@ -15,6 +15,7 @@ ghost use Rattle.ink_model.specs.MoveMemory.{landed_asks, move_asks, moved_asks,
 ghost use Rattle.ink_model.specs.Place.{next_place};
 ghost use Rattle.ink_model.specs.Step.{control_effect, effect, leaf_effect, step};
 ghost use Rattle.ink_model.specs.Step.Host.{call_external};
+ghost use Rattle.ink_model.specs.Store.{Values};
 ghost use Rattle.ink_model.specs.Threads.{frame_count};
 ghost use Rattle.ink_model.specs.Tree.{StoryTree, at, leaf};
 ghost use Rattle.ink_model.specs.View.{view};
@@ -27,6 +28,7 @@ ghost use Rattle.ink_step.specs.Words.{config_of};
 ghost use Rattle.ink_step.specs.declared.flow.StepEnd.TheVariants.{WantsCall};
 ghost use Rattle.ink_step.specs.declared.machine.Machine.{Machine as Before};
 ghost use Rattle.ink_tree.specs.Nodes.{place_of};
+ghost use Rattle.ink_vars.specs.Changes.{Tracks};
 
 use crate::diverting::divert;
 use crate::external;
@@ -64,6 +66,7 @@ impl Machine {
         ensures watchers { desk.new.watchers ≡ desk.old.watchers }
         ensures machine { result ≡ Ok WantsCall → self.new ≡ self.old }
         ensures desk { result ≡ Ok WantsCall → desk.new ≡ desk.old }
+        ensures tracks { (start : Values) → Tracks start self.old.changes self.old.globals → Tracks start self.new.changes self.new.globals }
     {
         let Some(place) = self.threads.place() else {
             return Ok(StepEnd::Stopped);

@@ -66,7 +66,7 @@ pub fn told_between<P: PureFn, T: TurnFn, W: Watcher>(
 
 /// Whether there was no value, or another one.
 fn is_other(was: Option<&Value>, value: &Value) -> bool
-    ensures { result ≡ is_other (option_map (λ v. v.now) was) value.now }
+    ensures { result ≡ is_other (option_map (λ v. v.now) was.entry) value.now }
 {
     match was {
         Some(was) => !same_value(was, value),

@@ -1,4 +1,4 @@
-use Rattle.std.proofs.Common.{◌∙◌, ap, sym, bytes_eq, string_bytes}
+use Rattle.std.proofs.Common.{◌∙◌, ap, string_bytes}
 use Rattle.ink_host.specs.Desk.{at, put}
 use Rattle.ink_host.proofs.Entries.{found, kept, rows_of}
 use Rattle.ink_host.proofs.rows.keep.Goals as goal

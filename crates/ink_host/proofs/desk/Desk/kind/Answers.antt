@@ -10,7 +10,7 @@ returns-in-None g c =
 
 pub returns-in-Some-Pure : goal.returns-in-Some-Pure
 returns-in-Some-Pure g c =
-    ap (λ b. option_map kind_of (Some b)) (sym c.in-Some-Pure.field-0-is) ∙ 
+    ap (λ b. option_map kind_of (Some b)) (sym c.in-Some-Pure.field-0-is) ∙
     ap (option_map kind_of) (c.in-Some-Pure.ensures.value ∙ found c.args.name.now c.self.inside.functions.entries ∙ ap (λ d. at c.args.name.now d.functions) c.self.view_is)
 
 pub returns-in-Some-Turn : goal.returns-in-Some-Turn

@@ -10,5 +10,5 @@ returns-clause-old g c =
 pub returns-clause-left : goal.returns-clause-left
 returns-clause-left g c =
     ap (λ rows. desk_of rows (rows_of c.self.inside.watchers.entries) c.self.inside.events.items c.self.inside.next)
-      (ap rows_of c.shift_remove.ensures.entries ∙ removed c.args.name.now c.self.inside.functions.entries)
+    (ap rows_of c.shift_remove.ensures.entries ∙ removed c.args.name.now c.self.inside.functions.entries)
     ∙ ap (λ d. desk_of (without c.args.name.now d.functions) d.watchers d.events d.next) c.self.view_is
