@@ -1,5 +1,5 @@
 -- Whether a step asks for memory (docs/RUNNING.md, "Out of memory").
-use Rattle.std.specs.Prelude.{ℕ, List, [], reverse, Bool, true, false, not, ◌||◌, Option, Some, None, Result, Ok, Err, is_ok}
+use Rattle.std.specs.Prelude.{ℕ, List, [], reverse, Bool, true, false, not, ◌&&◌, ◌||◌, if◌then◌else◌, Option, Some, None, Result, Ok, Err, is_ok}
 use Rattle.ink_model.specs.Acceptance.{lands, leads}
 use Rattle.ink_model.specs.Choices.{make}
 use Rattle.ink_model.specs.Choosing.{following_asks}
@@ -15,10 +15,13 @@ use Rattle.ink_model.specs.Path.{above}
 use Rattle.ink_model.specs.Place.{entered}
 use Rattle.ink_model.specs.Stack.{popped, taken}
 use Rattle.ink_model.specs.Step.{effect, gone_in}
+use Rattle.ink_model.specs.Host.{Binding, Bound, turn_function, pure_function}
 use Rattle.ink_model.specs.Step.Choices.{was_visited}
+use Rattle.ink_model.specs.Step.Host.{arguments_on, has_string, is_argument}
+use Rattle.std.specs.List.{list_all}
 use Rattle.ink_model.specs.Step.Counts.{visits_at}
 use Rattle.ink_model.specs.Tree.{StoryTree, leaf, container, at}
-use Rattle.ink_model.specs.Value.{printed}
+use Rattle.ink_model.specs.Value.{is_true, printed}
 use Rattle.ink_model.specs.VariableMemory.{assign_asks, declare_asks, on_popped}
 use Rattle.ink_model.specs.Variables.{read}
 use Rattle.ink_model.specs.Visits.{adds_rows}
@@ -95,52 +98,76 @@ control_asks s p seen control.Turns f = false
 control_asks s p seen control.ReadCount f = false
 control_asks s p seen control.Visit f = visit_asks s seen (above (reverse p))
 
-abbrev pub leaf_asks : StoryTree → List Part → Context → Leaf → Fields → Bool
-leaf_asks s p seen (leaves.Text t) f = true
-leaf_asks s p seen leaves.Newline f = f.evaluating || not (is_fresh f)
-leaf_asks s p seen leaves.Glue f = not f.evaluating
-leaf_asks s p seen (leaves.Int z) f = f.evaluating
-leaf_asks s p seen (leaves.Bool b) f = f.evaluating
-leaf_asks s p seen leaves.Void f = f.evaluating
-leaf_asks s p seen (leaves.Target text) f = f.evaluating
-leaf_asks s p seen (leaves.Control o) f = control_asks s p seen o f
-leaf_asks s p seen (leaves.Op o) f = operator_asks o (taken (takes o) f.stack [])
-leaf_asks s p seen (leaves.Declare name) f = on_popped (popped f.stack) (declare_asks f.globals seen.thread Global name)
-leaf_asks s p seen (leaves.Assign name) f = on_popped (popped f.stack) (assign_asks f.globals seen.thread name)
-leaf_asks s p seen (leaves.Variable name) f = is_ok (read f.globals seen.thread name)
-leaf_asks s p seen (leaves.Divert to conditional) f = false
-leaf_asks s p seen (leaves.Pointer name frame) f = f.evaluating
-leaf_asks s p seen (leaves.Call to conditional) f = false
-leaf_asks s p seen (leaves.Tunnel to conditional) f = false
-leaf_asks s p seen (leaves.External name arguments conditional) f = false
-leaf_asks s p seen (leaves.DeclareTemp name) f = on_popped (popped f.stack) (declare_asks f.globals seen.thread Temporary name)
-leaf_asks s p seen (leaves.AssignTemp name) f = on_popped (popped f.stack) (assign_asks f.globals seen.thread name)
-leaf_asks s p seen (leaves.Count text) f = visit_asks s seen (leads s p text)
-leaf_asks s p seen (leaves.Choice text flags) f = offer_asks s p seen text flags f (lands s p text)
+-- the arguments of a call are there, and of the right kinds
+abbrev pub takes_arguments : Option (List Value × List Value) → Bool
+takes_arguments None = false
+takes_arguments (Some r) = list_all is_argument r.0
 
-abbrev pub content_asks : StoryTree → List Part → Option StoryTree → Context → Fields → Bool
-content_asks s p None seen f = false
-content_asks s p (Some (container name flags content named)) seen f = false
-content_asks s p (Some (leaf l)) seen f = leaf_asks s p seen l f
+-- a turn function is called, or a pure one asked
+abbrev pub binding_asks : Option Binding → ℕ → Fields → Bool
+binding_asks None n f = false
+binding_asks (Some turn_function) n f = not (has_string f.page.sections) && takes_arguments (arguments_on n f.stack)
+binding_asks (Some (pure_function answers)) n f = takes_arguments (arguments_on n f.stack)
+
+-- where a condition is true
+abbrev pub so_where : Result Bool Fault → Bool → Bool
+so_where (Ok wanted) so = wanted && so
+so_where (Err f) so = false
+
+abbrev pub where_popped : Option (Value × List Value) → (List Value → Bool) → Bool
+where_popped None so = false
+where_popped (Some r) so = so_where (is_true r.0) (so r.1)
+
+abbrev pub external_asks : Option Binding → ℕ → Bool → Fields → Bool
+external_asks b n conditional f =
+    if conditional then where_popped (popped f.stack) (λ left. binding_asks b n (record f { stack = left })) else binding_asks b n f
+
+abbrev pub leaf_asks : StoryTree → Bound → List Part → Context → Leaf → Fields → Bool
+leaf_asks s b p seen (leaves.Text t) f = true
+leaf_asks s b p seen leaves.Newline f = f.evaluating || not (is_fresh f)
+leaf_asks s b p seen leaves.Glue f = not f.evaluating
+leaf_asks s b p seen (leaves.Int z) f = f.evaluating
+leaf_asks s b p seen (leaves.Bool truth) f = f.evaluating
+leaf_asks s b p seen leaves.Void f = f.evaluating
+leaf_asks s b p seen (leaves.Target text) f = f.evaluating
+leaf_asks s b p seen (leaves.Control o) f = control_asks s p seen o f
+leaf_asks s b p seen (leaves.Op o) f = operator_asks o (taken (takes o) f.stack [])
+leaf_asks s b p seen (leaves.Declare name) f = on_popped (popped f.stack) (declare_asks f.globals seen.thread Global name)
+leaf_asks s b p seen (leaves.Assign name) f = on_popped (popped f.stack) (assign_asks f.globals seen.thread name)
+leaf_asks s b p seen (leaves.Variable name) f = is_ok (read f.globals seen.thread name)
+leaf_asks s b p seen (leaves.Divert to conditional) f = false
+leaf_asks s b p seen (leaves.Pointer name frame) f = f.evaluating
+leaf_asks s b p seen (leaves.Call to conditional) f = false
+leaf_asks s b p seen (leaves.Tunnel to conditional) f = false
+leaf_asks s b p seen (leaves.External name arguments conditional) f = external_asks (b name) arguments conditional f
+leaf_asks s b p seen (leaves.DeclareTemp name) f = on_popped (popped f.stack) (declare_asks f.globals seen.thread Temporary name)
+leaf_asks s b p seen (leaves.AssignTemp name) f = on_popped (popped f.stack) (assign_asks f.globals seen.thread name)
+leaf_asks s b p seen (leaves.Count text) f = visit_asks s seen (leads s p text)
+leaf_asks s b p seen (leaves.Choice text flags) f = offer_asks s p seen text flags f (lands s p text)
+
+abbrev pub content_asks : StoryTree → Bound → List Part → Option StoryTree → Context → Fields → Bool
+content_asks s b p None seen f = false
+content_asks s b p (Some (container name flags content named)) seen f = false
+content_asks s b p (Some (leaf l)) seen f = leaf_asks s b p seen l f
 
 -- performing what stands at a place asks for memory, or where flow goes after it
-abbrev pub performing_asks : StoryTree → List Part → Option StoryTree → Configuration → Bool
-performing_asks s p found c =
-    content_asks s p found (context_of c) (fields_of c) || move_asks s (effect s p found (context_of c) (fields_of c)) c
+abbrev pub performing_asks : StoryTree → Bound → List Part → Option StoryTree → Configuration → Bool
+performing_asks s b p found c =
+    content_asks s b p found (context_of c) (fields_of c) || move_asks s (effect s b p found (context_of c) (fields_of c)) c
 
 -- so does going in, where that is a container's first visit
 abbrev pub going_in_asks : StoryTree → List Part → Configuration → Bool
 going_in_asks s p c = adds_rows s (passed_places s p) c.shared.counts
 
 -- and following a choice, where flow stops so
-abbrev pub stopping_asks : StoryTree → List Part → Option StoryTree → Configuration → Bool
-stopping_asks s p found c = following_asks s (move s (effect s p found (context_of c) (fields_of c)) c)
+abbrev pub stopping_asks : StoryTree → Bound → List Part → Option StoryTree → Configuration → Bool
+stopping_asks s b p found c = following_asks s (move s (effect s b p found (context_of c) (fields_of c)) c)
 
-abbrev pub asks_at : StoryTree → Option (List Part) → Configuration → Bool
-asks_at s None c = false
-asks_at s (Some p) c = going_in_asks s p c
-    || (performing_asks s (entered s p) (at s (entered s p)) (gone_in s p c) || stopping_asks s (entered s p) (at s (entered s p)) (gone_in s p c))
+abbrev pub asks_at : StoryTree → Bound → Option (List Part) → Configuration → Bool
+asks_at s b None c = false
+asks_at s b (Some p) c = going_in_asks s p c
+    || (performing_asks s b (entered s p) (at s (entered s p)) (gone_in s p c) || stopping_asks s b (entered s p) (at s (entered s p)) (gone_in s p c))
 
 -- the step at a configuration asks for memory
-unfoldable pub asks : StoryTree → Configuration → Bool
-asks s c = asks_at s (current_place c) c
+unfoldable pub asks : StoryTree → Bound → Configuration → Bool
+asks s b c = asks_at s b (current_place c) c

@@ -46,7 +46,7 @@ stopped_by s (Some choice) c = Next (entering_around s (taken_up choice c))
 abbrev pub following : StoryTree → Outcome → Outcome
 following s (Stop c) = stopped_by s (default_choice c.flow.choices) c
 following s (Next c) = Next c
-following s (Wants name arguments c) = Wants name arguments c
+following s (Wants name arguments f c) = Wants name arguments f c
 following s (Faults f) = Faults f
 
 abbrev pub default_asks : StoryTree → Option (ChoiceOf (List Part)) → Configuration → Bool
@@ -57,7 +57,7 @@ default_asks s (Some choice) c = entering_asks s (taken_up choice c)
 abbrev pub following_asks : StoryTree → Outcome → Bool
 following_asks s (Stop c) = default_asks s (default_choice c.flow.choices) c
 following_asks s (Next c) = false
-following_asks s (Wants name arguments c) = false
+following_asks s (Wants name arguments f c) = false
 following_asks s (Faults f) = false
 
 -- ---- for a host

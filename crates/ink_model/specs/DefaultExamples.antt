@@ -1,6 +1,7 @@
 -- Invisible defaults that are followed where flow stops, each proved by computation (docs/RUNNING.md, "Stops").
 use Rattle.std.specs.Prelude.{◌≡◌, ℕ, List, [], ◌∷◌, ◌++◌, refl, codes, true, false, Some, None}
 use Rattle.ink_model.specs.Asks.{asks}
+use Rattle.ink_model.specs.Host.{nothing_bound}
 use Rattle.ink_model.specs.Configuration.{fresh_at, settled, start}
 use Rattle.ink_model.specs.Entered.{entered_places, passed_places}
 use Rattle.ink_model.specs.Mark.{cut}
@@ -137,10 +138,10 @@ waiting_default = λ visits. with_choices (record { text = []; tags = []; target
     (with_counts (record { visits = visits; turns = [] }) (fresh_at (Index 0 ∷ Index 0 ∷ [])))
 
 -- a default's landing may be a first visit
-a_first_visit : asks (with_knot 1 (does control.Done ∷ []) (says (codes "x") ∷ [])) (waiting_default []) ≡ true
+a_first_visit : asks (with_knot 1 (does control.Done ∷ []) (says (codes "x") ∷ [])) nothing_bound (waiting_default []) ≡ true
 unfolding run step start fresh_at settled entered passed_places entered_places next_place read_path target landed cut printed is_true asks
 a_first_visit = refl
 
-a_second_visit : asks (with_knot 1 (does control.Done ∷ []) (says (codes "x") ∷ [])) (waiting_default ((knot, 1) ∷ [])) ≡ false
+a_second_visit : asks (with_knot 1 (does control.Done ∷ []) (says (codes "x") ∷ [])) nothing_bound (waiting_default ((knot, 1) ∷ [])) ≡ false
 unfolding run step start fresh_at settled entered passed_places entered_places next_place read_path target landed cut printed is_true asks
 a_second_visit = refl

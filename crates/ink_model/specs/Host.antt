@@ -1,5 +1,5 @@
 -- What a host's objects give, and what names are bound to (docs/HOST.md).
-use Rattle.std.specs.Prelude.{ℕ, List, Bool, true, Option, None}
+use Rattle.std.specs.Prelude.{ℕ, List, Bool, true, false, Option, None}
 use Rattle.ink_model.specs.Bytes.{fits_text}
 use Rattle.ink_model.specs.declared.host.Given.{Given}
 use Rattle.ink_model.specs.declared.host.Given.TheVariants as given
@@ -41,3 +41,11 @@ Bound = List ℕ → Option Binding
 
 abbrev pub nothing_bound : Bound
 nothing_bound name = None
+
+-- what a player's host has bound, and the names of globals that it watches
+pub record Bindings : Type 0 where
+  pub functions : Bound
+  pub watches : List ℕ → Bool
+
+abbrev pub no_objects : Bindings
+no_objects = record { functions = nothing_bound; watches = λ name. false }

@@ -1,6 +1,7 @@
 -- Which containers are entered by variables, calls and returns, each proved by computation (docs/RUNNING.md, "Visits").
 use Rattle.std.specs.Prelude.{◌≡◌, ℕ, List, [], ◌∷◌, refl, codes, true, false}
 use Rattle.ink_model.specs.Asks.{asks}
+use Rattle.ink_model.specs.Host.{nothing_bound}
 use Rattle.ink_model.specs.CallStories.{after, after_with, calls, does, says, tunnels}
 use Rattle.ink_model.specs.Configuration.{start, fresh_at, with_counts}
 use Rattle.ink_model.specs.Entered.{entered_places, passed_places}
@@ -78,16 +79,16 @@ entered_by_two_threads = refl
 -- ---- where memory is asked for
 
 -- a first visit asks for memory
-a_first_visit : asks (with_knot 1 (diverts (codes "k") ∷ []) (says (codes "x") ∷ [])) (start (with_knot 1 (diverts (codes "k") ∷ []) (says (codes "x") ∷ [])) []) ≡ true
+a_first_visit : asks (with_knot 1 (diverts (codes "k") ∷ []) (says (codes "x") ∷ [])) nothing_bound (start (with_knot 1 (diverts (codes "k") ∷ []) (says (codes "x") ∷ [])) []) ≡ true
 unfolding run step start fresh_at entered passed_places entered_places next_place read_path target landed cut printed is_true asks
 a_first_visit = refl
 
 -- a landing that counts nothing asks for none
-nothing_counted : asks (with_knot 0 (diverts (codes "k") ∷ []) (says (codes "x") ∷ [])) (start (with_knot 0 (diverts (codes "k") ∷ []) (says (codes "x") ∷ [])) []) ≡ false
+nothing_counted : asks (with_knot 0 (diverts (codes "k") ∷ []) (says (codes "x") ∷ [])) nothing_bound (start (with_knot 0 (diverts (codes "k") ∷ []) (says (codes "x") ∷ [])) []) ≡ false
 unfolding run step start fresh_at entered passed_places entered_places next_place read_path target landed cut printed is_true asks
 nothing_counted = refl
 
 -- nor does one that counts another visit
-a_second_visit : asks (with_knot 1 (diverts (codes "k") ∷ []) (says (codes "x") ∷ [])) (with_counts (record { visits = (knot, 1) ∷ []; turns = [] }) (start (with_knot 1 (diverts (codes "k") ∷ []) (says (codes "x") ∷ [])) [])) ≡ false
+a_second_visit : asks (with_knot 1 (diverts (codes "k") ∷ []) (says (codes "x") ∷ [])) nothing_bound (with_counts (record { visits = (knot, 1) ∷ []; turns = [] }) (start (with_knot 1 (diverts (codes "k") ∷ []) (says (codes "x") ∷ [])) [])) ≡ false
 unfolding run step start fresh_at entered passed_places entered_places next_place read_path target landed cut printed is_true asks
 a_second_visit = refl

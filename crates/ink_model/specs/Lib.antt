@@ -12,7 +12,6 @@ pub mod Shown
 pub mod ShownExamples
 pub mod Clean
 pub mod Value
-pub mod Told
 pub mod Same
 pub mod Host
 pub mod Events
@@ -24,6 +23,7 @@ pub mod Supported
 pub mod Operator
 pub mod Joining
 pub mod Store
+pub mod Told
 pub mod Stack
 pub mod Page
 pub mod Frames

@@ -162,7 +162,7 @@ after_one_choice = refl
 
 abbrev asks_in : StoryTree → Option Configuration → Bool
 asks_in s None = false
-asks_in s (Some c) = asks s c
+asks_in s (Some c) = asks s nothing_bound c
 
 a_choice_that_is_made : asks_in (to_k 4) (now (after 5 (to_k 4))) ≡ true
 unfolding run step start fresh_at settled entered passed_places entered_places next_place read_path target landed cut printed is_true asks

@@ -5,7 +5,7 @@ use Rattle.ink_model.specs.Store.{Values}
 use Rattle.ink_model.specs.Tree.{StoryTree}
 use Rattle.ink_model.specs.Place.{landed, knot}
 use Rattle.ink_model.specs.Configuration.{Configuration, fresh_at, start}
-use Rattle.ink_model.specs.Step.Host.{nothing_bound}
+use Rattle.ink_model.specs.Host.{nothing_bound}
 use Rattle.ink_model.specs.Run.{Moment, At, Stopped, Faulted, Waits, through}
 use Rattle.ink_model.specs.State.{State, Ready}
 use Rattle.ink_model.specs.declared.fault.Fault.{Fault}

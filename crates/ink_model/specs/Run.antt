@@ -1,42 +1,22 @@
 -- A forward run, by its moments (docs/RUNNING.md, "Runs").
-use Rattle.std.specs.Prelude.{ℕ, zero, suc, List, [], ◌∷◌, ◌++◌, Bool, true, if◌then◌else◌, Option, Some, None}
+use Rattle.std.specs.Prelude.{ℕ, zero, suc, List, [], ◌∷◌, ◌++◌, Option}
 use Rattle.ink_model.specs.declared.limits.TheConstants.{MAX_STEPS}
-use Rattle.ink_model.specs.Bytes.{fits_text}
-use Rattle.ink_model.specs.Tree.{StoryTree}
-use Rattle.ink_model.specs.Place.{entered}
-use Rattle.ink_model.specs.Choosing.{following}
 pub use Rattle.ink_model.specs.Events.{Made, answers_of}
-use Rattle.ink_model.specs.Host.{value_given}
-use Rattle.ink_model.specs.Configuration.{Configuration, current_place, begun, put_at}
-use Rattle.ink_model.specs.Effect.{Fields, Effect, Fails, fields_of, pushing}
+use Rattle.ink_model.specs.Host.{Bound}
+use Rattle.ink_model.specs.Step.Host.{answering}
+use Rattle.ink_model.specs.Tree.{StoryTree}
+use Rattle.ink_model.specs.Choosing.{following}
+use Rattle.ink_model.specs.Configuration.{Configuration, begun}
+use Rattle.ink_model.specs.Effect.{Fields}
 use Rattle.ink_model.specs.Move.{Outcome, Next, Stop, Wants, Faults, move}
 use Rattle.ink_model.specs.Step.{Bound, step}
 use Rattle.ink_model.specs.declared.fault.Fault.{Fault}
-use Rattle.ink_model.specs.declared.fault.Fault.TheVariants.{HostRefused, OutOfSteps, TooDeep}
+use Rattle.ink_model.specs.declared.fault.Fault.TheVariants.{OutOfSteps}
 use Rattle.ink_model.specs.declared.host.Given.{Given}
-use Rattle.ink_model.specs.declared.place.Part.{Part}
-use Rattle.ink_model.specs.declared.value.Value.{Value}
-use Rattle.ink_model.specs.declared.value.Value.TheVariants as value
-
--- ---- answers of the host's objects
-
--- a text that is given is within its limit
-abbrev pub fits_value : Value → Bool
-fits_value (value.Text t) = fits_text t
-fits_value v = true
-
--- an answer is pushed as any other value is: within the limits of a text and of the stack
-abbrev pub push_answer : Value → Fields → Effect
-push_answer v f = if fits_value v then pushing v f else Fails TooDeep
-
-abbrev pub answered_at : StoryTree → Value → Option (List Part) → Configuration → Outcome
-answered_at s v None c = Stop c
-answered_at s v (Some p) c = following s (move s (push_answer v (fields_of c)) (put_at (Some (entered s p)) c))
 
 -- a wanted call was answered, or refused: the answer is pushed, and flow goes on
-abbrev pub answered : StoryTree → Configuration → Option Given → Outcome
-answered s c None = Faults HostRefused
-answered s c (Some g) = answered_at s (value_given g) (current_place c) c
+abbrev pub answered : StoryTree → Fields → Configuration → Option Given → Outcome
+answered s f c gave = following s (move s (answering gave f) c)
 
 -- ---- moments
 
@@ -51,12 +31,12 @@ abbrev pub moment_after : Configuration → Outcome → List (Option Given) → 
 moment_after c (Next d) left made = At d left made
 moment_after c (Stop d) left made = Stopped d left made
 moment_after c (Faults f) left made = Faulted f c left made
-moment_after c (Wants name arguments d) left made = Waits name made
+moment_after c (Wants name arguments f d) left made = Waits name made
 
 -- a wanted call takes the next answer; without one the run waits
 abbrev pub came : StoryTree → Configuration → Outcome → List (Option Given) → List Made → Moment
-came s c (Wants name arguments d) (a ∷ left) made =
-    moment_after c (answered s d a) left (made ++ record { name = name; arguments = arguments; gave = a } ∷ [])
+came s c (Wants name arguments f d) (a ∷ left) made =
+    moment_after c (answered s f d a) left (made ++ record { name = name; arguments = arguments; gave = a } ∷ [])
 came s c outcome left made = moment_after c outcome left made
 
 -- the next moment; a run that has ended stays as it is

@@ -6,7 +6,8 @@ use Rattle.ink_model.specs.Effect.{Context, Fields, Effect, Moves, Forks, Done, 
 pub use Rattle.ink_model.specs.Move.{Outcome, Next, Stop, Wants, Faults}
 use Rattle.ink_model.specs.Move.{move}
 use Rattle.ink_model.specs.Place.{entered}
-pub use Rattle.ink_model.specs.Step.Host.{Binding, Bound, nothing_bound}
+pub use Rattle.ink_model.specs.Host.{Binding, Bound, nothing_bound}
+use Rattle.ink_model.specs.Step.Host.{call_external}
 use Rattle.ink_model.specs.Step.Calls.{call, return_function, return_tunnel}
 use Rattle.ink_model.specs.Step.Choices.{offer, push_choice_count}
 use Rattle.ink_model.specs.Step.Counts.{push_count, push_read_count, push_turn, push_turns, push_visit}
@@ -33,10 +34,6 @@ pub mod Host
 pub mod Text
 pub mod Variables
 
--- content that is not supported yet is passed over here, and kept out by `unsupported`
-abbrev pub not_yet : Fields → Effect
-not_yet f = Moves f
-
 abbrev pub control_effect : StoryTree → List Part → Context → Control → Fields → Effect
 control_effect s p seen control.BeginEval f = begin_eval f
 control_effect s p seen control.EndEval f = end_eval f
@@ -60,38 +57,38 @@ control_effect s p seen control.ReadCount f = push_read_count s seen f
 control_effect s p seen control.Visit f = push_visit s seen p f
 
 -- of content that holds no other, at a place
-abbrev pub leaf_effect : StoryTree → List Part → Context → Leaf → Fields → Effect
-leaf_effect s p seen (leaves.Text t) f = write_text t f
-leaf_effect s p seen leaves.Newline f = write_newline f
-leaf_effect s p seen leaves.Glue f = write_glue f
-leaf_effect s p seen (leaves.Int z) f = push_value (value.Int z) f
-leaf_effect s p seen (leaves.Bool b) f = push_value (value.Bool b) f
-leaf_effect s p seen leaves.Void f = push_value value.Void f
-leaf_effect s p seen (leaves.Target text) f = push_value (value.Target (path_of text)) f
-leaf_effect s p seen (leaves.Control o) f = control_effect s p seen o f
-leaf_effect s p seen (leaves.Op o) f = operate o f
-leaf_effect s p seen (leaves.Divert to conditional) f = divert s p seen to conditional f
-leaf_effect s p seen (leaves.Declare name) f = declare Global name seen f
-leaf_effect s p seen (leaves.Assign name) f = assign name seen f
-leaf_effect s p seen (leaves.Variable name) f = push_variable name seen f
-leaf_effect s p seen (leaves.Pointer name frame) f = push_pointer name frame seen f
-leaf_effect s p seen (leaves.Call to conditional) f = call Function s p seen to conditional f
-leaf_effect s p seen (leaves.Tunnel to conditional) f = call Tunnel s p seen to conditional f
-leaf_effect s p seen (leaves.External name arguments conditional) f = not_yet f
-leaf_effect s p seen (leaves.DeclareTemp name) f = declare Temporary name seen f
-leaf_effect s p seen (leaves.AssignTemp name) f = assign name seen f
-leaf_effect s p seen (leaves.Count text) f = push_count s seen p text f
-leaf_effect s p seen (leaves.Choice text flags) f = offer s p seen text flags f
+abbrev pub leaf_effect : StoryTree → Bound → List Part → Context → Leaf → Fields → Effect
+leaf_effect s b p seen (leaves.Text t) f = write_text t f
+leaf_effect s b p seen leaves.Newline f = write_newline f
+leaf_effect s b p seen leaves.Glue f = write_glue f
+leaf_effect s b p seen (leaves.Int z) f = push_value (value.Int z) f
+leaf_effect s b p seen (leaves.Bool truth) f = push_value (value.Bool truth) f
+leaf_effect s b p seen leaves.Void f = push_value value.Void f
+leaf_effect s b p seen (leaves.Target text) f = push_value (value.Target (path_of text)) f
+leaf_effect s b p seen (leaves.Control o) f = control_effect s p seen o f
+leaf_effect s b p seen (leaves.Op o) f = operate o f
+leaf_effect s b p seen (leaves.Divert to conditional) f = divert s p seen to conditional f
+leaf_effect s b p seen (leaves.Declare name) f = declare Global name seen f
+leaf_effect s b p seen (leaves.Assign name) f = assign name seen f
+leaf_effect s b p seen (leaves.Variable name) f = push_variable name seen f
+leaf_effect s b p seen (leaves.Pointer name frame) f = push_pointer name frame seen f
+leaf_effect s b p seen (leaves.Call to conditional) f = call Function s p seen to conditional f
+leaf_effect s b p seen (leaves.Tunnel to conditional) f = call Tunnel s p seen to conditional f
+leaf_effect s b p seen (leaves.External name arguments conditional) f = call_external s b name arguments conditional f
+leaf_effect s b p seen (leaves.DeclareTemp name) f = declare Temporary name seen f
+leaf_effect s b p seen (leaves.AssignTemp name) f = assign name seen f
+leaf_effect s b p seen (leaves.Count text) f = push_count s seen p text f
+leaf_effect s b p seen (leaves.Choice text flags) f = offer s p seen text flags f
 
 -- of what stands at a place: an empty container, or nothing, has none
-abbrev pub effect : StoryTree → List Part → Option StoryTree → Context → Fields → Effect
-effect s p None seen f = Moves f
-effect s p (Some (container name flags content named)) seen f = Moves f
-effect s p (Some (leaf l)) seen f = leaf_effect s p seen l f
+abbrev pub effect : StoryTree → Bound → List Part → Option StoryTree → Context → Fields → Effect
+effect s b p None seen f = Moves f
+effect s b p (Some (container name flags content named)) seen f = Moves f
+effect s b p (Some (leaf l)) seen f = leaf_effect s b p seen l f
 
 -- flow is at the place of the first content
 abbrev pub perform : StoryTree → Bound → List Part → Configuration → Outcome
-perform s b p c = move s (effect s p (at s p) (context_of c) (fields_of c)) c
+perform s b p c = move s (effect s b p (at s p) (context_of c) (fields_of c)) c
 
 -- as a step at a place performs: the containers on the way down are entered, and flow is at the first content
 abbrev pub gone_in : StoryTree → List Part → Configuration → Configuration

@@ -1,6 +1,7 @@
 -- Temporaries and pointers in small steps, each proved by computation (docs/VARIABLES.md).
 use Rattle.std.specs.Prelude.{◌≡◌, pos, negsuc, List, [], ◌∷◌, refl, codes, Bool, true, false, Option, Some, None}
 use Rattle.ink_model.specs.Asks.{asks}
+use Rattle.ink_model.specs.Host.{nothing_bound}
 use Rattle.ink_model.specs.CallStories.{after, after_with, calls, does, fault_of, main_at, now, says, stack_in, story, threads_in, where_in}
 use Rattle.ink_model.specs.Configuration.{Configuration, start, fresh_at}
 use Rattle.ink_model.specs.Entered.{entered_places, passed_places}
@@ -134,7 +135,7 @@ by_a_bad_pointer = refl
 
 abbrev asks_now : StoryTree → Option Configuration → Bool
 asks_now s None = false
-asks_now s (Some c) = asks s c
+asks_now s (Some c) = asks s nothing_bound c
 
 -- a name that is new
 a_new_name : asks_now (declares_a [] []) (now (after 2 (declares_a [] []))) ≡ true

@@ -1,6 +1,6 @@
 -- What performing does where a call of it fails.
 use Rattle.std.proofs.Common.{◌≡◌, ap, sym, refl, subst, inl, inr, List, Result, Ok, Err, Bool, true}
-use Rattle.ink_model.specs.Effect.{Fields, Effect, Moves, Stores, Offers, Lands, Calls, Returns, Forks, Done, Ends, Fails, or_fault}
+use Rattle.ink_model.specs.Effect.{Fields, Effect, Moves, Stores, Offers, Lands, Calls, Returns, Forks, Done, Ends, Asks, Fails, or_fault}
 use Rattle.ink_model.specs.Memory.{Gives, Leaves, asks_for}
 use Rattle.ink_model.specs.Tree.{StoryTree}
 use Rattle.ink_model.specs.declared.fault.Fault.{Fault}
@@ -21,6 +21,7 @@ module _ (s : StoryTree) (asks : Bool) (new : Fields) where
   short (Forks f) a = (refl, a)
   short (Done f) a = (refl, a)
   short (Ends f) a = (refl, a)
+  short (Asks name arguments f) a = (refl, a)
   short (Fails f) a = inr (refl, a)
 
   -- the fault of a call whose result goes into the effect

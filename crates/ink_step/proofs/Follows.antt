@@ -3,20 +3,22 @@ use Rattle.std.proofs.Common.{◌≡◌, ◌∙◌, ◌||◌, ap, sym, refl, sub
 use Rattle.ink_model.specs.Choosing.{following, following_asks}
 use Rattle.ink_model.specs.Configuration.{ChoiceOf, Configuration, current_place, ended, map_choice, with_choices, with_threads}
 use Rattle.ink_model.specs.Counts.{CountsOf}
-use Rattle.ink_model.specs.Effect.{Fields, Effect, Moves, Stores, Offers, Lands, Calls, Returns, Forks, Done, Ends, Fails, fields_of, with_fields, with_thread}
+use Rattle.ink_model.specs.Effect.{Fields, Effect, Moves, Stores, Offers, Lands, Calls, Returns, Forks, Done, Ends, Asks, Fails, fields_of, with_fields, with_thread}
 use Rattle.ink_model.specs.Flow.{Written, Reached, Reaches, Halts, Breaks, called, depth_of, forked, halt, moved_on, reach, returned}
 use Rattle.ink_model.specs.Frames.{ThreadOf, ThreadsOf, base_threads, map_threads, mode_in, on_top}
 use Rattle.ink_model.specs.Memory.{asks}
 use Rattle.ink_model.specs.Move.{Outcome, Next, Stop, Wants, Faults, end_all, finish, going, landing, may_enter, move, place_to, reached_in, with_flow, written_in}
 use Rattle.ink_model.specs.MoveMemory.{flow_asks, move_asks, moved_asks}
 use Rattle.ink_model.specs.Place.{next_place}
-use Rattle.ink_model.specs.Step.{nothing_bound, step, step_at}
+use Rattle.ink_model.specs.Host.{Bound}
+use Rattle.ink_model.specs.Step.{step, step_at}
 use Rattle.ink_model.specs.Store.{Values}
 use Rattle.ink_model.specs.Threads.{staled}
 use Rattle.ink_model.specs.Tree.{StoryTree}
 use Rattle.ink_model.specs.declared.fault.Fault.{Fault}
 use Rattle.ink_model.specs.declared.fault.Fault.TheVariants.{OutOfMemory}
 use Rattle.ink_model.specs.declared.place.Part.{Part}
+use Rattle.ink_model.specs.declared.value.Value.{Value}
 use Rattle.ink_step.specs.Performs.{Keeps, KeepsChoices, Performs, offered_by, stored_by, unstored}
 use Rattle.ink_step.specs.Reaches.{ReachesAs}
 use Rattle.ink_step.specs.Steps.{StepEnds}
@@ -42,7 +44,7 @@ pub ends_short : (asking : Bool) (o : Outcome) (globals : Values) (d : Configura
     → StepEnds asking o globals d (Err f)
 ends_short asking (Next c) globals d f short same = (short, same)
 ends_short asking (Stop c) globals d f short same = (short, same)
-ends_short asking (Wants name arguments c) globals d f short same = (short, same)
+ends_short asking (Wants name arguments after c) globals d f short same = (short, same)
 ends_short asking (Faults g) globals d f short same = (inr short, same)
 
 -- the same where more asks for memory
@@ -50,15 +52,19 @@ module _ (asking more : Bool) where
   pub ends_more : (o : Outcome) (globals : Values) (d : Configuration) (r : Result StepEnd Fault) → StepEnds more o globals d r → StepEnds (asking || more) o globals d r
   ends_more (Next c) globals d (Ok ends.Went) h = h
   ends_more (Next c) globals d (Ok ends.Stopped) h = absurd h
+  ends_more (Next c) globals d (Ok ends.WantsCall) h = absurd h
   ends_more (Next c) globals d (Err f) h = ((h.0.0, or_more asking more h.0.1), h.1)
   ends_more (Stop c) globals d (Ok ends.Went) h = absurd h
   ends_more (Stop c) globals d (Ok ends.Stopped) h = h
+  ends_more (Stop c) globals d (Ok ends.WantsCall) h = absurd h
   ends_more (Stop c) globals d (Err f) h = ((h.0.0, or_more asking more h.0.1), h.1)
-  ends_more (Wants name arguments c) globals d (Ok ends.Went) h = absurd h
-  ends_more (Wants name arguments c) globals d (Ok ends.Stopped) h = absurd h
-  ends_more (Wants name arguments c) globals d (Err f) h = ((h.0.0, or_more asking more h.0.1), h.1)
+  ends_more (Wants name arguments after c) globals d (Ok ends.Went) h = absurd h
+  ends_more (Wants name arguments after c) globals d (Ok ends.Stopped) h = absurd h
+  ends_more (Wants name arguments after c) globals d (Ok ends.WantsCall) h = absurd h
+  ends_more (Wants name arguments after c) globals d (Err f) h = ((h.0.0, or_more asking more h.0.1), h.1)
   ends_more (Faults g) globals d (Ok ends.Went) h = absurd h
   ends_more (Faults g) globals d (Ok ends.Stopped) h = absurd h
+  ends_more (Faults g) globals d (Ok ends.WantsCall) h = absurd h
   ends_more (Faults g) globals d (Err f) h = (elim h.0 [ inl is ↦ inl is | inr short ↦ inr (short.0, or_more asking more short.1) ], h.1)
 
 -- ---- where flow went
@@ -75,10 +81,13 @@ pub ends_there : (asking : Bool) (c : Configuration) (globals : Values) (reached
     → ReachesAs asking reached ts w (Ok end) → StepEnds asking (reached_in c reached) globals (with_flow ts w c) (Ok end)
 ends_there asking c globals (Reaches us v) ts w ends.Went h = ap (λ t. with_flow t w c) h.0 ∙ ap (λ x. with_flow us x c) h.1
 ends_there asking c globals (Reaches us v) ts w ends.Stopped h = absurd h
+ends_there asking c globals (Reaches us v) ts w ends.WantsCall h = absurd h
 ends_there asking c globals (Halts us v) ts w ends.Went h = absurd h
 ends_there asking c globals (Halts us v) ts w ends.Stopped h = ap (λ t. with_flow t w c) h.0 ∙ ap (λ x. with_flow us x c) h.1
+ends_there asking c globals (Halts us v) ts w ends.WantsCall h = absurd h
 ends_there asking c globals (Breaks g) ts w ends.Went h = absurd h
 ends_there asking c globals (Breaks g) ts w ends.Stopped h = absurd h
+ends_there asking c globals (Breaks g) ts w ends.WantsCall h = absurd h
 
 pub ends_reached : (asking : Bool) (c : Configuration) (reached : Reached (List Part)) (ts : ThreadsOf (List Part)) (w : Written) (r : Result StepEnd Fault)
     → ReachesAs asking reached ts w r → StepEnds asking (reached_in c reached) c.shared.globals (with_flow ts w c) r
@@ -105,6 +114,7 @@ module _ (s : StoryTree) (asking : Bool) (c d : Configuration) (r : Result StepE
   goes_after_text (Forks f) h go = absurd h
   goes_after_text (Done f) h go = absurd h
   goes_after_text (Ends f) h go = absurd h
+  goes_after_text (Asks name arguments f) h go = absurd h
   goes_after_text (Fails f) h go = absurd h
 
   pub goes_nowhere : (e : Effect) → Performs s asking e (fields_of c) (Ok transfer.End)
@@ -118,6 +128,7 @@ module _ (s : StoryTree) (asking : Bool) (c d : Configuration) (r : Result StepE
   goes_nowhere (Forks f) h go = absurd h
   goes_nowhere (Done f) h go = absurd h
   goes_nowhere (Ends f) h go = subst (λ g. Follows (Ends g)) h (ends_more asking _ _ _ _ r go)
+  goes_nowhere (Asks name arguments f) h go = absurd h
   goes_nowhere (Fails f) h go = absurd h
 
 -- ---- a step
@@ -140,6 +151,7 @@ ends_unperformed s asking more e new c d globals f h same = by e h
     by (Forks g) k = short (move s (Forks g) c) k
     by (Done g) k = short (move s (Done g) c) k
     by (Ends g) k = short (move s (Ends g) c) k
+    by (Asks name arguments g) k = short (move s (Asks name arguments g) c) k
     by (Fails g) k = (elim k [ inl is ↦ inl is | inr refused ↦ inr (refused.0, or_first asking more refused.1) ], same)
 
 -- performing changes the fields, temporaries and choices alone, which a move takes from the effect
@@ -183,7 +195,12 @@ module _ (s : StoryTree) (old mid : Machine) (safely : mid.safe ≡ old.safe) (c
   offering_alike cs f g None = refl
   offering_alike cs f g (Some depth) = refl
 
-  goes_alike : (e : Effect) → move s e (kept e) ≡ move s e (config_of s old)
+  -- but for one that asks a turn function, which moves nowhere
+  abbrev Alike : Effect → Type 0
+  Alike (Asks name arguments f) = Unit {0}
+  Alike e = move s e (kept e) ≡ move s e (config_of s old)
+
+  goes_alike : (e : Effect) → Alike e
   goes_alike (Moves f) = ap (going (moved_on (next_place s))) (moving_alike f f f.wrote)
   goes_alike (Stores t f) = ap (going (moved_on (next_place s))) (storing_alike t f f f.wrote)
   goes_alike (Offers cs f) = ap (going (moved_on (next_place s))) (offering_alike cs f f f.wrote)
@@ -193,6 +210,7 @@ module _ (s : StoryTree) (old mid : Machine) (safely : mid.safe ≡ old.safe) (c
   goes_alike (Forks f) = ap (going (forked (next_place s))) (moving_alike f f f.wrote)
   goes_alike (Done f) = ap (finish s) (moving_alike f f f.wrote)
   goes_alike (Ends f) = ap end_all (moving_alike f f f.wrote)
+  goes_alike (Asks name arguments f) = ()
   goes_alike (Fails g) = refl
 
   asks_alike : (e : Effect) → move_asks s e (kept e) ≡ move_asks s e (config_of s old)
@@ -205,6 +223,7 @@ module _ (s : StoryTree) (old mid : Machine) (safely : mid.safe ≡ old.safe) (c
   asks_alike (Forks f) = ap (λ c. flow_asks s (Forks f) (counts_in s old.counts) c.flow.threads (written_in c)) (moving_alike f f f.wrote)
   asks_alike (Done f) = ap (λ c. flow_asks s (Done f) (counts_in s old.counts) c.flow.threads (written_in c)) (moving_alike f f f.wrote)
   asks_alike (Ends f) = refl
+  asks_alike (Asks name arguments f) = refl
   asks_alike (Fails g) = refl
 
   -- of a whole step
@@ -213,10 +232,31 @@ module _ (s : StoryTree) (old mid : Machine) (safely : mid.safe ≡ old.safe) (c
 
   pub ends_after : (asking : Bool) (e : Effect) (globals : Values) (d : Configuration) (r : Result StepEnd Fault) → Keeps s e old.threads mid.threads → KeepsChoices s e old.choices mid.choices
       → Steps asking e (config_of s mid) globals d r → Steps asking e (config_of s old) globals d r
-  ends_after asking e globals d r keeps offers h =
-      let alike = subst (λ c. Steps asking e c globals d r) (is_kept e keeps offers) h in
-      let moves = subst (λ o. StepEnds ((asking || move_asks s e (kept e)) || following_asks s o) (following s o) globals d r) (goes_alike e) alike in
-      subst (λ b. StepEnds ((asking || b) || following_asks s (move s e (config_of s old))) (following s (move s e (config_of s old))) globals d r) (asks_alike e) moves
+  ends_after asking e globals d r keeps offers h = by e (asks_alike e) (goes_alike e) (subst (λ c. Steps asking e c globals d r) (is_kept e keeps offers) h)
+    where
+      moves : (e : Effect) → move_asks s e (kept e) ≡ move_asks s e (config_of s old) → move s e (kept e) ≡ move s e (config_of s old) → Steps asking e (kept e) globals d r
+          → Steps asking e (config_of s old) globals d r
+      moves e asks goes alike =
+          let moved = subst (λ o. StepEnds ((asking || move_asks s e (kept e)) || following_asks s o) (following s o) globals d r) goes alike in
+          subst (λ b. StepEnds ((asking || b) || following_asks s (move s e (config_of s old))) (following s (move s e (config_of s old))) globals d r) asks moved
+
+      waits : (name : List ℕ) (arguments : List Value) (f : Fields) (r : Result StepEnd Fault) → Steps asking (Asks name arguments f) (kept (Asks name arguments f)) globals d r
+          → Steps asking (Asks name arguments f) (config_of s old) globals d r
+      waits name arguments f (Ok end) h = h
+      waits name arguments f (Err g) h = h
+
+      by : (e : Effect) → move_asks s e (kept e) ≡ move_asks s e (config_of s old) → Alike e → Steps asking e (kept e) globals d r → Steps asking e (config_of s old) globals d r
+      by (Asks name arguments f) asks goes alike = waits name arguments f r alike
+      by (Moves f) asks goes alike = moves (Moves f) asks goes alike
+      by (Stores t f) asks goes alike = moves (Stores t f) asks goes alike
+      by (Offers cs f) asks goes alike = moves (Offers cs f) asks goes alike
+      by (Lands to f) asks goes alike = moves (Lands to f) asks goes alike
+      by (Calls k to f) asks goes alike = moves (Calls k to f) asks goes alike
+      by (Returns k to f) asks goes alike = moves (Returns k to f) asks goes alike
+      by (Forks f) asks goes alike = moves (Forks f) asks goes alike
+      by (Done f) asks goes alike = moves (Done f) asks goes alike
+      by (Ends f) asks goes alike = moves (Ends f) asks goes alike
+      by (Fails g) asks goes alike = moves (Fails g) asks goes alike
 
 -- after performing, the thread has the temporaries that the effect stores
 pub kept_stays : (s : StoryTree) (e : Effect) (old new : ThreadsOf Spot) → Keeps s e old new → Keeps s e new new
@@ -232,6 +272,7 @@ kept_stays s e old new keeps = by e keeps
     by (Forks f) k = refl
     by (Done f) k = refl
     by (Ends f) k = refl
+    by (Asks name arguments f) k = refl
     by (Fails g) k = refl
 
 -- and the choices are those that it offers
@@ -248,9 +289,10 @@ offered_stay s e old new keeps = by e keeps
     by (Forks f) k = refl
     by (Done f) k = refl
     by (Ends f) k = refl
+    by (Asks name arguments f) k = refl
     by (Fails g) k = refl
 
 -- where flow has stopped it stays stopped
-pub ends_still : (s : StoryTree) (c : Configuration) (globals : Values) → current_place c ≡ None → StepEnds (asks s c) (step s nothing_bound c) globals c (Ok ends.Stopped)
+pub stands_still : (s : StoryTree) (b : Bound) (c : Configuration) → current_place c ≡ None → step s b c ≡ Stop c
 unfolding step
-ends_still s c globals no_place = subst (λ o. StepEnds (asks s c) (step_at s nothing_bound o c) globals c (Ok ends.Stopped)) (sym no_place) refl
+stands_still s b c no_place = ap (λ o. step_at s b o c) no_place

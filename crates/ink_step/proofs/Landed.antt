@@ -3,14 +3,15 @@ use Rattle.std.proofs.Common.{◌≡◌, ◌∙◌, ◌||◌, ◌&&◌, ap, sym,
 use Rattle.ink_model.specs.Asks.{going_in_asks}
 use Rattle.ink_model.specs.Choosing.{following, following_asks}
 use Rattle.ink_model.specs.Configuration.{Configuration, current_place, with_choices, with_threads}
-use Rattle.ink_model.specs.Effect.{Effect, Moves, Stores, Offers, Lands, Calls, Returns, Forks, Done, Ends, Fails, context_of, fields_of}
+use Rattle.ink_model.specs.Effect.{Effect, Moves, Stores, Offers, Lands, Calls, Returns, Forks, Done, Ends, Asks, Fails, context_of, fields_of}
 use Rattle.ink_model.specs.Flow.{Written, moved_on, Reached, Reaches, Halts, Breaks, called, reach, returned}
 use Rattle.ink_model.specs.Frames.{ThreadsOf, mode_in, on_top}
 use Rattle.ink_model.specs.Memory.{asks, asks_at, content_asks}
-use Rattle.ink_model.specs.Move.{going, landed_in, landing, may_enter, move, place_to, with_flow, written_in}
+use Rattle.ink_model.specs.Move.{Outcome, going, landed_in, landing, may_enter, move, place_to, with_flow, written_in}
 use Rattle.ink_model.specs.MoveMemory.{landed_asks, move_asks, moved_asks, returned_asks}
 use Rattle.ink_model.specs.Place.{entered, next_place}
-use Rattle.ink_model.specs.Step.{effect, gone_in, nothing_bound, step, step_at}
+use Rattle.ink_model.specs.Host.{Bound}
+use Rattle.ink_model.specs.Step.{effect, gone_in, step, step_at}
 use Rattle.ink_model.specs.Store.{Values}
 use Rattle.ink_model.specs.Threads.{frame_count}
 use Rattle.ink_model.specs.Tree.{StoryTree, at}
@@ -28,7 +29,7 @@ use Rattle.ink_step.specs.declared.flow.StepEnd.{StepEnd}
 use Rattle.ink_step.specs.declared.flow.StepEnd.TheVariants as ends
 use Rattle.ink_step.specs.declared.transfer.Landing.{Landing}
 use Rattle.ink_step.specs.declared.transfer.Transfer.TheVariants as transfer
-use Rattle.ink_step.proofs.Follows.{ends_more, ends_short, or_first, or_more}
+use Rattle.ink_step.proofs.Follows.{ends_more, or_first, or_more}
 use Rattle.ink_tree.specs.Nodes.{place_of}
 use Rattle.ink_vars.specs.declared.places.Name.{Name}
 
@@ -48,15 +49,20 @@ module _ (s : StoryTree) (asking : Bool) (c d : Configuration) (globals : Values
       → d ≡ cond enters (entering_around s (with_flow ts w c)) (with_flow ts w c) → Lands_as enters reached (Ok end)
   lands true (Reaches us v) ends.Went goes h is = is ∙ ap (λ t. entering_around s (with_flow t w c)) h.0 ∙ ap (λ x. entering_around s (with_flow us x c)) h.1
   lands true (Reaches us v) ends.Stopped goes h is = absurd h
+  lands true (Reaches us v) ends.WantsCall goes h is = absurd h
   lands true (Halts us v) end goes h is = absurd (goes refl)
   lands true (Breaks g) ends.Went goes h is = absurd h
   lands true (Breaks g) ends.Stopped goes h is = absurd h
+  lands true (Breaks g) ends.WantsCall goes h is = absurd h
   lands false (Reaches us v) ends.Went goes h is = is ∙ ap (λ t. with_flow t w c) h.0 ∙ ap (λ x. with_flow us x c) h.1
   lands false (Reaches us v) ends.Stopped goes h is = absurd h
+  lands false (Reaches us v) ends.WantsCall goes h is = absurd h
   lands false (Halts us v) ends.Went goes h is = absurd h
   lands false (Halts us v) ends.Stopped goes h is = is ∙ ap (λ t. with_flow t w c) h.0 ∙ ap (λ x. with_flow us x c) h.1
+  lands false (Halts us v) ends.WantsCall goes h is = absurd h
   lands false (Breaks g) ends.Went goes h is = absurd h
   lands false (Breaks g) ends.Stopped goes h is = absurd h
+  lands false (Breaks g) ends.WantsCall goes h is = absurd h
 
   module _ (f : Fault) (same : d.shared.globals ≡ globals) where
     -- memory for a row was refused
@@ -65,9 +71,11 @@ module _ (s : StoryTree) (asking : Bool) (c d : Configuration) (globals : Values
     lands_short true (Reaches us v) ends.Went goes h short adds =
         ((short, or_more asking _ (ap (λ t. adds_rows s (around s t) c.shared.counts) (sym h.0) ∙ adds)), same)
     lands_short true (Reaches us v) ends.Stopped goes h short adds = absurd h
+    lands_short true (Reaches us v) ends.WantsCall goes h short adds = absurd h
     lands_short true (Halts us v) end goes h short adds = absurd (goes refl)
     lands_short true (Breaks g) ends.Went goes h short adds = absurd h
     lands_short true (Breaks g) ends.Stopped goes h short adds = absurd h
+    lands_short true (Breaks g) ends.WantsCall goes h short adds = absurd h
     lands_short false reached end goes h short adds = absurd (true≢false (sym adds))
 
     -- a fault before
@@ -106,6 +114,7 @@ module _ (s : StoryTree) (asking : Bool) (c d : Configuration) (r : Result StepE
   goes_on (Forks f) h has offers go = absurd h
   goes_on (Done f) h has offers go = absurd h
   goes_on (Ends f) h has offers go = absurd h
+  goes_on (Asks name arguments f) h has offers go = absurd h
   goes_on (Fails f) h has offers go = absurd h
 
   module _ (name : Name) (v : Value) where
@@ -120,6 +129,7 @@ module _ (s : StoryTree) (asking : Bool) (c d : Configuration) (r : Result StepE
     goes_storing (Forks f) h has go = absurd h
     goes_storing (Done f) h has go = absurd h
     goes_storing (Ends f) h has go = absurd h
+    goes_storing (Asks name arguments f) h has go = absurd h
     goes_storing (Fails f) h has go = absurd h
 
   pub goes_there : (to : Landing) (e : Effect) → Performs s asking e (fields_of c) (Ok (transfer.Land to))
@@ -135,6 +145,7 @@ module _ (s : StoryTree) (asking : Bool) (c d : Configuration) (r : Result StepE
   goes_there to (Forks f) h go = absurd h
   goes_there to (Done f) h go = absurd h
   goes_there to (Ends f) h go = absurd h
+  goes_there to (Asks name arguments f) h go = absurd h
   goes_there to (Fails f) h go = absurd h
 
   pub goes_into : (kind : FrameKind) (to : Landing) (e : Effect) → Performs s asking e (fields_of c) (Ok (transfer.Call kind to))
@@ -151,6 +162,7 @@ module _ (s : StoryTree) (asking : Bool) (c d : Configuration) (r : Result StepE
   goes_into kind to (Forks f) h go = absurd h
   goes_into kind to (Done f) h go = absurd h
   goes_into kind to (Ends f) h go = absurd h
+  goes_into kind to (Asks name arguments f) h go = absurd h
   goes_into kind to (Fails f) h go = absurd h
 
   pub goes_back : (kind : FrameKind) (back : Option Landing) (e : Effect) → Performs s asking e (fields_of c) (Ok (transfer.Return kind back))
@@ -169,33 +181,31 @@ module _ (s : StoryTree) (asking : Bool) (c d : Configuration) (r : Result StepE
   goes_back kind back (Forks f) h go = absurd h
   goes_back kind back (Done f) h go = absurd h
   goes_back kind back (Ends f) h go = absurd h
+  goes_back kind back (Asks name arguments f) h go = absurd h
   goes_back kind back (Fails f) h go = absurd h
 
 -- ---- a step
 
-module _ (s : StoryTree) (p : List Part) (old new : Configuration) (at_p : current_place old ≡ Some p) where
+module _ (s : StoryTree) (b : Bound) (p : List Part) (old : Configuration) (at_p : current_place old ≡ Some p) where
   -- what is performed at a place, from a configuration
-  abbrev Performing : List Part → Option StoryTree → Configuration → Result StepEnd Fault → Type 0
-  Performing here found m r =
-      let e = effect s here found (context_of m) (fields_of m) in
-      StepEnds ((content_asks s here found (context_of m) (fields_of m) || move_asks s e m) || following_asks s (move s e m)) (following s (move s e m)) old.shared.globals new r
+  abbrev Performing : (Bool → Outcome → Type 0) → List Part → Option StoryTree → Configuration → Type 0
+  Performing Ends here found m =
+      let e = effect s b here found (context_of m) (fields_of m) in
+      Ends ((content_asks s b here found (context_of m) (fields_of m) || move_asks s e m) || following_asks s (move s e m)) (following s (move s e m))
 
   -- a step goes in, performs what stands there and moves
-  pub ends_performed : (here : List Part) (found : Option StoryTree) (mid : Configuration) (r : Result StepEnd Fault) → here ≡ entered s p → found ≡ at s here → mid ≡ gone_in s p old
-      → Performing here found mid r → StepEnds (asks s old) (step s nothing_bound old) old.shared.globals new r
+  pub ends_performed : (Ends : Bool → Outcome → Type 0) (here : List Part) (found : Option StoryTree) (mid : Configuration) → here ≡ entered s p → found ≡ at s here → mid ≡ gone_in s p old
+      → ((asking : Bool) (o : Outcome) → Ends asking o → Ends (going_in_asks s p old || asking) o) → Performing Ends here found mid → Ends (asks s b old) (step s b old)
   unfolding step asks
-  ends_performed here found mid r is stands went h =
-      let gone = subst (λ m. Performing here found m r) went h in
+  ends_performed Ends here found mid is stands went more h =
+      let gone = subst (λ m. Performing Ends here found m) went h in
       let m = gone_in s p old in
-      let there = subst (λ f. Performing here f m r) stands gone in
-      let entering = subst (λ q. Performing q (at s q) m r) is there in
-      let whole = ends_more (going_in_asks s p old) _ (following s (move s (effect s (entered s p) (at s (entered s p)) (context_of m) (fields_of m)) m)) _ new r entering in
-      subst (λ o. StepEnds (asks_at s o old) (step_at s nothing_bound o old) old.shared.globals new r) (sym at_p) whole
+      let there = subst (λ f. Performing Ends here f m) stands gone in
+      let entering = subst (λ q. Performing Ends q (at s q) m) is there in
+      subst (λ o. Ends (asks_at s b o old) (step_at s b o old)) (sym at_p) (more _ _ entering)
 
   -- memory for a container on the way was refused
-  pub ends_outside : (f : Fault) → f ≡ OutOfMemory → going_in_asks s p old ≡ true → new.shared.globals ≡ old.shared.globals
-      → StepEnds (asks s old) (step s nothing_bound old) old.shared.globals new (Err f)
-  unfolding step asks
-  ends_outside f short adds same =
-      subst (λ o. StepEnds (asks_at s o old) (step_at s nothing_bound o old) old.shared.globals new (Err f)) (sym at_p)
-      (ends_short (asks_at s (Some p) old) (step_at s nothing_bound (Some p) old) old.shared.globals new f (short, or_first (going_in_asks s p old) _ adds) same)
+  pub ends_outside : (new : Configuration) (f : Fault) → f ≡ OutOfMemory → going_in_asks s p old ≡ true → new.shared.globals ≡ old.shared.globals
+      → (f ≡ OutOfMemory) × (asks s b old ≡ true) × (new.shared.globals ≡ old.shared.globals)
+  unfolding asks
+  ends_outside new f short adds same = (short, subst (λ o. asks_at s b o old ≡ true) (sym at_p) (or_first (going_in_asks s p old) _ adds), same)

@@ -8,6 +8,9 @@ pub mod Follows
 pub mod Landed
 pub mod Stopping
 pub mod Moments
+pub mod Growing
+pub mod Runnings
+pub mod Telling
 pub mod Passages
 pub mod Openings
 pub mod NoMemory
@@ -19,9 +22,13 @@ pub mod Keys
 pub mod Visits
 pub mod Goings
 pub mod Places
+pub mod Settings
 pub mod Stored
 pub mod Unstored
 pub mod Asked
 pub mod Offered
 pub mod Shows
 pub mod Chosen
+pub mod Unasked
+pub mod Makes
+pub mod Calls

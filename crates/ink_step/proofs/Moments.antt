@@ -1,94 +1,237 @@
 -- Runs, moment by moment.
-use Rattle.std.proofs.Common.{◌≡◌, ◌∙◌, ◌⊎◌, ℕ, zero, suc, Bool, true, ◌+◌, ◌-◌, ◌≤◌, ◌<◌, ap, sym, refl, subst, inl, inr, [], Ok, Err, arith}
-use Rattle.ink_model.specs.Tree.{StoryTree}
+use Rattle.std.proofs.Common.{◌≡◌, ◌∙◌, ◌⊎◌, ◌++◌, ◌∷◌, ℕ, zero, suc, Bool, true, false, List, Option, Some, None, is_some, map, Result, ◌+◌, ◌-◌, ◌≤◌, ◌<◌, ap, sym, refl, subst, inl, inr, [], Ok, Err, arith, append_assoc}
+use Rattle.std.proofs.lemmas.List.{append-nil, map-append}
+use Rattle.std.specs.List.{AllByRecursion}
 use Rattle.ink_model.specs.Configuration.{Configuration}
-use Rattle.ink_model.specs.Step.{Outcome, Next, Stop, Wants, Faults, step, nothing_bound}
-use Rattle.ink_model.specs.Run.{Moment, At, Stopped, Faulted, came, next, run, moment, cut_off}
-use Rattle.ink_model.specs.declared.limits.TheConstants.{MAX_STEPS}
+use Rattle.ink_model.specs.Effect.{Fields}
+use Rattle.ink_model.specs.Events.{calls}
+use Rattle.ink_model.specs.Host.{Bound, turn_function}
+use Rattle.ink_model.specs.Memory.{CallsAt, GetsTo, asks}
+use Rattle.ink_model.specs.Move.{Outcome, Next, Stop, Wants, Faults}
+use Rattle.ink_model.specs.Run.{Made, Moment, At, Stopped, Faulted, Waits, answered, answers_of, came, cut_off, moment, moment_after, next, run}
+use Rattle.ink_model.specs.Step.{step}
+use Rattle.ink_model.specs.Store.{Values}
+use Rattle.ink_model.specs.Tree.{StoryTree}
 use Rattle.ink_model.specs.declared.fault.Fault.{Fault}
 use Rattle.ink_model.specs.declared.fault.Fault.TheVariants.{OutOfMemory, OutOfSteps}
-use Rattle.ink_model.specs.Memory.{asks}
-use Rattle.ink_step.specs.Steps.{StepEnds, RunFalls}
+use Rattle.ink_model.specs.declared.host.Event.{Event}
+use Rattle.ink_model.specs.declared.host.Given.{Given}
+use Rattle.ink_model.specs.declared.limits.TheConstants.{MAX_STEPS}
+use Rattle.ink_model.specs.declared.value.Value.{Value}
+use Rattle.ink_step.specs.Runs.{AreBound, RunFalls}
+use Rattle.ink_step.specs.Steps.{StepEnds, Steps}
 use Rattle.ink_step.specs.declared.flow.StepEnd.{StepEnd}
 use Rattle.ink_step.specs.declared.flow.StepEnd.TheVariants as ends
 
 -- ---- the moment after an outcome
 
-went : (s : StoryTree) (asking : Bool) (old new : Configuration) (o : Outcome) → StepEnds asking o old.shared.globals new (Ok ends.Went) → came s old o [] [] ≡ At new [] []
-went s asking old new (Next c) h = ap (λ d. At d [] []) (sym h)
-went s asking old new (Stop c) h = absurd h
-went s asking old new (Wants name arguments c) h = absurd h
-went s asking old new (Faults f) h = absurd h
+module _ (left : List (Option Given)) (made : List Made) (asking : Bool) (old new : Configuration) where
+  went : (o : Outcome) → StepEnds asking o old.shared.globals new (Ok ends.Went) → moment_after old o left made ≡ At new left made
+  went (Next c) h = ap (λ d. At d left made) (sym h)
+  went (Stop c) h = absurd h
+  went (Wants name arguments f c) h = absurd h
+  went (Faults f) h = absurd h
 
-stopped : (s : StoryTree) (asking : Bool) (old new : Configuration) (o : Outcome) → StepEnds asking o old.shared.globals new (Ok ends.Stopped) → came s old o [] [] ≡ Stopped new [] []
-stopped s asking old new (Next c) h = absurd h
-stopped s asking old new (Stop c) h = ap (λ d. Stopped d [] []) (sym h)
-stopped s asking old new (Wants name arguments c) h = absurd h
-stopped s asking old new (Faults f) h = absurd h
+  stopped : (o : Outcome) → StepEnds asking o old.shared.globals new (Ok ends.Stopped) → moment_after old o left made ≡ Stopped new left made
+  stopped (Next c) h = absurd h
+  stopped (Stop c) h = ap (λ d. Stopped d left made) (sym h)
+  stopped (Wants name arguments f c) h = absurd h
+  stopped (Faults f) h = absurd h
 
--- a fault of the story, or a step that asks for memory and got none; the globals stay
-faulted : (s : StoryTree) (asking : Bool) (old new : Configuration) (f : Fault) (o : Outcome) → StepEnds asking o old.shared.globals new (Err f)
-    → ((came s old o [] [] ≡ Faulted f old [] []) ⊎ ((f ≡ OutOfMemory) × (asking ≡ true))) × (new.shared.globals ≡ old.shared.globals)
-faulted s asking old new f (Next c) h = (inr h.0, h.1)
-faulted s asking old new f (Stop c) h = (inr h.0, h.1)
-faulted s asking old new f (Wants name arguments c) h = (inr h.0, h.1)
-faulted s asking old new f (Faults g) h = elim h.0 [
-  | inl same ↦ (inl (ap (λ x. Faulted x old [] []) (sym same)), h.1)
-  | inr short ↦ (inr short, h.1)
+-- no step ends so
+never_wants : (asking : Bool) (globals : Values) (new : Configuration) (o : Outcome) → StepEnds asking o globals new (Ok ends.WantsCall) → ⊥
+never_wants asking globals new (Next c) h = h
+never_wants asking globals new (Stop c) h = h
+never_wants asking globals new (Wants name arguments f c) h = h
+never_wants asking globals new (Faults f) h = h
+
+-- a fault of the story, or a step that asks for memory and got none
+faulted : (made : List Made) (asking : Bool) (old new : Configuration) (f : Fault) (o : Outcome) → StepEnds asking o old.shared.globals new (Err f)
+    → (((left : List (Option Given)) → moment_after old o left made ≡ Faulted f old left made) ⊎ ((f ≡ OutOfMemory) × (asking ≡ true)))
+faulted made asking old new f (Next c) h = inr h.0
+faulted made asking old new f (Stop c) h = inr h.0
+faulted made asking old new f (Wants name arguments g c) h = inr h.0
+faulted made asking old new f (Faults g) h = elim h.0 [
+  | inl same ↦ inl (λ left. ap (λ x. Faulted x old left made) (sym same))
+  | inr short ↦ inr short
 ]
+
+kept_globals : (asking : Bool) (globals : Values) (new : Configuration) (f : Fault) (o : Outcome) → StepEnds asking o globals new (Err f) → new.shared.globals ≡ globals
+kept_globals asking globals new f (Next c) h = h.1
+kept_globals asking globals new f (Stop c) h = h.1
+kept_globals asking globals new f (Wants name arguments g c) h = h.1
+kept_globals asking globals new f (Faults g) h = h.1
+
+-- ---- what a step did in a run
+
+-- memory was refused before a call that the step wants, or for what came of it
+abbrev pub Short : StoryTree → Bound → Configuration → List Made → Type 0
+Short s b old more = ((more ≡ []) × (asks s b old ≡ true))
+    ⊎ ((name : List ℕ) × (arguments : List Value) × (given : Given) × (f : Fields) × (d : Configuration)
+    × (step s b old ≡ Wants name arguments f d) × (more ≡ (record { name = name; arguments = arguments; gave = Some given }) ∷ []))
+
+-- the moment after a step with these calls, by what it returned
+abbrev pub Ends : StoryTree → Bound → List Made → List Made → Configuration → Configuration → Result StepEnd Fault → Type 0
+Ends s b made more old new (Ok ends.Went) = (left : List (Option Given)) → came s old (step s b old) (answers_of more ++ left) made ≡ At new left (made ++ more)
+Ends s b made more old new (Ok ends.Stopped) = (left : List (Option Given)) → came s old (step s b old) (answers_of more ++ left) made ≡ Stopped new left (made ++ more)
+Ends s b made more old new (Ok ends.WantsCall) = ⊥
+Ends s b made more old new (Err f) = (new.shared.globals ≡ old.shared.globals)
+    × (((left : List (Option Given)) → came s old (step s b old) (answers_of more ++ left) made ≡ Faulted f old left (made ++ more)) ⊎ ((f ≡ OutOfMemory) × Short s b old more))
+
+pub record Did (s : StoryTree) (b : Bound) (made : List Made) (n : ℕ) (es : List Event) (old new : Configuration) (result : Result StepEnd Fault) : Type 0 where
+  pub more : List Made
+  pub events : es ≡ calls n more
+  pub bound : AreBound b more
+  pub ends : Ends s b made more old new result
+
+module _ (s : StoryTree) (b : Bound) (made : List Made) (n : ℕ) (es : List Event) (old new : Configuration) where
+  -- ---- without a call
+
+  module _ (o : Outcome) (is : step s b old ≡ o) (plain : (left : List (Option Given)) → came s old o left made ≡ moment_after old o left made) where
+    came_so : (left : List (Option Given)) (m : List Made → Moment) → moment_after old o left made ≡ m made → came s old (step s b old) left made ≡ m (made ++ [])
+    came_so left m h = ap (λ x. came s old x left made) is ∙ plain left ∙ h ∙ ap m (sym (append-nil made))
+
+    ends_plainly : (result : Result StepEnd Fault) → StepEnds (asks s b old) o old.shared.globals new result → Ends s b made [] old new result
+    ends_plainly (Ok ends.Went) h = λ left. came_so left (At new left) (went left made (asks s b old) old new o h)
+    ends_plainly (Ok ends.Stopped) h = λ left. came_so left (Stopped new left) (stopped left made (asks s b old) old new o h)
+    ends_plainly (Ok ends.WantsCall) h = never_wants (asks s b old) old.shared.globals new o h
+    ends_plainly (Err f) h = (kept_globals (asks s b old) old.shared.globals new f o h, elim (faulted made (asks s b old) old new f o h) [
+      | inl faults ↦ inl (λ left. came_so left (Faulted f old left) (faults left))
+      | inr short ↦ inr (short.0, inl (refl, short.1))
+    ])
+
+    did_plainly : (result : Result StepEnd Fault) → (es ≡ []) × StepEnds (asks s b old) o old.shared.globals new result → Did s b made n es old new result
+    did_plainly result h = record { more = []; events = h.0; bound = tt; ends = ends_plainly result h.1 }
+
+  -- ---- with a call
+
+  module _ (name : List ℕ) (arguments : List Value) (f : Fields) (d : Configuration) (is : step s b old ≡ Wants name arguments f d) (turn : b name ≡ Some turn_function) where
+    abbrev call : Option Given → Made
+    call gave = record { name = name; arguments = arguments; gave = gave }
+
+    module _ (gave : Option Given) where
+      came_calling : (left : List (Option Given)) (m : Moment) → moment_after old (answered s f d gave) left (made ++ call gave ∷ []) ≡ m
+          → came s old (step s b old) (answers_of (call gave ∷ []) ++ left) made ≡ m
+      came_calling left m h = ap (λ x. came s old x (gave ∷ left) made) is ∙ h
+
+      ends_calling : (result : Result StepEnd Fault) → StepEnds (is_some gave) (answered s f d gave) old.shared.globals new result → Ends s b made (call gave ∷ []) old new result
+      ends_calling (Ok ends.Went) h = λ left. came_calling left _ (went left (made ++ call gave ∷ []) (is_some gave) old new (answered s f d gave) h)
+      ends_calling (Ok ends.Stopped) h = λ left. came_calling left _ (stopped left (made ++ call gave ∷ []) (is_some gave) old new (answered s f d gave) h)
+      ends_calling (Ok ends.WantsCall) h = never_wants (is_some gave) old.shared.globals new (answered s f d gave) h
+      ends_calling (Err g) h =
+          (kept_globals (is_some gave) old.shared.globals new g (answered s f d gave) h, elim (faulted (made ++ call gave ∷ []) (is_some gave) old new g (answered s f d gave) h) [
+            | inl faults ↦ inl (λ left. came_calling left _ (faults left))
+            | inr short ↦ inr (short.0, inr (by gave refl short.1))
+          ])
+        where
+          by : (o : Option Given) → gave ≡ o → is_some o ≡ true
+              → (nm : List ℕ) × (ar : List Value) × (given : Given) × (k : Fields) × (c : Configuration) × (step s b old ≡ Wants nm ar k c)
+              × (call gave ∷ [] ≡ (record { name = nm; arguments = ar; gave = Some given }) ∷ [])
+          by None at h = absurd (cc)
+          by (Some given) at h = (name, arguments, given, f, d, is, ap (λ o. call o ∷ []) at)
+
+    did_calling : (result : Result StepEnd Fault) → ((gave : Option Given) × (es ≡ calls n (call gave ∷ [])) × StepEnds (is_some gave) (answered s f d gave) old.shared.globals new result)
+        ⊎ ((es ≡ []) × (result ≡ Err OutOfMemory) × (asks s b old ≡ true) × (new.shared.globals ≡ old.shared.globals)) → Did s b made n es old new result
+    did_calling result h = elim h [
+      | inl called ↦ record { more = call called.0 ∷ []; events = called.1; bound = (turn, tt); ends = ends_calling called.0 result called.2 }
+      | inr short ↦ subst (Did s b made n es old new) (sym short.1) (record { more = []; events = short.0; bound = tt; ends = (short.3, inr (refl, inl (refl, short.2))) })
+    ]
+
+  -- ---- a step in a run
+
+  did_so : (result : Result StepEnd Fault) (o : Outcome) → step s b old ≡ o → Steps false s b n (asks s b old) o es old.shared.globals old new result → Did s b made n es old new result
+  did_so result (Next c) is h = did_plainly (Next c) is (λ left. refl) result h
+  did_so result (Stop c) is h = did_plainly (Stop c) is (λ left. refl) result h
+  did_so result (Faults f) is h = did_plainly (Faults f) is (λ left. refl) result h
+  did_so result (Wants name arguments f d) is h = did_calling name arguments f d is h.0 result h.1
+
+  pub did : (result : Result StepEnd Fault) → Steps false s b n (asks s b old) (step s b old) es old.shared.globals old new result → Did s b made n es old new result
+  did result h = did_so result (step s b old) refl h
 
 -- ---- from moment to moment
 
-module _ (s : StoryTree) (start : Configuration) where
-  pub begins : moment s nothing_bound start [] 0 ≡ At start [] []
-  unfolding run
-  begins = refl
+module _ (s : StoryTree) (b : Bound) (start : Configuration) where
+  -- after n steps the run has come here, with these calls made, whatever answers are left
+  abbrev pub GotTo : ℕ → Configuration → List Made → Type 0
+  GotTo n now made = (left : List (Option Given)) → moment s b start (answers_of made ++ left) n ≡ At now left made
 
-  step_on : (n : ℕ) (m : Moment) → moment s nothing_bound start [] n ≡ m → moment s nothing_bound start [] (n + 1) ≡ next s nothing_bound m
+  pub begins : GotTo 0 start []
   unfolding run
-  step_on n m h =
+  begins left = refl
+
+  step_on : (answers : List (Option Given)) (n : ℕ) (m : Moment) → moment s b start answers n ≡ m → moment s b start answers (n + 1) ≡ next s b m
+  unfolding run
+  step_on answers n m h =
       let one : n + 1 ≡ suc n = omega arith in
-      ap (moment s nothing_bound start []) one ∙ ap (next s nothing_bound) h
+      ap (moment s b start answers) one ∙ ap (next s b) h
 
   -- a run that has ended stays as it is
-  stays : (j n k : ℕ) (m : Moment) → next s nothing_bound m ≡ m → k ≡ n + j → moment s nothing_bound start [] n ≡ m
-      → moment s nothing_bound start [] k ≡ m
-  stays zero n k m ended e h = let same : k ≡ n = omega arith in ap (moment s nothing_bound start []) same ∙ h
-  stays (suc j) n k m ended e h =
+  stays : (answers : List (Option Given)) (j n k : ℕ) (m : Moment) → next s b m ≡ m → k ≡ n + j → moment s b start answers n ≡ m → moment s b start answers k ≡ m
+  stays answers zero n k m ended e h = let same : k ≡ n = omega arith in ap (moment s b start answers) same ∙ h
+  stays answers (suc j) n k m ended e h =
       let same : k ≡ (n + j) + 1 = omega arith in
-      ap (moment s nothing_bound start []) same ∙ step_on (n + j) m (stays j n (n + j) m ended refl h) ∙ ended
+      ap (moment s b start answers) same ∙ step_on answers (n + j) m (stays answers j n (n + j) m ended refl h) ∙ ended
 
-  stays_to : (n k : ℕ) (m : Moment) → next s nothing_bound m ≡ m → n ≤ k → moment s nothing_bound start [] n ≡ m
-      → moment s nothing_bound start [] k ≡ m
-  stays_to n k m ended le h = let e : k ≡ n + (k - n) = omega arith in stays (k - n) n k m ended e h
+  stays_to : (answers : List (Option Given)) (n k : ℕ) (m : Moment) → next s b m ≡ m → n ≤ k → moment s b start answers n ≡ m → moment s b start answers k ≡ m
+  stays_to answers n k m ended le h = let e : k ≡ n + (k - n) = omega arith in stays answers (k - n) n k m ended e h
 
-  pub run_went : (n : ℕ) (old new : Configuration) (end : StepEnd) → moment s nothing_bound start [] n ≡ At old [] [] → end ≡ ends.Went
-      → StepEnds (asks s old) (step s nothing_bound old) old.shared.globals new (Ok end) → moment s nothing_bound start [] (n + 1) ≡ At new [] []
-  run_went n old new end h is e =
-      let goes = subst (λ x. StepEnds (asks s old) (step s nothing_bound old) old.shared.globals new (Ok x)) is e in
-      step_on n _ h ∙ went s (asks s old) old new (step s nothing_bound old) goes
+  -- the answers of calls that come before others
+  split_answers : (made more : List Made) (left : List (Option Given)) → answers_of (made ++ more) ++ left ≡ answers_of made ++ (answers_of more ++ left)
+  split_answers made more left = ap (λ as. as ++ left) (map-append (λ m. m.gave) made more) ∙ append_assoc (answers_of made) (answers_of more) left
 
-  pub run_stopped : (n k : ℕ) (old new : Configuration) (end : StepEnd) → n < k → moment s nothing_bound start [] n ≡ At old [] [] → end ≡ ends.Stopped
-      → StepEnds (asks s old) (step s nothing_bound old) old.shared.globals new (Ok end) → moment s nothing_bound start [] k ≡ Stopped new [] []
-  run_stopped n k old new end below h is e =
-      let stops = subst (λ x. StepEnds (asks s old) (step s nothing_bound old) old.shared.globals new (Ok x)) is e in
-      stays_to (n + 1) k (Stopped new [] []) refl (omega arith) (step_on n _ h ∙ stopped s (asks s old) old new (step s nothing_bound old) stops)
+  -- the moment after one more step, with the calls that it makes
+  one_more : (n : ℕ) (old : Configuration) (made more : List Made) (left : List (Option Given)) (m : Moment) → GotTo n old made
+      → came s old (step s b old) (answers_of more ++ left) made ≡ m → moment s b start (answers_of (made ++ more) ++ left) (n + 1) ≡ m
+  one_more n old made more left m h so =
+      ap (λ as. moment s b start as (n + 1)) (split_answers made more left)
+      ∙ step_on (answers_of made ++ (answers_of more ++ left)) n (At old (answers_of more ++ left) made) (h (answers_of more ++ left)) ∙ so
 
-  pub run_faulted : (n : ℕ) (old new : Configuration) (f : Fault) → n < MAX_STEPS → moment s nothing_bound start [] n ≡ At old [] []
-      → StepEnds (asks s old) (step s nothing_bound old) old.shared.globals new (Err f) → RunFalls s start new.shared.globals f
-  run_faulted n old new f below h e =
-      let ended = faulted s (asks s old) old new f (step s nothing_bound old) e in
-      record {
-        before = old;
-        kept = ended.1;
-        why = elim ended.0 [
-          | inl came_so ↦
-              inl (ap cut_off (stays_to (n + 1) MAX_STEPS (Faulted f old [] []) refl (omega arith) (step_on n _ h ∙ came_so)))
-          | inr short ↦ inr (short.0, record { steps = n; within = below; got_there = h; asking = short.1 })
-        ];
-      }
+  -- with no answer left
+  alone : (made : List Made) (n : ℕ) → moment s b start (answers_of made) n ≡ moment s b start (answers_of made ++ []) n
+  alone made n = ap (λ as. moment s b start as n) (sym (append-nil (answers_of made)))
+
+  pub run_went : (n : ℕ) (old new : Configuration) (made more : List Made) → GotTo n old made → Ends s b made more old new (Ok ends.Went) → GotTo (n + 1) new (made ++ more)
+  run_went n old new made more h so = λ left. one_more n old made more left (At new left (made ++ more)) h (so left)
+
+  pub run_stopped : (n k : ℕ) (old new : Configuration) (made more : List Made) → n < k → GotTo n old made → Ends s b made more old new (Ok ends.Stopped)
+      → moment s b start (answers_of (made ++ more)) k ≡ Stopped new [] (made ++ more)
+  run_stopped n k old new made more below h so =
+      alone (made ++ more) k ∙ stays_to (answers_of (made ++ more) ++ []) (n + 1) k (Stopped new [] (made ++ more)) refl (omega arith)
+      (one_more n old made more [] (Stopped new [] (made ++ more)) h (so []))
+
+  pub run_faulted : (n : ℕ) (old new : Configuration) (made more : List Made) (f : Fault) → n < MAX_STEPS → GotTo n old made → Ends s b made more old new (Err f)
+      → RunFalls s b start (made ++ more) new.shared.globals f
+  run_faulted n old new made more f below h so = record {
+    before = old;
+    kept = so.0;
+    why = elim so.1 [
+      | inl faults ↦
+          inl (ap cut_off (alone (made ++ more) MAX_STEPS ∙ stays_to (answers_of (made ++ more) ++ []) (n + 1) MAX_STEPS (Faulted f old [] (made ++ more)) refl (omega arith)
+          (one_more n old made more [] (Faulted f old [] (made ++ more)) h (faults []))))
+      | inr short ↦ inr (short.0, elim short.1 [
+        | inl before ↦ inl (subst (λ all. GetsTo s b start all old) (ap (λ more. made ++ more) (sym before.0) )
+            (subst (λ all. GetsTo s b start all old) (sym (append-nil made)) (record { steps = n; within = below; got_there = alone made n ∙ h []; asking = before.1 })))
+        | inr after ↦ inr (record {
+            steps = n;
+            within = below;
+            before = made;
+            got_there = alone made n ∙ h [];
+            name = after.0;
+            arguments = after.1;
+            given = after.2;
+            fields = after.3;
+            calling = after.4;
+            wants = after.5;
+            calls = ap (λ more. made ++ more) after.6;
+          })
+      ])
+    ];
+  }
 
   -- the run needs one more step than it may take
-  pub run_out : (n : ℕ) (now : Configuration) → MAX_STEPS ≡ n → moment s nothing_bound start [] n ≡ At now [] []
-      → RunFalls s start now.shared.globals OutOfSteps
-  run_out n now e h = record { before = now; kept = refl; why = inl (ap (λ k. cut_off (moment s nothing_bound start [] k)) e ∙ ap cut_off h) }
+  pub run_out : (n : ℕ) (now : Configuration) (made : List Made) → MAX_STEPS ≡ n → GotTo n now made → RunFalls s b start made now.shared.globals OutOfSteps
+  run_out n now made e h = record {
+    before = now;
+    kept = refl;
+    why = inl (ap (λ k. cut_off (moment s b start (answers_of made) k)) e ∙ ap cut_off (alone made n ∙ h []));
+  }

@@ -5,7 +5,7 @@ use Rattle.ink_model.specs.Bytes.{fits_text}
 use Rattle.ink_model.specs.Configuration.{ChoiceOf, Configuration, begun, current_place, ended, with_choices, with_safe}
 use Rattle.ink_model.specs.Choices.{added, choice_text, is_offered, make, operands, pop_any_words, pop_condition, pop_words, then_pop}
 use Rattle.ink_model.specs.Choosing.{default_choice, following, stopped_by}
-use Rattle.ink_model.specs.Effect.{Context, Fields, Effect, Moves, Stores, Offers, Lands, Calls, Returns, Forks, Done, Ends, Fails, context_of, fields_of, is_fresh, or_else, or_fault, pushing, with_fields, with_thread, writing, writing_text}
+use Rattle.ink_model.specs.Effect.{Context, Fields, Effect, Moves, Stores, Offers, Lands, Calls, Returns, Forks, Done, Ends, Asks, Fails, context_of, fields_of, is_fresh, or_else, or_fault, pushing, with_fields, with_thread, writing, writing_text}
 use Rattle.ink_model.specs.Entered.{flags_at}
 use Rattle.ink_model.specs.Flags.{counts_visits, has_choice_only_text, has_start_text, is_conditional, notes_turns}
 use Rattle.ink_model.specs.Flow.{Written, Reached, Reaches, Halts, Breaks, Ending, Continues, Finishes, Collapses, called, done_by, doubled_in, enter_for, frames_on, halt, is_last, leave_for, moved_on, on_ending, on_page, on_stack, or_breaks, or_end, reach, reach_or_on, returned, thread_of, threads_on, void_for}
@@ -15,19 +15,20 @@ use Rattle.ink_model.specs.Opening.{Unopened, declaring, opening, opened_by, ope
 use Rattle.ink_model.specs.Operator.{Operand, number, Operands, numbers, texts, targets, unlike, both, operand, can_divide, of_numbers, of_texts, of_targets, of_one, of_two, apply, takes}
 use Rattle.ink_model.specs.Output.{closes_string_of, closes_tag_of, begins_function, is_line, with_next, writes_value}
 use Rattle.ink_model.specs.Page.{Page, Section, SectionKind, string_section, tag_section}
-use Rattle.ink_model.specs.Place.{entered, next_place}
+use Rattle.ink_model.specs.Host.{Binding, Bound, fits_given, nothing_bound, pure_function, turn_function, value_given}
+use Rattle.ink_model.specs.Place.{entered, knot, next_place}
 use Rattle.ink_model.specs.Run as running
-use Rattle.ink_model.specs.Run.{Moment, At, Faulted, Waits, Made, answered, answered_at, came, cut_off, moment, moment_after, next, push_answer, run, fits_value}
-use Rattle.ink_model.specs.Host.{value_given}
+use Rattle.ink_model.specs.Run.{Moment, At, Faulted, Waits, Made, answered, came, cut_off, moment, moment_after, next, run}
 use Rattle.ink_model.specs.Path.{above, is_container}
 use Rattle.ink_model.specs.Stack.{applied_to, on_top, popped, taken}
 use Rattle.ink_model.specs.Threads as threads
-use Rattle.ink_model.specs.Step.{Bound, control_effect, effect, gone_in, leaf_effect, nothing_bound, step, step_at}
+use Rattle.ink_model.specs.Step.{control_effect, effect, gone_in, leaf_effect, step, step_at}
 use Rattle.ink_model.specs.Step.Calls.{call_to, led_back}
 use Rattle.ink_model.specs.Step.Choices.{offering, was_visited}
 use Rattle.ink_model.specs.Step.Counts.{asking, less_one, pushing_count, turns_at, turns_there, visits_at, visits_there}
 use Rattle.ink_model.specs.Step.Diverts.{divert_to, landing_by, led_by, led_to, where_true}
 use Rattle.ink_model.specs.Step.Evaluation.{output_popped, push_value}
+use Rattle.ink_model.specs.Step.Host.{answering, arguments_on, call_bound, has_string, is_argument, with_arguments}
 use Rattle.ink_model.specs.Step.Text.{closed_tag, in_tag, keeps_tag}
 use Rattle.ink_model.specs.Step.Variables.{assign, declare, storing}
 use Rattle.ink_model.specs.Store.{Values}
@@ -42,10 +43,11 @@ use Rattle.ink_model.specs.declared.content.Destination.TheVariants as destinati
 use Rattle.ink_model.specs.declared.content.Leaf.{Leaf}
 use Rattle.ink_model.specs.declared.content.Leaf.TheVariants as leaves
 use Rattle.ink_model.specs.declared.fault.Fault.{Fault}
-use Rattle.ink_model.specs.declared.fault.Fault.TheVariants.{BadMode, BadPointer, BadPop, BadTarget, Divide, HostRefused, NoTemp, NotCounted, OutOfMemory, OutOfSteps, StackEmpty, StopInString, TooDeep}
+use Rattle.ink_model.specs.declared.fault.Fault.TheVariants.{BadMode, BadOperands, BadPointer, BadPop, BadTarget, Divide, HostRefused, NoTemp, NotCounted, OutOfMemory, OutOfSteps, StackEmpty, StopInString, TooDeep, Unbound, UnsafeInString}
 use Rattle.ink_model.specs.declared.frame.FrameKind.{FrameKind}
 use Rattle.ink_model.specs.declared.frame.FrameKind.TheVariants.{Base, Function, Tunnel}
 use Rattle.ink_model.specs.declared.host.Given.{Given}
+use Rattle.std.specs.List.{list_all}
 use Rattle.ink_model.specs.declared.limits.TheConstants.{MAX_CHOICES, MAX_FRAMES, MAX_STEPS, MAX_THREADS}
 use Rattle.ink_model.specs.declared.mark.Mark.{Mark}
 use Rattle.ink_model.specs.declared.mark.Mark.TheVariants as mark
@@ -374,34 +376,49 @@ declare_acts scope name seen f = acts_else StackEmpty (popped f.stack) _ (λ h. 
 assign_acts : (name : List ℕ) (seen : Context) (f : Fields) → Acts (assign name seen f)
 assign_acts name seen f = acts_else StackEmpty (popped f.stack) _ (λ h. absurd (cc)) (λ r. storing_acts _ (record f { stack = r.1 }) (assign_sound f.globals seen.thread name r.0))
 
-leaf_acts : (s : StoryTree) (p : List Part) (seen : Context) (l : Leaf) (f : Fields) → Acts (leaf_effect s p seen l f)
-leaf_acts s p seen (leaves.Text t) f = effect_if f.evaluating _ _ (push_acts _ f) (text_acts _ _ f (deep _ (marks_deep _ f.page)))
-leaf_acts s p seen leaves.Newline f = effect_if f.evaluating _ _ (push_acts _ f) (write_acts _ f (deep _ (marks_deep _ f.page)))
-leaf_acts s p seen leaves.Glue f = effect_if f.evaluating _ _ (fails_act BadMode (λ h. absurd (cc))) (write_acts _ f (deep _ (marks_deep (mark.Glue ∷ []) f.page)))
-leaf_acts s p seen (leaves.Int z) f = value_acts _ f
-leaf_acts s p seen (leaves.Bool t) f = value_acts _ f
-leaf_acts s p seen leaves.Void f = value_acts _ f
-leaf_acts s p seen (leaves.Target text) f = value_acts _ f
-leaf_acts s p seen (leaves.Control o) f = control_acts s p seen o f
-leaf_acts s p seen (leaves.Op o) f = acts_or _ _ (applied_sound o (taken (takes o) f.stack [])) (λ vs. moves_act _)
-leaf_acts s p seen (leaves.Divert to conditional) f = where_acts conditional f _ (divert_acts s p seen to)
-leaf_acts s p seen (leaves.Call to conditional) f = where_acts conditional f _ (call_acts Function s p seen to)
-leaf_acts s p seen (leaves.Tunnel to conditional) f = where_acts conditional f _ (call_acts Tunnel s p seen to)
-leaf_acts s p seen (leaves.Declare name) f = declare_acts Global name seen f
-leaf_acts s p seen (leaves.DeclareTemp name) f = declare_acts Temporary name seen f
-leaf_acts s p seen (leaves.Assign name) f = assign_acts name seen f
-leaf_acts s p seen (leaves.AssignTemp name) f = assign_acts name seen f
-leaf_acts s p seen (leaves.Variable name) f = acts_or (read f.globals seen.thread name) _ (read_sound f.globals seen.thread name) (λ v. push_acts v f)
-leaf_acts s p seen (leaves.Pointer name frame) f = value_acts _ f
-leaf_acts s p seen (leaves.Count text) f = acts_else NotCounted (leads s p text) _ (λ h. absurd (cc)) (λ q. count_acts s seen _ f (visits_sound s seen q))
-leaf_acts s p seen (leaves.Choice text flags) f = acts_else BadTarget (lands s p text) _ (λ h. absurd (cc))
-    (λ q. acts_or (make flags q (was_visited s p seen text flags) seen.thread f.stack) _ (make_sound flags q _ seen.thread f.stack) (λ r. offering_acts s p seen r.0 _))
-leaf_acts s p seen l f = moves_act f
+-- ---- external functions
 
-effect_acts : (s : StoryTree) (p : List Part) (found : Option StoryTree) (seen : Context) (f : Fields) → Acts (effect s p found seen f)
-effect_acts s p None seen f = moves_act f
-effect_acts s p (Some (container name flags content named)) seen f = moves_act f
-effect_acts s p (Some (leaf l)) seen f = leaf_acts s p seen l f
+answering_acts : (gave : Option Given) (f : Fields) → Acts (answering gave f)
+answering_acts None f = fails_act HostRefused (λ h. absurd (cc))
+answering_acts (Some g) f = effect_if (fits_given g) _ _ (push_acts (value_given g) f) (fails_act TooDeep (λ h. absurd (cc)))
+
+arguments_act : (n : ℕ) (f : Fields) (so : List Value → Fields → Effect) → ((vs : List Value) (g : Fields) → Acts (so vs g)) → Acts (with_arguments n f so)
+arguments_act n f so acts = acts_else StackEmpty (arguments_on n f.stack) _ (λ h. absurd (cc))
+    (λ r. effect_if (list_all is_argument r.0) _ _ (acts r.0 _) (fails_act BadOperands (λ h. absurd (cc))))
+
+bound_acts : (s : StoryTree) (b : Option Binding) (name : List ℕ) (n : ℕ) (f : Fields) → Acts (call_bound s b name n f)
+bound_acts s None name n f = acts_else Unbound (knot name s) _ (λ h. absurd (cc)) (λ p. λ h. absurd (cc))
+bound_acts s (Some turn_function) name n f = effect_if (has_string f.page.sections) _ _ (fails_act UnsafeInString (λ h. absurd (cc))) (arguments_act n f _ (λ vs g. λ h. absurd (cc)))
+bound_acts s (Some (pure_function answers)) name n f = arguments_act n f _ (λ vs g. answering_acts (answers vs) g)
+
+leaf_acts : (s : StoryTree) (b : Bound) (p : List Part) (seen : Context) (l : Leaf) (f : Fields) → Acts (leaf_effect s b p seen l f)
+leaf_acts s b p seen (leaves.Text t) f = effect_if f.evaluating _ _ (push_acts _ f) (text_acts _ _ f (deep _ (marks_deep _ f.page)))
+leaf_acts s b p seen leaves.Newline f = effect_if f.evaluating _ _ (push_acts _ f) (write_acts _ f (deep _ (marks_deep _ f.page)))
+leaf_acts s b p seen leaves.Glue f = effect_if f.evaluating _ _ (fails_act BadMode (λ h. absurd (cc))) (write_acts _ f (deep _ (marks_deep (mark.Glue ∷ []) f.page)))
+leaf_acts s b p seen (leaves.Int z) f = value_acts _ f
+leaf_acts s b p seen (leaves.Bool t) f = value_acts _ f
+leaf_acts s b p seen leaves.Void f = value_acts _ f
+leaf_acts s b p seen (leaves.Target text) f = value_acts _ f
+leaf_acts s b p seen (leaves.Control o) f = control_acts s p seen o f
+leaf_acts s b p seen (leaves.Op o) f = acts_or _ _ (applied_sound o (taken (takes o) f.stack [])) (λ vs. moves_act _)
+leaf_acts s b p seen (leaves.Divert to conditional) f = where_acts conditional f _ (divert_acts s p seen to)
+leaf_acts s b p seen (leaves.Call to conditional) f = where_acts conditional f _ (call_acts Function s p seen to)
+leaf_acts s b p seen (leaves.Tunnel to conditional) f = where_acts conditional f _ (call_acts Tunnel s p seen to)
+leaf_acts s b p seen (leaves.Declare name) f = declare_acts Global name seen f
+leaf_acts s b p seen (leaves.DeclareTemp name) f = declare_acts Temporary name seen f
+leaf_acts s b p seen (leaves.Assign name) f = assign_acts name seen f
+leaf_acts s b p seen (leaves.AssignTemp name) f = assign_acts name seen f
+leaf_acts s b p seen (leaves.Variable name) f = acts_or (read f.globals seen.thread name) _ (read_sound f.globals seen.thread name) (λ v. push_acts v f)
+leaf_acts s b p seen (leaves.Pointer name frame) f = value_acts _ f
+leaf_acts s b p seen (leaves.Count text) f = acts_else NotCounted (leads s p text) _ (λ h. absurd (cc)) (λ q. count_acts s seen _ f (visits_sound s seen q))
+leaf_acts s b p seen (leaves.Choice text flags) f = acts_else BadTarget (lands s p text) _ (λ h. absurd (cc))
+    (λ q. acts_or (make flags q (was_visited s p seen text flags) seen.thread f.stack) _ (make_sound flags q _ seen.thread f.stack) (λ r. offering_acts s p seen r.0 _))
+leaf_acts s b p seen (leaves.External name n conditional) f = where_acts conditional f _ (bound_acts s (b name) name n)
+
+effect_acts : (s : StoryTree) (b : Bound) (p : List Part) (found : Option StoryTree) (seen : Context) (f : Fields) → Acts (effect s b p found seen f)
+effect_acts s b p None seen f = moves_act f
+effect_acts s b p (Some (container name flags content named)) seen f = moves_act f
+effect_acts s b p (Some (leaf l)) seen f = leaf_acts s b p seen l f
 
 -- ---- frames and threads, and what is written to where they are pushed and popped
 
@@ -550,11 +567,12 @@ module _ (s : StoryTree) where
   move_goes (Forks f) c acts = let d = with_fields f c in reached_goes d _ (forked_stays (next_place s) _ (moved_stays (next_place s) d.flow.threads (written_in d)))
   move_goes (Done f) c acts = let d = with_fields f c in reached_goes (with_safe (d.flow.safe || is_last d.flow.threads) d) _ (done_stays (next_place s) (threads.dropped d.flow.threads) d.flow.threads (written_in d))
   move_goes (Ends f) c acts = let d = with_fields f c in reached_goes (ended d) _ (halt_stays (base_threads None) (written_in d))
+  move_goes (Asks name arguments f) c acts = λ h. absurd (cc)
   move_goes (Fails f) c acts = λ h. acts (cc)
 
   following_goes : (o : Outcome) → Goes o → Goes (following s o)
   following_goes (Next c) goes = goes
-  following_goes (Wants name arguments c) goes = goes
+  following_goes (Wants name arguments after c) goes = goes
   following_goes (Faults f) goes = goes
   following_goes (Stop c) goes = by (default_choice c.flow.choices)
     where
@@ -568,16 +586,10 @@ module _ (s : StoryTree) where
     where
       at_place : (place : Option (List Part)) → Goes (step_at s b place c)
       at_place None = λ h. absurd (cc)
-      at_place (Some p) = let d = gone_in s p c in following_goes _ (move_goes _ d (effect_acts s (entered s p) (at s (entered s p)) (context_of d) (fields_of d)))
+      at_place (Some p) = let d = gone_in s p c in following_goes _ (move_goes _ d (effect_acts s b (entered s p) (at s (entered s p)) (context_of d) (fields_of d)))
 
-  answered_goes : (c : Configuration) (g : Option Given) → Goes (answered s c g)
-  answered_goes c None = λ h. absurd (cc)
-  answered_goes c (Some g) = at_place (current_place c)
-    where
-      at_place : (place : Option (List Part)) → Goes (answered_at s (value_given g) place c)
-      at_place None = λ h. absurd (cc)
-      at_place (Some p) = following_goes _ (move_goes (push_answer (value_given g) (fields_of c)) _
-          (effect_if (fits_value (value_given g)) _ _ (push_acts (value_given g) (fields_of c)) (fails_act TooDeep (λ h. absurd (cc)))))
+  answered_goes : (f : Fields) (c : Configuration) (gave : Option Given) → Goes (answered s f c gave)
+  answered_goes f c gave = following_goes _ (move_goes (answering gave f) c (answering_acts gave f))
 
 module _ (s : StoryTree) (b : Bound) where
   -- ---- a run
@@ -589,10 +601,10 @@ module _ (s : StoryTree) (b : Bound) where
   after_runs c (Next d) left made goes e l m = λ h. absurd (cc)
   after_runs c (Stop d) left made goes e l m = λ h. absurd (cc)
   after_runs c (Faults f) left made goes e l m = λ h. goes (cc)
-  after_runs c (Wants name arguments d) left made goes e l m = λ h. absurd (cc)
+  after_runs c (Wants name arguments after d) left made goes e l m = λ h. absurd (cc)
 
   came_runs : (c : Configuration) (o : Outcome) (left : List (Option Given)) (made : List Made) → Goes o → Runs (came s c o left made)
-  came_runs c (Wants name arguments d) (a ∷ left) made goes = after_runs c (answered s d a) left _ (answered_goes s d a)
+  came_runs c (Wants name arguments after d) (a ∷ left) made goes = after_runs c (answered s after d a) left _ (answered_goes s after d a)
   came_runs c o left made goes = after_runs c o left made goes
 
   next_runs : (m : Moment) → Runs m → Runs (next s b m)

@@ -1,17 +1,18 @@
 -- Opening a story, from the run of its declarations.
-use Rattle.std.proofs.Common.{◌≡◌, ◌∙◌, ap, sym, refl, subst, inl, inr, List, [], Option, Some, None, option_map, Ok, Err}
+use Rattle.std.proofs.Common.{◌≡◌, ◌∙◌, ◌⊎◌, ◌++◌, ◌∷◌, ap, sym, refl, subst, inl, inr, List, [], Option, Some, None, option_map, Result, Ok, Err}
 use Rattle.ink_model.specs.Tree.{StoryTree}
 use Rattle.ink_model.specs.Place.{landed}
 use Rattle.ink_model.specs.Configuration.{Configuration, fresh_at, start, begun, with_globals}
-use Rattle.ink_model.specs.Step.{nothing_bound}
+use Rattle.ink_model.specs.Host.{Bound, nothing_bound}
 use Rattle.ink_model.specs.Store.{Values}
-use Rattle.ink_model.specs.Memory.{GetsTo}
-use Rattle.ink_model.specs.Run.{Moment, Stopped, moment, cut_off}
+use Rattle.ink_model.specs.Memory.{CallsAt, GetsTo}
+use Rattle.ink_model.specs.Run.{Made, Moment, Stopped, moment, cut_off}
 use Rattle.ink_model.specs.declared.limits.TheConstants.{MAX_STEPS}
 use Rattle.ink_model.specs.Opening.{declarations, declaring, opening, opened_by, opened_from}
 use Rattle.ink_model.specs.declared.fault.Fault.{Fault}
 use Rattle.ink_model.specs.declared.place.Part.{Part}
-use Rattle.ink_step.specs.Steps.{FailsToOpen, RunFalls}
+use Rattle.ink_step.specs.Runs.{AreBound, RunFalls, RunsToStop}
+use Rattle.ink_step.specs.Steps.{FailsToOpen}
 
 -- a machine at a place where nothing has happened yet, without globals
 pub first_of : (q : List Part) (c : Configuration) (globals : Values) → c ≡ with_globals globals (fresh_at q) → globals ≡ [] → c ≡ begun (fresh_at q)
@@ -23,6 +24,23 @@ landing_at : (s : StoryTree) (o : Option (List Part)) → option_map (λ p. fres
 landing_at s None = refl
 landing_at s (Some p) = refl
 
+-- with no calls made none was the last
+not_last : (before : List Made) (m : Made) → [] ≡ before ++ m ∷ [] → ⊥
+not_last [] m h = absurd (cc)
+not_last (x ∷ before) m h = absurd (cc)
+
+-- ---- with nothing bound nothing is called
+
+never_bound : (made : List Made) → AreBound nothing_bound made → made ≡ []
+never_bound [] h = refl
+never_bound (m ∷ made) h = let none = h.0 in absurd (cc)
+
+pub runs_alone : (s : StoryTree) (b : Bound) (old new : Configuration) (made : List Made) (result : Result (Unit {0}) Fault) → b ≡ nothing_bound
+    → RunsToStop s b old made new result → AreBound b made → RunsToStop s nothing_bound old [] new result
+runs_alone s b old new made result none runs bound =
+    subst (λ made. RunsToStop s nothing_bound old made new result) (never_bound made (subst (λ b. AreBound b made) none bound))
+    (subst (λ b. RunsToStop s b old made new result) none runs)
+
 module _ (s : StoryTree) (found : Option (List Part)) (is : found ≡ option_map (landed s) (declarations s)) where
   begins_at : declaring s ≡ option_map fresh_at found
   begins_at = landing_at s (declarations s) ∙ ap (option_map fresh_at) (sym is)
@@ -31,6 +49,9 @@ module _ (s : StoryTree) (found : Option (List Part)) (is : found ≡ option_map
   unfolding opening
   opens_plainly c globals none starts empty =
       ap (opened_from s) (begins_at ∙ ap (option_map fresh_at) none) ∙ ap Ok (sym (starts ∙ ap (start s) empty))
+
+  never_calls : (start reached : Configuration) → GetsTo s nothing_bound start [] reached ⊎ CallsAt s nothing_bound start [] reached → GetsTo s nothing_bound start [] reached
+  never_calls start reached there = elim there [ inl at ↦ at | inr calling ↦ absurd (not_last calling.before _ calling.calls) ]
 
   module _ (q : List Part) (begin : Configuration) (some : found ≡ Some q) (begins : begin ≡ begun (fresh_at q)) where
     first : declaring s ≡ Some (fresh_at q)
@@ -45,7 +66,7 @@ module _ (s : StoryTree) (found : Option (List Part)) (is : found ≡ option_map
     unfolding opening
     opens stop c stops starts = by_run _ (ap cut_off stops) ∙ ap Ok (sym starts)
 
-    pub fails : (globals : Values) (f : Fault) → RunFalls s begin globals f → FailsToOpen s f globals
+    pub fails : (globals : Values) (f : Fault) → RunFalls s nothing_bound begin [] globals f → FailsToOpen s f globals
     unfolding opening
     fails globals f h = elim h.why [
       | inl faults ↦ inl (by_run _ faults ∙ ap (λ vs. Err (record { fault = f; globals = vs })) (sym h.kept))
@@ -56,7 +77,7 @@ module _ (s : StoryTree) (found : Option (List Part)) (is : found ≡ option_map
               first = fresh_at q;
               declares = first;
               reached = h.before;
-              got_there = subst (λ d. GetsTo s nothing_bound d [] h.before) begins short.1;
+              got_there = subst (λ d. GetsTo s nothing_bound d [] h.before) begins (never_calls begin h.before short.1);
             },
           )
     ]

@@ -1,17 +1,15 @@
--- The passage of a machine, and what a running command tells.
+-- The passage of a machine, and what a running command comes to.
 use Rattle.std.proofs.Common.{◌≡◌, ◌∙◌, ◌⊎◌, ap, sym, refl, subst, inl, inr, ℕ, List, [], Bool, Err, arith}
 use Rattle.ink_model.specs.Tree.{StoryTree}
 use Rattle.ink_model.specs.Mark.{tags}
 use Rattle.ink_model.specs.Clean.{clean}
 use Rattle.ink_model.specs.Shown.{shown_text}
 use Rattle.ink_model.specs.Configuration.{Configuration, can_go_on, begun, settled}
-use Rattle.ink_model.specs.Step.{nothing_bound}
-use Rattle.ink_model.specs.Memory.{GetsTo, StopsAt}
-use Rattle.ink_model.specs.Run.{Moment, Stopped, moment, cut_off, through}
+use Rattle.ink_model.specs.Host.{Bound}
+use Rattle.ink_model.specs.Memory.{CallsAt, FallsShort, GetsTo, StopsAt}
+use Rattle.ink_model.specs.Run.{Made, Moment, Stopped, answers_of, moment, cut_off, through}
 use Rattle.ink_model.specs.declared.limits.TheConstants.{MAX_STEPS}
-use Rattle.ink_model.specs.Answer.{Tells, Breaks}
-use Rattle.ink_model.specs.State.{Ready, Broken}
-use Rattle.ink_model.specs.Session.{passage, is_loose, EndsAs, RunsThrough}
+use Rattle.ink_model.specs.Session.{passage, is_loose}
 use Rattle.ink_model.specs.Turns.{open_choices}
 use Rattle.ink_model.specs.declared.fault.Fault.{Fault}
 use Rattle.ink_model.specs.declared.fault.Fault.TheVariants.{OutOfMemory}
@@ -19,7 +17,7 @@ use Rattle.ink_model.specs.declared.host.Event.{Event}
 use Rattle.ink_model.specs.declared.passage.Passage.{Passage}
 use Rattle.ink_model.specs.declared.passage.Shown.{Shown}
 use Rattle.ink_step.specs.Words.{config_of}
-use Rattle.ink_step.specs.Steps.{RunsToStop}
+use Rattle.ink_step.specs.Runs.{ComesTo, RunFalls, RunsThrough}
 use Rattle.ink_step.specs.declared.machine.Machine.{Machine}
 
 abbrev pub made : List ℕ → List (List ℕ) → List Shown → List Event → Bool → Bool → Passage
@@ -35,35 +33,27 @@ passage_is s m text told choices events more loose e f g h i j = rw (e, f, g, h,
 
 -- ---- a running command, from the run that it makes
 
-module _ (s : StoryTree) (c begin : Configuration) (begins : begin ≡ begun c) where
-  ended : (m : Moment) → cut_off (moment s nothing_bound begin [] MAX_STEPS) ≡ m → through s nothing_bound c [] ≡ m
-  ended m h = ap (λ d. cut_off (moment s nothing_bound d [] MAX_STEPS)) (sym begins) ∙ h
+module _ (s : StoryTree) (b : Bound) (made : List Made) (c begin : Configuration) (begins : begin ≡ begun c) where
+  ended : (m : Moment) → cut_off (moment s b begin (answers_of made) MAX_STEPS) ≡ m → through s b c (answers_of made) ≡ m
+  ended m h = ap (λ d. cut_off (moment s b d (answers_of made) MAX_STEPS)) (sym begins) ∙ h
 
-  pub tells : (stop new : Configuration) (p : Passage) → moment s nothing_bound begin [] MAX_STEPS ≡ Stopped stop [] []
-      → p ≡ passage stop → new ≡ settled stop → RunsThrough s nothing_bound c [] (Tells p) (Ready new)
-  tells stop new p h told settles =
-      inl (subst (λ m. EndsAs m [] (Tells p) (Ready new)) (sym (ended _ (ap cut_off h))) (refl, ap Tells told, ap Ready settles))
+  pub comes_to : (stop new : Configuration) (p : Passage) → moment s b begin (answers_of made) MAX_STEPS ≡ Stopped stop [] made
+      → p ≡ passage stop → new ≡ settled stop → ComesTo s b c made p new
+  comes_to stop new p h told settles = record { stop = stop; got_there = ended _ (ap cut_off h); tells = told; leaves = settles }
 
   -- memory was refused at a moment of the run
-  fell : (new : Configuration) → GetsTo s nothing_bound begin [] new ⊎ StopsAt s nothing_bound begin [] new
-      → RunsThrough s nothing_bound c [] (Breaks OutOfMemory []) (Broken OutOfMemory new.shared.globals)
-  fell new there = inr (record {
+  fell : (new : Configuration) → GetsTo s b begin made new ⊎ (CallsAt s b begin made new ⊎ StopsAt s b begin made new) → FallsShort s b c made new.shared.globals
+  fell new there = record {
     reached = new;
-    got_there = subst (λ d. GetsTo s nothing_bound d [] new ⊎ StopsAt s nothing_bound d [] new) begins there;
-    replies = refl;
-    breaks = refl;
-  })
+    got_there = subst (λ d. GetsTo s b d made new ⊎ (CallsAt s b d made new ⊎ StopsAt s b d made new)) begins there;
+    leaves = refl;
+  }
 
-  pub breaks : (new : Configuration) (f : Fault) → RunsToStop s begin new (Err f)
-      → RunsThrough s nothing_bound c [] (Breaks f []) (Broken f new.shared.globals)
-  breaks new f h =
-      subst (λ vs. RunsThrough s nothing_bound c [] (Breaks f []) (Broken f vs)) (sym h.kept) (elim h.why [
-        | inl faults ↦ inl (subst (λ m. EndsAs m [] (Breaks f []) (Broken f h.before.shared.globals)) (sym (ended _ faults)) (refl, refl, refl))
-        | inr short ↦
-            subst (λ g. RunsThrough s nothing_bound c [] (Breaks g []) (Broken g h.before.shared.globals)) (sym short.0)
-            (fell h.before (inl short.1))
-      ])
+  pub comes_to_fault : (new : Configuration) (f : Fault) → RunFalls s b begin made new.shared.globals f → RunsThrough s b c made new (Err f)
+  comes_to_fault new f h = elim h.why [
+    | inl faults ↦ inl (record { before = h.before; got_there = ended _ faults; leaves = h.kept })
+    | inr short ↦ inr (short.0, subst (FallsShort s b c made) (sym h.kept) (fell h.before (elim short.1 [ inl at ↦ inl at | inr calling ↦ inr (inl calling) ])))
+  ]
 
-  pub breaks_after : (stop : Configuration) → moment s nothing_bound begin [] MAX_STEPS ≡ Stopped stop [] []
-      → RunsThrough s nothing_bound c [] (Breaks OutOfMemory []) (Broken OutOfMemory stop.shared.globals)
-  breaks_after stop h = fell stop (inr (record { steps = MAX_STEPS; within = omega arith; got_there = h }))
+  pub falls_after : (stop : Configuration) → moment s b begin (answers_of made) MAX_STEPS ≡ Stopped stop [] made → RunsThrough s b c made stop (Err OutOfMemory)
+  falls_after stop h = inr (refl, fell stop (inr (inr (record { steps = MAX_STEPS; within = omega arith; got_there = h }))))

@@ -2,7 +2,7 @@
 use Rattle.std.proofs.Common.{◌≡◌, ◌≢◌, ◌∙◌, ◌||◌, ap, sym, refl, subst, inl, inr, List, Bool, true, false, true≢false, Option, Some, None, is_some, Result, Ok, Err}
 use Rattle.ink_model.specs.Choosing.{default_asks, default_choice, following, following_asks, stopped_by}
 use Rattle.ink_model.specs.Configuration.{ChoiceOf, Configuration, with_globals}
-use Rattle.ink_model.specs.Effect.{Fields, Effect, Moves, Stores, Offers, Lands, Calls, Returns, Forks, Done, Ends, Fails, with_fields, with_thread}
+use Rattle.ink_model.specs.Effect.{Fields, Effect, Moves, Stores, Offers, Lands, Calls, Returns, Forks, Done, Ends, Asks, Fails, with_fields, with_thread}
 use Rattle.ink_model.specs.Flow.{Reached, Reaches, Halts, Breaks, moved_on}
 use Rattle.ink_model.specs.Frames.{ThreadOf}
 use Rattle.ink_model.specs.Move.{Outcome, Next, Stop, Wants, Faults, move, reached_in, written_in}
@@ -30,9 +30,11 @@ module _ (s : StoryTree) where
   pub default_keeps : (asks : Bool) (choice : Option (ChoiceOf (List Part))) (c d : Configuration) (globals : Values) (end : StepEnd)
       → StepEnds asks (stopped_by s choice c) globals d (Ok end) → d.shared.globals ≡ c.shared.globals
   default_keeps asks None c d globals ends.Stopped h = ap (λ x. x.shared.globals) h
+  default_keeps asks None c d globals ends.WantsCall h = absurd h
   default_keeps asks None c d globals ends.Went h = absurd h
   default_keeps asks (Some choice) c d globals ends.Went h = ap (λ x. x.shared.globals) h
   default_keeps asks (Some choice) c d globals ends.Stopped h = absurd h
+  default_keeps asks (Some choice) c d globals ends.WantsCall h = absurd h
 
   -- flow stopped
   pub stops : (a : Bool) (o : Outcome) (globals : Values) (c d : Configuration) (r : Result StepEnd Fault) → StepEnds a o globals c (Ok ends.Stopped) → c.shared.globals ≡ globals
@@ -43,21 +45,21 @@ module _ (s : StoryTree) where
       subst (λ vs. StepEnds (a || default_asks s (default_choice x.flow.choices) x) (stopped_by s (default_choice x.flow.choices) x) vs d r) same
       (ends_more a _ (stopped_by s (default_choice x.flow.choices) x) _ d r there)
   stops a (Next x) globals c d r h same next = absurd h
-  stops a (Wants name arguments x) globals c d r h same next = absurd h
+  stops a (Wants name arguments after x) globals c d r h same next = absurd h
   stops a (Faults g) globals c d r h same next = absurd h
 
   -- it went on
   pub went_on : (a : Bool) (o : Outcome) (globals : Values) (d : Configuration) → StepEnds a o globals d (Ok ends.Went) → StepEnds (a || following_asks s o) (following s o) globals d (Ok ends.Went)
   went_on a (Next x) globals d h = h
   went_on a (Stop x) globals d h = absurd h
-  went_on a (Wants name arguments x) globals d h = absurd h
+  went_on a (Wants name arguments after x) globals d h = absurd h
   went_on a (Faults g) globals d h = absurd h
 
   -- or a fault came
   pub broke : (a : Bool) (o : Outcome) (globals : Values) (d : Configuration) (f : Fault) → StepEnds a o globals d (Err f) → StepEnds (a || following_asks s o) (following s o) globals d (Err f)
   broke a (Next x) globals d f h = ((h.0.0, or_first a _ h.0.1), h.1)
   broke a (Stop x) globals d f h = ends_short _ (stopped_by s (default_choice x.flow.choices) x) globals d f (h.0.0, or_first a _ h.0.1) h.1
-  broke a (Wants name arguments x) globals d f h = ((h.0.0, or_first a _ h.0.1), h.1)
+  broke a (Wants name arguments after x) globals d f h = ((h.0.0, or_first a _ h.0.1), h.1)
   broke a (Faults g) globals d f h = (elim h.0 [ inl is ↦ inl is | inr short ↦ inr (short.0, or_first a _ short.1) ], h.1)
 
   -- ---- a global is stored after that
@@ -69,7 +71,7 @@ module _ (s : StoryTree) where
       by : (choice : Option (ChoiceOf (List Part))) → stopped_by s choice (with_globals f.globals c) ≡ storing_in (Stores t f) (stopped_by s choice c)
       by None = refl
       by (Some choice) = refl
-  following_storing (Stores t f) (Wants name arguments c) = refl
+  following_storing (Stores t f) (Wants name arguments after c) = refl
   following_storing (Stores t f) (Faults g) = refl
   following_storing (Moves f) o = refl
   following_storing (Offers cs f) o = refl
@@ -79,6 +81,7 @@ module _ (s : StoryTree) where
   following_storing (Forks f) o = refl
   following_storing (Done f) o = refl
   following_storing (Ends f) o = refl
+  following_storing (Asks name arguments f) o = refl
   following_storing (Fails g) o = refl
 
   asks_storing : (e : Effect) (o : Outcome) → following_asks s (storing_in e o) ≡ following_asks s o
@@ -88,7 +91,7 @@ module _ (s : StoryTree) where
       by : (choice : Option (ChoiceOf (List Part))) → default_asks s choice (with_globals f.globals c) ≡ default_asks s choice c
       by None = refl
       by (Some choice) = refl
-  asks_storing (Stores t f) (Wants name arguments c) = refl
+  asks_storing (Stores t f) (Wants name arguments after c) = refl
   asks_storing (Stores t f) (Faults g) = refl
   asks_storing (Moves f) o = refl
   asks_storing (Offers cs f) o = refl
@@ -98,6 +101,7 @@ module _ (s : StoryTree) where
   asks_storing (Forks f) o = refl
   asks_storing (Done f) o = refl
   asks_storing (Ends f) o = refl
+  asks_storing (Asks name arguments f) o = refl
   asks_storing (Fails g) o = refl
 
   module _ (globals : Values) (c : Configuration) where
@@ -116,6 +120,7 @@ module _ (s : StoryTree) where
     moves_storing (Forks f) = refl
     moves_storing (Done f) = refl
     moves_storing (Ends f) = refl
+    moves_storing (Asks name arguments f) = refl
     moves_storing (Fails g) = refl
 
     -- of a whole step
@@ -132,7 +137,7 @@ module _ (s : StoryTree) where
   pub broke_storing : (whole : Bool) (e : Effect) (o : Outcome) (globals : Values) (d : Configuration) (f : Fault) → StepEnds whole o globals d (Err f) → StepEnds whole (storing_in e o) globals d (Err f)
   broke_storing whole (Stores t k) (Next c) globals d f h = h
   broke_storing whole (Stores t k) (Stop c) globals d f h = h
-  broke_storing whole (Stores t k) (Wants name arguments c) globals d f h = h
+  broke_storing whole (Stores t k) (Wants name arguments after c) globals d f h = h
   broke_storing whole (Stores t k) (Faults g) globals d f h = h
   broke_storing whole (Moves k) o globals d f h = h
   broke_storing whole (Offers cs k) o globals d f h = h
@@ -142,6 +147,7 @@ module _ (s : StoryTree) where
   broke_storing whole (Forks k) o globals d f h = h
   broke_storing whole (Done k) o globals d f h = h
   broke_storing whole (Ends k) o globals d f h = h
+  broke_storing whole (Asks name arguments k) o globals d f h = h
   broke_storing whole (Fails g) o globals d f h = h
 
   module _ (asks whole : Bool) (f : Fields) (c : Configuration) (same : f.globals ≡ c.shared.globals) where
@@ -149,12 +155,16 @@ module _ (s : StoryTree) where
         → StepEnds whole (storing_in (Stores t k) o) c.shared.globals (with_globals new c) (Ok end)
     with_stored t k (Next x) ends.Went new is h = ap (with_globals new) h ∙ ap (λ vs. with_globals vs x) is
     with_stored t k (Next x) ends.Stopped new is h = absurd h
+    with_stored t k (Next x) ends.WantsCall new is h = absurd h
     with_stored t k (Stop x) ends.Went new is h = absurd h
     with_stored t k (Stop x) ends.Stopped new is h = ap (with_globals new) h ∙ ap (λ vs. with_globals vs x) is
-    with_stored t k (Wants name arguments x) ends.Went new is h = absurd h
-    with_stored t k (Wants name arguments x) ends.Stopped new is h = absurd h
+    with_stored t k (Stop x) ends.WantsCall new is h = absurd h
+    with_stored t k (Wants name arguments after x) ends.Went new is h = absurd h
+    with_stored t k (Wants name arguments after x) ends.Stopped new is h = absurd h
+    with_stored t k (Wants name arguments after x) ends.WantsCall new is h = absurd h
     with_stored t k (Faults g) ends.Went new is h = absurd h
     with_stored t k (Faults g) ends.Stopped new is h = absurd h
+    with_stored t k (Faults g) ends.WantsCall new is h = absurd h
 
     module _ (name : Name) (v : Value) where
       pub stores_it : (e : Effect) (o : Outcome) (end : StepEnd) (new : Values) → new ≡ store (name_of name) v c.shared.globals → Performs s asks e f (Ok (transfer.Store name v))
@@ -169,26 +179,22 @@ module _ (s : StoryTree) where
       stores_it (Forks k) o end new is p h = absurd p
       stores_it (Done k) o end new is p h = absurd p
       stores_it (Ends k) o end new is p h = absurd p
+      stores_it (Asks name arguments k) o end new is p h = absurd p
       stores_it (Fails g) o end new is p h = absurd p
 
-      or_then : (a b : Bool) → a ≡ false → a || b ≡ true → b ≡ true
-      or_then true b lacks h = absurd (true≢false lacks)
-      or_then false b lacks h = h
-
       pub stores_short : (allows : asks ≡ true → whole ≡ true) (e : Effect) (o : Outcome) (d : Configuration) → d.shared.globals ≡ c.shared.globals
-          → is_some (stored (name_of name) c.shared.globals) ≡ false → Performs s asks e f (Ok (transfer.Store name v)) → StepEnds whole (storing_in e o) c.shared.globals d (Err OutOfMemory)
-      stores_short allows (Stores t k) o d kept absent p =
-          let lacking : is_some (stored (name_of name) f.globals) ≡ false = ap (λ vs. is_some (stored (name_of name) vs)) same ∙ absent in
-          ends_short whole (storing_in (Stores t k) o) c.shared.globals d OutOfMemory (refl, allows (or_then _ asks lacking p.1)) kept
-      stores_short allows (Moves k) o d kept absent p = absurd p
-      stores_short allows (Offers cs k) o d kept absent p = absurd p
-      stores_short allows (Lands to k) o d kept absent p = absurd p
-      stores_short allows (Calls kind to k) o d kept absent p = absurd p
-      stores_short allows (Returns kind to k) o d kept absent p = absurd p
-      stores_short allows (Forks k) o d kept absent p = absurd p
-      stores_short allows (Done k) o d kept absent p = absurd p
-      stores_short allows (Ends k) o d kept absent p = absurd p
-      stores_short allows (Fails g) o d kept absent p = absurd p
+          → Performs s asks e f (Ok (transfer.Store name v)) → StepEnds whole (storing_in e o) c.shared.globals d (Err OutOfMemory)
+      stores_short allows (Stores t k) o d kept p = ends_short whole (storing_in (Stores t k) o) c.shared.globals d OutOfMemory (refl, allows p.1) kept
+      stores_short allows (Moves k) o d kept p = absurd p
+      stores_short allows (Offers cs k) o d kept p = absurd p
+      stores_short allows (Lands to k) o d kept p = absurd p
+      stores_short allows (Calls kind to k) o d kept p = absurd p
+      stores_short allows (Returns kind to k) o d kept p = absurd p
+      stores_short allows (Forks k) o d kept p = absurd p
+      stores_short allows (Done k) o d kept p = absurd p
+      stores_short allows (Ends k) o d kept p = absurd p
+      stores_short allows (Asks name arguments k) o d kept p = absurd p
+      stores_short allows (Fails g) o d kept p = absurd p
 
     -- no global is stored
     pub stores_none : (e : Effect) (o : Outcome) (end : StepEnd) (t : Transfer) → ((name : Name) (v : Value) → t ≢ transfer.Store name v) → Performs s asks e f (Ok t)
@@ -210,4 +216,5 @@ module _ (s : StoryTree) where
     stores_none (Forks k) o end t other p h = h
     stores_none (Done k) o end t other p h = h
     stores_none (Ends k) o end t other p h = h
+    stores_none (Asks name arguments k) o end t other p h = h
     stores_none (Fails g) o end t other p h = h

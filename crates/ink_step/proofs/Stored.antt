@@ -9,7 +9,7 @@ use Rattle.ink_model.specs.Step.Variables as effects
 use Rattle.ink_model.specs.Step.Variables.{storing}
 use Rattle.ink_model.specs.Store.{Values}
 use Rattle.ink_model.specs.Tree.{StoryTree}
-use Rattle.ink_model.specs.VariableMemory.{assign_asks, declare_asks, is_pointer, is_there, on_popped}
+use Rattle.ink_model.specs.VariableMemory.{assign_asks, declare_asks, is_pointer, on_popped, setting_asks}
 use Rattle.ink_model.specs.Variables.{assign, declare, declared, kept, read}
 use Rattle.ink_model.specs.declared.fault.Fault.{Fault}
 use Rattle.ink_model.specs.declared.place.Part.{Part}
@@ -21,17 +21,14 @@ use Rattle.ink_step.specs.Words.{Rest, seen_by}
 use Rattle.ink_step.specs.declared.transfer.Transfer.{Transfer}
 use Rattle.ink_step.specs.declared.transfer.Transfer.TheVariants as transfer
 use Rattle.ink_step.proofs.Effects.{operated, short}
+use Rattle.ink_step.proofs.Settings.{assigning_noted, declaring_noted}
 use Rattle.ink_step.proofs.Places.{assign_renamed, declare_renamed, left_as, read_renamed}
 use Rattle.ink_tree.specs.Nodes.{place_of}
 use Rattle.ink_tree.specs.declared.spot.Spot.{Spot}
-use Rattle.ink_vars.specs.Words.{Declares, HandsOut, LeadsTo, copy_asks, held_by, with_variable}
+use Rattle.ink_vars.specs.Words.{Declares, HandsOut, LeadsTo, copy_asks, with_variable, writing_asks}
 use Rattle.ink_vars.specs.declared.places.Variable.{Variable}
 
 -- ---- by cases
-
-or_too : (a b c : Bool) → (b ≡ true → c ≡ true) → a || b ≡ true → a || c ≡ true
-or_too true b c so h = refl
-or_too false b c so h = so h
 
 or_first : (a b : Bool) → a ≡ true → a || b ≡ true
 or_first a b h = subst (λ x. x || b ≡ true) (sym h) refl
@@ -44,20 +41,16 @@ handed : {A : Type 0} (asks : Bool) (rule : Result A Fault) (a : A) → HandsOut
 handed asks (Ok b) a h = ap Ok (sym h)
 handed asks (Err f) a h = absurd h
 
-never_none : (b c : Bool) → b ≡ true → not b ≡ true → c ≡ true
-never_none true c is h = absurd (cc)
-never_none false c is h = absurd (cc)
-
-there_renamed : (s : StoryTree) (globals : Values) (t : ThreadOf Spot) (scope : Scope) (name : List ℕ) → is_there globals (map_thread (place_of s) t) scope name ≡ is_there globals t scope name
-there_renamed s globals t Global name = refl
-there_renamed s globals t Temporary name = refl
+asks_renamed : (s : StoryTree) (globals : Values) (t : ThreadOf Spot) (scope : Scope) (name : List ℕ) → setting_asks globals (map_thread (place_of s) t) scope name ≡ setting_asks globals t scope name
+asks_renamed s globals t Global name = refl
+asks_renamed s globals t Temporary name = refl
 
 -- what is stored, where more asks for memory
 stored_more : (s : StoryTree) (less asks : Bool) (t : ThreadOf (List Part)) (f new : Fields) (result : Result Transfer Fault) → (less ≡ true → asks ≡ true)
     → Performs s less (Stores t f) new result → Performs s asks (Stores t f) new result
 stored_more s less asks t f new (Ok transfer.Next) so h = h
 stored_more s less asks t f new (Ok transfer.Wrote) so h = h
-stored_more s less asks t f new (Ok (transfer.Store name v)) so h = (h.0, or_too _ less asks so h.1)
+stored_more s less asks t f new (Ok (transfer.Store name v)) so h = (h.0, so h.1)
 stored_more s less asks t f new (Ok (transfer.Land to)) so h = h
 stored_more s less asks t f new (Ok (transfer.Call k to)) so h = h
 stored_more s less asks t f new (Ok (transfer.Return k to)) so h = h
@@ -116,11 +109,14 @@ module _ (s : StoryTree) (ts : ThreadsOf Spot) (rest : Rest) (f : Fields) where
         rw pops (ap (λ q. storing q (record f { stack = left })) (assign_renamed (place_of s) f.globals ts.thread name v ∙ ap (left_as (place_of s) f.globals ts.thread) is))
 
     pub assigns_there : (x : Variable) (result : Result Transfer Fault) → LeadsTo f.globals ts.thread name (Ok x)
-        → Performs s (not (is_some (held_by f.globals ts.thread x))) (wrote left x v) (record f { stack = left }) result
+        → Performs s (writing_asks f.globals ts.thread x) (wrote left x v) (record f { stack = left }) result
         → Performs s assigning_asks assigning (record f { stack = left }) result
     assigns_there x result leads h =
+        let so : assign f.globals (map_thread (place_of s) ts.thread) name v ≡ left_as (place_of s) f.globals ts.thread (Ok (with_variable f.globals ts.thread x v)) =
+        assign_renamed (place_of s) f.globals ts.thread name v ∙ ap (left_as (place_of s) f.globals ts.thread) (leads.2 v) in
+        let asking : writing_asks f.globals ts.thread x ≡ true → assigning_asks ≡ true = λ asks. rw (pops, so) (assigning_noted f.globals ts.thread name x leads.2 leads.1 asks) in
         subst (λ e. Performs s assigning_asks e (record f { stack = left }) result) (sym (assigns _ (leads.2 v)))
-        (stored_more s _ assigning_asks (map_thread (place_of s) (with_variable f.globals ts.thread x v).1) _ _ result (never_none _ assigning_asks leads.1) h)
+        (stored_more s _ assigning_asks (map_thread (place_of s) (with_variable f.globals ts.thread x v).1) _ _ result asking h)
 
     pub assigns_keeping : (x : Variable) (new : ThreadsOf Spot) (result : Result Transfer Fault) → LeadsTo f.globals ts.thread name (Ok x)
         → OnOk result (new ≡ record ts { thread = (with_variable f.globals ts.thread x v).1 }) → OnOk result (Keeps s assigning ts new)
@@ -151,21 +147,21 @@ module _ (s : StoryTree) (ts : ThreadsOf Spot) (rest : Rest) (f : Fields) where
         rw pops (ap (λ q. storing q (record f { stack = left })) (declare_renamed (place_of s) f.globals ts.thread scope name v ∙ ap (λ k. left_as (place_of s) f.globals ts.thread (declared f.globals ts.thread scope name k)) is))
 
     -- where a value is kept, and so all is well
-    asks_to_declare : (w : Value) → kept f.globals ts.thread v ≡ Ok w → is_pointer (Some v) || not (is_there f.globals ts.thread scope name) ≡ true → declaring_asks ≡ true
+    asks_to_declare : (w : Value) → kept f.globals ts.thread v ≡ Ok w → is_pointer (Some v) || setting_asks f.globals ts.thread scope name ≡ true → declaring_asks ≡ true
     asks_to_declare w is asking =
         let so : declare f.globals (map_thread (place_of s) ts.thread) scope name v ≡ left_as (place_of s) f.globals ts.thread (declared f.globals ts.thread scope name (Ok w)) =
         declare_renamed (place_of s) f.globals ts.thread scope name v ∙ ap (λ k. left_as (place_of s) f.globals ts.thread (declared f.globals ts.thread scope name k)) is in
-        rw (pops, so, there_renamed s f.globals ts.thread scope name) asking
+        rw (pops, so, asks_renamed s f.globals ts.thread scope name) asking
 
     wrote_there : (w : Value) (x : Variable) → HandsOut (is_pointer (Some v)) (kept f.globals ts.thread v) (Ok w) → Declares f.globals ts.thread scope name x → declaring ≡ wrote left x w
     wrote_there w x keeping there = declares (Ok w) (handed _ _ w keeping) ∙ ap (λ q. storing (left_as (place_of s) f.globals ts.thread (Ok q)) (record f { stack = left })) (there.1 w)
 
     pub declares_there : (w : Value) (x : Variable) (result : Result Transfer Fault) → HandsOut (is_pointer (Some v)) (kept f.globals ts.thread v) (Ok w) → Declares f.globals ts.thread scope name x
-        → Performs s (not (is_some (held_by f.globals ts.thread x))) (wrote left x w) (record f { stack = left }) result
+        → Performs s (writing_asks f.globals ts.thread x) (wrote left x w) (record f { stack = left }) result
         → Performs s declaring_asks declaring (record f { stack = left }) result
     declares_there w x result keeping there h =
-        let asking : not (is_some (held_by f.globals ts.thread x)) ≡ true → declaring_asks ≡ true =
-        λ new. asks_to_declare w (handed _ _ w keeping) (or_second (is_pointer (Some v)) _ (ap not (sym there.0) ∙ new)) in
+        let asking : writing_asks f.globals ts.thread x ≡ true → declaring_asks ≡ true =
+        λ asks. asks_to_declare w (handed _ _ w keeping) (or_second (is_pointer (Some v)) _ (declaring_noted f.globals ts.thread scope name x there asks)) in
         subst (λ e. Performs s declaring_asks e (record f { stack = left }) result) (sym (wrote_there w x keeping there))
         (stored_more s _ declaring_asks (map_thread (place_of s) (with_variable f.globals ts.thread x w).1) _ _ result asking h)
 

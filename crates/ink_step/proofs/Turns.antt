@@ -61,9 +61,11 @@ pub more_asks : {P : Type 0} (few many : Bool) → (few ≡ true → many ≡ tr
     → ReachesAs many m ts w r
 more_asks few many more (Reaches us v) ts w (Ok ends.Went) h = h
 more_asks few many more (Reaches us v) ts w (Ok ends.Stopped) h = absurd h
+more_asks few many more (Reaches us v) ts w (Ok ends.WantsCall) h = absurd h
 more_asks few many more (Reaches us v) ts w (Err f) h = (h.0, more h.1)
 more_asks few many more (Halts us v) ts w (Ok ends.Went) h = absurd h
 more_asks few many more (Halts us v) ts w (Ok ends.Stopped) h = h
+more_asks few many more (Halts us v) ts w (Ok ends.WantsCall) h = absurd h
 more_asks few many more (Halts us v) ts w (Err f) h = (h.0, more h.1)
 more_asks few many more (Breaks g) ts w (Ok u) h = absurd h
 more_asks few many more (Breaks g) ts w (Err f) (inl h) = inl h

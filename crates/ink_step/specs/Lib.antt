@@ -1,7 +1,9 @@
 pub mod Words
 pub mod Performs
+pub mod External
 pub mod Stacks
 pub mod Reaches
 pub mod Steps
+pub mod Runs
 pub mod Asked
 pub mod Parts

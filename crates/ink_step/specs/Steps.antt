@@ -1,16 +1,13 @@
--- How steps and runs end, beside the definitions.
-use Rattle.std.specs.Prelude.{◌≡◌, List, [], ◌⊎◌, Bool, true, Option, Some, None, Result, Ok, Err}
-use Rattle.ink_model.specs.Answer as answer
-use Rattle.ink_model.specs.Answer.{Reply, Tells}
+-- How steps end, beside the definitions, and what opening and choosing come to.
+use Rattle.std.specs.Prelude.{◌≡◌, ℕ, List, [], ◌∷◌, ◌⊎◌, Bool, true, false, Option, Some, None, is_some, Result, Ok, Err}
 use Rattle.ink_model.specs.Choosing.{chosen}
 use Rattle.ink_model.specs.Configuration.{ChoiceOf, Configuration}
-use Rattle.ink_model.specs.Memory.{GetsTo, OpensShort}
-use Rattle.ink_model.specs.Move.{Outcome, Next, Stop, Faults}
+use Rattle.ink_model.specs.Events.{calls}
+use Rattle.ink_model.specs.Host.{Bound, turn_function}
+use Rattle.ink_model.specs.Memory.{OpensShort}
+use Rattle.ink_model.specs.Move.{Outcome, Next, Stop, Wants, Faults}
 use Rattle.ink_model.specs.Opening.{opening}
-use Rattle.ink_model.specs.Run as run
-use Rattle.ink_model.specs.Run.{Faulted, moment, cut_off}
-use Rattle.ink_model.specs.State.{Condition, Ready, Broken}
-use Rattle.ink_model.specs.Step.Host.{nothing_bound}
+use Rattle.ink_model.specs.Run.{answered}
 use Rattle.ink_model.specs.Store.{Values}
 use Rattle.ink_model.specs.Tree.{StoryTree}
 use Rattle.ink_model.specs.Visits.{entering_around, entering_asks}
@@ -18,9 +15,10 @@ use Rattle.ink_model.specs.declared.fault.Fault.{Fault}
 use Rattle.ink_model.specs.declared.fault.Fault.TheVariants.{OutOfMemory}
 use Rattle.ink_model.specs.declared.fault.Refusal.{Refusal}
 use Rattle.ink_model.specs.declared.fault.Refusal.TheVariants as refusal
-use Rattle.ink_model.specs.declared.limits.TheConstants.{MAX_STEPS}
-use Rattle.ink_model.specs.declared.passage.Passage.{Passage}
+use Rattle.ink_model.specs.declared.host.Event.{Event}
+use Rattle.ink_model.specs.declared.host.Given.{Given}
 use Rattle.ink_model.specs.declared.place.Part.{Part}
+use Rattle.ink_step.specs.External.{made_call}
 use Rattle.ink_step.specs.declared.flow.StepEnd.{StepEnd}
 use Rattle.ink_step.specs.declared.flow.StepEnd.TheVariants as ends
 
@@ -33,29 +31,28 @@ StepEnds asks (Faults g) globals new (Err f) = ((f ≡ g) ⊎ ((f ≡ OutOfMemor
 StepEnds asks outcome globals new (Err f) = ((f ≡ OutOfMemory) × (asks ≡ true)) × (new.shared.globals ≡ globals)
 StepEnds asks outcome globals new result = ⊥
 
--- A run ended with a fault, or with OutOfMemory at a step that asks for memory, at a configuration with these globals.
-pub record RunFalls (s : StoryTree) (start : Configuration) (globals : Values) (f : Fault) : Type 0 where
-  pub before : Configuration
-  pub kept : globals ≡ before.shared.globals
-  pub why : (cut_off (moment s nothing_bound start [] MAX_STEPS) ≡ Faulted f before [] []) ⊎ ((f ≡ OutOfMemory) × GetsTo s nothing_bound start [] before)
+-- a turn function is to be called
+abbrev pub wants : Outcome → Bool
+wants (Wants name arguments f d) = true
+wants outcome = false
 
--- A run to its stop, with what it leaves, or to a fault, with the globals that it leaves.
-abbrev pub RunsToStop : StoryTree → Configuration → Configuration → Result (Unit {0}) Fault → Type 0
-RunsToStop s old new (Ok u) = moment s nothing_bound old [] MAX_STEPS ≡ run.Stopped new [] []
-RunsToStop s old new (Err f) = RunFalls s old new.shared.globals f
+-- The same of a step that may call turn functions. Where the outcome wants one, the name is bound to one, which was called once,
+-- and the step ends as with what it gave; or memory was refused before that, and nothing was called. The events of the step
+-- count on from a stamp.
+abbrev pub StepMakes : StoryTree → Bound → ℕ → Bool → Outcome → List Event → Values → Configuration → Result StepEnd Fault → Type 0
+StepMakes s b n asks (Wants name arguments f d) es globals new result =
+    ((gave : Option Given) × (b name ≡ Some turn_function) × (es ≡ calls n (made_call name arguments gave ∷ [])) × StepEnds (is_some gave) (answered s f d gave) globals new result)
+    ⊎ ((es ≡ []) × (result ≡ Err OutOfMemory) × (asks ≡ true) × (new.shared.globals ≡ globals))
+StepMakes s b n asks outcome es globals new result = (es ≡ []) × StepEnds asks outcome globals new result
+
+-- A quiet step calls none: where its outcome wants one, it says so and has changed nothing.
+abbrev pub Steps : Bool → StoryTree → Bound → ℕ → Bool → Outcome → List Event → Values → Configuration → Configuration → Result StepEnd Fault → Type 0
+Steps true s b n asks (Wants name arguments f d) es globals old new result = (result ≡ Ok ends.WantsCall) × (es ≡ []) × (new ≡ old)
+Steps quiet s b n asks outcome es globals old new result = StepMakes s b n asks outcome es globals new result
 
 -- A story does not open: its declarations fault, with these globals, or a step of theirs asks for memory and gets none.
 abbrev pub FailsToOpen : StoryTree → Fault → Values → Type 0
 FailsToOpen s f globals = (opening s ≡ Err (record { fault = f; globals = globals })) ⊎ ((f ≡ OutOfMemory) × OpensShort s)
-
--- what a running command returned, as a reply, and the condition that it leaves
-abbrev pub reply_of_run : Result Passage Fault → Reply
-reply_of_run (Ok passage) = Tells passage
-reply_of_run (Err f) = answer.Breaks f []
-
-abbrev pub left_by : Result Passage Fault → Configuration → Condition
-left_by (Ok passage) c = Ready c
-left_by (Err f) c = Broken f c.shared.globals
 
 -- A choice is taken, with the containers that its landing enters; or there is none, or memory is refused for a first visit, and
 -- nothing has changed.

@@ -23,11 +23,12 @@ use ink_stack::Threads;
 use ink_tree::{Spot, Tree};
 use ink_value::EvalStack;
 
-/// How a step ended: flow went on, or it has stopped.
+/// How a step ended: flow went on, or it has stopped; or a turn function would be called, by a step that is to call none.
 #[derive(Clone, Copy)]
 pub enum StepEnd {
     Went,
     Stopped,
+    WantsCall,
 }
 
 /// Flow moves on to the place after the one where it is. Off the end of a function it goes on after the call, and off the end

@@ -5,6 +5,7 @@ ghost use Rattle.ink_model.specs.Configuration.{begun, settled, can_go_on, with_
 ghost use Rattle.ink_model.specs.Session.{is_loose};
 ghost use Rattle.ink_model.specs.Store.{store, stored};
 ghost use Rattle.ink_model.specs.Tree.{StoryTree};
+ghost use Rattle.ink_vars.specs.Changes.{Tracks};
 
 use ink_choice::Choices;
 use ink_model::Value;
@@ -12,10 +13,10 @@ use ink_out::Output;
 use ink_stack::Threads;
 use ink_tree::Spot;
 use ink_value::EvalStack;
-use ink_vars::{Counts, Globals, Turn};
+use ink_vars::{Changes, Counts, Globals, Turn};
 use std::alloc::Global;
 
-/// What changes while a story runs: a configuration.
+/// What changes while a story runs: a configuration; and which globals were assigned since the last running command began.
 #[derive(Drop)]
 pub struct Machine {
     pub(crate) threads: Threads<Spot>,
@@ -24,6 +25,7 @@ pub struct Machine {
     pub(crate) safe: bool,
     pub(crate) output: Output,
     pub(crate) globals: Globals,
+    pub(crate) changes: Changes,
     pub(crate) counts: Counts,
     pub(crate) turn: Turn,
     pub(crate) alloc: Global,
@@ -53,21 +55,27 @@ impl Machine {
         ensures ok { (s : StoryTree) → OnOk result (config_of s self.new ≡ with_globals (store name.now value (globals_of self.old)) (config_of s self.old)) }
         ensures err { (s : StoryTree) → OnErr result (config_of s self.new ≡ config_of s self.old) }
         ensures handed_back { IfErr result (λ handed_back. handed_back ≡ value) }
+        ensures changes { self.new.changes ≡ self.old.changes }
     {
         self.globals.replace(name, value)
     }
 
-    /// As a running command begins.
+    /// As a running command begins: changes of globals are those from now on. Takes no memory.
     pub(crate) fn begin(&mut self)
-        ensures { (s : StoryTree) → config_of s self.new ≡ begun (config_of s self.old) }
+        ensures begun { (s : StoryTree) → config_of s self.new ≡ begun (config_of s self.old) }
+        ensures globals { globals_of self.new ≡ globals_of self.old }
+        ensures tracks { Tracks (globals_of self.new) self.new.changes self.new.globals }
     {
         self.safe = false;
+        self.changes.start();
     }
 
     /// As a running command ends: the text was taken.
     #[tactic(auto, unfolding(ink_model::specs::Configuration::settled))]
     pub(crate) fn settle(&mut self)
-        ensures { (s : StoryTree) → config_of s self.new ≡ settled (config_of s self.old) }
+        ensures settled { (s : StoryTree) → config_of s self.new ≡ settled (config_of s self.old) }
+        ensures globals { globals_of self.new ≡ globals_of self.old }
+        ensures changes { self.new.changes ≡ self.old.changes }
     {
         self.threads.clear_numbers();
         self.choices.clear_numbers();

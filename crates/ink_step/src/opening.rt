@@ -1,22 +1,25 @@
 //! Opening a story: running its declarations, and keeping the globals (docs/RUNNING.md, "Opening").
 
-ghost use Rattle.std.specs.Prelude.{◌≡◌, Ok, IfOk, IfErr, option_map};
+ghost use Rattle.std.specs.Prelude.{◌≡◌, [], Ok, IfOk, IfErr, option_map};
 ghost use Rattle.ink_model.specs.Configuration.{fresh_at, start, with_globals};
+ghost use Rattle.ink_model.specs.Host.{nothing_bound};
 ghost use Rattle.ink_model.specs.Opening.{declarations, opening};
 ghost use Rattle.ink_model.specs.Place.{landed};
 ghost use Rattle.ink_model.specs.Tree.{StoryTree};
 ghost use Rattle.ink_check.specs.Words.{story_tree};
+ghost use Rattle.ink_step.specs.Runs.{RunsToStop};
 ghost use Rattle.ink_tree.specs.Nodes.{place_of};
 
 use crate::machine::Machine;
 use ink_check::Story;
 use ink_choice::Choices;
+use ink_host::{Desk, Nobody};
 use ink_model::Fault;
 use ink_out::Output;
 use ink_stack::Threads;
 use ink_tree::Spot;
 use ink_value::EvalStack;
-use ink_vars::{Counts, Globals, Turn};
+use ink_vars::{Changes, Counts, Globals, Turn};
 use std::alloc::Global;
 
 /// Declarations that could not be run: why, and the globals as they stood before the step that faulted.
@@ -40,12 +43,22 @@ impl Machine {
             return Ok(Machine::at_start(alloc, story, Globals::new(alloc)));
         };
         let mut machine = Machine::fresh(alloc, place, Globals::new(alloc));
-        let outcome = machine.run(story);
+        let outcome = machine.run_alone(alloc, story);
         let Machine { globals, .. } = machine;
         match outcome {
             Ok(()) => Ok(Machine::at_start(alloc, story, globals)),
             Err(fault) => Err(Unopened { fault, globals }),
         }
+    }
+
+    /// Steps to the stop, with nothing bound.
+    fn run_alone(&mut self, alloc: Global, story: &Story) -> Result<(), Fault>
+        ensures { let s = story_tree story.now in RunsToStop s nothing_bound (config_of s self.old) [] (config_of s self.new) result }
+    {
+        let mut desk: Desk<Nobody, Nobody, Nobody> = Desk::new(alloc);
+        let outcome = self.run(story, &mut desk);
+        let _objects = desk.close();
+        outcome
     }
 
     /// A machine at the story's start with these globals. Takes no memory.
@@ -70,6 +83,7 @@ impl Machine {
             safe: false,
             output: Output::new(alloc),
             globals,
+            changes: Changes::new(alloc),
             counts: Counts::new(alloc),
             turn: Turn::first(),
             alloc,

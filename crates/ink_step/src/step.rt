@@ -1,26 +1,38 @@
 //! One step of the machine: enter, effect, move (docs/RUNNING.md, "Steps").
 
-ghost use Rattle.std.specs.Prelude.{◌≡◌, ◌||◌, Bool, true, Some, Ok, OnOk, is_some, nat_lt, option_map};
+ghost use Rattle.std.specs.Prelude.{◌≡◌, ◌||◌, Bool, List, true, None, Some, Ok, OnOk, is_some, nat_lt, option_map};
 ghost use Rattle.ink_check.specs.Words.{story_tree};
+ghost use Rattle.ink_host.specs.Desk.{Grew, bound_by};
+ghost use Rattle.ink_model.specs.Asks.{external_asks};
 ghost use Rattle.ink_model.specs.Choosing.{following, following_asks};
 ghost use Rattle.ink_model.specs.Effect.{Effect, Fields, context_of, fields_of};
 ghost use Rattle.ink_model.specs.Flow.{called, moved_on, reach, returned};
 ghost use Rattle.ink_model.specs.Frames.{mode_in, on_top};
+ghost use Rattle.ink_model.specs.Host.{Bound};
 ghost use Rattle.ink_model.specs.Memory.{asks, content_asks, control_asks, leaf_asks};
 ghost use Rattle.ink_model.specs.Move.{Outcome, going, landing, may_enter, move as moved, place_to, written_in};
 ghost use Rattle.ink_model.specs.MoveMemory.{landed_asks, move_asks, moved_asks, returned_asks};
 ghost use Rattle.ink_model.specs.Place.{next_place};
-ghost use Rattle.ink_model.specs.Step.{control_effect, effect, leaf_effect, step, nothing_bound};
+ghost use Rattle.ink_model.specs.Step.{control_effect, effect, leaf_effect, step};
+ghost use Rattle.ink_model.specs.Step.Host.{call_external};
+ghost use Rattle.ink_model.specs.Store.{Values};
 ghost use Rattle.ink_model.specs.Threads.{frame_count};
 ghost use Rattle.ink_model.specs.Tree.{StoryTree, at, leaf};
 ghost use Rattle.ink_model.specs.View.{view};
+ghost use Rattle.ink_model.specs.declared.host.Event.{Event as Happening};
 ghost use Rattle.ink_model.specs.declared.limits.TheConstants.{MAX_FRAMES};
 ghost use Rattle.ink_step.specs.Performs.{Keeps, KeepsChoices, Performs, landing_of, storing_in, unstored};
-ghost use Rattle.ink_step.specs.Steps.{StepEnds};
+ghost use Rattle.ink_step.specs.External.{call_of, external_in};
+ghost use Rattle.ink_step.specs.Steps.{StepEnds, StepMakes, Steps, wants};
 ghost use Rattle.ink_step.specs.Words.{config_of};
+ghost use Rattle.ink_step.specs.declared.flow.StepEnd.TheVariants.{WantsCall};
+ghost use Rattle.ink_step.specs.declared.machine.Machine.{Machine as Before};
 ghost use Rattle.ink_tree.specs.Nodes.{place_of};
+ghost use Rattle.ink_vars.specs.Changes.{Tracks};
 
 use crate::diverting::divert;
+use crate::external;
+use crate::external::{External, external_in, would_call};
 use crate::evaluating::{begin_eval, duplicate, end_eval, operate, pop, push_target, push_value};
 use crate::flow;
 use crate::flow::{StepEnd, done, end, fork, give_back, land, move_on};
@@ -33,31 +45,100 @@ use crate::storing::{assign, declare, push_pointer, push_variable};
 use crate::transfer::{Landing, Transfer, after_text, moving};
 use crate::writing::{output_top, write_glue, write_newline, write_text};
 use ink_check::Story;
+use ink_host::{Desk, PureFn, TurnFn, Watcher};
 use ink_model::{Content, Control, Fault, FrameKind, Leaf, Scope, Value};
 use ink_tree::Spot;
 
 impl Machine {
     /// One step: goes down to the first content, performs it and moves; where flow stops so, it may follow a choice. Where flow had
-    /// stopped before it stays stopped. After a fault the globals are as they were, and the machine is of no more use but for
-    /// them.
-    pub fn step(&mut self, story: &Story) -> Result<StepEnd, Fault>
-        ensures { let s = story_tree story.now in StepEnds (asks s (config_of s self.old)) (step s nothing_bound (config_of s self.old)) self.old.globals (config_of s self.new) result }
+    /// stopped before it stays stopped. A turn function is called on the desk, once, which is an event; a quiet step that comes
+    /// to such a call answers `WantsCall` in its place, and machine and desk are as they were. The faults are those of the
+    /// content (docs/RUNNING.md, "Steps"; docs/HOST.md, "Calls"), and `OutOfMemory` for a refused request for memory. After a
+    /// fault the globals are as they were, and the machine is of no more use but for them.
+    pub fn step<P: PureFn, T: TurnFn, W: Watcher>(
+        &mut self,
+        story: &Story,
+        desk: &mut Desk<P, T, W>,
+        quiet: bool,
+    ) -> Result<StepEnd, Fault>
+        ensures step { let s = story_tree story.now in let b = bound_by P.meaning desk.old.functions in let c = config_of s self.old in
+            (es : List Happening) × Grew T.log W.log desk.old es desk.new × Steps quiet s b desk.old.next (asks s b c) (step s b c) es self.old.globals c (config_of s self.new) result }
+        ensures watchers { desk.new.watchers ≡ desk.old.watchers }
+        ensures machine { result ≡ Ok WantsCall → self.new ≡ self.old }
+        ensures desk { result ≡ Ok WantsCall → desk.new ≡ desk.old }
+        ensures tracks { (start : Values) → Tracks start self.old.changes self.old.globals → Tracks start self.new.changes self.new.globals }
     {
         let Some(place) = self.threads.place() else {
             return Ok(StepEnd::Stopped);
         };
+        if quiet && self.wants_call(story, desk, place) {
+            return Ok(StepEnd::WantsCall);
+        }
         let (here, found) = self.go_in(story.tree(), place)?;
-        self.act(story, here, found)
+        match external_in(found) {
+            Some(call) => self.act_external(story, desk, &call),
+            None => self.act(story, here, found),
+        }
+    }
+
+    // Whether the step from this place calls a turn function.
+    fn wants_call<P: PureFn, T: TurnFn, W: Watcher>(
+        &self,
+        story: &Story,
+        desk: &Desk<P, T, W>,
+        place: Spot,
+    ) -> bool
+        requires { self.now.threads.thread.frame.place ≡ Some place }
+        ensures { let s = story_tree story.now in result ≡ wants (step s (bound_by P.meaning desk.now.functions) (config_of s self.now)) }
+    {
+        let (_, found) = story.tree().first_content(place);
+        match external_in(found) {
+            Some(call) => would_call(&call, &self.stack, &self.output, desk),
+            None => false,
+        }
+    }
+
+    /// A call has its effect, and flow moves; where it stops it may follow a choice.
+    fn act_external<P: PureFn, T: TurnFn, W: Watcher>(
+        &mut self,
+        story: &Story,
+        desk: &mut Desk<P, T, W>,
+        call: &External<'_>,
+    ) -> Result<StepEnd, Fault>
+        ensures step { let s = story_tree story.now in let b = bound_by P.meaning desk.old.functions in let c = config_of s self.old in let k = call_of call.now in
+            let e = call_external s b k.name k.arguments k.conditional (fields_of c) in
+            (es : List Happening) × Grew T.log W.log desk.old es desk.new
+            × StepMakes s b desk.old.next ((external_asks (b k.name) k.arguments k.conditional (fields_of c) || move_asks s e c) || following_asks s (moved s e c)) (following s (moved s e c)) es self.old.globals (config_of s self.new) result }
+        ensures watchers { desk.new.watchers ≡ desk.old.watchers }
+    {
+        let transfer = external::call_external(
+            story,
+            call,
+            &mut self.stack,
+            &self.output,
+            desk,
+        )?;
+        self.finish(story, transfer)
     }
 
     /// What stands where flow is has its effect, and flow moves; where it stops it may follow a choice.
     fn act(&mut self, story: &Story, here: Spot, found: Option<&Content>) -> Result<StepEnd, Fault>
-        requires { let s = story_tree story.now in option_map (λ c. view c.now) found ≡ at s (place_of s here) }
-        ensures { let s = story_tree story.now in let p = place_of s here in let stands = option_map (λ c. view c.now) found.entry in let c = config_of s self.old in
-            let e = effect s p stands (context_of c) (fields_of c) in
-            StepEnds ((content_asks s p stands (context_of c) (fields_of c) || move_asks s e c) || following_asks s (moved s e c)) (following s (moved s e c)) self.old.globals (config_of s self.new) result }
+        requires stands { let s = story_tree story.now in option_map (λ c. view c.now) found ≡ at s (place_of s here) }
+        requires other { external_in (option_map (λ c. view c.now) found) ≡ None }
+        ensures { (b : Bound) → let s = story_tree story.now in let p = place_of s here in let stands = option_map (λ c. view c.now) found.entry in let c = config_of s self.old in
+            let e = effect s b p stands (context_of c) (fields_of c) in
+            StepEnds ((content_asks s b p stands (context_of c) (fields_of c) || move_asks s e c) || following_asks s (moved s e c)) (following s (moved s e c)) self.old.globals (config_of s self.new) result }
     {
         let transfer = self.perform(story, here, found)?;
+        self.finish(story, transfer)
+    }
+
+    /// After a content was performed flow goes where it sends it, and a global is stored.
+    fn finish(&mut self, story: &Story, transfer: Transfer<'_>) -> Result<StepEnd, Fault>
+        ensures { let s = story_tree story.now in (old : Before) (asks : Bool) (e : Effect) → Performs s asks e (fields_of (config_of s self.old)) (Ok transfer.entry) → Keeps s e old.threads self.old.threads → KeepsChoices s e old.choices self.old.choices
+            → self.old.safe ≡ old.safe → self.old.counts ≡ old.counts → self.old.turn ≡ old.turn → self.old.globals ≡ old.globals → let c = config_of s old in
+            StepEnds ((asks || move_asks s e c) || following_asks s (moved s e c)) (following s (moved s e c)) old.globals (config_of s self.new) result }
+    {
         let end = self.go(story, &transfer)?;
         self.store(transfer, end)
     }
@@ -75,17 +156,19 @@ impl Machine {
         }
     }
 
-    /// A global is stored, where a content hands one on, and the step ends so. The one error is `OutOfMemory` for a refused
-    /// request for memory, which is made only for a global that is not there, and leaves the globals as they were.
+    /// A global is stored, where a content hands one on, and the step ends so; what it was is noted before. The one error is
+    /// `OutOfMemory` for a refused request for memory, which leaves the globals as they were.
     fn store(&mut self, transfer: Transfer<'_>, end: StepEnd) -> Result<StepEnd, Fault>
-        ensures { (s : StoryTree) (asks whole : Bool) (e : Effect) (f : Fields) (o : Outcome) → (asks ≡ true → whole ≡ true) → f.globals ≡ self.old.globals → Performs s asks e f (Ok transfer.entry)
+        ensures tracks { (start : Values) → Tracks start self.old.changes self.old.globals → Tracks start self.new.changes self.new.globals }
+        ensures stored { (s : StoryTree) (asks whole : Bool) (e : Effect) (f : Fields) (o : Outcome) → (asks ≡ true → whole ≡ true) → f.globals ≡ self.old.globals → Performs s asks e f (Ok transfer.entry)
             → StepEnds whole o self.old.globals (config_of s self.old) (Ok end) → StepEnds whole (storing_in e o) self.old.globals (config_of s self.new) result }
     {
         match transfer {
-            Transfer::Store(name, value) => match self.globals.put(name.as_str(), value) {
-                Ok(()) => Ok(end),
-                Err(_) => Err(Fault::OutOfMemory),
-            },
+            Transfer::Store(name, value) => {
+                self.changes.note(&self.globals, name.as_str())?;
+                self.globals.put(name.as_str(), value)?;
+                Ok(end)
+            }
             _ => Ok(end),
         }
     }
@@ -97,13 +180,14 @@ impl Machine {
         here: Spot,
         found: Option<&'a Content>,
     ) -> Result<Transfer<'a>, Fault>
-        requires { let s = story_tree story.now in option_map (λ c. view c.now) found ≡ at s (place_of s here) }
-        ensures effect { let s = story_tree story.now in let p = place_of s here in let stands = option_map (λ c. view c.now) found.entry in let c = config_of s self.old in
-            Performs s (content_asks s p stands (context_of c) (fields_of c)) (effect s p stands (context_of c) (fields_of c)) (fields_of (config_of s self.new)) result }
-        ensures threads { let s = story_tree story.now in let stands = option_map (λ c. view c.now) found.entry in let c = config_of s self.old in
-            OnOk result (Keeps s (effect s (place_of s here) stands (context_of c) (fields_of c)) self.old.threads self.new.threads) }
-        ensures choices { let s = story_tree story.now in let stands = option_map (λ c. view c.now) found.entry in let c = config_of s self.old in
-            OnOk result (KeepsChoices s (effect s (place_of s here) stands (context_of c) (fields_of c)) self.old.choices self.new.choices) }
+        requires stands { let s = story_tree story.now in option_map (λ c. view c.now) found ≡ at s (place_of s here) }
+        requires other { external_in (option_map (λ c. view c.now) found) ≡ None }
+        ensures effect { (b : Bound) → let s = story_tree story.now in let p = place_of s here in let stands = option_map (λ c. view c.now) found.entry in let c = config_of s self.old in
+            Performs s (content_asks s b p stands (context_of c) (fields_of c)) (effect s b p stands (context_of c) (fields_of c)) (fields_of (config_of s self.new)) result }
+        ensures threads { (b : Bound) → let s = story_tree story.now in let stands = option_map (λ c. view c.now) found.entry in let c = config_of s self.old in
+            OnOk result (Keeps s (effect s b (place_of s here) stands (context_of c) (fields_of c)) self.old.threads self.new.threads) }
+        ensures choices { (b : Bound) → let s = story_tree story.now in let stands = option_map (λ c. view c.now) found.entry in let c = config_of s self.old in
+            OnOk result (KeepsChoices s (effect s b (place_of s here) stands (context_of c) (fields_of c)) self.old.choices self.new.choices) }
         ensures counts { self.new.counts ≡ self.old.counts }
         ensures turn { self.new.turn ≡ self.old.turn }
         ensures safe { self.new.safe ≡ self.old.safe }
@@ -116,20 +200,21 @@ impl Machine {
         }
     }
 
-    // Content that is not supported yet is passed over.
+    // What is bound is of no matter to content that is no call of an external function.
     fn perform_leaf<'a>(
         &mut self,
         story: &Story,
         here: Spot,
         content: &'a Leaf,
     ) -> Result<Transfer<'a>, Fault>
-        requires { let s = story_tree story.now in at s (place_of s here) ≡ Some (leaf content.now) }
-        ensures effect { let s = story_tree story.now in let p = place_of s here in let c = config_of s self.old in
-            Performs s (leaf_asks s p (context_of c) content.now (fields_of c)) (leaf_effect s p (context_of c) content.now (fields_of c)) (fields_of (config_of s self.new)) result }
-        ensures threads { let s = story_tree story.now in let c = config_of s self.old in
-            OnOk result (Keeps s (leaf_effect s (place_of s here) (context_of c) content.now (fields_of c)) self.old.threads self.new.threads) }
-        ensures choices { let s = story_tree story.now in let c = config_of s self.old in
-            OnOk result (KeepsChoices s (leaf_effect s (place_of s here) (context_of c) content.now (fields_of c)) self.old.choices self.new.choices) }
+        requires stands { let s = story_tree story.now in at s (place_of s here) ≡ Some (leaf content.now) }
+        requires other { external_in (Some (leaf content.now)) ≡ None }
+        ensures effect { (b : Bound) → let s = story_tree story.now in let p = place_of s here in let c = config_of s self.old in
+            Performs s (leaf_asks s b p (context_of c) content.now (fields_of c)) (leaf_effect s b p (context_of c) content.now (fields_of c)) (fields_of (config_of s self.new)) result }
+        ensures threads { (b : Bound) → let s = story_tree story.now in let c = config_of s self.old in
+            OnOk result (Keeps s (leaf_effect s b (place_of s here) (context_of c) content.now (fields_of c)) self.old.threads self.new.threads) }
+        ensures choices { (b : Bound) → let s = story_tree story.now in let c = config_of s self.old in
+            OnOk result (KeepsChoices s (leaf_effect s b (place_of s here) (context_of c) content.now (fields_of c)) self.old.choices self.new.choices) }
         ensures counts { self.new.counts ≡ self.old.counts }
         ensures turn { self.new.turn ≡ self.old.turn }
         ensures safe { self.new.safe ≡ self.old.safe }
@@ -254,7 +339,7 @@ impl Machine {
                 &mut self.choices,
                 target,
             )),
-            Leaf::External { .. } => Ok(Transfer::Next),
+            Leaf::External { .. } => unreachable!(),
         }
     }
 

@@ -1,6 +1,6 @@
 //! Variables are read, declared and assigned (docs/VARIABLES.md).
 
-ghost use Rattle.std.specs.Prelude.{◌≡◌, ◌≤◌, ℕ, Bool, not, Option, OnOk, is_ok, is_some};
+ghost use Rattle.std.specs.Prelude.{◌≡◌, ◌≤◌, ℕ, Bool, Option, OnOk, is_ok};
 ghost use Rattle.ink_model.specs.Effect.{Fields, Stores};
 ghost use Rattle.ink_model.specs.Frames.{map_thread};
 ghost use Rattle.ink_model.specs.Page.{Page};
@@ -14,7 +14,7 @@ ghost use Rattle.ink_model.specs.Variables as rules;
 ghost use Rattle.ink_step.specs.Performs.{Changes, Keeps, Performs, fields};
 ghost use Rattle.ink_step.specs.Words.{Rest, seen_by};
 ghost use Rattle.ink_tree.specs.Nodes.{place_of};
-ghost use Rattle.ink_vars.specs.Words.{held_by, with_variable};
+ghost use Rattle.ink_vars.specs.Words.{with_variable, writing_asks};
 
 use crate::operands::{push, top};
 use crate::transfer::Transfer;
@@ -117,8 +117,8 @@ pub(crate) fn assign<'a>(
     }
 }
 
-/// A temporary is set at once; a global is handed on, to be stored after flow has moved. The one error is `OutOfMemory` for a
-/// refused request for memory, which is made only for a temporary that is not there, and leaves all as it was.
+/// A temporary is set at once; a global is handed on, to be stored after flow has moved, which asks for memory. The one error is
+/// `OutOfMemory` for a refused request for memory, which is made only for a temporary that is not there, and leaves all as it was.
 fn store<'a>(
     threads: &mut Threads<Spot>,
     variable: Variable<'a>,
@@ -126,7 +126,7 @@ fn store<'a>(
 ) -> Result<Transfer<'a>, Fault>
     requires { variable.frame ≤ frame_count threads.old.thread }
     ensures effect { (s : StoryTree) (f : Fields) → let w = with_variable f.globals threads.old.thread variable.entry value in
-        Performs s (not (is_some (held_by f.globals threads.old.thread variable.entry))) (Stores (map_thread (place_of s) w.1) (record f { globals = w.0 })) f result }
+        Performs s (writing_asks f.globals threads.old.thread variable.entry) (Stores (map_thread (place_of s) w.1) (record f { globals = w.0 })) f result }
     ensures threads { (globals : Values) → OnOk result (threads.new ≡ record threads.old { thread = (with_variable globals threads.old.thread variable.entry value).1 }) }
     ensures frame { threads.new.thread.frame ≡ record threads.old.thread.frame { temps = threads.new.thread.frame.temps } }
 {

@@ -1,12 +1,12 @@
 -- What calls on variables do, by what the rules give.
 use Rattle.std.specs.Borrow.{Bor}
-use Rattle.std.specs.Prelude.{◌≡◌, ◌≤◌, ◌⊎◌, ℕ, ℤ, pos, List, Bool, true, false, Option, Some, None, is_some, Result, Ok, Err}
+use Rattle.std.specs.Prelude.{◌≡◌, ◌≤◌, ◌⊎◌, ◌&&◌, ◌||◌, ◌==◌, ℕ, ℤ, pos, List, Bool, true, false, not, Option, Some, None, is_ok, is_some, Result, Ok, Err}
 use Rattle.ink_model.specs.Frames.{ThreadOf, ThreadsOf}
 use Rattle.ink_model.specs.Memory.{holds_memory}
 use Rattle.ink_model.specs.Store.{Values}
 use Rattle.ink_model.specs.Threads.{frame_count}
 use Rattle.ink_model.specs.VariableMemory.{is_pointer, is_there}
-use Rattle.ink_model.specs.Variables.{assign, assign_at, held, named, with_declared, with_held}
+use Rattle.ink_model.specs.Variables.{assign, assign_at, declare, held, named, with_declared, with_held}
 use Rattle.ink_model.specs.declared.fault.Fault.{Fault}
 use Rattle.ink_model.specs.declared.fault.Fault.TheVariants.{OutOfMemory}
 use Rattle.ink_model.specs.declared.scope.Scope.{Scope}
@@ -59,6 +59,10 @@ abbrev pub Copies : Result Value Fault → Result Value Fault → Type 0
 Copies rule result = HandsOut (copy_asks rule) rule result
 
 module _ {P : Type 0} (globals : Values) (thread : ThreadOf P) where
+  -- a pointer that is kept, or a name that is new
+  abbrev pub declaring_asks : Scope → List ℕ → Value → Bool
+  declaring_asks scope name v = is_ok (declare globals thread scope name v) && (is_pointer (Some v) || not (is_there globals thread scope name))
+
   -- ---- what is written to
 
   -- a variable by the number of its frame and its name
@@ -67,6 +71,10 @@ module _ {P : Type 0} (globals : Values) (thread : ThreadOf P) where
 
   abbrev pub with_variable : Variable → Value → Values × ThreadOf P
   with_variable x v = with_held globals thread (pos x.frame) (name_of x.name) v
+
+  -- a global, whose change is noted, or a temporary that is new
+  abbrev pub writing_asks : Variable → Bool
+  writing_asks x = x.frame == 0 || not (is_some (held_by x))
 
   -- Assigning to a name writes this variable, which is there, or is a fault. The name of what a pointer leads to gets one more
   -- owner, which may be refused.

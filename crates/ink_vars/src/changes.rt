@@ -1,6 +1,6 @@
 //! Which globals were assigned since a moment, and what they were then.
 
-ghost use Rattle.std.specs.Prelude.{◌≡◌, ◌≢◌, ◌<◌, ◌++◌, ◌∷◌, ℕ, [], false, true, None, length, slice_get, slice_index_or, IfOk, OnOk, OnErr};
+ghost use Rattle.std.specs.Prelude.{◌≡◌, ◌==◌, ◌≢◌, ◌<◌, ◌++◌, ◌∷◌, ℕ, [], false, true, None, length, slice_get, slice_index_or, IfOk, OnOk, OnErr};
 ghost use Rattle.std.specs.Option.{option_copied};
 ghost use Rattle.ink_model.specs.Store.{Values, store};
 ghost use Rattle.ink_model.specs.declared.value.Value.{Value};
@@ -63,6 +63,13 @@ impl Changes {
             copy.add(before.number, value)?;
         }
         Ok(copy)
+    }
+
+    /// Whether nothing was noted. Takes no memory.
+    pub fn is_empty(&self) -> bool
+        ensures { result ≡ (length self.now == 0) }
+    {
+        self.noted.is_empty()
     }
 
     /// Forgets all: from now on, changes are those since this moment. Takes no memory.

@@ -4,10 +4,10 @@ ghost use Rattle.std.specs.Prelude.{◌≡◌, ◌≤◌, pos, false, true, is_s
 ghost use Rattle.ink_model.specs.Rows.{name_order, row};
 ghost use Rattle.ink_model.specs.Store.{Values};
 ghost use Rattle.ink_model.specs.Threads.{frame_count};
-ghost use Rattle.ink_model.specs.VariableMemory.{declare_asks, is_pointer};
+ghost use Rattle.ink_model.specs.VariableMemory.{is_pointer};
 ghost use Rattle.ink_model.specs.Variables as rules;
 ghost use Rattle.ink_model.specs.declared.value.Value.{Value as Data};
-ghost use Rattle.ink_vars.specs.Words.{Are, Copies, Declares, HandsOut, LeadsInto, LeadsTo, Writes, held_by, looked, with_variable};
+ghost use Rattle.ink_vars.specs.Words.{Are, Copies, Declares, HandsOut, LeadsInto, LeadsTo, Writes, declaring_asks, held_by, looked, with_variable};
 
 use crate::globals::Globals;
 use crate::places::{Name, Variable};
@@ -207,7 +207,7 @@ pub fn declare<P: Copy>(
     value: Value,
 ) -> Result<(), Fault>
     ensures { let rule = rules.declare globals.old threads.old.thread scope name.now value in
-        let asks = declare_asks globals.old threads.old.thread scope name.now value in
+        let asks = declaring_asks globals.old threads.old.thread scope name.now value in
         Writes asks rule globals.old globals.new threads.old threads.new result }
 {
     match kept(globals, threads, value) {

@@ -18,5 +18,5 @@ returns-clause-err c =
 pub returns-in-Ok-clause-ok : goal.returns-in-Ok-clause-ok
 returns-in-Ok-clause-ok c =
     let s = story_tree c.args.story.now in
-    opens _ _ c.first_declaration.ensures _ _ (ap (option_map (place_of s)) c.in-Some.is) (first_of _ _ _ (c.fresh-machine.ensures.fresh s) c.new-2.ensures) (config_of s c.run-outcome.new.self) _ c.in-Ok.ensures
+    opens _ _ c.first_declaration.ensures _ _ (ap (option_map (place_of s)) c.in-Some.is) (first_of _ _ _ (c.fresh-machine.ensures.fresh s) c.new-2.ensures) (config_of s c.run_alone-outcome.new.self) _ c.in-Ok.ensures
     c.at_start-in-Ok.ensures.at_start

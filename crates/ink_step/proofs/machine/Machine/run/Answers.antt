@@ -1,25 +1,57 @@
-use Rattle.std.proofs.Common.{◌≡◌, arith, rules, subst, sym, Err}
+use Rattle.std.proofs.Common.{◌≡◌, ◌∙◌, arith, refl, rules, subst, sym, Err}
 use Rattle.ink_check.specs.Words.{story_tree}
-use Rattle.ink_step.specs.Steps.{RunsToStop}
 use Rattle.ink_step.specs.Words.{config_of}
-use Rattle.ink_step.proofs.Moments.{begins, run_went, run_stopped, run_faulted, run_out}
+use Rattle.ink_step.proofs.Runnings.{EndsRun, never_waits, ran_none, ran_on, ran_out, ran_to_fault, ran_to_stop}
 use Rattle.ink_step.proofs.machine.Machine.run.Goals as goal
 
 pub loop-step-init : goal.loop-step-init
-loop-step-init c = begins _ _
+loop-step-init g c =
+    let s = story_tree c.args.story.now in
+    record { ran = ran_none g.T.TurnFn.log g.W.Watcher.log g.P.PureFn.meaning s c.args.desk.now (config_of s c.args.self.now); watchers = refl; tracks = λ start h. h }
 
 pub loop-step-preserved : goal.loop-step-preserved
-loop-step-preserved c = run_went _ _ _ _ _ _ c.loop-step.invariant c.in-Went.is c.in_ok-step.ensures
+loop-step-preserved g c =
+    let s = story_tree c.args.story.now in
+    record {
+      ran = ran_on g.T.TurnFn.log g.W.Watcher.log g.P.PureFn.meaning s c.args.desk.now (config_of s c.args.self.now) c.loop-step._step c.loop-step.desk c.step.new.desk
+        (config_of s c.loop-step.self) (config_of s c.step.new.self) c.loop-step.invariant.ran _ c.in-Went.is c.in_ok-step.ensures.step;
+      watchers = c.in_ok-step.ensures.watchers ∙ c.loop-step.invariant.watchers;
+      tracks = λ start h. c.in_ok-step.ensures.tracks start (c.loop-step.invariant.tracks start h);
+    }
 
-pub returns-in-Stopped : goal.returns-in-Stopped
-returns-in-Stopped c = run_stopped _ _ c.loop-step._step 1000000 _ _ _ (omega arith) c.loop-step.invariant c.in-Stopped.is c.in_ok-step.ensures
+pub returns-in-Stopped-clause-runs : goal.returns-in-Stopped-clause-runs
+returns-in-Stopped-clause-runs g c =
+    let s = story_tree c.args.story.now in
+    ran_to_stop g.T.TurnFn.log g.W.Watcher.log g.P.PureFn.meaning s c.args.desk.now (config_of s c.args.self.now) c.loop-step._step c.loop-step.desk c.step.new.desk
+    (config_of s c.loop-step.self) (config_of s c.step.new.self) c.loop-step.invariant.ran _ (omega arith) c.in-Stopped.is c.in_ok-step.ensures.step
 
-pub returns-in_err-step : goal.returns-in_err-step
-returns-in_err-step c =
+pub returns-in-Stopped-clause-watchers : goal.returns-in-Stopped-clause-watchers
+returns-in-Stopped-clause-watchers g c = c.in_ok-step.ensures.watchers ∙ c.loop-step.invariant.watchers
+
+pub returns-in-Stopped-clause-tracks : goal.returns-in-Stopped-clause-tracks
+returns-in-Stopped-clause-tracks g c = λ start h. c.in_ok-step.ensures.tracks start (c.loop-step.invariant.tracks start h)
+
+pub returns-in_err-step-clause-runs : goal.returns-in_err-step-clause-runs
+returns-in_err-step-clause-runs g c =
     let s = story_tree c.args.story.now in
     let is : c.from_residual.result ≡ Err c.in_err-step.field-0.0 = search rules in
-    subst (λ r. RunsToStop s (config_of s c.args.self.now) (config_of s c.step.new.self) r) (sym is)
-    (run_faulted _ _ c.loop-step._step _ _ _ (omega arith) c.loop-step.invariant c.in_err-step.ensures)
+    subst (λ r. EndsRun g.T.TurnFn.log g.W.Watcher.log g.P.PureFn.meaning s c.args.desk.now (config_of s c.args.self.now) c.step.new.desk (config_of s c.step.new.self) r) (sym is)
+    (ran_to_fault g.T.TurnFn.log g.W.Watcher.log g.P.PureFn.meaning s c.args.desk.now (config_of s c.args.self.now) c.loop-step._step c.loop-step.desk c.step.new.desk
+    (config_of s c.loop-step.self) (config_of s c.step.new.self) c.loop-step.invariant.ran _ (omega arith) c.in_err-step.ensures.step)
 
-pub returns : goal.returns
-returns c = run_out _ _ c.loop-step._step _ (omega arith) c.loop-step.invariant
+pub returns-in_err-step-clause-watchers : goal.returns-in_err-step-clause-watchers
+returns-in_err-step-clause-watchers g c = c.in_err-step.ensures.watchers ∙ c.loop-step.invariant.watchers
+
+pub returns-in_err-step-clause-tracks : goal.returns-in_err-step-clause-tracks
+returns-in_err-step-clause-tracks g c = λ start h. c.in_err-step.ensures.tracks start (c.loop-step.invariant.tracks start h)
+
+pub returns-clause-runs : goal.returns-clause-runs
+returns-clause-runs g c =
+    let s = story_tree c.args.story.now in
+    ran_out g.T.TurnFn.log g.W.Watcher.log g.P.PureFn.meaning s c.args.desk.now (config_of s c.args.self.now) c.loop-step._step c.loop-step.desk (config_of s c.loop-step.self) (omega arith) c.loop-step.invariant.ran
+
+pub returns-clause-watchers : goal.returns-clause-watchers
+returns-clause-watchers g c = c.loop-step.invariant.watchers
+
+pub returns-clause-tracks : goal.returns-clause-tracks
+returns-clause-tracks g c = c.loop-step.invariant.tracks

@@ -1,11 +1,17 @@
-use Rattle.std.proofs.Common.{◌≡◌, []}
+use Rattle.std.proofs.Common.{◌≡◌}
 use Rattle.ink_check.specs.Words.{story_tree}
-use Rattle.ink_model.specs.Step.{nothing_bound}
-use Rattle.ink_model.specs.Run.{At, moment}
+use Rattle.ink_model.specs.Store.{Values}
 use Rattle.ink_step.specs.Words.{config_of}
+use Rattle.ink_step.proofs.Runnings.{Ran}
 use Rattle.ink_step.proofs.machine.Machine.run.Given as goal
+use Rattle.ink_vars.specs.Changes.{Tracks}
 
 -- the run got here and has not ended
 abbrev pub invariant-loop-step : goal.invariant-loop-step
-invariant-loop-step l =
-    let s = story_tree l.story in moment s nothing_bound (config_of s l.initial.self) [] l._step ≡ At (config_of s l.self) [] []
+invariant-loop-step g l =
+    let s = story_tree l.story in
+    record {
+      ran : Ran g.T.TurnFn.log g.W.Watcher.log g.P.PureFn.meaning s l.initial.desk (config_of s l.initial.self) l._step l.desk (config_of s l.self);
+      watchers : l.desk.watchers ≡ l.initial.desk.watchers;
+      tracks : (start : Values) → Tracks start l.initial.self.changes l.initial.self.globals → Tracks start l.self.changes l.self.globals;
+    }

@@ -8,9 +8,9 @@ use Rattle.ink_step.proofs.Unnumbered.{choices_alike, threads_alike}
 use Rattle.ink_step.proofs.machine.Machine.settle.Goals as goal
 use Rattle.ink_tree.specs.Nodes.{place_of}
 
-pub returns : goal.returns
+pub returns-clause-settled : goal.returns-clause-settled
 unfolding settled
-returns c s =
+returns-clause-settled c s =
     let old = config_of s c.args.self.now in
     let ts = map_threads (place_of s) (unnumbered_threads c.args.self.now.threads) in
     let cs = map (map_choice (place_of s)) (map unnumbered_choice c.args.self.now.choices) in

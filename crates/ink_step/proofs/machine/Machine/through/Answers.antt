@@ -1,22 +1,52 @@
-use Rattle.std.proofs.Common.{◌≡◌, rules, subst, sym, [], Err}
+use Rattle.std.proofs.Common.{◌≡◌, rules, subst, sym, Err}
 use Rattle.ink_check.specs.Words.{story_tree}
-use Rattle.ink_model.specs.Session.{RunsThrough}
-use Rattle.ink_model.specs.Step.Host.{nothing_bound}
+use Rattle.ink_host.specs.Desk.{bound_by}
 use Rattle.ink_model.specs.declared.fault.Fault.TheVariants.{OutOfMemory}
-use Rattle.ink_step.specs.Steps.{left_by, reply_of_run}
+use Rattle.ink_step.specs.Runs.{RunsThrough}
 use Rattle.ink_step.specs.Words.{config_of}
-use Rattle.ink_step.proofs.Passages.{tells, breaks_after}
+use Rattle.ink_step.proofs.Passages.{comes_to, comes_to_fault, falls_after}
 use Rattle.ink_step.proofs.machine.Machine.through.Goals as goal
+use Rattle.ink_vars.specs.Changes.{Tracks}
 
-pub returns-in_err-passage : goal.returns-in_err-passage
-returns-in_err-passage c =
+pub returns-in_err-run-clause-runs : goal.returns-in_err-run-clause-runs
+returns-in_err-run-clause-runs g c =
     let s = story_tree c.args.story.now in
+    let b = bound_by g.P.PureFn.meaning c.args.desk.now.functions in
+    let old = config_of s c.args.self.now in
     let new = config_of s c.run.new.self in
-    let is : c.from_residual-in_err-passage.result ≡ Err OutOfMemory = search rules in
-    subst (λ r. RunsThrough s nothing_bound (config_of s c.args.self.now) [] (reply_of_run r) (left_by r new)) (sym is)
-    (breaks_after _ _ _ (c.begin.ensures s) new c.in_ok-run.ensures)
+    let ran = c.in_err-run.ensures.runs in
+    let is : c.from_residual.result ≡ Err c.in_err-run.field-0.0 = search rules in
+    (ran.0, ran.1, subst (RunsThrough s b old ran.0 new) (sym is) (comes_to_fault s b ran.0 old (config_of s c.begin.new.self) (c.begin.ensures.begun s) new _ ran.2))
 
-pub returns : goal.returns
-returns c =
+pub returns-in_err-passage-clause-runs : goal.returns-in_err-passage-clause-runs
+returns-in_err-passage-clause-runs g c =
     let s = story_tree c.args.story.now in
-    tells _ _ _ (c.begin.ensures s) _ _ _ c.in_ok-run.ensures (c.in_ok-passage.ensures s) (c.settle.ensures s)
+    let b = bound_by g.P.PureFn.meaning c.args.desk.now.functions in
+    let old = config_of s c.args.self.now in
+    let new = config_of s c.run.new.self in
+    let ran = c.in_ok-run.ensures.runs in
+    let is : c.from_residual-in_err-passage.result ≡ Err OutOfMemory = search rules in
+    (ran.0, ran.1, subst (RunsThrough s b old ran.0 new) (sym is) (falls_after s b ran.0 old (config_of s c.begin.new.self) (c.begin.ensures.begun s) new ran.2))
+
+pub returns-clause-runs : goal.returns-clause-runs
+returns-clause-runs g c =
+    let s = story_tree c.args.story.now in
+    let b = bound_by g.P.PureFn.meaning c.args.desk.now.functions in
+    let ran = c.in_ok-run.ensures.runs in
+    (ran.0, ran.1, comes_to s b ran.0 (config_of s c.args.self.now) (config_of s c.begin.new.self) (c.begin.ensures.begun s) (config_of s c.run.new.self) (config_of s c.settle.new.self) _
+    ran.2 (c.in_ok-passage.ensures s) (c.settle.ensures.settled s))
+
+-- the changes are those since the beginning
+pub returns-in_err-run-clause-tracks : goal.returns-in_err-run-clause-tracks
+returns-in_err-run-clause-tracks g c =
+    c.in_err-run.ensures.tracks c.args.self.now.globals (subst (λ vs. Tracks vs c.begin.new.self.changes c.begin.new.self.globals) c.begin.ensures.globals c.begin.ensures.tracks)
+
+pub returns-in_err-passage-clause-tracks : goal.returns-in_err-passage-clause-tracks
+returns-in_err-passage-clause-tracks g c =
+    c.in_ok-run.ensures.tracks c.args.self.now.globals (subst (λ vs. Tracks vs c.begin.new.self.changes c.begin.new.self.globals) c.begin.ensures.globals c.begin.ensures.tracks)
+
+pub returns-clause-tracks : goal.returns-clause-tracks
+returns-clause-tracks g c =
+    let start = c.args.self.now.globals in
+    let tracks = c.in_ok-run.ensures.tracks start (subst (λ vs. Tracks vs c.begin.new.self.changes c.begin.new.self.globals) c.begin.ensures.globals c.begin.ensures.tracks) in
+    subst (λ vs. Tracks start c.settle.new.self.changes vs) (sym c.settle.ensures.globals) (subst (λ noted. Tracks start noted c.run.new.self.globals) (sym c.settle.ensures.changes) tracks)

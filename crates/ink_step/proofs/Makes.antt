@@ -1,0 +1,268 @@
+-- Steps that call turn functions.
+use Rattle.std.proofs.Common.{◌≡◌, ◌∙◌, ◌⊎◌, ◌||◌, ◌++◌, ap, sym, refl, subst, inl, inr, ℕ, List, [], ◌∷◌, Bool, true, false, if◌then◌else◌, Option, Some, None, is_some, Result, Ok, Err}
+use Rattle.ink_model.specs.Asks.{content_asks, external_asks}
+use Rattle.ink_model.specs.Choosing.{following, following_asks}
+use Rattle.ink_model.specs.Configuration.{ChoiceOf, Configuration, current_place}
+use Rattle.ink_model.specs.Effect.{Context, Fields, Effect, Moves, Stores, Offers, Lands, Calls, Returns, Forks, Done, Ends, Asks, Fails, context_of, fields_of, or_else, or_fault}
+use Rattle.ink_model.specs.Frames.{ThreadsOf}
+use Rattle.ink_model.specs.Host.{Binding, Bound, fits_given, pure_function, turn_function, value_given}
+use Rattle.ink_model.specs.Move.{Outcome, Next, Stop, Wants, Faults, move}
+use Rattle.ink_model.specs.MoveMemory.{move_asks}
+use Rattle.ink_model.specs.Place.{entered, knot}
+use Rattle.ink_model.specs.Run.{answered}
+use Rattle.ink_model.specs.Stack.{popped, pushed}
+use Rattle.ink_model.specs.Step.{effect, gone_in, step, step_at}
+use Rattle.ink_model.specs.Step.Diverts.{where_true}
+use Rattle.ink_model.specs.Step.Host.{answering, arguments_on, call_bound, call_external, has_string, is_argument, with_arguments}
+use Rattle.ink_model.specs.Store.{Values}
+use Rattle.ink_model.specs.Tree.{StoryTree, leaf, container, at}
+use Rattle.ink_model.specs.Value.{is_true}
+use Rattle.ink_model.specs.declared.content.Leaf.{Leaf}
+use Rattle.ink_model.specs.declared.content.Leaf.TheVariants as leaves
+use Rattle.ink_model.specs.declared.fault.Fault.{Fault}
+use Rattle.ink_model.specs.declared.fault.Fault.TheVariants.{OutOfMemory}
+use Rattle.ink_model.specs.declared.host.Event.{Event}
+use Rattle.ink_model.specs.declared.host.Given.{Given}
+use Rattle.ink_model.specs.declared.place.Part.{Part}
+use Rattle.ink_model.specs.declared.value.Value.{Value}
+use Rattle.ink_step.specs.External.{Call, PerformsCall, external_in, is_asking}
+use Rattle.ink_step.specs.Performs.{Keeps, KeepsChoices, Performs}
+use Rattle.ink_step.specs.Steps.{StepEnds, StepMakes, Steps, wants}
+use Rattle.ink_step.specs.declared.flow.StepEnd.{StepEnd}
+use Rattle.ink_step.specs.declared.flow.StepEnd.TheVariants as ends
+use Rattle.ink_step.specs.declared.transfer.Transfer.{Transfer}
+use Rattle.ink_step.proofs.Follows.{ends_more, ends_unperformed, or_first, or_more}
+use Rattle.ink_step.proofs.Stopping.{broke}
+use Rattle.ink_step.proofs.Unasked.{other_acts, wanted}
+use Rattle.ink_tree.specs.declared.spot.Spot.{Spot}
+
+-- no content's effect is to be called
+ends_said : (asking : Bool) (o : Outcome) (globals : Values) (d : Configuration) → StepEnds asking o globals d (Ok ends.WantsCall) → ⊥
+ends_said asking (Next c) globals d h = h
+ends_said asking (Stop c) globals d h = h
+ends_said asking (Wants name arguments f c) globals d h = h
+ends_said asking (Faults f) globals d h = h
+
+module _ (s : StoryTree) (b : Bound) (n : ℕ) where
+  -- an outcome that wants no call
+  pub unmade : (asking : Bool) (o : Outcome) (globals : Values) (d : Configuration) (r : Result StepEnd Fault) → wants o ≡ false → StepEnds asking o globals d r → StepMakes s b n asking o [] globals d r
+  unmade asking (Next c) globals d r no h = (refl, h)
+  unmade asking (Stop c) globals d r no h = (refl, h)
+  unmade asking (Wants name arguments f c) globals d r no h = absurd (cc)
+  unmade asking (Faults f) globals d r no h = (refl, h)
+
+  -- where memory was refused before
+  pub short_makes : (asking : Bool) (o : Outcome) (globals : Values) (d : Configuration) (f : Fault) → (f ≡ OutOfMemory) × (asking ≡ true) × (d.shared.globals ≡ globals)
+      → StepMakes s b n asking o [] globals d (Err f)
+  short_makes asking (Next c) globals d f h = (refl, (h.0, h.1), h.2)
+  short_makes asking (Stop c) globals d f h = (refl, (h.0, h.1), h.2)
+  short_makes asking (Wants name arguments k c) globals d f h = inr (refl, ap Err h.0, h.1, h.2)
+  short_makes asking (Faults g) globals d f h = (refl, inr (h.0, h.1), h.2)
+
+  module _ (es : List Event) (globals : Values) (d : Configuration) where
+    -- where more asks for memory
+    pub makes_more : (r : Result StepEnd Fault) (more asking : Bool) (o : Outcome) → StepMakes s b n asking o es globals d r → StepMakes s b n (more || asking) o es globals d r
+    makes_more r more asking (Next c) h = (h.0, ends_more more asking (Next c) globals d r h.1)
+    makes_more r more asking (Stop c) h = (h.0, ends_more more asking (Stop c) globals d r h.1)
+    makes_more r more asking (Faults f) h = (h.0, ends_more more asking (Faults f) globals d r h.1)
+    makes_more r more asking (Wants name arguments f c) h = elim h [
+      | inl made ↦ inl made
+      | inr short ↦ inr (short.0, short.1, or_more more asking short.2, short.3)
+    ]
+
+    -- only a quiet step says that a call is wanted
+    pub makes_said : (asking : Bool) (o : Outcome) → StepMakes s b n asking o es globals d (Ok ends.WantsCall) → ⊥
+    makes_said asking (Next c) h = h.1
+    makes_said asking (Stop c) h = h.1
+    makes_said asking (Faults f) h = h.1
+    makes_said asking (Wants name arguments f c) h = elim h [
+      | inl made ↦ ends_said _ (answered s f c made.0) globals d made.3
+      | inr short ↦ absurd (cc)
+    ]
+
+    -- a quiet step that wants no call
+    pub quieted : (old : Configuration) (r : Result StepEnd Fault) (quiet asking : Bool) (o : Outcome) → (quiet ≡ true → wants o ≡ false) → StepMakes s b n asking o es globals d r
+        → Steps quiet s b n asking o es globals old d r
+    quieted old r false asking o no h = h
+    quieted old r true asking (Next c) no h = h
+    quieted old r true asking (Stop c) no h = h
+    quieted old r true asking (Faults f) no h = h
+    quieted old r true asking (Wants name arguments f c) no h = absurd (let is = no refl in cc)
+
+  -- and one that does
+  pub said : (asking : Bool) (o : Outcome) (globals : Values) (c : Configuration) → wants o ≡ true → Steps true s b n asking o [] globals c c (Ok ends.WantsCall)
+  said asking (Wants name arguments f d) globals c is = (refl, refl, refl)
+  said asking (Next d) globals c is = absurd (cc)
+  said asking (Stop d) globals c is = absurd (cc)
+  said asking (Faults f) globals c is = absurd (cc)
+
+-- ---- effects of calls
+
+-- A call asks what is bound to a turn function, and stores and offers nothing.
+abbrev pub IsCall : Bound → Effect → Type 0
+IsCall b (Asks name arguments f) = b name ≡ Some turn_function
+IsCall b (Stores t f) = ⊥
+IsCall b (Offers cs f) = ⊥
+IsCall b e = Unit {0}
+
+module _ (b : Bound) where
+  call_if : (x : Bool) (e d : Effect) → IsCall b e → IsCall b d → IsCall b (if x then e else d)
+  call_if true e d h k = h
+  call_if false e d h k = k
+
+  call_or : {A : Type 0} (r : Result A Fault) (so : A → Effect) → ((a : A) → IsCall b (so a)) → IsCall b (or_fault r so)
+  call_or (Ok a) so calls = calls a
+  call_or (Err f) so calls = ()
+
+  call_else : {A : Type 0} (f : Fault) (o : Option A) (so : A → Effect) → ((a : A) → IsCall b (so a)) → IsCall b (or_else f o so)
+  call_else f None so calls = ()
+  call_else f (Some a) so calls = calls a
+
+  pub answering_call : (gave : Option Given) (f : Fields) → IsCall b (answering gave f)
+  answering_call None f = ()
+  answering_call (Some g) f = call_if (fits_given g) _ _ (call_or (pushed (value_given g) f.stack) _ (λ vs. ())) ()
+
+  arguments_call : (n : ℕ) (f : Fields) (so : List Value → Fields → Effect) → ((vs : List Value) (g : Fields) → IsCall b (so vs g)) → IsCall b (with_arguments n f so)
+  arguments_call n f so calls = call_else _ (arguments_on n f.stack) _ (λ r. call_if _ _ _ (calls r.0 _) ())
+
+  bound_call : (s : StoryTree) (o : Option Binding) (name : List ℕ) (n : ℕ) (f : Fields) → b name ≡ o → IsCall b (call_bound s o name n f)
+  bound_call s None name n f is = call_else _ (knot name s) _ (λ p. ())
+  bound_call s (Some turn_function) name n f is = call_if (has_string f.page.sections) _ _ () (arguments_call n f _ (λ vs g. is))
+  bound_call s (Some (pure_function answers)) name n f is = arguments_call n f _ (λ vs g. answering_call (answers vs) g)
+
+  pub external_call : (s : StoryTree) (name : List ℕ) (n : ℕ) (conditional : Bool) (f : Fields) → IsCall b (call_external s b name n conditional f)
+  external_call s name n conditional f = call_if conditional _ _
+      (call_else _ (popped f.stack) _ (λ r. call_or (is_true r.0) _ (λ x. call_if x _ _ (bound_call s (b name) name n _ refl) ()))) (bound_call s (b name) name n f refl)
+
+  -- which keeps threads and choices
+  pub keeps_call : (s : StoryTree) (e : Effect) (ts : ThreadsOf Spot) → IsCall b e → Keeps s e ts ts
+  keeps_call s (Stores t f) ts is = absurd is
+  keeps_call s (Offers cs f) ts is = absurd is
+  keeps_call s (Asks name arguments f) ts is = refl
+  keeps_call s (Moves f) ts is = refl
+  keeps_call s (Lands to f) ts is = refl
+  keeps_call s (Calls k to f) ts is = refl
+  keeps_call s (Returns k to f) ts is = refl
+  keeps_call s (Forks f) ts is = refl
+  keeps_call s (Done f) ts is = refl
+  keeps_call s (Ends f) ts is = refl
+  keeps_call s (Fails g) ts is = refl
+
+  pub offers_call : (s : StoryTree) (e : Effect) (choices : List (ChoiceOf Spot)) → IsCall b e → KeepsChoices s e choices choices
+  offers_call s (Stores t f) choices is = absurd is
+  offers_call s (Offers cs f) choices is = absurd is
+  offers_call s (Asks name arguments f) choices is = refl
+  offers_call s (Moves f) choices is = refl
+  offers_call s (Lands to f) choices is = refl
+  offers_call s (Calls k to f) choices is = refl
+  offers_call s (Returns k to f) choices is = refl
+  offers_call s (Forks f) choices is = refl
+  offers_call s (Done f) choices is = refl
+  offers_call s (Ends f) choices is = refl
+  offers_call s (Fails g) choices is = refl
+
+-- ---- a call that was performed
+
+module _ (s : StoryTree) (b : Bound) (n : ℕ) (asking : Bool) (c d : Configuration) (new : Fields) (globals : Values) (transfer : Result Transfer Fault) (r : Result StepEnd Fault) where
+  abbrev Ended : Bool → Effect → Type 0
+  Ended asks e = StepEnds ((asks || move_asks s e c) || following_asks s (move s e c)) (following s (move s e c)) globals d r
+
+  given_ends : (gave : Option Given) (left : Fields) → Ended (is_some gave) (answering gave left) → StepEnds (is_some gave) (answered s left c gave) globals d r
+  given_ends None left h = h
+  given_ends (Some g) left h = h
+
+  module _ (ended : (asks : Bool) (e : Effect) → IsCall b e → Performs s asks e new transfer → Ended asks e) (failed : transfer ≡ Err OutOfMemory → (r ≡ Err OutOfMemory) × (d.shared.globals ≡ globals)) where
+    abbrev Makes : Effect → List Event → Type 0
+    Makes e es = StepMakes s b n ((asking || move_asks s e c) || following_asks s (move s e c)) (following s (move s e c)) es globals d r
+
+    other : (e : Effect) (es : List Event) → is_asking e ≡ false → es ≡ [] → Ended asking e → Makes e es
+    other e es no none h = subst (Makes e) (sym none) (unmade s b n _ (following s (move s e c)) globals d r (wanted s e c ∙ no) h)
+
+    pub makes : (e : Effect) (es : List Event) → IsCall b e → PerformsCall s n asking e es new transfer → Makes e es
+    makes (Asks name arguments left) es is h = elim h [
+      | inl made ↦ inl (made.0, is, made.1, given_ends made.0 left (ended (is_some made.0) (answering made.0 left) (answering_call b made.0 left) made.2))
+      | inr short ↦ inr (short.0, (failed short.1).0, or_first _ _ (or_first asking _ short.2), (failed short.1).1)
+    ]
+    makes (Stores t f) es is h = absurd is
+    makes (Offers cs f) es is h = absurd is
+    makes (Moves f) es is h = other (Moves f) es refl h.0 (ended asking (Moves f) is h.1)
+    makes (Lands to f) es is h = other (Lands to f) es refl h.0 (ended asking (Lands to f) is h.1)
+    makes (Calls k to f) es is h = other (Calls k to f) es refl h.0 (ended asking (Calls k to f) is h.1)
+    makes (Returns k to f) es is h = other (Returns k to f) es refl h.0 (ended asking (Returns k to f) is h.1)
+    makes (Forks f) es is h = other (Forks f) es refl h.0 (ended asking (Forks f) is h.1)
+    makes (Done f) es is h = other (Done f) es refl h.0 (ended asking (Done f) is h.1)
+    makes (Ends f) es is h = other (Ends f) es refl h.0 (ended asking (Ends f) is h.1)
+    makes (Fails g) es is h = other (Fails g) es refl h.0 (ended asking (Fails g) is h.1)
+
+err_same : (f g : Fault) → Err {A = Transfer} f ≡ Err g → f ≡ g
+err_same f g e = cc
+
+module _ (s : StoryTree) (b : Bound) (n : ℕ) (asking : Bool) (c d : Configuration) (new : Fields) (globals : Values) where
+  -- performing it faulted
+  pub makes_broken : (f : Fault) → d.shared.globals ≡ globals → (e : Effect) (es : List Event) → IsCall b e → PerformsCall s n asking e es new (Err f)
+      → StepMakes s b n ((asking || move_asks s e c) || following_asks s (move s e c)) (following s (move s e c)) es globals d (Err f)
+  makes_broken f same = makes s b n asking c d new globals (Err f) (Err f)
+      (λ asks e call performs. broke s _ (move s e c) globals d f (ends_unperformed s asks _ e new c d globals f performs same)) (λ is. (ap Err (err_same f OutOfMemory is), same))
+
+  -- flow went on from it
+  pub makes_ended : (t : Transfer) (r : Result StepEnd Fault) → ((asks : Bool) (e : Effect) → IsCall b e → Performs s asks e new (Ok t) → Ended s b n asking c d new globals (Ok t) r asks e)
+      → (e : Effect) (es : List Event) → IsCall b e → PerformsCall s n asking e es new (Ok t)
+      → StepMakes s b n ((asking || move_asks s e c) || following_asks s (move s e c)) (following s (move s e c)) es globals d r
+  makes_ended t r ended = makes s b n asking c d new globals (Ok t) r ended (λ is. absurd (cc))
+
+-- ---- a call that stands at a place
+
+module _ (s : StoryTree) (b : Bound) (p : List Part) (seen : Context) (f : Fields) where
+  abbrev Found : Option StoryTree → Call → Type 0
+  Found found k = (effect s b p found seen f ≡ call_external s b k.name k.arguments k.conditional f) × (content_asks s b p found seen f ≡ external_asks (b k.name) k.arguments k.conditional f)
+
+  found_leaf : (l : Leaf) (k : Call) → external_in (Some (leaf l)) ≡ Some k → Found (Some (leaf l)) k
+  found_leaf (leaves.External name arguments conditional) k is = subst (Found (Some (leaf (leaves.External name arguments conditional)))) (same _ k is) (refl, refl)
+    where
+      same : (j k : Call) → Some j ≡ Some k → j ≡ k
+      same j k e = cc
+  found_leaf (leaves.Text t) k is = absurd (cc)
+  found_leaf leaves.Newline k is = absurd (cc)
+  found_leaf leaves.Glue k is = absurd (cc)
+  found_leaf (leaves.Int z) k is = absurd (cc)
+  found_leaf (leaves.Bool t) k is = absurd (cc)
+  found_leaf leaves.Void k is = absurd (cc)
+  found_leaf (leaves.Target t) k is = absurd (cc)
+  found_leaf (leaves.Control o) k is = absurd (cc)
+  found_leaf (leaves.Op o) k is = absurd (cc)
+  found_leaf (leaves.Divert to c) k is = absurd (cc)
+  found_leaf (leaves.Declare x) k is = absurd (cc)
+  found_leaf (leaves.Assign x) k is = absurd (cc)
+  found_leaf (leaves.Variable x) k is = absurd (cc)
+  found_leaf (leaves.Pointer x y) k is = absurd (cc)
+  found_leaf (leaves.Call to c) k is = absurd (cc)
+  found_leaf (leaves.Tunnel to c) k is = absurd (cc)
+  found_leaf (leaves.DeclareTemp x) k is = absurd (cc)
+  found_leaf (leaves.AssignTemp x) k is = absurd (cc)
+  found_leaf (leaves.Count t) k is = absurd (cc)
+  found_leaf (leaves.Choice t x) k is = absurd (cc)
+
+  pub found_call : (found : Option StoryTree) (k : Call) → external_in found ≡ Some k → Found found k
+  found_call None k is = absurd (cc)
+  found_call (Some (container name flags content named)) k is = absurd (cc)
+  found_call (Some (leaf l)) k is = found_leaf l k is
+
+-- ---- whether a step wants a call
+
+module _ (s : StoryTree) (b : Bound) (p : List Part) (c : Configuration) (at_p : current_place c ≡ Some p) where
+  abbrev inside : Configuration
+  inside = gone_in s p c
+
+  abbrev Wanting : Option StoryTree → Bool
+  Wanting found = is_asking (effect s b (entered s p) found (context_of inside) (fields_of inside))
+
+  step_wants : wants (step s b c) ≡ Wanting (at s (entered s p))
+  unfolding step
+  step_wants = ap (λ o. wants (step_at s b o c)) at_p ∙ wanted s (effect s b (entered s p) (at s (entered s p)) (context_of inside) (fields_of inside)) inside
+
+  pub wants_none : (found : Option StoryTree) → found ≡ at s (entered s p) → external_in found ≡ None → false ≡ wants (step s b c)
+  wants_none found is other = sym (step_wants ∙ ap Wanting (sym is) ∙ other_acts s b (entered s p) found (context_of inside) (fields_of inside) other)
+
+  pub wants_call : (found : Option StoryTree) (k : Call) → found ≡ at s (entered s p) → external_in found ≡ Some k
+      → is_asking (call_external s b k.name k.arguments k.conditional (fields_of inside)) ≡ wants (step s b c)
+  wants_call found k is here = sym (step_wants ∙ ap Wanting (sym is) ∙ ap is_asking (found_call s b (entered s p) (context_of inside) (fields_of inside) found k here).0)

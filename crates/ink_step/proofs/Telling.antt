@@ -1,0 +1,135 @@
+-- What is to be told of globals, one after another.
+use Rattle.std.proofs.Common.{◌≡◌, ◌≢◌, ◌∙◌, ◌++◌, ◌∷◌, ◌+◌, ◌&&◌, ◌<◌, ℕ, zero, suc, List, [], Bool, true, false, not, Option, Some, None, ap, append_assoc, arith, bytes_eq, cond, drop, if◌then◌else◌, map, refl, slice_get, sym, take}
+use Rattle.std.proofs.lemmas.List.{append-nil, take-append-drop, take_more}
+use Rattle.std.proofs.lemmas.Option.{get_or_from_slice_get, slice_get_within}
+use Rattle.std.specs.List.{filter, list_all}
+use Rattle.ink_model.specs.Store.{Values, stored}
+use Rattle.ink_model.specs.Told.{change_of, is_other, is_told, told}
+use Rattle.ink_model.specs.declared.host.Change.{Change}
+use Rattle.ink_model.specs.declared.value.Value.{Value}
+use Rattle.ink_host.specs.Telling.{OncePerName}
+use Rattle.ink_vars.specs.Changes.{changed_from, changed_numbers, differs}
+use Rattle.ink_vars.specs.Globals.{DifferInName}
+
+-- ---- by numbers
+
+module _ (watches : List ℕ → Bool) (now : Values) where
+  -- a global that is watched
+  abbrev pub told_one : Option (List ℕ × Value) → List Change
+  told_one None = []
+  told_one (Some e) = cond (watches e.0) (change_of e ∷ []) []
+
+  abbrev pub told_at : List ℕ → List Change
+  told_at [] = []
+  told_at (i ∷ is) = told_one (slice_get now i) ++ told_at is
+
+  pub told_more : (is : List ℕ) (i : ℕ) → told_at (is ++ i ∷ []) ≡ told_at is ++ told_one (slice_get now i)
+  told_more [] i = append-nil (told_one (slice_get now i))
+  told_more (j ∷ is) i = ap (λ rest. told_one (slice_get now j) ++ rest) (told_more is i) ∙ sym (append_assoc (told_one (slice_get now j)) (told_at is) (told_one (slice_get now i)))
+
+  -- ---- those that changed
+
+  module _ (start : Values) where
+    other_so : (o : Option Value) (v : Value) → differs o v ≡ is_other o v
+    other_so None v = refl
+    other_so (Some w) v = refl
+
+    by_cases : (n : ℕ) (e : List ℕ × Value) (numbers : List ℕ) (rest : List Change) (other watched : Bool) → slice_get now n ≡ Some e → watches e.0 ≡ watched → told_at numbers ≡ rest
+        → told_at (if other then n ∷ numbers else numbers) ≡ cond (watched && other) (change_of e ∷ rest) rest
+    by_cases n e numbers rest true true at is so = ap (λ o. told_one o ++ told_at numbers) at ∙ ap (λ b. cond b (change_of e ∷ []) [] ++ told_at numbers) is ∙ ap (λ cs. change_of e ∷ cs) so
+    by_cases n e numbers rest true false at is so = ap (λ o. told_one o ++ told_at numbers) at ∙ ap (λ b. cond b (change_of e ∷ []) [] ++ told_at numbers) is ∙ so
+    by_cases n e numbers rest false true at is so = so
+    by_cases n e numbers rest false false at is so = so
+
+    map_cond : (b : Bool) (e : List ℕ × Value) (es : Values) → map change_of (cond b (e ∷ es) es) ≡ cond b (change_of e ∷ map change_of es) (map change_of es)
+    map_cond true e es = refl
+    map_cond false e es = refl
+
+    told_from : (n : ℕ) (es : Values) → ((i : ℕ) → slice_get now (n + i) ≡ slice_get es i) → told_at (changed_from start n es) ≡ told watches start es
+    told_from n [] at = refl
+    told_from n (e ∷ es) at =
+        let here : n + 0 ≡ n = omega arith in
+        let first : slice_get now n ≡ Some e = ap (slice_get now) (sym here) ∙ at 0 in
+        let further : (i : ℕ) → slice_get now (suc n + i) ≡ slice_get es i =
+        λ i. (let next : suc n + i ≡ n + suc i = omega arith in ap (slice_get now) next ∙ at (suc i)) in
+        by_cases n e (changed_from start (suc n) es) (told watches start es) (differs (stored e.0 start) e.1) (watches e.0) first refl (told_from (suc n) es further)
+        ∙ ap (λ b. cond (watches e.0 && b) (change_of e ∷ told watches start es) (told watches start es)) (other_so (stored e.0 start) e.1)
+        ∙ sym (map_cond (watches e.0 && is_other (stored e.0 start) e.1) e (filter (is_told watches start) es))
+
+    pub told_changed : told_at (changed_numbers start now) ≡ told watches start now
+    told_changed = told_from 0 now (λ i. (let same : 0 + i ≡ i = omega arith in ap (slice_get now) same))
+
+  pub one_watched : (e : List ℕ × Value) → watches e.0 ≡ true → told_one (Some e) ≡ change_of e ∷ []
+  one_watched e is = ap (λ b. cond b (change_of e ∷ []) []) is
+
+  pub one_unwatched : (e : List ℕ × Value) → watches e.0 ≡ false → told_one (Some e) ≡ []
+  one_unwatched e is = ap (λ b. cond b (change_of e ∷ []) []) is
+
+-- ---- of two lists of globals
+
+module _ (watches : List ℕ → Bool) (start : Values) where
+  pub told_split : (es fs : Values) → told watches start (es ++ fs) ≡ told watches start es ++ told watches start fs
+  told_split [] fs = refl
+  told_split (e ∷ es) fs = by (is_told watches start e) (told_split es fs)
+    where
+      by : (b : Bool) → told watches start (es ++ fs) ≡ told watches start es ++ told watches start fs
+          → map change_of (cond b (e ∷ filter (is_told watches start) (es ++ fs)) (filter (is_told watches start) (es ++ fs))) ≡ map change_of (cond b (e ∷ filter (is_told watches start) es) (filter (is_told watches start) es)) ++ told watches start fs
+      by true h = ap (λ cs. change_of e ∷ cs) h
+      by false h = h
+
+  -- up to the global of a number
+  told_up : (now : Values) (i : ℕ) (e : List ℕ × Value) (b : Bool) → slice_get now i ≡ Some e → is_told watches start e ≡ b → told watches start (take (i + 1) now) ≡ told watches start (take i now) ++ cond b (change_of e ∷ []) []
+  told_up now i e b at is =
+      ap (told watches start) (take_more now i e (slice_get_within now i e at) ∙ ap (λ p. take i now ++ p ∷ []) (get_or_from_slice_get now i e e at))
+      ∙ told_split (take i now) (e ∷ [])
+      ∙ ap (λ cs. told watches start (take i now) ++ cs) (ap (λ b. map change_of (cond b (e ∷ []) [])) is ∙ one b)
+    where
+      one : (b : Bool) → map change_of (cond b (e ∷ []) []) ≡ cond b (change_of e ∷ []) []
+      one true = refl
+      one false = refl
+
+  pub told_there : (now : Values) (i : ℕ) (e : List ℕ × Value) → slice_get now i ≡ Some e → watches e.0 ≡ true → is_other (stored e.0 start) e.1 ≡ true
+      → told watches start (take (i + 1) now) ≡ told watches start (take i now) ++ change_of e ∷ []
+  told_there now i e at watched other = told_up now i e true at (rw (watched, other) refl)
+
+  pub told_unwatched : (now : Values) (i : ℕ) (e : List ℕ × Value) → slice_get now i ≡ Some e → watches e.0 ≡ false → told watches start (take (i + 1) now) ≡ told watches start (take i now)
+  told_unwatched now i e at watched = told_up now i e false at (ap (λ b. b && is_other (stored e.0 start) e.1) watched) ∙ append-nil (told watches start (take i now))
+
+  and_false : (a b : Bool) → b ≡ false → a && b ≡ false
+  and_false true b h = h
+  and_false false b h = refl
+
+  pub told_same : (now : Values) (i : ℕ) (e : List ℕ × Value) → slice_get now i ≡ Some e → is_other (stored e.0 start) e.1 ≡ false → told watches start (take (i + 1) now) ≡ told watches start (take i now)
+  told_same now i e at same = told_up now i e false at (and_false (watches e.0) _ same) ∙ append-nil (told watches start (take i now))
+
+  -- what is told is not nothing
+  pub told_some : (now : Values) (i : ℕ) (e : List ℕ × Value) → slice_get now i ≡ Some e → watches e.0 ≡ true → is_other (stored e.0 start) e.1 ≡ true → told watches start now ≢ []
+  told_some now i e at watched other none =
+      absurd (never (told watches start (take i now)) (change_of e) (told watches start (drop (i + 1) now)) (
+      sym (ap (λ cs. cs ++ told watches start (drop (i + 1) now)) (told_there now i e at watched other)) ∙ sym (told_split (take (i + 1) now) (drop (i + 1) now))
+      ∙ ap (told watches start) (take-append-drop (i + 1) now) ∙ none))
+    where
+      never : (before : List Change) (c : Change) (after : List Change) → before ++ c ∷ [] ++ after ≡ [] → ⊥
+      never [] c after h = absurd (cc)
+      never (b ∷ before) c after h = absurd (cc)
+
+  -- ---- no name comes twice
+
+  others_told : (name : List ℕ) (es : Values) → stored name es ≡ None → list_all (λ d. not (bytes_eq name d.name)) (told watches start es) ≡ true
+  others_told name [] h = refl
+  others_told name (e ∷ es) h = by (is_told watches start e) (bytes_eq name e.0) refl h (others_told name es)
+    where
+      by : (b same : Bool) → bytes_eq name e.0 ≡ same → (if same then Some e.1 else stored name es) ≡ None
+          → (stored name es ≡ None → list_all (λ d. not (bytes_eq name d.name)) (told watches start es) ≡ true)
+          → list_all (λ d. not (bytes_eq name d.name)) (map change_of (cond b (e ∷ filter (is_told watches start) es) (filter (is_told watches start) es))) ≡ true
+      by b true is h more = absurd (cc)
+      by true false is h more = ap (λ x. not x && list_all (λ d. not (bytes_eq name d.name)) (told watches start es)) is ∙ more h
+      by false false is h more = more h
+
+  pub told_once : (es : Values) → DifferInName es → OncePerName (told watches start es)
+  told_once [] h = tt
+  told_once (e ∷ es) h = by (is_told watches start e) (told_once es h.1)
+    where
+      by : (b : Bool) → OncePerName (told watches start es) → OncePerName (map change_of (cond b (e ∷ filter (is_told watches start) es) (filter (is_told watches start) es)))
+      by true more = (others_told e.0 es h.0, more)
+      by false more = more

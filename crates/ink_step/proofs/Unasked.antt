@@ -1,0 +1,186 @@
+-- Which effects ask a turn function: those of external functions alone.
+use Rattle.std.proofs.Common.{◌≡◌, ap, refl, ℕ, ℤ, List, Bool, true, false, if◌then◌else◌, Option, Some, None, Result, Ok, Err, reverse}
+use Rattle.ink_model.specs.Acceptance.{lands, leads}
+use Rattle.ink_model.specs.Choices.{added, make}
+use Rattle.ink_model.specs.Choosing.{default_choice, following, stopped_by}
+use Rattle.ink_model.specs.Configuration.{ChoiceOf, Configuration}
+use Rattle.ink_model.specs.Effect.{Context, Fields, Effect, Moves, Stores, Offers, Lands, Calls, Returns, Forks, Done, Ends, Asks, Fails, or_else, or_fault, pushing, writing, writing_text}
+use Rattle.ink_model.specs.Flow.{Reached, Reaches, Halts, Breaks}
+use Rattle.ink_model.specs.Frames.{ThreadOf}
+use Rattle.ink_model.specs.Host.{Bound}
+use Rattle.ink_model.specs.Move.{landed_in, may_enter, move, reached_in, with_flow}
+use Rattle.ink_model.specs.Page.{Page}
+use Rattle.ink_model.specs.Path.{above}
+use Rattle.ink_model.specs.Stack.{popped, pushed}
+use Rattle.ink_model.specs.Step.{control_effect, effect, leaf_effect}
+use Rattle.ink_model.specs.Step.Calls.{call_to, led_back}
+use Rattle.ink_model.specs.Step.Choices.{offering, was_visited}
+use Rattle.ink_model.specs.Step.Counts.{asking, pushing_count, turns_there, visits_there}
+use Rattle.ink_model.specs.Step.Diverts.{divert_to, landing_by, led_to, where_true}
+use Rattle.ink_model.specs.Step.Evaluation.{output_popped, push_value}
+use Rattle.ink_model.specs.Step.Variables.{assign, declare, storing}
+use Rattle.ink_model.specs.Store.{Values}
+use Rattle.ink_model.specs.Tree.{StoryTree, leaf, container}
+use Rattle.ink_model.specs.Value.{is_true}
+use Rattle.ink_model.specs.Variables.{read}
+use Rattle.ink_model.specs.declared.content.Control.{Control}
+use Rattle.ink_model.specs.declared.content.Control.TheVariants as control
+use Rattle.ink_model.specs.declared.content.Destination.{Destination}
+use Rattle.ink_model.specs.declared.content.Leaf.{Leaf}
+use Rattle.ink_model.specs.declared.content.Leaf.TheVariants as leaves
+use Rattle.ink_model.specs.declared.fault.Fault.{Fault}
+use Rattle.ink_model.specs.declared.frame.FrameKind.{FrameKind}
+use Rattle.ink_model.specs.declared.frame.FrameKind.TheVariants.{Function, Tunnel}
+use Rattle.ink_model.specs.declared.place.Part.{Part}
+use Rattle.ink_model.specs.declared.scope.Scope.{Scope}
+use Rattle.ink_model.specs.declared.scope.Scope.TheVariants.{Global, Temporary}
+use Rattle.ink_model.specs.declared.value.Value.{Value}
+use Rattle.ink_model.specs.declared.value.Value.TheVariants as value
+use Rattle.ink_step.specs.External.{external_in, is_asking}
+use Rattle.ink_step.specs.Steps.{wants}
+
+-- ---- effects of other content
+
+abbrev Acts : Effect → Type 0
+Acts e = is_asking e ≡ false
+
+acts_if : (b : Bool) (e d : Effect) → Acts e → Acts d → Acts (if b then e else d)
+acts_if true e d h k = h
+acts_if false e d h k = k
+
+acts_or : {A : Type 0} (r : Result A Fault) (so : A → Effect) → ((a : A) → Acts (so a)) → Acts (or_fault r so)
+acts_or (Ok a) so acts = acts a
+acts_or (Err f) so acts = refl
+
+acts_else : {A : Type 0} (f : Fault) (o : Option A) (so : A → Effect) → ((a : A) → Acts (so a)) → Acts (or_else f o so)
+acts_else f None so acts = refl
+acts_else f (Some a) so acts = acts a
+
+where_acts : (conditional : Bool) (f : Fields) (so : Fields → Effect) → ((g : Fields) → Acts (so g)) → Acts (where_true conditional f so)
+where_acts conditional f so acts = acts_if conditional _ _
+    (acts_else _ (popped f.stack) _ (λ r. acts_or (is_true r.0) _ (λ b. acts_if b _ _ (acts _) refl))) (acts f)
+
+push_acts : (v : Value) (f : Fields) → Acts (pushing v f)
+push_acts v f = acts_or (pushed v f.stack) _ (λ vs. refl)
+
+write_acts : (r : Result Page Fault) (f : Fields) → Acts (writing r f)
+write_acts r f = acts_or r _ (λ page. refl)
+
+text_acts : (has_text : Bool) (r : Result Page Fault) (f : Fields) → Acts (writing_text has_text r f)
+text_acts has_text r f = acts_or r _ (λ page. refl)
+
+value_acts : (v : Value) (f : Fields) → Acts (push_value v f)
+value_acts v f = acts_if f.evaluating _ _ (push_acts v f) refl
+
+storing_acts : (r : Result (Values × ThreadOf (List Part)) Fault) (f : Fields) → Acts (storing r f)
+storing_acts r f = acts_or r _ (λ w. refl)
+
+output_acts : (top : Option (Value × List Value)) (f : Fields) → Acts (output_popped top f)
+output_acts None f = refl
+output_acts (Some r) f = text_acts _ _ (record f { stack = r.1 })
+
+module _ (s : StoryTree) (seen : Context) where
+  count_acts : (r : Result ℤ Fault) (f : Fields) → Acts (pushing_count s seen r f)
+  count_acts r f = acts_or r _ (λ z. push_acts (value.Int z) f)
+
+  asking_acts : (so : List Part → Result ℤ Fault) (f : Fields) → Acts (asking s seen so f)
+  asking_acts so f = acts_else _ (popped f.stack) _ (λ r. acts_else _ (landing_by s r.0) _ (λ to. count_acts (so to.place) _))
+
+control_acts : (s : StoryTree) (p : List Part) (seen : Context) (o : Control) (f : Fields) → Acts (control_effect s p seen o f)
+control_acts s p seen control.BeginEval f = acts_if f.evaluating _ _ refl refl
+control_acts s p seen control.EndEval f = acts_if f.evaluating _ _ refl refl
+control_acts s p seen control.Out f = output_acts (popped f.stack) f
+control_acts s p seen control.Pop f = acts_else _ (popped f.stack) _ (λ r. refl)
+control_acts s p seen control.Duplicate f = acts_else _ (popped f.stack) _ (λ r. push_acts r.0 f)
+control_acts s p seen control.BeginString f = acts_if f.evaluating _ _ (write_acts _ (record f { evaluating = false })) refl
+control_acts s p seen control.EndString f = acts_or _ _ (λ r. push_acts _ _)
+control_acts s p seen control.BeginTag f = acts_or _ _ (λ r. write_acts _ (record f { stack = r.0 }))
+control_acts s p seen control.EndTag f = acts_or _ _ (λ r. refl)
+control_acts s p seen control.Done f = refl
+control_acts s p seen control.End f = refl
+control_acts s p seen control.Return f = refl
+control_acts s p seen control.ReturnTunnel f = acts_else _ (popped f.stack) _ (λ r. acts_or (led_back s r.0) _ (λ to. refl))
+control_acts s p seen control.Thread f = refl
+control_acts s p seen control.ChoiceCount f = push_acts _ f
+control_acts s p seen control.Turn f = push_acts _ f
+control_acts s p seen control.Turns f = asking_acts s seen (turns_there s seen) f
+control_acts s p seen control.ReadCount f = asking_acts s seen (visits_there s seen) f
+control_acts s p seen control.Visit f = acts_else _ (above (reverse p)) _ (λ q. count_acts s seen _ f)
+control_acts s p seen o f = refl
+
+offering_acts : (s : StoryTree) (p : List Part) (seen : Context) (made : Option (ChoiceOf (List Part))) (f : Fields) → Acts (offering s p seen made f)
+offering_acts s p seen None f = refl
+offering_acts s p seen (Some c) f = acts_or (added c seen.choices) _ (λ cs. refl)
+
+led_acts : (s : StoryTree) (p : List Part) (seen : Context) (to : Destination) (f : Fields) → Acts (divert_to s p seen to f)
+led_acts s p seen to f = acts_or (led_to s p seen to f.globals) _ (λ l. refl)
+
+call_acts : (k : FrameKind) (s : StoryTree) (p : List Part) (seen : Context) (to : Destination) (f : Fields) → Acts (call_to k s p seen to f)
+call_acts k s p seen to f = acts_or (led_to s p seen to f.globals) _ (λ l. refl)
+
+declare_acts : (scope : Scope) (name : List ℕ) (seen : Context) (f : Fields) → Acts (declare scope name seen f)
+declare_acts scope name seen f = acts_else _ (popped f.stack) _ (λ r. storing_acts _ (record f { stack = r.1 }))
+
+assign_acts : (name : List ℕ) (seen : Context) (f : Fields) → Acts (assign name seen f)
+assign_acts name seen f = acts_else _ (popped f.stack) _ (λ r. storing_acts _ (record f { stack = r.1 }))
+
+leaf_acts : (s : StoryTree) (b : Bound) (p : List Part) (seen : Context) (l : Leaf) (f : Fields) → external_in (Some (leaf l)) ≡ None → Acts (leaf_effect s b p seen l f)
+leaf_acts s b p seen (leaves.Text t) f other = acts_if f.evaluating _ _ (push_acts _ f) (text_acts _ _ f)
+leaf_acts s b p seen leaves.Newline f other = acts_if f.evaluating _ _ (push_acts _ f) (write_acts _ f)
+leaf_acts s b p seen leaves.Glue f other = acts_if f.evaluating _ _ refl (write_acts _ f)
+leaf_acts s b p seen (leaves.Int z) f other = value_acts _ f
+leaf_acts s b p seen (leaves.Bool t) f other = value_acts _ f
+leaf_acts s b p seen leaves.Void f other = value_acts _ f
+leaf_acts s b p seen (leaves.Target text) f other = value_acts _ f
+leaf_acts s b p seen (leaves.Control o) f other = control_acts s p seen o f
+leaf_acts s b p seen (leaves.Op o) f other = acts_or _ _ (λ vs. refl)
+leaf_acts s b p seen (leaves.Divert to conditional) f other = where_acts conditional f _ (led_acts s p seen to)
+leaf_acts s b p seen (leaves.Call to conditional) f other = where_acts conditional f _ (call_acts Function s p seen to)
+leaf_acts s b p seen (leaves.Tunnel to conditional) f other = where_acts conditional f _ (call_acts Tunnel s p seen to)
+leaf_acts s b p seen (leaves.Declare name) f other = declare_acts Global name seen f
+leaf_acts s b p seen (leaves.DeclareTemp name) f other = declare_acts Temporary name seen f
+leaf_acts s b p seen (leaves.Assign name) f other = assign_acts name seen f
+leaf_acts s b p seen (leaves.AssignTemp name) f other = assign_acts name seen f
+leaf_acts s b p seen (leaves.Variable name) f other = acts_or (read f.globals seen.thread name) _ (λ v. push_acts v f)
+leaf_acts s b p seen (leaves.Pointer name frame) f other = value_acts _ f
+leaf_acts s b p seen (leaves.Count text) f other = acts_else _ (leads s p text) _ (λ q. count_acts s seen _ f)
+leaf_acts s b p seen (leaves.Choice text flags) f other = acts_else _ (lands s p text) _
+    (λ q. acts_or (make flags q (was_visited s p seen text flags) seen.thread f.stack) _ (λ r. offering_acts s p seen r.0 _))
+leaf_acts s b p seen (leaves.External name n conditional) f other = absurd (cc)
+
+pub other_acts : (s : StoryTree) (b : Bound) (p : List Part) (found : Option StoryTree) (seen : Context) (f : Fields) → external_in found ≡ None → is_asking (effect s b p found seen f) ≡ false
+other_acts s b p None seen f other = refl
+other_acts s b p (Some (container name flags content named)) seen f other = refl
+other_acts s b p (Some (leaf l)) seen f other = leaf_acts s b p seen l f other
+
+-- ---- outcomes
+
+module _ (s : StoryTree) where
+  reached_goes : (c : Configuration) (r : Reached (List Part)) → wants (following s (reached_in c r)) ≡ false
+  reached_goes c (Reaches ts w) = refl
+  reached_goes c (Breaks f) = refl
+  reached_goes c (Halts ts w) = by (default_choice c.flow.choices)
+    where
+      by : (o : Option (ChoiceOf (List Part))) → wants (stopped_by s o (with_flow ts w c)) ≡ false
+      by None = refl
+      by (Some choice) = refl
+
+  landed_goes : (enters : Bool) (c : Configuration) (r : Reached (List Part)) → wants (following s (landed_in s enters c r)) ≡ false
+  landed_goes true c (Reaches ts w) = refl
+  landed_goes true c (Halts ts w) = reached_goes c (Halts ts w)
+  landed_goes true c (Breaks f) = refl
+  landed_goes false c r = reached_goes c r
+
+  -- an outcome wants a call where its effect asks one
+  pub wanted : (e : Effect) (c : Configuration) → wants (following s (move s e c)) ≡ is_asking e
+  wanted (Moves f) c = reached_goes _ _
+  wanted (Stores t f) c = reached_goes _ _
+  wanted (Offers cs f) c = reached_goes _ _
+  wanted (Lands to f) c = landed_goes to.enters _ _
+  wanted (Calls k to f) c = landed_goes to.enters _ _
+  wanted (Returns k to f) c = landed_goes (may_enter to) _ _
+  wanted (Forks f) c = reached_goes _ _
+  wanted (Done f) c = reached_goes _ _
+  wanted (Ends f) c = reached_goes _ _
+  wanted (Asks name arguments f) c = refl
+  wanted (Fails f) c = refl

@@ -1,0 +1,46 @@
+use Rattle.std.proofs.Common.{◌≡◌, ◌||◌, rules, sym, subst, Err}
+use Rattle.ink_check.specs.Words.{story_tree}
+use Rattle.ink_host.specs.Desk.{bound_by}
+use Rattle.ink_model.specs.Asks.{external_asks}
+use Rattle.ink_model.specs.Choosing.{following, following_asks}
+use Rattle.ink_model.specs.Effect.{fields_of}
+use Rattle.ink_model.specs.Move.{move}
+use Rattle.ink_model.specs.MoveMemory.{move_asks}
+use Rattle.ink_model.specs.Step.Host.{call_external}
+use Rattle.ink_step.specs.External.{call_of}
+use Rattle.ink_step.specs.Steps.{StepMakes}
+use Rattle.ink_step.specs.Words.{config_of}
+use Rattle.ink_step.proofs.Makes.{external_call, keeps_call, makes_broken, makes_ended, offers_call}
+use Rattle.ink_step.proofs.machine.Machine.act_external.Goals as goal
+
+pub returns-in_err-transfer-clause-step : goal.returns-in_err-transfer-clause-step
+returns-in_err-transfer-clause-step g c =
+    let s = story_tree c.args.story.now in
+    let desk = c.args.desk.now in
+    let b = bound_by g.P.PureFn.meaning desk.functions in
+    let before = config_of s c.args.self.now in
+    let f = fields_of before in
+    let k = call_of c.args.call.now in
+    let e = call_external s b k.name k.arguments k.conditional f in
+    let asking = external_asks (b k.name) k.arguments k.conditional f in
+    let called = c.in_err-transfer.ensures.call f.evaluating f.fresh f.globals in
+    let d = config_of s (record c.args.self.now { stack = c.call_external.new.stack }) in
+    let is : c.from_residual.result ≡ Err c.in_err-transfer.field-0.0 = search rules in
+    (called.0, called.1, subst (λ r. StepMakes s b desk.next ((asking || move_asks s e before) || following_asks s (move s e before)) (following s (move s e before)) called.0 before.shared.globals d r) (sym is)
+    (makes_broken s b desk.next asking before d _ before.shared.globals _ refl e called.0 (external_call b s k.name k.arguments k.conditional f) called.2))
+
+pub returns-clause-step : goal.returns-clause-step
+returns-clause-step g c =
+    let s = story_tree c.args.story.now in
+    let old = c.args.self.now in
+    let desk = c.args.desk.now in
+    let b = bound_by g.P.PureFn.meaning desk.functions in
+    let before = config_of s old in
+    let f = fields_of before in
+    let k = call_of c.args.call.now in
+    let e = call_external s b k.name k.arguments k.conditional f in
+    let asking = external_asks (b k.name) k.arguments k.conditional f in
+    let called = c.in_ok-transfer.ensures.call f.evaluating f.fresh f.globals in
+    (called.0, called.1, makes_ended s b desk.next asking before (config_of s c.finish.new.self) _ before.shared.globals _ c.finish.result
+    (λ asks e call performs. c.finish.ensures old asks e performs (keeps_call b s e old.threads call) (offers_call b s e old.choices call) refl refl refl refl)
+    e called.0 (external_call b s k.name k.arguments k.conditional f) called.2)

@@ -1,0 +1,14 @@
+use Rattle.std.proofs.Common.{◌∙◌, ap, subst, sym}
+use Rattle.ink_check.specs.Words.{story_tree}
+use Rattle.ink_host.specs.Desk.{Resting}
+use Rattle.ink_step.specs.Words.{config_of}
+use Rattle.ink_step.proofs.Runnings.{runs_alone_at}
+use Rattle.ink_step.proofs.machine.Machine.run_alone.Goals as goal
+
+pub close-requires : goal.close-requires
+close-requires c = subst (Resting _) (sym (c.run-outcome.ensures.watchers ∙ ap (λ d. d.watchers) c.new-desk.ensures)) tt
+
+pub returns : goal.returns
+returns c =
+    let s = story_tree c.args.story.now in
+    runs_alone_at _ _ _ s c.new-desk.result c.run-outcome.new.desk (config_of s c.args.self.now) (config_of s c.run-outcome.new.self) c.run-outcome.result c.new-desk.ensures c.run-outcome.ensures.runs

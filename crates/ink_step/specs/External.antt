@@ -1,0 +1,51 @@
+-- Calls of external functions, beside the definitions (docs/HOST.md, "Calls").
+use Rattle.std.specs.Prelude.{◌≡◌, ◌⊎◌, ℕ, List, [], ◌∷◌, Bool, true, false, Option, Some, None, is_some, Result, Ok, Err}
+use Rattle.ink_model.specs.Effect.{Effect, Fields, Asks}
+use Rattle.ink_model.specs.Events.{Made, calls}
+use Rattle.ink_model.specs.Step.Host.{answering}
+use Rattle.ink_model.specs.Tree.{StoryTree, leaf}
+use Rattle.ink_model.specs.declared.content.Leaf.TheVariants as leaves
+use Rattle.ink_model.specs.declared.fault.Fault.{Fault}
+use Rattle.ink_model.specs.declared.fault.Fault.TheVariants.{OutOfMemory}
+use Rattle.ink_model.specs.declared.host.Event.{Event}
+use Rattle.ink_model.specs.declared.host.Given.{Given}
+use Rattle.ink_model.specs.declared.value.Value.{Value}
+use Rattle.ink_step.specs.Performs.{Performs}
+use Rattle.ink_step.specs.declared.external.External.{External}
+use Rattle.ink_step.specs.declared.transfer.Transfer.{Transfer}
+
+-- a call of an external function: its name, the number of its arguments, and whether a condition decides
+pub record Call : Type 0 where
+  pub name : List ℕ
+  pub arguments : ℕ
+  pub conditional : Bool
+
+abbrev pub call_of : External → Call
+call_of call = record { name = call.name.now; arguments = call.arguments; conditional = call.conditional }
+
+-- the call that stands at a place, if one does
+abbrev pub external_in : Option StoryTree → Option Call
+external_in (Some (leaf (leaves.External name arguments conditional))) = Some (record { name = name; arguments = arguments; conditional = conditional })
+external_in found = None
+
+-- what a turn function was called with, and what it gave
+abbrev pub made_call : List ℕ → List Value → Option Given → Made
+made_call name arguments gave = record { name = name; arguments = arguments; gave = gave }
+
+-- a condition is true, and no fault
+abbrev pub is_true_of : Result Bool Fault → Bool
+is_true_of (Ok truth) = truth
+is_true_of (Err f) = false
+
+-- the effect asks a turn function
+abbrev pub is_asking : Effect → Bool
+is_asking (Asks name arguments f) = true
+is_asking e = false
+
+-- Performing a call whose effect asks a turn function calls it once, and goes on with what it gave; or memory was refused before
+-- that, and nothing was called. Performing another calls nothing. The events count on from a stamp.
+abbrev pub PerformsCall : StoryTree → ℕ → Bool → Effect → List Event → Fields → Result Transfer Fault → Type 0
+PerformsCall s n asks (Asks name arguments left) es new result =
+    ((gave : Option Given) × (es ≡ calls n (made_call name arguments gave ∷ [])) × Performs s (is_some gave) (answering gave left) new result)
+    ⊎ ((es ≡ []) × (result ≡ Err OutOfMemory) × (asks ≡ true))
+PerformsCall s n asks e es new result = (es ≡ []) × Performs s asks e new result

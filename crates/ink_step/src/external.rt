@@ -1,0 +1,275 @@
+//! External functions: what a host has bound is called or asked, and what it has not bound is a knot (docs/HOST.md, "Calls").
+
+ghost use Rattle.std.specs.Prelude.{◌≡◌, ◌≤◌, ℕ, List, Bool, Option, Some, true, false, length, option_map};
+ghost use Rattle.std.specs.List.{list_all};
+ghost use Rattle.ink_check.specs.Words.{story_tree};
+ghost use Rattle.ink_host.specs.Desk.{Grew, answer_of, at, bound_by};
+ghost use Rattle.ink_host.specs.declared.objects.Bound.TheVariants as bound;
+ghost use Rattle.ink_model.specs.Effect.{Fields};
+ghost use Rattle.ink_model.specs.Asks.{binding_asks, external_asks, takes_arguments};
+ghost use Rattle.ink_model.specs.Host.{fits_given, pure_function, turn_function, value_given};
+ghost use Rattle.ink_model.specs.Page.{Page};
+ghost use Rattle.ink_model.specs.Step.Host as rules;
+ghost use Rattle.ink_model.specs.Store.{Values};
+ghost use Rattle.ink_model.specs.Tree.{StoryTree};
+ghost use Rattle.ink_model.specs.Value as truth;
+ghost use Rattle.ink_model.specs.View.{view};
+ghost use Rattle.ink_model.specs.declared.host.Event.{Event as Happening};
+ghost use Rattle.ink_model.specs.declared.value.Value.{Value as Data};
+ghost use Rattle.ink_step.specs.External.{PerformsCall, call_of, external_in, is_asking, is_true_of};
+ghost use Rattle.ink_step.specs.Performs.{Performs, fields};
+
+use crate::diverting::is_wanted;
+use crate::operands::push;
+use crate::transfer::{Landing, Transfer, moving};
+use ink_check::Story;
+use ink_host::{Desk, FnKind, PureFn, TurnFn, Watcher};
+use ink_model::{Content, Fault, FrameKind, Given, Leaf, MAX_TEXT, Value};
+use ink_out::Output;
+use ink_tree::Spot;
+use ink_value::{EvalStack, is_true};
+
+/// A call of an external function: its name, the number of its arguments, and whether a condition decides.
+#[derive(Clone, Copy)]
+#[derive(Drop)]
+pub(crate) struct External<'a> {
+    pub name: &'a str,
+    pub arguments: usize,
+    pub conditional: bool,
+}
+
+/// The call that stands at a place, none where other content stands there, or nothing.
+pub(crate) fn external_in<'a>(found: Option<&'a Content>) -> Option<External<'a>>
+    ensures { option_map call_of result ≡ external_in (option_map (λ c. view c.now) found.entry) }
+{
+    match found {
+        Some(Content::Leaf(Leaf::External {
+            name,
+            arguments,
+            conditional,
+        })) => Some(External {
+            name: name.as_str(),
+            arguments: *arguments as usize,
+            conditional: *conditional,
+        }),
+        _ => None,
+    }
+}
+
+/// Performs a call. A condition is popped and looked at before all else: `StackEmpty` where there is none, `BadOperands` where it
+/// is no truth; where it is false flow goes on. What is not bound is a call of the knot of that name, which finds the arguments
+/// where they are, `Unbound` where there is none. A turn function is called once, which is an event, and `UnsafeInString` where a
+/// string is open; a pure function is asked. The arguments are taken for that: `StackEmpty` where there are not so many,
+/// `BadOperands` for another value than an integer, a boolean or a text. `HostRefused` where the host gives no answer; `TooDeep`
+/// for a text over its limit and where the stack is full; `OutOfMemory` for a refused request for memory.
+pub(crate) fn call_external<'a, P: PureFn, T: TurnFn, W: Watcher>(
+    story: &Story,
+    call: &External<'_>,
+    stack: &mut EvalStack,
+    output: &Output,
+    desk: &mut Desk<P, T, W>,
+) -> Result<Transfer<'a>, Fault>
+    ensures call { let s = story_tree story.now in let b = bound_by P.meaning desk.old.functions in let k = call_of call.now in (evaluating : Bool) (fresh : Option ℕ) (globals : Values)
+        → let f = fields evaluating fresh stack.old.items output.now.page globals in
+        (es : List Happening) × Grew T.log W.log desk.old es desk.new
+        × PerformsCall s desk.old.next (external_asks (b k.name) k.arguments k.conditional f) (rules.call_external s b k.name k.arguments k.conditional f) es (fields evaluating fresh stack.new.items output.now.page globals) result }
+    ensures watchers { desk.new.watchers ≡ desk.old.watchers }
+{
+    match is_wanted(call.conditional, stack) {
+        Ok(true) => call_bound(story, call, stack, output, desk),
+        Ok(false) => Ok(Transfer::Next),
+        Err(fault) => Err(fault),
+    }
+}
+
+// The same once no condition keeps from it.
+fn call_bound<'a, P: PureFn, T: TurnFn, W: Watcher>(
+    story: &Story,
+    call: &External<'_>,
+    stack: &mut EvalStack,
+    output: &Output,
+    desk: &mut Desk<P, T, W>,
+) -> Result<Transfer<'a>, Fault>
+    ensures call { let s = story_tree story.now in let bound = bound_by P.meaning desk.old.functions call.now.name.now in let k = call_of call.now in (evaluating : Bool) (fresh : Option ℕ) (globals : Values)
+        → let f = fields evaluating fresh stack.old.items output.now.page globals in
+        (es : List Happening) × Grew T.log W.log desk.old es desk.new
+        × PerformsCall s desk.old.next (binding_asks bound k.arguments f) (rules.call_bound s bound k.name k.arguments f) es (fields evaluating fresh stack.new.items output.now.page globals) result }
+    ensures watchers { desk.new.watchers ≡ desk.old.watchers }
+{
+    match desk.kind(call.name) {
+        None => fall_back(story, call.name),
+        Some(FnKind::Turn) => call_turn(call, stack, output, desk),
+        Some(FnKind::Pure) => ask_pure(call, stack, desk),
+    }
+}
+
+// What is not bound is a call of the knot of that name.
+fn fall_back<'a>(story: &Story, name: &str) -> Result<Transfer<'a>, Fault>
+    ensures { let s = story_tree story.now in (f : Fields) → Performs s false (rules.fall_back s name.now f) f result }
+{
+    let tree = story.tree();
+    let Some(holder) = tree.knot(name) else {
+        return Err(Fault::Unbound);
+    };
+    let place = tree.land(Spot {
+        holder,
+        index: None,
+    });
+    Ok(Transfer::Call(
+        FrameKind::Function,
+        Landing {
+            place,
+            enters: true,
+        },
+    ))
+}
+
+// The turn function of that name is called.
+fn call_turn<'a, P, T: TurnFn, W: Watcher>(
+    call: &External<'_>,
+    stack: &mut EvalStack,
+    output: &Output,
+    desk: &mut Desk<P, T, W>,
+) -> Result<Transfer<'a>, Fault>
+    requires { (t : T) × (at call.now.name.now desk.old.functions ≡ Some (bound.Turn t)) }
+    ensures call { let k = call_of call.now in let turn = Some turn_function in (s : StoryTree) (evaluating : Bool) (fresh : Option ℕ) (globals : Values)
+        → let f = fields evaluating fresh stack.old.items output.now.page globals in
+        (es : List Happening) × Grew T.log W.log desk.old es desk.new
+        × PerformsCall s desk.old.next (binding_asks turn k.arguments f) (rules.call_bound s turn k.name k.arguments f) es (fields evaluating fresh stack.new.items output.now.page globals) result }
+    ensures watchers { desk.new.watchers ≡ desk.old.watchers }
+{
+    if output.in_string() {
+        return Err(Fault::UnsafeInString);
+    }
+    let Some(arguments) = stack.lend(call.arguments) else {
+        return Err(Fault::StackEmpty);
+    };
+    if !are_arguments(arguments) {
+        return Err(Fault::BadOperands);
+    }
+    match desk.call(call.name, arguments) {
+        Ok(given) => answer(stack, call.arguments, given),
+        Err(fault) => Err(fault),
+    }
+}
+
+// The pure function of that name is asked.
+fn ask_pure<'a, P: PureFn, T, W>(
+    call: &External<'_>,
+    stack: &mut EvalStack,
+    desk: &Desk<P, T, W>,
+) -> Result<Transfer<'a>, Fault>
+    requires { (p : P) × (at call.now.name.now desk.now.functions ≡ Some (bound.Pure p)) }
+    ensures { let k = call_of call.now in (p : P) → at call.now.name.now desk.now.functions ≡ Some (bound.Pure p) → let pure = Some (pure_function (P.meaning p)) in
+        (s : StoryTree) (evaluating : Bool) (fresh : Option ℕ) (page : Page) (globals : Values) → let f = fields evaluating fresh stack.old.items page globals in
+        Performs s (binding_asks pure k.arguments f) (rules.call_bound s pure k.name k.arguments f) (fields evaluating fresh stack.new.items page globals) result }
+{
+    let Some(arguments) = stack.lend(call.arguments) else {
+        return Err(Fault::StackEmpty);
+    };
+    if !are_arguments(arguments) {
+        return Err(Fault::BadOperands);
+    }
+    match desk.ask(call.name, arguments) {
+        Ok(given) => answer(stack, call.arguments, given),
+        Err(fault) => Err(fault),
+    }
+}
+
+// The arguments are dropped, and what was given is pushed in their place.
+fn answer<'a>(stack: &mut EvalStack, count: usize, given: Given) -> Result<Transfer<'a>, Fault>
+    requires { count ≤ length stack.old.items }
+    ensures { (s : StoryTree) (evaluating : Bool) (fresh : Option ℕ) (page : Page) (globals : Values) (left : List Data) → option_map (λ r. r.1) (rules.arguments_on count stack.old.items) ≡ Some left
+        → Performs s true (rules.answering (Some given) (fields evaluating fresh left page globals)) (fields evaluating fresh stack.new.items page globals) result }
+{
+    stack.drop_top(count);
+    if !fits(&given) {
+        return Err(Fault::TooDeep);
+    }
+    moving(push(stack, value_given(given)))
+}
+
+/// Whether a call calls a turn function where it is performed: exactly then does its effect ask one.
+pub(crate) fn would_call<P: PureFn, T, W>(
+    call: &External<'_>,
+    stack: &EvalStack,
+    output: &Output,
+    desk: &Desk<P, T, W>,
+) -> bool
+    ensures { let b = bound_by P.meaning desk.now.functions in let k = call_of call.now in (s : StoryTree) (evaluating : Bool) (fresh : Option ℕ) (globals : Values)
+        → result ≡ is_asking (rules.call_external s b k.name k.arguments k.conditional (fields evaluating fresh stack.now.items output.now.page globals)) }
+{
+    let Some(FnKind::Turn) = desk.kind(call.name) else {
+        return false;
+    };
+    if output.in_string() {
+        return false;
+    }
+    let Some(values) = stack.lend(stack.len()) else {
+        return false;
+    };
+    if !call.conditional {
+        return takes(values, call.arguments);
+    }
+    match values.split_last() {
+        Some((condition, left)) => is_wanted_by(condition) && takes(left, call.arguments),
+        None => false,
+    }
+}
+
+// Whether a condition is true, and no fault.
+fn is_wanted_by(condition: &Value) -> bool
+    ensures { result ≡ is_true_of (truth.is_true condition.now) }
+{
+    match is_true(condition) {
+        Ok(wanted) => wanted,
+        Err(_) => false,
+    }
+}
+
+// Whether so many values on top are arguments.
+fn takes(values: &[Value], count: usize) -> bool
+    ensures { result ≡ takes_arguments (rules.arguments_on count values.now) }
+{
+    let Some(below) = values.len().checked_sub(count) else {
+        return false;
+    };
+    are_arguments(&values[below..])
+}
+
+// Whether values are all integers, booleans and texts.
+fn are_arguments(values: &[Value]) -> bool
+    ensures { result ≡ list_all rules.is_argument values.now }
+{
+    values.iter().all(|value| is_argument(value))
+}
+
+fn is_argument(value: &Value) -> bool
+    ensures { result ≡ rules.is_argument value.now }
+{
+    match value {
+        Value::Int(_) | Value::Bool(_) | Value::Text(_) => true,
+        Value::Target(_) | Value::Pointer(..) | Value::Void | Value::Tag(_) => false,
+    }
+}
+
+// Whether what is given is no text over its limit.
+fn fits(given: &Given) -> bool
+    ensures { result ≡ fits_given given.now }
+{
+    match given {
+        Given::Int(_) | Given::Bool(_) | Given::Void => true,
+        Given::Text(text) => text.get().as_str().len() <= MAX_TEXT,
+    }
+}
+
+fn value_given(given: Given) -> Value
+    ensures { result ≡ value_given given }
+{
+    match given {
+        Given::Int(number) => Value::Int(number),
+        Given::Bool(truth) => Value::Bool(truth),
+        Given::Text(text) => Value::Text(text),
+        Given::Void => Value::Void,
+    }
+}
