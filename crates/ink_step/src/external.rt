@@ -39,7 +39,7 @@ pub(crate) struct External<'a> {
 
 /// The call that stands at a place, none where other content stands there, or nothing.
 pub(crate) fn external_in<'a>(found: Option<&'a Content>) -> Option<External<'a>>
-    ensures { option_map call_of result ≡ external_in (option_map (λ c. view c.now) found) }
+    ensures { option_map call_of result ≡ external_in (option_map (λ c. view c.now) found.entry) }
 {
     match found {
         Some(Content::Leaf(Leaf::External {
