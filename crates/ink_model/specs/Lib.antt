@@ -75,6 +75,7 @@ pub mod ChoiceStories
 pub mod OfferExamples
 pub mod DefaultExamples
 pub mod ChoosingExamples
+pub mod HostExamples
 pub mod JumpExamples
 pub mod TurnExamples
 pub mod Examples
