@@ -1,5 +1,5 @@
--- The tokens of answers, one behind another, and the text that they come to. There are no events yet.
-use Rattle.std.proofs.Common.{◌≡◌, ◌∙◌, refl, sym, ap, subst, ℕ, ◌+◌, ◌<◌, ◌≤◌, ℤ, pos, negsuc, suc, List, [], ◌∷◌, ◌++◌, length, take, get_or, map, flat_map, Result, Ok, Err, OnOk, arith, append_assoc, append-nil, codes}
+-- The tokens of answers, one behind another, and the text that they come to.
+use Rattle.std.proofs.Common.{◌≡◌, ◌∙◌, refl, sym, ap, subst, ℕ, ◌+◌, ◌<◌, ◌≤◌, ℤ, pos, negsuc, suc, List, [], ◌∷◌, ◌++◌, length, take, get_or, map, flat_map, Result, Ok, Err, OnOk, arith, append_assoc, append-nil, codes, decimal}
 use Rattle.std.proofs.Math.Seq.{take-suc}
 use Rattle.std.proofs.lemmas.Grind.{flat_map-append}
 use Rattle.std.proofs.lemmas.List.{map-append, take_all}
@@ -14,30 +14,9 @@ use Rattle.serde_json.specs.Find.{of_integer}
 use Rattle.serde_json.specs.Written.{items_outline}
 use Rattle.serde_json.proofs.OnLiterals.{serde_json_on_literals}
 use Rattle.serde_json.proofs.Texts.{print-outline}
-use Rattle.ink_model.specs.Answer.{Reply, Acts, Breaks, Counts, Shows, reply_data, passage_data, answer, items_of}
-use Rattle.ink_model.specs.declared.fault.Fault.{Fault}
-use Rattle.ink_model.specs.declared.host.Event.{Event}
-use Rattle.ink_model.specs.declared.passage.Passage.{Passage}
+use Rattle.ink_model.specs.Answer.{Reply, Acts, Counts, Shows, reply_data, answer, items_of}
 use Rattle.ink_model.specs.declared.value.Value.TheVariants as value
 use Rattle.ink_player.specs.Answers.{Added, data_tokens}
-
--- there is no event, so every list of events is empty
-no_events : (events : List Event) → events ≡ []
-no_events [] = refl
-no_events (e ∷ es) = elim e [ ]
-
-pub fault_parts : (fault : Fault) (events : List Event) → reply_data (Breaks fault []) ≡ reply_data (Breaks fault events)
-fault_parts fault events = ap (λ (es : List Event). reply_data (Breaks fault es)) (sym (no_events events))
-
-pub acts_parts : (events : List Event) → reply_data (Acts []) ≡ reply_data (Acts events)
-acts_parts events = ap (λ (es : List Event). reply_data (Acts es)) (sym (no_events events))
-
-pub passage_parts : (p : Passage) → passage_data (record p { events = [] }) ≡ passage_data p
-passage_parts p = ap (λ (es : List Event). passage_data (record p { events = es })) (sym (no_events p.events))
-
--- what is written of one value is written of an equal one
-pub added_as : {E : Type 0} (r : Result (Unit {0}) E) (a b : Written) (d e : Data) → d ≡ e → OnOk r (Added a b (data_tokens d)) → OnOk r (Added a b (data_tokens e))
-added_as r a b d e same h = subst (λ x. OnOk r (Added a b (data_tokens x))) same h
 
 -- ---- tokens
 
@@ -48,6 +27,9 @@ added_one (Err e) a b t w = tt
 pub added_integer : {E : Type 0} (r : Result (Unit {0}) E) (a b : Written) (z : ℤ) → Writes r a b (token.number (signed_decimal z)) → OnOk r (Added a b (data_tokens (number (of_integer z))))
 added_integer r a b (pos n) w = added_one r a b (token.number (signed_decimal (pos n))) w
 added_integer r a b (negsuc n) w = added_one r a b (token.number (signed_decimal (negsuc n))) w
+
+pub added_natural : {E : Type 0} (r : Result (Unit {0}) E) (a b : Written) (n : ℕ) → Writes r a b (token.number (decimal n)) → OnOk r (Added a b (data_tokens (number (of_integer (pos n)))))
+added_natural r a b n w = added_one r a b (token.number (decimal n)) w
 
 pub then : {a b c : Written} {xs ys : List Token} → Added a b xs → Added b c ys → Added a c (xs ++ ys)
 then {a = a} {xs = xs} {ys = ys} h k = record {
@@ -103,9 +85,6 @@ answer_from_tokens r start end text line none no_tokens added is ends =
 pub done_answer : answer (Acts []) ≡ codes "{\"events\":[]}\n"
 unfolding answer serde_json_on_literals
 done_answer = refl
-
-pub acts_alike : (events : List Event) → answer (Acts []) ≡ answer (Acts events)
-acts_alike events = ap (λ (es : List Event). answer (Acts es)) (sym (no_events events))
 
 -- the answer that shows a number
 pub number_answer : (z : ℤ) → answer (Shows (value.Int z)) ≡ codes "{\"value\":" ++ (signed_decimal z ++ codes "}\n")

@@ -1,18 +1,22 @@
 //! Answers as they are written (docs/PROTOCOL.md, "Answers").
 
 ghost use Rattle.std.specs.Fmt.{signed_decimal};
-ghost use Rattle.std.specs.Prelude.{◌≡◌, [], ◌∷◌, ◌++◌, OnOk, IfOk, IfSome, map, codes};
+ghost use Rattle.std.specs.Prelude.{◌≡◌, [], ◌∷◌, ◌++◌, OnOk, IfOk, IfSome, map, codes, pos};
 ghost use Rattle.json.specs.Print.{IsPrintable};
 ghost use Rattle.json.specs.Reads.{token_of};
 ghost use Rattle.json.specs.Token as tokens;
 ghost use Rattle.serde_json.specs.Data.{Data, array, string, number};
 ghost use Rattle.serde_json.specs.Find.{of_integer};
 ghost use Rattle.ink_model.specs.Answer.{answer, refusal_data, reply_data, reply_of_events, reply_of_halt, Acts, Breaks, Counts, Shows, items_of, passage_data, shown_data};
+ghost use Rattle.ink_model.specs.Events.{call_data, event_data};
+ghost use Rattle.ink_model.specs.Host.{value_given};
 ghost use Rattle.ink_model.specs.ValueJson.{value_data};
-ghost use Rattle.ink_player.specs.Answers.{Added, data_tokens};
+ghost use Rattle.ink_player.specs.Answers.{Added, data_tokens, outcome_tokens};
 ghost use Rattle.ink_player.specs.Replies.{reply_by};
 
-use ink_model::{Event, Fault, Halt, Passage, Path, Refusal, Seq, Shared, Shown, Text, Value};
+use ink_model::{
+    Event, Fault, Given, Halt, Passage, Path, Refusal, Seq, Shared, Shown, Text, Value,
+};
 use ink_tree::print_path;
 use json::{Token, Writer};
 use std::alloc::{AllocError, Global};
@@ -43,8 +47,18 @@ fn done_answer(events: &Result<Seq<Event>, Halt>) -> Option<&'static str>
     ensures { IfSome result (λ text. text.now ≡ answer (reply_of_events events.now)) }
 {
     match events {
-        Ok(_) => Some(done_text()),
+        Ok(events) => untold_answer(events.as_slice()),
         Err(_) => None,
+    }
+}
+
+// The line where nothing happened.
+fn untold_answer(events: &[Event]) -> Option<&'static str>
+    ensures { IfSome result (λ text. text.now ≡ answer (Acts events.now)) }
+{
+    match events {
+        [] => Some(done_text()),
+        [..] => None,
     }
 }
 
@@ -110,12 +124,12 @@ fn write_reply(alloc: Global, out: &mut Writer, outcome: Outcome) -> Result<(), 
     ensures { OnOk result (Added out.old out.new (data_tokens (reply_data (reply_by outcome)))) }
 {
     match outcome {
-        Outcome::Passage(Ok(passage)) => write_passage(out, &passage),
-        Outcome::Events(Ok(_)) => write_done(out),
+        Outcome::Passage(Ok(passage)) => write_passage(alloc, out, &passage),
+        Outcome::Events(Ok(events)) => write_acts(alloc, out, events.as_slice()),
         Outcome::Value(Ok(value)) => write_shown(alloc, out, &value),
         Outcome::Visits(Ok(visits)) => write_visits(out, visits),
-        Outcome::Landing(Ok(())) => write_done(out),
-        Outcome::Passage(Err(halt)) | Outcome::Events(Err(halt)) => write_halt(out, halt),
+        Outcome::Landing(Ok(())) => write_acts(alloc, out, &[]),
+        Outcome::Passage(Err(halt)) | Outcome::Events(Err(halt)) => write_halt(alloc, out, halt),
         Outcome::Value(Err(refusal))
         | Outcome::Visits(Err(refusal))
         | Outcome::Landing(Err(refusal))
@@ -155,27 +169,32 @@ fn put_flag(out: &mut Writer, name: &str, truth: bool) -> Result<(), AllocError>
     put(out, Token::Bool(truth))
 }
 
-// The events, of which there are none yet.
-fn put_events(out: &mut Writer) -> Result<(), AllocError>
-    ensures { OnOk result (Added out.old out.new (tokens.key (codes "events") ∷ tokens.begin_array ∷ tokens.end_array ∷ [])) }
+// The member with an event's stamp.
+fn put_stamp(out: &mut Writer, stamp: u64) -> Result<(), AllocError>
+    ensures { OnOk result (Added out.old out.new (tokens.key (codes "stamp") ∷ data_tokens (number (of_integer (pos stamp))))) }
 {
-    put(out, Token::Key("events"))?;
-    put(out, Token::BeginArray)?;
-    put(out, Token::EndArray)
+    put(out, Token::Key("stamp"))?;
+    put_natural(out, stamp)
+}
+
+fn put_natural(out: &mut Writer, natural: u64) -> Result<(), AllocError>
+    ensures { OnOk result (Added out.old out.new (data_tokens (number (of_integer (pos natural))))) }
+{
+    out.u64(natural)
 }
 
 // What stands in lists of answers.
 trait Listed {
     ghost json: { Self → Data };
 
-    fn put(&self, out: &mut Writer) -> Result<(), AllocError>
+    fn put(&self, alloc: Global, out: &mut Writer) -> Result<(), AllocError>
         ensures { OnOk result (Added out.old out.new (data_tokens (json self.now))) };
 }
 
 impl Listed for Shared<Text> {
     ghost json = { λ t. string t };
 
-    fn put(&self, out: &mut Writer) -> Result<(), AllocError> {
+    fn put(&self, _alloc: Global, out: &mut Writer) -> Result<(), AllocError> {
         put(out, Token::String(self.get().as_str()))
     }
 }
@@ -183,45 +202,74 @@ impl Listed for Shared<Text> {
 impl Listed for Shown {
     ghost json = { λ s. shown_data s };
 
-    fn put(&self, out: &mut Writer) -> Result<(), AllocError> {
+    fn put(&self, alloc: Global, out: &mut Writer) -> Result<(), AllocError> {
         put(out, Token::BeginObject)?;
-        put_list(out, "tags", self.tags.as_slice())?;
+        put_list(alloc, out, "tags", self.tags.as_slice())?;
         put_text(out, "text", self.text.as_str())?;
         put(out, Token::EndObject)
     }
 }
 
+impl Listed for Value {
+    ghost json = { λ v. value_data v };
+
+    fn put(&self, alloc: Global, out: &mut Writer) -> Result<(), AllocError> {
+        write_value(alloc, out, self)
+    }
+}
+
+impl Listed for Event {
+    ghost json = { λ e. event_data e };
+
+    fn put(&self, alloc: Global, out: &mut Writer) -> Result<(), AllocError> {
+        match self {
+            Event::Call {
+                name,
+                arguments,
+                gave,
+                stamp,
+            } => write_call(alloc, out, name, arguments.as_slice(), gave, *stamp),
+            Event::Saw { name, stamp, value } => write_saw(alloc, out, name, *stamp, value),
+        }
+    }
+}
+
 // A member with a list.
-fn put_list<T: Listed>(out: &mut Writer, name: &str, items: &[T]) -> Result<(), AllocError>
+fn put_list<T: Listed>(
+    alloc: Global,
+    out: &mut Writer,
+    name: &str,
+    items: &[T],
+) -> Result<(), AllocError>
     ensures { OnOk result (Added out.old out.new (tokens.key name.now ∷ data_tokens (array (items_of (map T.json items.now))))) }
 {
     put(out, Token::Key(name))?;
     put(out, Token::BeginArray)?;
     for item in items {
-        item.put(out)?;
+        item.put(alloc, out)?;
     }
     put(out, Token::EndArray)
 }
 
 // ---- answers
 
-fn write_done(out: &mut Writer) -> Result<(), AllocError>
-    ensures { OnOk result (Added out.old out.new (data_tokens (reply_data (Acts [])))) }
+fn write_acts(alloc: Global, out: &mut Writer, events: &[Event]) -> Result<(), AllocError>
+    ensures { OnOk result (Added out.old out.new (data_tokens (reply_data (Acts events.now)))) }
 {
     put(out, Token::BeginObject)?;
-    put_events(out)?;
+    put_list(alloc, out, "events", events)?;
     put(out, Token::EndObject)
 }
 
-fn write_passage(out: &mut Writer, passage: &Passage) -> Result<(), AllocError>
+fn write_passage(alloc: Global, out: &mut Writer, passage: &Passage) -> Result<(), AllocError>
     ensures { OnOk result (Added out.old out.new (data_tokens (passage_data passage.now))) }
 {
     put(out, Token::BeginObject)?;
-    put_list(out, "choices", passage.choices.as_slice())?;
-    put_events(out)?;
+    put_list(alloc, out, "choices", passage.choices.as_slice())?;
+    put_list(alloc, out, "events", passage.events.as_slice())?;
     put_flag(out, "loose", passage.loose)?;
     put_flag(out, "more", passage.more)?;
-    put_list(out, "tags", passage.tags.as_slice())?;
+    put_list(alloc, out, "tags", passage.tags.as_slice())?;
     put_text(out, "text", passage.text.as_str())?;
     put(out, Token::EndObject)
 }
@@ -285,12 +333,12 @@ fn write_tag(out: &mut Writer, text: &Text) -> Result<(), AllocError>
     put(out, Token::EndObject)
 }
 
-fn write_halt(out: &mut Writer, halt: Halt) -> Result<(), AllocError>
+fn write_halt(alloc: Global, out: &mut Writer, halt: Halt) -> Result<(), AllocError>
     ensures { OnOk result (Added out.old out.new (data_tokens (reply_data (reply_of_halt halt)))) }
 {
     match halt {
         Halt::Refused(refusal) => write_refusal(out, refusal),
-        Halt::Fault { fault, events: _ } => write_fault(out, fault),
+        Halt::Fault { fault, events } => write_fault(alloc, out, fault, events.as_slice()),
     }
 }
 
@@ -305,11 +353,83 @@ fn write_refusal(out: &mut Writer, refusal: Refusal) -> Result<(), AllocError>
     put(out, Token::EndObject)
 }
 
-fn write_fault(out: &mut Writer, fault: Fault) -> Result<(), AllocError>
-    ensures { OnOk result (Added out.old out.new (data_tokens (reply_data (Breaks fault [])))) }
+fn write_fault(
+    alloc: Global,
+    out: &mut Writer,
+    fault: Fault,
+    events: &[Event],
+) -> Result<(), AllocError>
+    ensures { OnOk result (Added out.old out.new (data_tokens (reply_data (Breaks fault events.now)))) }
 {
     put(out, Token::BeginObject)?;
-    put_events(out)?;
+    put_list(alloc, out, "events", events)?;
     put_text(out, "fault", fault.name())?;
+    put(out, Token::EndObject)
+}
+
+// ---- events
+
+// A call of a turn function, and what came of it.
+fn write_call(
+    alloc: Global,
+    out: &mut Writer,
+    name: &Text,
+    arguments: &[Value],
+    gave: &Option<Given>,
+    stamp: u64,
+) -> Result<(), AllocError>
+    ensures { OnOk result (Added out.old out.new (data_tokens (call_data name.now arguments.now gave.now stamp))) }
+{
+    put(out, Token::BeginObject)?;
+    put_list(alloc, out, "args", arguments)?;
+    put_text(out, "call", name.as_str())?;
+    put_outcome(out, gave)?;
+    put_stamp(out, stamp)?;
+    put(out, Token::EndObject)
+}
+
+// The member that tells what a call gave, or that it was refused.
+fn put_outcome(out: &mut Writer, gave: &Option<Given>) -> Result<(), AllocError>
+    ensures { OnOk result (Added out.old out.new (outcome_tokens gave.now)) }
+{
+    match gave {
+        Some(given) => put_given(out, given),
+        None => put_flag(out, "refused", true),
+    }
+}
+
+fn put_given(out: &mut Writer, given: &Given) -> Result<(), AllocError>
+    ensures { OnOk result (Added out.old out.new (tokens.key (codes "gave") ∷ data_tokens (value_data (value_given given.now)))) }
+{
+    put(out, Token::Key("gave"))?;
+    write_given(out, given)
+}
+
+fn write_given(out: &mut Writer, given: &Given) -> Result<(), AllocError>
+    ensures { OnOk result (Added out.old out.new (data_tokens (value_data (value_given given.now)))) }
+{
+    match given {
+        Given::Int(number) => put_integer(out, *number),
+        Given::Bool(truth) => put(out, Token::Bool(*truth)),
+        Given::Text(text) => put(out, Token::String(text.get().as_str())),
+        Given::Void => put(out, Token::Null),
+    }
+}
+
+// A change that a watcher saw.
+fn write_saw(
+    alloc: Global,
+    out: &mut Writer,
+    name: &Text,
+    stamp: u64,
+    value: &Value,
+) -> Result<(), AllocError>
+    ensures { OnOk result (Added out.old out.new (data_tokens (event_data (Event.Saw name.now stamp value.now)))) }
+{
+    put(out, Token::BeginObject)?;
+    put_text(out, "saw", name.as_str())?;
+    put_stamp(out, stamp)?;
+    put(out, Token::Key("value"))?;
+    write_value(alloc, out, value)?;
     put(out, Token::EndObject)
 }
