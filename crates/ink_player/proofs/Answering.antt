@@ -11,7 +11,7 @@ use Rattle.json.specs.Tree.{items_tokens}
 use Rattle.json.specs.Written.{Written, Writes}
 use Rattle.serde_json.specs.Data.{Data, array, number}
 use Rattle.serde_json.specs.Find.{of_integer}
-use Rattle.serde_json.specs.Written.{items_outline}
+use Rattle.serde_json.specs.Written.{compact_text, items_outline}
 use Rattle.serde_json.proofs.OnLiterals.{serde_json_on_literals}
 use Rattle.serde_json.proofs.Texts.{print-outline}
 use Rattle.ink_model.specs.Answer.{Reply, Acts, Counts, Shows, reply_data, answer, items_of}
@@ -47,39 +47,45 @@ items_are : (ds : List Data) → items_tokens (items_outline (items_of ds)) ≡ 
 items_are [] = refl
 items_are (d ∷ ds) = ap (λ l. data_tokens d ++ l) (items_are ds) ∙ sym (append_assoc (data_tokens d) (flat_map data_tokens ds) (token.end_array ∷ []))
 
--- what a member with a list is written as, up to the first `i` of the list
-abbrev pub list_front : {A : Type 0} → List ℕ → (A → Data) → List A → List Token
-list_front name json items = token.key name ∷ token.begin_array ∷ flat_map data_tokens (map json items)
+-- the front of a list, as it is written
+abbrev pub list_front : {A : Type 0} → (A → Data) → List A → List Token
+list_front json items = token.begin_array ∷ flat_map data_tokens (map json items)
 
-pub list_more : {A : Type 0} (json : A → Data) (name : List ℕ) (items : List A) (i : ℕ) (item : A) (a b c : Written) → i < length items → item ≡ get_or items i item
-    → Added a b (list_front name json (take i items)) → Added b c (data_tokens (json item)) → Added a c (list_front name json (take (i + 1) items))
-list_more json name items i item a b c h is before now =
+pub list_more : {A : Type 0} (json : A → Data) (items : List A) (i : ℕ) (item : A) (a b c : Written) → i < length items → item ≡ get_or items i item
+    → Added a b (list_front json (take i items)) → Added b c (data_tokens (json item)) → Added a c (list_front json (take (i + 1) items))
+list_more json items i item a b c h is before now =
     let next : i + 1 ≡ suc i = omega arith in
     let more : take (i + 1) items ≡ take i items ++ item ∷ [] = ap (λ n. take n items) next ∙ take-suc items i item h ∙ ap (λ x. take i items ++ x ∷ []) (sym is) in
     let tokens : flat_map data_tokens (map json (take (i + 1) items)) ≡ flat_map data_tokens (map json (take i items)) ++ (data_tokens (json item) ++ []) =
     ap (λ l. flat_map data_tokens (map json l)) more ∙ ap (flat_map data_tokens) (map-append json (take i items) (item ∷ []))
     ∙ flat_map-append data_tokens (map json (take i items)) (json item ∷ []) in
-    subst (Added a c) (ap (λ l. token.key name ∷ token.begin_array ∷ (flat_map data_tokens (map json (take i items)) ++ l)) (sym (append-nil (data_tokens (json item))))
-    ∙ ap (λ l. token.key name ∷ token.begin_array ∷ l) (sym tokens)) (then before now)
+    subst (Added a c) (ap (λ l. token.begin_array ∷ (flat_map data_tokens (map json (take i items)) ++ l)) (sym (append-nil (data_tokens (json item))))
+    ∙ ap (λ l. token.begin_array ∷ l) (sym tokens)) (then before now)
 
-pub list_ends : {A E : Type 0} (json : A → Data) (name : List ℕ) (items : List A) (i : ℕ) (r : Result (Unit {0}) E) (a b c : Written) → length items ≤ i
-    → Added a b (list_front name json (take i items)) → OnOk r (Added b c (token.end_array ∷ [])) → OnOk r (Added a c (token.key name ∷ data_tokens (array (items_of (map json items)))))
-list_ends json name items i r a b c h before now =
+pub list_ends : {A E : Type 0} (json : A → Data) (items : List A) (i : ℕ) (r : Result (Unit {0}) E) (a b c : Written) → length items ≤ i
+    → Added a b (list_front json (take i items)) → OnOk r (Added b c (token.end_array ∷ [])) → OnOk r (Added a c (data_tokens (array (items_of (map json items)))))
+list_ends json items i r a b c h before now =
     let all : take i items ≡ items = take_all i items h in
-    subst (λ ts. OnOk r (Added a c ts)) (ap (λ l. token.key name ∷ token.begin_array ∷ (flat_map data_tokens (map json l) ++ token.end_array ∷ [])) all
-    ∙ ap (λ l. token.key name ∷ token.begin_array ∷ l) (sym (items_are (map json items))))
-    (finally r a b c (list_front name json (take i items)) (token.end_array ∷ []) before now)
+    subst (λ ts. OnOk r (Added a c ts)) (ap (λ l. token.begin_array ∷ (flat_map data_tokens (map json l) ++ token.end_array ∷ [])) all
+    ∙ ap (λ l. token.begin_array ∷ l) (sym (items_are (map json items))))
+    (finally r a b c (list_front json (take i items)) (token.end_array ∷ []) before now)
 
 -- ---- the text
+
+-- what a writer that had nothing has written of a value is its compact text
+pub text_from_tokens : (d : Data) (start end : Written) (text : List ℕ) → start.before ≡ [] → start.tokens ≡ [] → Added start end (data_tokens d)
+    → text ≡ end.before ++ print end.tokens → text ≡ compact_text d
+text_from_tokens d start end text none no_tokens added is =
+    let tokens : end.tokens ≡ data_tokens d = added.tokens ∙ ap (λ ts. ts ++ data_tokens d) no_tokens in
+    let before : end.before ≡ [] = added.before ∙ none in
+    is ∙ ap (λ b. b ++ print end.tokens) before ∙ ap print tokens ∙ print-outline d
 
 -- what a writer that had nothing has written of a reply, and a newline, is its answer
 pub answer_from_tokens : (r : Reply) (start end : Written) (text line : List ℕ) → start.before ≡ [] → start.tokens ≡ [] → Added start end (data_tokens (reply_data r))
     → text ≡ end.before ++ print end.tokens → line ≡ text ++ 10 ∷ [] → line ≡ answer r
 unfolding answer
 answer_from_tokens r start end text line none no_tokens added is ends =
-    let tokens : end.tokens ≡ data_tokens (reply_data r) = added.tokens ∙ ap (λ ts. ts ++ data_tokens (reply_data r)) no_tokens in
-    let before : end.before ≡ [] = added.before ∙ none in
-    ends ∙ ap (λ t. t ++ 10 ∷ []) (is ∙ ap (λ b. b ++ print end.tokens) before ∙ ap print tokens ∙ print-outline (reply_data r))
+    ends ∙ ap (λ t. t ++ 10 ∷ []) (text_from_tokens (reply_data r) start end text none no_tokens added is)
 
 -- the answer of what is done and tells nothing
 pub done_answer : answer (Acts []) ≡ codes "{\"events\":[]}\n"

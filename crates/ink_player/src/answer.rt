@@ -11,7 +11,7 @@ ghost use Rattle.ink_model.specs.Answer.{answer, refusal_data, reply_data, reply
 ghost use Rattle.ink_model.specs.Events.{call_data, event_data};
 ghost use Rattle.ink_model.specs.Host.{value_given};
 ghost use Rattle.ink_model.specs.ValueJson.{value_data};
-ghost use Rattle.ink_player.specs.Answers.{Added, data_tokens, outcome_tokens};
+ghost use Rattle.ink_player.specs.Answers.{Added, data_tokens, outcome_tokens, values_text};
 ghost use Rattle.ink_player.specs.Replies.{reply_by};
 
 use ink_model::{
@@ -118,6 +118,16 @@ fn written_text(alloc: Global, empty: Vec<u8>, outcome: Outcome) -> Result<Vec<u
     let mut text = out.into_inner();
     text.push(b'\n')?;
     Ok(text)
+}
+
+/// Values as the JSON array that answers tell them as (docs/PROTOCOL.md, "Answers"). The one error is a refused request for
+/// memory.
+pub fn print_values(alloc: Global, values: &[Value]) -> Result<Vec<u8>, AllocError>
+    ensures { IfOk result (λ text. text.items ≡ values_text values.now) }
+{
+    let mut out = Writer::new(Vec::new(alloc));
+    write_list(alloc, &mut out, values)?;
+    Ok(out.into_inner())
 }
 
 fn write_reply(alloc: Global, out: &mut Writer, outcome: Outcome) -> Result<(), AllocError>
@@ -244,6 +254,12 @@ fn put_list<T: Listed>(
     ensures { OnOk result (Added out.old out.new (tokens.key name.now ∷ data_tokens (array (items_of (map T.json items.now))))) }
 {
     put(out, Token::Key(name))?;
+    write_list(alloc, out, items)
+}
+
+fn write_list<T: Listed>(alloc: Global, out: &mut Writer, items: &[T]) -> Result<(), AllocError>
+    ensures { OnOk result (Added out.old out.new (data_tokens (array (items_of (map T.json items.now))))) }
+{
     put(out, Token::BeginArray)?;
     for item in items {
         item.put(alloc, out)?;

@@ -17,6 +17,7 @@ mod supported;
 mod visits;
 mod watched;
 
+pub use answer::print_values;
 pub use desk::Desk;
 pub use end::{PlayEnd, PlayFault, RunFault};
 pub use ink_check::{Story, check};
