@@ -122,7 +122,10 @@ fn rows_of(alloc: Global, members: Map<String, Value>) -> Result<Vec<Row>, Words
     let mut rows = Vec::new(alloc);
     for (arguments, value) in members {
         let answer = given_of(alloc, value)?;
-        rows.push(Row { arguments, answer })?;
+        rows.push(Row {
+            arguments: Text::from_string(arguments),
+            answer,
+        })?;
     }
     Ok(rows)
 }

@@ -1,0 +1,81 @@
+//! Objects for the program's words, on a desk (docs/PROGRAM.md).
+
+ghost use Rattle.std.specs.Prelude.{◌≡◌};
+ghost use Rattle.ink_host.specs.Desk.{Resting};
+
+use crate::objects::{Observer, Row, Script, Table};
+use crate::options::{PlayOption, WordsRefused};
+use ink_host::Desk;
+use ink_model::Given;
+use std::alloc::Global;
+
+/// A desk of the program's objects.
+pub(crate) type PlayDesk = Desk<Table, Script, Observer>;
+
+/// Binds what the options say. The one error is a name that is bound twice or watched twice, or a refused request for memory.
+pub(crate) fn bind_options(
+    alloc: Global,
+    desk: &mut PlayDesk,
+    options: Vec<PlayOption<'_>>,
+) -> Result<(), WordsRefused>
+    requires { Resting Observer.at_rest desk.old.watchers }
+    ensures { Resting Observer.at_rest desk.new.watchers }
+{
+    for option in options {
+        bind_option(alloc, desk, option)?;
+    }
+    Ok(())
+}
+
+fn bind_option(
+    alloc: Global,
+    desk: &mut PlayDesk,
+    option: PlayOption<'_>,
+) -> Result<(), WordsRefused>
+    requires { Resting Observer.at_rest desk.old.watchers }
+    ensures { Resting Observer.at_rest desk.new.watchers }
+{
+    match option {
+        PlayOption::Answers { name, answers } => bind_script(alloc, desk, name, answers),
+        PlayOption::Table { name, rows } => bind_table(alloc, desk, name, rows),
+        PlayOption::Watch { name } => watch(alloc, desk, name),
+    }
+}
+
+fn bind_script(
+    alloc: Global,
+    desk: &mut PlayDesk,
+    name: &str,
+    answers: Vec<Given>,
+) -> Result<(), WordsRefused>
+    ensures { desk.new.watchers ≡ desk.old.watchers }
+{
+    match desk.bind_turn(name, Script::new(alloc, answers)) {
+        Ok(None) => Ok(()),
+        Ok(Some(_)) | Err(_) => Err(WordsRefused),
+    }
+}
+
+fn bind_table(
+    alloc: Global,
+    desk: &mut PlayDesk,
+    name: &str,
+    rows: Vec<Row>,
+) -> Result<(), WordsRefused>
+    ensures { desk.new.watchers ≡ desk.old.watchers }
+{
+    match desk.bind_pure(name, Table::new(alloc, rows)) {
+        Ok(None) => Ok(()),
+        Ok(Some(_)) | Err(_) => Err(WordsRefused),
+    }
+}
+
+fn watch(alloc: Global, desk: &mut PlayDesk, name: &str) -> Result<(), WordsRefused>
+    requires { Resting Observer.at_rest desk.old.watchers }
+    ensures { Resting Observer.at_rest desk.new.watchers }
+{
+    match desk.watch(name, Observer::new(alloc)) {
+        Ok(None) => Ok(()),
+        Ok(Some(_)) | Err(_) => Err(WordsRefused),
+    }
+}
