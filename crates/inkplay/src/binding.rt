@@ -4,7 +4,8 @@ ghost use Rattle.std.specs.Prelude.{◌≡◌};
 ghost use Rattle.ink_host.specs.Desk.{Resting};
 
 use crate::objects::{Observer, Row, Script, Table};
-use crate::options::{PlayOption, WordsRefused};
+use crate::options::{PlayOption, WordsRefused, read_options};
+use clap::ArgMatches;
 use ink_host::Desk;
 use ink_model::Given;
 use std::alloc::Global;
@@ -12,16 +13,17 @@ use std::alloc::Global;
 /// A desk of the program's objects.
 pub(crate) type PlayDesk = Desk<Table, Script, Observer>;
 
-/// Binds what the options say. The one error is a name that is bound twice or watched twice, or a refused request for memory.
-pub(crate) fn bind_options(
+/// Binds what the words say. The one error is words that say nothing that can be bound (docs/PROGRAM.md), a name that is bound
+/// twice or watched twice, or a refused request for memory.
+pub(crate) fn bind_words(
     alloc: Global,
     desk: &mut PlayDesk,
-    options: Vec<PlayOption<'_>>,
+    matches: &ArgMatches<'_>,
 ) -> Result<(), WordsRefused>
     requires { Resting Observer.at_rest desk.old.watchers }
     ensures { Resting Observer.at_rest desk.new.watchers }
 {
-    for option in options {
+    for option in read_options(alloc, matches)? {
         bind_option(alloc, desk, option)?;
     }
     Ok(())
