@@ -2,6 +2,7 @@
 
 ghost use Rattle.std.specs.Prelude.{◌≡◌};
 ghost use Rattle.ink_host.specs.Desk.{Resting};
+ghost use Rattle.inkplay.specs.Rests.{rests};
 
 use crate::objects::{Observer, Row, Script, Table};
 use crate::options::{PlayOption, WordsRefused, read_options};
@@ -20,8 +21,8 @@ pub(crate) fn bind_words(
     desk: &mut PlayDesk,
     matches: &ArgMatches<'_>,
 ) -> Result<(), WordsRefused>
-    requires { Resting Observer.at_rest desk.old.watchers }
-    ensures { Resting Observer.at_rest desk.new.watchers }
+    requires { Resting rests desk.old.watchers }
+    ensures { Resting rests desk.new.watchers }
 {
     for option in read_options(alloc, matches)? {
         bind_option(alloc, desk, option)?;
@@ -34,8 +35,8 @@ fn bind_option(
     desk: &mut PlayDesk,
     option: PlayOption<'_>,
 ) -> Result<(), WordsRefused>
-    requires { Resting Observer.at_rest desk.old.watchers }
-    ensures { Resting Observer.at_rest desk.new.watchers }
+    requires { Resting rests desk.old.watchers }
+    ensures { Resting rests desk.new.watchers }
 {
     match option {
         PlayOption::Answers { name, answers } => bind_script(alloc, desk, name, answers),
@@ -73,8 +74,8 @@ fn bind_table(
 }
 
 fn watch(alloc: Global, desk: &mut PlayDesk, name: &str) -> Result<(), WordsRefused>
-    requires { Resting Observer.at_rest desk.old.watchers }
-    ensures { Resting Observer.at_rest desk.new.watchers }
+    requires { Resting rests desk.old.watchers }
+    ensures { Resting rests desk.new.watchers }
 {
     match desk.watch(name, Observer::new(alloc)) {
         Ok(None) => Ok(()),
