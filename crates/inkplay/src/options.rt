@@ -25,17 +25,9 @@ impl<T: Drop> From<AllocFailed<T>> for WordsRefused {
 /// What a word binds to a name, or which global it watches.
 #[derive(Drop)]
 pub(crate) enum PlayOption<'a> {
-    Answers {
-        name: &'a str,
-        answers: Vec<Given>,
-    },
-    Table {
-        name: &'a str,
-        rows: Vec<Row>,
-    },
-    Watch {
-        name: &'a str,
-    },
+    Answers { name: &'a str, answers: Vec<Given> },
+    Table { name: &'a str, rows: Vec<Row> },
+    Watch { name: &'a str },
 }
 
 /// What the program's words may be.
@@ -50,9 +42,7 @@ pub(crate) fn command<'a>(alloc: Global) -> Result<Command<'a>, AllocError> {
 
 // An option that may come more than once.
 fn repeated<'a>(alloc: Global, name: &'a str) -> Arg<'a> {
-    Arg::new(alloc, name)
-        .long(name)
-        .action(ArgAction::Append)
+    Arg::new(alloc, name).long(name).action(ArgAction::Append)
 }
 
 /// The options among the words. The one error is words that are none: a missing `=`, an empty name, or other JSON than the
