@@ -29,6 +29,22 @@ HELLO = PASSAGE.replace('""', '"Hello, 世界\\n"')
 BAD = '{"refused":"BadCommand"}\n'
 
 
+# asks `roll` with 6, and a name, and writes what they give; and a global
+ROLLS = story("ev", 6, {"x()": "roll", "exArgs": 1}, "out", "/ev", "^ for ", "ev", {"x()": "name"}, "out", "/ev", "\n", "end")
+GOLD = story("ev", 11, {"VAR=": "gold", "re": True}, "/ev", "done", {"global decl": ["ev", 10, {"VAR=": "gold"}, "/ev", "end", None]})
+GOLD = GOLD.replace(', null], "listDefs"', '], "listDefs"')
+
+
+def rolled(gave, text):
+    """The passage of a story that rolled a die."""
+    event = '{"args":[6],"call":"roll","gave":%s,"stamp":0}' % gave
+    return PASSAGE.replace('"events":[]', '"events":[%s]' % event).replace('""', '"%s\\n"' % text)
+
+
+def told(value, stamp):
+    return '"events":[{"saw":"gold","stamp":%d,"value":%d}]' % (stamp, value)
+
+
 def refused(why):
     return "", "inkplay: story refused: %s\n" % why, 2
 
@@ -92,6 +108,40 @@ def run_files(program, folder):
         yield "words %s" % words, run(program, text, words), wanted
 
 
+def run_objects(program, folder):
+    """Words that bind functions and watch globals, and what comes of them."""
+    words_refused = ("", "inkplay: words refused\n", 2)
+    none = os.path.join(folder, "none")
+    for words in (["--answer", "f"], ["--answer", "=[]"], ["--answer", "f="], ["--answer", "f={}"], ["--answer", "f=1"], ["--answer", "f=[1.5]"],
+                  ["--answer", "f=[2147483648]"], ["--answer", "f=[[]]"], ["--answer", "f=[{}]"], ["--answer", "f=[1"], ["--answer", ""], ["--answer"],
+                  ["--table", "f"], ["--table", "={}"], ["--table", "f=[]"], ["--table", 'f={"[]":[]}'], ["--table", 'f={"[]":1e0}'], ["--table"],
+                  ["--watch", ""], ["--watch"], ["--watch", "x", "--watch", "x"], ["--answer", "f=[]", "--answer", "f=[]"],
+                  ["--table", "f={}", "--table", "f={}"], ["--answer", "f=[]", "--table", "f={}"], ["--bind", "f"], ["--help", "--watch", "x"]):
+        yield "words %s" % words, run(program, DONE + "\nthrough\n", words), words_refused
+        yield "words %s and no file" % words, run(program, "", [none] + words), words_refused
+    path = os.path.join(folder, "rolls")
+    with open(path, "w") as out:
+        out.write(ROLLS)
+    table = ["--table", 'name={"[]":"Ada"}']
+    fault = ('{"events":[{"args":[6],"call":"roll","refused":true,"stamp":0}],"fault":"HostRefused"}\n', "", 0)
+    for words, text, wanted in (
+            (["--answer", "roll=[4,2]"] + table, "through\n", (rolled("4", "4 for Ada"), "", 0)),
+            (["--answer=roll=[4,2]"] + table, "through\n", (rolled("4", "4 for Ada"), "", 0)),
+            (["--answer", 'roll=["a=b"]'] + table, "through\n", (rolled('"a=b"', "a=b for Ada"), "", 0)),
+            (["--answer", "roll=[null]"] + table, "through\n", (rolled("null", "for Ada"), "", 0)),
+            (["--answer", "roll=[true]"] + table, "through\n", (rolled("true", "true for Ada"), "", 0)),
+            (["--answer", "roll=[]"] + table, "through\n", fault),
+            (["--table", 'roll={"[6]":1}'] + table, "through\n", (PASSAGE.replace('""', '"1 for Ada\\n"'), "", 0)),
+            (["--table", 'roll={"[ 6]":1}'] + table, "through\n", ('{"events":[],"fault":"HostRefused"}\n', "", 0)),
+            (["--table", 'roll={"[6]":1}', "--answer", "other=[]", "--watch", "other"] + table, "through\n", (PASSAGE.replace('""', '"1 for Ada\\n"'), "", 0)),
+            (["--answer", "roll=[4]"], "through\n", ('{"events":[{"args":[6],"call":"roll","gave":4,"stamp":0}],"fault":"Unbound"}\n', "", 0)),
+            ([], "through\n", ('{"events":[],"fault":"Unbound"}\n', "", 0))):
+        yield "words %s" % words, run(program, text, [path] + words), wanted
+        yield "words %s, story first" % words, run(program, ROLLS + "\n" + text, words), wanted
+    watched = PASSAGE.replace('"events":[]', told(11, 0)) + '{%s}\n{"events":[]}\n{%s}\n' % (told(7, 1), told(10, 2))
+    yield "a watcher", run(program, GOLD + "\nthrough\nset gold 7\nset gold 7\nrestart\n", ["--watch", "gold"]), (watched, "", 0)
+
+
 def run_ends(program):
     """A disk that takes nothing, and an input that cannot be read."""
     with open("/dev/full", "wb") as full:
@@ -108,7 +158,7 @@ def main():
     run(program, DONE + "\n")  # built
     with tempfile.TemporaryDirectory() as folder:
         cases = [(name, run(program, text), wanted) for name, text, wanted in RUNS]
-        cases += list(run_files(program, folder)) + list(run_ends(program))
+        cases += list(run_files(program, folder)) + list(run_objects(program, folder)) + list(run_ends(program))
     wrong = [(name, came) for name, came, wanted in cases if came != wanted]
     for name, came in wrong:
         print("%s: status %d, %r, %r" % (name, came[2], came[0][:200], came[1][:200]))

@@ -294,18 +294,21 @@ def is_bad(root, place, content):
     return False
 
 
-def is_unsupported(content):
-    if isinstance(content, dict):
-        return "x()" in content
-    return False
-
-
 def refusal(root):
     """What is wrong with the story, at which place, where something is."""
-    for why, test in (("BadPath", lambda place, content: is_bad(root, place, content)), ("Unsupported", lambda _, content: is_unsupported(content))):
-        for place in places(root):
-            if test(place, found(root, place)):
-                return "%s at %s" % (why, ".".join(map(str, place)) or "root")
+    for place in places(root):
+        if is_bad(root, place, found(root, place)):
+            return "BadPath at %s" % (".".join(map(str, place)) or "root")
+    return None
+
+
+def knot(root, name):
+    """The place of the knot of a name, where there is one."""
+    if isinstance(own(root).get(name), list) and name not in ("#n", "#f"):
+        return [name]
+    for i, content in enumerate(root[:-1]):
+        if isinstance(content, list) and own(content).get("#n") == name:
+            return [i]
     return None
 
 
@@ -313,6 +316,52 @@ def flags_at(root, place):
     """The flags of the container at a place, none where no container is there."""
     content = found(root, place)
     return own(content).get("#f", 0) if isinstance(content, list) else None
+
+
+# what a function of the host gives that refuses
+REFUSED = object()
+
+
+class Host:
+    """What is bound to names: turn functions that give answers in order, pure functions that answer by a table, and watchers.
+    It keeps what happened since it was last asked, and numbers it."""
+
+    def __init__(self, scripts=None, tables=None, watched=()):
+        self.scripts = {name: list(answers) for name, answers in (scripts or {}).items()}
+        self.tables, self.watched = tables or {}, watched
+        self.events, self.stamp = [], 0
+
+    def note(self, event):
+        self.events.append(dict(event, stamp=self.stamp))
+        self.stamp += 1
+
+    def taken(self):
+        events, self.events = self.events, []
+        return events
+
+    def gives(self, name, arguments):
+        """The answer to a call."""
+        if name in self.tables:
+            return self.tables[name].get(json.dumps(arguments, separators=(",", ":"), ensure_ascii=False), REFUSED)
+        answer = self.scripts[name].pop(0) if self.scripts[name] else REFUSED
+        self.note(dict({"call": name, "args": arguments}, **({"refused": True} if answer is REFUSED else {"gave": answer})))
+        return answer
+
+    def tell(self, before, now):
+        """Tells the watchers which globals have other values than before."""
+        for name, value in now.items():
+            if name in self.watched and (name not in before or not is_same(before[name], value)):
+                self.note({"saw": name, "value": told(value)})
+
+    def words(self):
+        """The words that have the program bind all this."""
+        answers = [["--answer", "%s=%s" % (name, json.dumps(given))] for name, given in self.scripts.items()]
+        tables = [["--table", "%s=%s" % (name, json.dumps(rows))] for name, rows in self.tables.items()]
+        return sum(answers + tables + [["--watch", name] for name in self.watched], [])
+
+
+def is_same(value, other):
+    return type(value) is type(other) and value == other
 
 
 class Frame:
@@ -353,8 +402,8 @@ CALLS = {"f()": "function", "->t->": "tunnel"}
 
 
 class Machine:
-    def __init__(self, root, place, global_values):
-        self.root, self.globals = root, global_values
+    def __init__(self, root, place, global_values, host):
+        self.root, self.globals, self.host = root, global_values, host
         self.threads = [Thread([Frame("base", place, 0)])]
         self.stack, self.safe, self.choices = [], False, []
         self.visits, self.turns, self.turn_number = {}, {}, 0
@@ -673,6 +722,37 @@ class Machine:
             self.mark(("leave", self.frame.number))
         self.frames.pop()
 
+    def arguments(self, count):
+        """The values on top of the stack, popped all at once."""
+        if len(self.stack) < count:
+            raise Fault("StackEmpty")
+        values = self.stack[len(self.stack) - count:]
+        del self.stack[len(self.stack) - count:]
+        if any(value is None or isinstance(value, KEPT) for value in values):
+            raise Fault("BadOperands")
+        return values
+
+    def external(self, content):
+        """A call of what is bound to a name, or else of the knot of that name; whether flow has moved."""
+        name = content["x()"]
+        if content.get("c") and not is_true(self.pop()):
+            return False
+        if name in self.host.scripts and any(kind == "string" for kind, _ in self.sections):
+            raise Fault("UnsafeInString")
+        if name not in self.host.scripts and name not in self.host.tables:
+            place = knot(self.root, name)
+            if place is None:
+                raise Fault("Unbound")
+            self.call("function", landed(self.root, place), True)
+            return True
+        answer = self.host.gives(name, self.arguments(content.get("exArgs", 0)))
+        if answer is REFUSED:
+            raise Fault("HostRefused")
+        if isinstance(answer, str) and len(answer.encode()) > 2 ** 20:
+            raise Fault("TooDeep")
+        self.push(answer)
+        return False
+
     def back(self, word):
         """`~ret` and `->->`: a frame goes, and flow goes on behind its call, or to a tunnel's target."""
         if word == "~ret":
@@ -754,6 +834,9 @@ class Machine:
             way = self.led(content, head)
             if way is not None:
                 return self.call(CALLS[head], *way)
+        elif isinstance(content, dict) and "x()" in content:
+            if self.external(content):
+                return None
         elif isinstance(content, dict) and "^->" in content:
             if self.frame.evaluating:
                 self.push(Target(path_of(content["^->"])[1]))
@@ -782,17 +865,14 @@ class Machine:
         raise TooSlow()
 
 
-def opened(root):
-    knot = ["global decl"] if "global decl" in own(root) else None
-    for i, content in enumerate(root[:-1]):
-        if knot is None and isinstance(content, list) and own(content).get("#n") == "global decl":
-            knot = [i]
-    declared = {}
-    if knot is not None:
-        machine = Machine(root, landed(root, knot), {})
+def opened(root, host):
+    """The machine at the start of a story. Nothing is bound while its declarations run."""
+    place, declared = knot(root, "global decl"), {}
+    if place is not None:
+        machine = Machine(root, landed(root, place), {}, Host())
         machine.run()
         declared = machine.globals
-    return Machine(root, landed(root, []), declared)
+    return Machine(root, landed(root, []), declared, host)
 
 
 # ---- sessions
@@ -809,8 +889,8 @@ def given(text):
 
 
 class Player:
-    def __init__(self, root):
-        self.root, self.machine, self.broken = root, opened(root), None
+    def __init__(self, root, host):
+        self.root, self.host, self.machine, self.broken = root, host, opened(root, host), None
 
     def through(self):
         machine = self.machine
@@ -819,17 +899,21 @@ class Player:
         if machine.frame.place is None:
             return {"refused": "CannotContinue"}
         machine.begin()
+        before = dict(machine.globals)
         try:
             machine.run()
         except Fault as fault:
             self.broken = str(fault)
-            return {"events": [], "fault": self.broken}
-        return {"choices": [choice.shown() for choice in machine.visible()], "events": [], "loose": not machine.safe and not machine.choices, "more": False,
+            return {"events": self.host.taken(), "fault": self.broken}
+        self.host.tell(before, machine.globals)
+        return {"choices": [choice.shown() for choice in machine.visible()], "events": self.host.taken(), "loose": not machine.safe and not machine.choices, "more": False,
                 "tags": [str(text) for kind, text in machine.marks if kind == "tag"], "text": cleaned(shown(machine.marks))}
 
     def restart(self):
-        self.machine, self.broken = opened(self.root), None
-        return {"events": []}
+        before = self.machine.globals
+        self.machine, self.broken = opened(self.root, self.host), None
+        self.host.tell(before, self.machine.globals)
+        return {"events": self.host.taken()}
 
     def get(self, name):
         known = self.machine.globals
@@ -843,8 +927,10 @@ class Player:
             return {"refused": "BadValue"}
         if name not in self.machine.globals:
             return {"refused": "NoSuchVariable"}
+        before = dict(self.machine.globals)
         self.machine.globals[name] = value
-        return {"events": []}
+        self.host.tell(before, self.machine.globals)
+        return {"events": self.host.taken()}
 
     def choose(self, text):
         machine = self.machine
@@ -991,6 +1077,32 @@ def random_loop(chance):
     return ["ev", {"VAR?": "n"}, 1, "+", "du", {"VAR=": "n", "re": True}, chance.choice((2, 3, 4)), "<", "/ev", {"->": BACK, "c": True}]
 
 
+# what external functions are called: two that have knots in many stories, and two that have none
+EXTERNALS = "defg"
+ARGUMENTS = (1, 2, True, "a", "b\n")
+
+
+def random_external(chance, names=EXTERNALS):
+    """Content that calls an external function: in an evaluation, in a string, or by itself."""
+    values = [chance.choice(ARGUMENTS) for _ in range(chance.choice((0, 0, 1, 1, 2)))]
+    content = {"x()": chance.choice(names), "exArgs": len(values) if chance.random() < 0.97 else 3}
+    if not content["exArgs"] and chance.random() < 0.5:
+        del content["exArgs"]
+    if chance.random() < 0.1:
+        values, content["c"] = values + [chance.choice((True, True, False, 0))], True
+    values = ["^" + value if isinstance(value, str) else value for value in values]
+    if chance.random() < 0.03:
+        values = values[:-1] + ["void"]
+    if values and chance.random() < 0.1:
+        values[0] = {"VAR?": chance.choice("xyz")}
+    kind = chance.random()
+    if kind < 0.15:
+        return ["ev"] + values + ["str", "^<", content, "^>", "/str", "out"] + ["pop"] * (chance.random() < 0.5) + ["/ev"]
+    if kind < 0.2:
+        return ["ev"] + values + ["/ev", content]
+    return ["ev"] + values + [content] + chance.choice((["out"], ["out"], ["pop"], [{"VAR=": chance.choice("xyz")}])) + ["/ev"]
+
+
 def random_value(chance):
     if chance.random() < 0.03:
         return {"^->": WAY}
@@ -1016,6 +1128,8 @@ def random_group(chance):
         return random_offers(chance)
     if kind < 0.67:
         return random_call(chance)
+    if kind < 0.705:
+        return random_external(chance)
     if kind < 0.72:
         return ["ev", random_value(chance), "/ev", {"->": WAY, "c": True}]
     if kind < 0.75:
@@ -1092,7 +1206,7 @@ def random_plain(chance):
     """Content without a divert."""
     while True:
         group = random_group(chance)
-        if not any(isinstance(content, dict) and ("->" in content or "f()" in content or "->t->" in content) for content in group):
+        if not any(isinstance(content, dict) and any(head in content for head in ("->", "f()", "->t->", "x()")) for content in group):
             return group
 
 
@@ -1129,6 +1243,7 @@ def scene_bits(chance):
             lambda: ["ev", chance.randrange(9), {"temp=": "p"}, "/ev"],
             lambda: ["ev", {"VAR?": "p"}, "out", "choiceCnt", "out", "/ev"],
             lambda: ["ev", {"f()": "f"}, "out", "/ev"],
+            lambda: random_external(chance),
             lambda: ["#", random_text(chance), "/#"],
         ))()
     return bits
@@ -1191,8 +1306,6 @@ def random_story(chance):
             for head in ("->", "^->", "f()", "->t->", "CNT?", "*"):
                 if content.get(head) in (WAY, BACK):
                     content[head] = random_path(chance, root, place, head)
-    if chance.random() < 0.05:
-        add_unsupported(chance, root)
     return {"inkVersion": 21, "root": root, "listDefs": {}}
 
 
@@ -1250,18 +1363,31 @@ def add_calls(chance, root):
             container[at:at] = random_call(chance)
 
 
-def add_unsupported(chance, root):
-    container = chance.choice([found(root, place) for place in places(root) if isinstance(found(root, place), list)])
-    content = {"x()": "f"}
-    container.insert(chance.randrange(len(container)), content)
+def random_answer(chance):
+    return chance.choice((0, 1, -3, LEAST, True, False, None, "", "a", " b\n", "é"))
 
 
-def expected(story, commands):
+def random_host(chance):
+    """Functions and watchers, or none."""
+    scripts, tables = {}, {}
+    if chance.random() < 0.15:
+        return Host()
+    for name in EXTERNALS:
+        kind = chance.random()
+        if kind < 0.45:
+            scripts[name] = [random_answer(chance) for _ in range(chance.choice((0, 1, 3, 8, 8)))]
+        elif kind < 0.8:
+            keys = [[]] + [[value] for value in ARGUMENTS] + [[chance.choice(ARGUMENTS), chance.choice(ARGUMENTS)] for _ in range(20)]
+            tables[name] = {json.dumps(key, separators=(",", ":"), ensure_ascii=False): random_answer(chance) for key in keys if chance.random() < 0.97}
+    return Host(scripts, tables, chance.sample("nwxyz", chance.randrange(5)))
+
+
+def expected(story, host, commands):
     why = refusal(story["root"])
     if why:
         return [], "inkplay: story refused: %s\n" % why, 2
     try:
-        player = Player(story["root"])
+        player = Player(story["root"], host)
     except Fault as fault:
         return [], "inkplay: story fault: %s\n" % fault, 2
     answers = [player.answer(line) for line in commands]
@@ -1286,7 +1412,7 @@ def kind_of(wanted):
     answers, error, _ = wanted
     if error:
         return "refused" if "refused" in error else "not opened"
-    played = ('"text":', '"events":[],"fault":')
+    played = ('"text":', '"fault":')
     return "played" if any(part in answer for answer in answers for part in played) else "asked"
 
 
@@ -1303,19 +1429,21 @@ def main():
         chance = random.Random("%d.%d" % (words.seed, number))
         story = random_story(chance)
         commands = random_commands(chance, story["root"])
+        host = random_host(chance)
+        options = host.words()
         text = "\n".join([json.dumps(story, ensure_ascii=chance.random() < 0.5)] + commands) + "\n"
         try:
-            wanted = expected(story, commands)
+            wanted = expected(story, host, commands)
         except TooSlow:
             counts["left out"] += 1
             continue
         counts[kind_of(wanted)] += 1
-        done = subprocess.run([words.program], input=text.encode(), stdout=subprocess.PIPE, stderr=subprocess.PIPE)
+        done = subprocess.run([words.program] + options, input=text.encode(), stdout=subprocess.PIPE, stderr=subprocess.PIPE)
         told = (done.stdout.decode().splitlines(), done.stderr.decode(), done.returncode)
         if told != wanted:
             differ += 1
             if differ <= 3:
-                print("%s\nwanted %s\ntold   %s\n" % (text, wanted, told))
+                print("%s\n%s\nwanted %s\ntold   %s\n" % (options, text, wanted, told))
     print("%d runs: %d played, %d only set and asked, %d stories refused, %d not opened, %d left out; %d differ"
           % (words.runs, counts["played"], counts["asked"], counts["refused"], counts["not opened"], counts["left out"], differ))
     return 1 if differ else 0

@@ -117,9 +117,19 @@ STORIES = (
      ("jump k.1.1.0", "visits k", "visits k.1", "visits k.1.1", "through", "jump .k", "jump k.9", "get x", "jump k", "through", "visits k")),
 )
 
+# stories with objects: the words that bind them, the story and the commands
+GIVING = ["--answer", 'f=[1,"a",null]', "--table", 'g={"[1,\\"b\\"]":"c","[]":2}', "--watch", "x", "--watch", "y"]
+OBJECTS = (
+    (GIVING, '{"inkVersion":21,"root":["ev",7,"^b",{"x()":"f","exArgs":2},"out",{"x()":"f"},{"VAR=":"x","re":true},1,"^b",{"x()":"g","exArgs":2},{"VAR=":"y","re":true},{"VAR?":"y"},"out",{"x()":"g"},"out","/ev","\\n","end",{"global decl":["ev","^s",{"VAR=":"x"},0,{"VAR=":"y"},"/ev","end",null]}]}',
+     ("through", "get x", "set y 3", 'set x "t"', "restart", "get y", "through", "get x")),
+    (GIVING, '{"inkVersion":21,"root":["ev",{"x()":"h","exArgs":0},"out",{"x()":"f"},"out","/ev","end",{"h":["^<","ev",{"x()":"g"},"/ev","~ret",null]}]}',
+     ("through", "restart", "through", "restart", "through", "restart", "through")),
+    (["--watch", "x", "--watch", "y"], '{"inkVersion":21,"root":["ev","str","^a","^b","/str",{"VAR=":"x","re":true},4,{"VAR=":"z"},{"^->":"k"},{"VAR=":"y"},"/ev","end",{"k":["^k",null],"global decl":["ev","^s",{"VAR=":"x"},"/ev","end",null]}]}',
+     ("through", "get x", "get y", "set y 5", "restart", "get x")),
+)
+
 BROKEN = b'{"fault":"OutOfMemory","refused":"Broken"}'
 BAD_COMMAND = b'{"refused":"BadCommand"}'
-FAULT = b'{"events":[],"fault":"OutOfMemory"}'
 
 
 def play(words, text, shim=None, refuse=0):
@@ -135,7 +145,7 @@ def play(words, text, shim=None, refuse=0):
 NO_MEMORY = b'{"refused":"OutOfMemory"}'
 
 
-def is_right(program, story, commands, ample, status, lines, error):
+def is_right(words, story, commands, ample, status, lines, error):
     """Is this what the program may answer where one request was refused?"""
     ample_status, ample_lines, ample_error = ample
     if (status, lines, error) == ample:
@@ -143,42 +153,93 @@ def is_right(program, story, commands, ample, status, lines, error):
     if status == 2 and not lines:
         return error in (b"inkplay: words refused\n", b"inkplay: story refused: OutOfMemory\n", b"inkplay: story fault: OutOfMemory\n")
     if status == 1:
-        return error == b"inkplay: run fault: OutOfMemory\n" and is_run(program, story, commands[:len(lines)], ample_lines, lines)
-    return (status, error) == (ample_status, ample_error) and len(lines) == len(ample_lines) and is_run(program, story, commands, ample_lines, lines)
+        return error == b"inkplay: run fault: OutOfMemory\n" and is_run(words, story, commands[:len(lines)], ample_lines, lines)
+    return (status, error) == (ample_status, ample_error) and len(lines) == len(ample_lines) and is_run(words, story, commands, ample_lines, lines)
 
 
-def is_run(program, story, commands, ample_lines, lines):
+def parsed(line):
+    """An answer as JSON, or none where the line is none."""
+    try:
+        return json.loads(line)
+    except ValueError:
+        return None
+
+
+def events_of(line):
+    """The events that an answer tells; none where it tells none."""
+    return (parsed(line) or {}).get("events", [])
+
+
+def is_fault(command, line, ample_line):
+    """Whether an answer tells the want of memory while the story ran, or while its watchers were told: the events up to it are
+    those of the answer with ample memory, of which some that a watcher was to see may be missing."""
+    answer = parsed(line)
+    if command not in ("through", "restart") and not command.startswith("set ") or not answer or answer.get("fault") != "OutOfMemory" or "refused" in answer:
+        return False
+    calls, ample_calls = [[e for e in events_of(each) if "call" in e] for each in (line, ample_line)]
+    seen, ample_seen = [[(e["saw"], e["value"]) for e in events_of(each) if "saw" in e] for each in (line, ample_line)]
+    rest = iter(ample_seen)
+    return calls == ample_calls[:len(calls)] and all(each in rest for each in seen) and (command == "through" or len(seen) < len(ample_seen))
+
+
+def is_run(words, story, commands, ample_lines, lines):
     """The answers with ample memory, but for one that tells of the want of memory, and then those of a player from there."""
     for k, line in enumerate(lines):
         if line != ample_lines[k]:
             before, command, after = commands[:k], commands[k], commands[k + 1:]
-            if line == FAULT and command == "through":
-                rest = broken_from(program, story, before, after)
+            if is_fault(command, line, ample_lines[k]):
+                used = sum("call" in event for each in lines[:k + 1] for event in events_of(each))
+                rest = broken_from(words, story, before, command, after, used, stamp_after(lines[:k + 1]))
             elif line == NO_MEMORY and command.split()[0] in ("set", "get", "restart", "visits", "choose", "jump"):
-                rest = [(line,) for line in answers(program, story, before + after)[k:]]
+                rest = [(line,) for line in answers(words, story, before + after)[k:]]
             else:
                 return False
             return all(line in allowed for line, allowed in zip(lines[k + 1:], rest))
     return True
 
 
-def answers(program, story, commands):
-    return play([program], "\n".join((story,) + commands) + "\n")[1]
+def stamp_after(lines):
+    """The stamp of the event after those that some answers tell."""
+    return sum(len(events_of(line)) for line in lines)
 
 
-def broken_from(program, story, before, after):
-    """What a player may answer that a `through` after some commands has broken. Its globals are those of some moment of the
-    run: in these stories as they were before it or as they are after it."""
+def answers(words, story, commands):
+    return play(words, "\n".join((story,) + commands) + "\n")[1]
+
+
+def broken_from(words, story, before, command, after, used, stamp):
+    """What a player may answer that a command after others has broken, once it has made so many calls and told so many events.
+    Its globals are those of some moment of the run: in these stories as they were before it or as they are after it."""
     rest = []
-    for k, command in enumerate(after):
-        word = command.split()[0]
+    for k, line in enumerate(after):
+        word = line.split()[0]
         if word == "restart":
-            return rest + [(line,) for line in answers(program, story, after[k:])]
+            return rest + restarted(words, story, before + (command,), after[:k], after[k:], used, stamp)
         if word == "get":
-            rest.append((answers(program, story, before + (command,))[-1], answers(program, story, before + ("through", command))[-1]))
+            rest.append((answers(words, story, before + (line,))[-1], answers(words, story, before + (command, line))[-1]))
         else:
             rest.append((BROKEN,) if word in ("through", "set", "visits", "choose", "jump") else (BAD_COMMAND,))
     return rest
+
+
+def restarted(words, story, before, broken, after, used, stamp):
+    """What is answered from a restart on. A player that has told nobody anything is as one that has just been opened; where
+    functions have given answers or events were told, only what tells no event is looked at."""
+    fresh = answers(words, story, after)
+    if not used and not stamp:
+        return [(line,) for line in fresh]
+    return [(line,) if not events_of(line) and not has_functions(words) else Any() for line in fresh]
+
+
+def has_functions(words):
+    return "--answer" in words
+
+
+class Any:
+    """Allows every line."""
+
+    def __contains__(self, line):
+        return True
 
 
 def shim_in(folder):
@@ -193,15 +254,16 @@ def shim_in(folder):
 def wrong_stories(program, shim):
     """How many runs of the program there were, and how many of them were wrong."""
     wrong = runs = 0
-    for story, commands in STORIES:
+    for options, story, commands in [([], story, commands) for story, commands in STORIES] + list(OBJECTS):
+        words = [program] + options
         text = "\n".join((story,) + commands) + "\n"
-        ample = play([program], text)[:3]
+        ample = play(words, text)[:3]
         for n in range(1, 100000):
-            status, lines, error, refused = play([program], text, shim, n)
+            status, lines, error, refused = play(words, text, shim, n)
             if not refused:
                 break
             runs += 1
-            if not is_right(program, story, commands, ample, status, lines, error):
+            if not is_right(words, story, commands, ample, status, lines, error):
                 wrong += 1
                 print("request %d of %s: status %d, %r, %r" % (n, story[:60], status, lines, error))
     return runs, wrong

@@ -1,14 +1,19 @@
 //! Plays a compiled story: commands are the lines of standard input, and each command's answer is a line of standard output.
-//! The story is a file, or without one the first line of the input (docs/PROTOCOL.md, "The program").
+//! The story is a file, or without one the first line of the input (docs/PROTOCOL.md, "The program"). Other words bind functions
+//! and watch globals (docs/PROGRAM.md).
 #![tactic(auto)]
 
+mod binding;
 mod file;
+mod objects;
+mod options;
 mod report;
 
-use clap::{Arg, Command};
+use binding::{PlayDesk, bind_words};
 use ink_player::{Desk, PlayEnd, PlayFault, open_story, play, run};
+use options::command;
 use report::{refuse_file, refuse_words, tell};
-use std::alloc::{AllocError, Global};
+use std::alloc::Global;
 use std::fs::Files;
 use std::io::{Read, Write};
 use std::process::ExitCode;
@@ -29,6 +34,13 @@ fn main(rt: HostRuntime) -> ExitCode {
     let Ok(matches) = command.try_get_matches_from(words.as_slice()) else {
         return ExitCode::from(refuse_words(&rt));
     };
+    let mut desk = PlayDesk::new(alloc);
+    let bound = bind_words(alloc, &mut desk, &matches);
+    // Nothing is asked of the desk yet: the player takes none with functions.
+    let _ = desk.close();
+    if bound.is_err() {
+        return ExitCode::from(refuse_words(&rt));
+    }
     let mut reader = rt.reader();
     let mut writer = io::writer(&rt);
     ExitCode::from(match matches.get_str("STORY") {
@@ -41,14 +53,6 @@ fn main(rt: HostRuntime) -> ExitCode {
 fn words<R: Env + Alloc>(rt: &R) -> io::Result<Vec<String<R::A>, R::A>> {
     let words = env::args(rt)?.collect(rt.alloc())?;
     Ok(words)
-}
-
-/// What the program's words may be.
-fn command<'a>(alloc: Global) -> Result<Command<'a>, AllocError> {
-    let story = Arg::new(alloc, "STORY");
-    Command::new(alloc, "inkplay")
-        .disable_help_flag(true)
-        .arg(story)
 }
 
 /// Plays the story that is the first line of the input.

@@ -1,0 +1,171 @@
+//! The objects that the program binds to names, and the watchers of globals (docs/PROGRAM.md).
+
+ghost use Rattle.std.specs.Prelude.{◌≡◌, false, not, bytes_eq, option_map, IfOk};
+ghost use Rattle.ink_player.specs.Answers.{values_text};
+ghost use Rattle.inkplay.specs.Tables.{answer_in};
+
+use ink_host::{Called, PureFn, Seen, TurnFn, Watcher};
+use ink_model::{Given, HostFault, Seq, Text, Value};
+use ink_player::print_values;
+use std::alloc::{AllocError, Global};
+
+/// A turn function that gives its answers in order, each at one call, and refuses once they are used up. It notes its calls.
+#[derive(Drop)]
+pub(crate) struct Script {
+    answers: Vec<Given>,
+    next: usize,
+    calls: Vec<Called>,
+    alloc: Global,
+}
+
+impl Script {
+    /// A function that was not called yet.
+    pub(crate) fn new(alloc: Global, answers: Vec<Given>) -> Script {
+        Script {
+            answers,
+            next: 0,
+            calls: Vec::new(alloc),
+            alloc,
+        }
+    }
+}
+
+impl TurnFn for Script {
+    ghost log = { λ s. s.calls.items };
+
+    fn call(&mut self, stamp: u64, arguments: &[Value]) -> Result<Given, HostFault> {
+        let Ok(noted) = copied(self.alloc, arguments) else {
+            return Err(HostFault::OutOfMemory);
+        };
+        if self.calls.reserve(1).is_err() {
+            return Err(HostFault::OutOfMemory);
+        }
+        let Some(given) = self.answers.get(self.next) else {
+            self.calls.push_reserved(Called {
+                stamp,
+                arguments: noted,
+                gave: None,
+            });
+            return Err(HostFault::Refused);
+        };
+        let (Ok(answer), Ok(gave)) = (given.clone_in(self.alloc), given.clone_in(self.alloc)) else {
+            return Err(HostFault::OutOfMemory);
+        };
+        self.next += 1;
+        self.calls.push_reserved(Called {
+            stamp,
+            arguments: noted,
+            gave: Some(gave),
+        });
+        Ok(answer)
+    }
+}
+
+// Copies of values. The one error is a refused request for memory, or a count of owners that is full.
+fn copied(alloc: Global, values: &[Value]) -> Result<Seq<Value>, AllocError>
+    ensures { IfOk result (λ copies. copies ≡ values.now) }
+{
+    let mut copies = Vec::new(alloc);
+    for value in values {
+        copies.push(value.clone_in(alloc)?)?;
+    }
+    Ok(Seq::from_vec(copies))
+}
+
+/// One row of a table: the answer to these arguments, which are spelled as a compact JSON array.
+#[derive(Drop)]
+pub(crate) struct Row {
+    pub arguments: Text,
+    pub answer: Given,
+}
+
+/// A pure function that answers what stands in its rows, and refuses all other arguments.
+#[derive(Drop)]
+pub(crate) struct Table {
+    rows: Vec<Row>,
+    alloc: Global,
+}
+
+impl Table {
+    /// The function with these rows.
+    pub(crate) fn new(alloc: Global, rows: Vec<Row>) -> Table {
+        Table { rows, alloc }
+    }
+}
+
+impl PureFn for Table {
+    ghost meaning = { λ t arguments. answer_in (values_text arguments) t.rows.items };
+
+    fn ask(&self, arguments: &[Value]) -> Result<Given, HostFault> {
+        let Ok(text) = print_values(self.alloc, arguments) else {
+            return Err(HostFault::OutOfMemory);
+        };
+        let Some(answer) = find(self.rows.as_slice(), text.as_slice()) else {
+            return Err(HostFault::Refused);
+        };
+        match answer.clone_in(self.alloc) {
+            Ok(copy) => Ok(copy),
+            Err(_) => Err(HostFault::OutOfMemory),
+        }
+    }
+}
+
+// The answer of the row with arguments that are spelled so.
+fn find<'a>(rows: &'a [Row], text: &[u8]) -> Option<&'a Given>
+    ensures { option_map (λ answer. answer.now) result ≡ answer_in text.now rows.now }
+{
+    for row in rows {
+        if is_spelled(row, text) {
+            return Some(&row.answer);
+        }
+    }
+    None
+}
+
+fn is_spelled(row: &Row, text: &[u8]) -> bool
+    ensures { result ≡ bytes_eq text.now row.now.arguments }
+{
+    text == row.arguments.as_str().as_bytes()
+}
+
+/// A watcher that notes the new values that it is told.
+#[derive(Drop)]
+pub(crate) struct Observer {
+    seen: Vec<Seen>,
+    is_told: bool,
+    alloc: Global,
+}
+
+impl Observer {
+    /// A watcher that was told nothing yet.
+    pub(crate) fn new(alloc: Global) -> Observer
+        ensures { result.is_told ≡ false }
+    {
+        Observer {
+            seen: Vec::new(alloc),
+            is_told: false,
+            alloc,
+        }
+    }
+}
+
+impl Watcher for Observer {
+    ghost log = { λ o. o.seen.items };
+
+    ghost at_rest = { λ o. not o.is_told };
+
+    fn begin(&mut self) {
+        self.is_told = true;
+    }
+
+    fn changed(&mut self, stamp: u64, name: &str, value: &Value) -> Result<(), AllocError> {
+        let name = Text::from_str(self.alloc, name)?;
+        let value = value.clone_in(self.alloc)?;
+        self.seen.push(Seen { stamp, name, value })?;
+        Ok(())
+    }
+
+    fn end(&mut self) {
+        self.is_told = false;
+    }
+}
