@@ -279,8 +279,9 @@ path_unread s host line (Some command.Restart) old reply new e p = absurd p
 
 pub serves_command : (s : StoryTree) (host : Bindings) (line : List ℕ) (k : Option Command) (old : State) (reply : Reply) (new : State) → k ≡ command_of line
     → (es : List Event) → Does s host es k old reply new ⊎ ((es ≡ []) × PathFails k old reply new) → Serves s host es line old reply new
-serves_command s host line k old reply new e (inl p) = serves_by s host [] line k old reply new e p
-serves_command s host line k old reply new e (inr p) = path_unread s host line k old reply new e p
+serves_command s host line k old reply new e es (inl p) = serves_by s host es line k old reply new e p
+serves_command s host line k old reply new e es (inr p) =
+    subst (λ x. Serves s host x line old reply new) (sym p.0) (path_unread s host line k old reply new e p.1)
 
 -- memory was refused for reading the line
 pub serves_unread : (s : StoryTree) (host : Bindings) (line : List ℕ) (st : State) → NeedsMemory (command_of line) → Serves s host [] line st (Refuses refusal.OutOfMemory) st
@@ -288,10 +289,10 @@ unfolding Serves
 serves_unread s host line st h = inr (refl, (h, (refl, refl)))
 
 -- the text of a reply's answer is written, or a front of it
-pub answered_by : (s : StoryTree) (host : Bindings) (line : List ℕ) (h i : Option (List ℕ)) (old new : State) (r : Result (Unit {0}) RunFault) (reply : Reply) (text : List ℕ)
-    → Serves s host [] line old reply new → text ≡ answer reply → WritesText h i text r → Answers s host [] line h i old new r
-answered_by s host line h i old new (Ok x) reply text p e w = record { reply = reply; serves = p; appended = subst (Appends h i) e w }
-answered_by s host line h i old new (Err fault.Read) reply text p e w = absurd w
-answered_by s host line h i old new (Err fault.Write) reply text p e w = record { reply = reply; serves = p; falls = subst (Falls h i) e w }
-answered_by s host line h i old new (Err fault.TooLong) reply text p e w = absurd w
-answered_by s host line h i old new (Err fault.OutOfMemory) reply text p e w = absurd w
+pub answered_by : (s : StoryTree) (host : Bindings) (es : List Event) (line : List ℕ) (h i : Option (List ℕ)) (old new : State) (r : Result (Unit {0}) RunFault) (reply : Reply) (text : List ℕ)
+    → Serves s host es line old reply new → text ≡ answer reply → WritesText h i text r → Answers s host es line h i old new r
+answered_by s host es line h i old new (Ok x) reply text p e w = record { reply = reply; serves = p; appended = subst (Appends h i) e w }
+answered_by s host es line h i old new (Err fault.Read) reply text p e w = absurd w
+answered_by s host es line h i old new (Err fault.Write) reply text p e w = record { reply = reply; serves = p; falls = subst (Falls h i) e w }
+answered_by s host es line h i old new (Err fault.TooLong) reply text p e w = absurd w
+answered_by s host es line h i old new (Err fault.OutOfMemory) reply text p e w = absurd w

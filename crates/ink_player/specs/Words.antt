@@ -1,5 +1,5 @@
 -- What a player stands for, and what happens between it and the objects of its host.
-use Rattle.std.specs.Prelude.{◌≡◌, List, [], ◌++◌, Bool, Option, None, Some}
+use Rattle.std.specs.Prelude.{◌≡◌, ◌⊎◌, List, [], ◌++◌, Bool, Option, None, Some}
 use Rattle.ink_check.specs.Words.{story_tree}
 use Rattle.ink_host.specs.Desk.{DeskView, Grew, Resting, bound_by, watches}
 use Rattle.ink_host.specs.declared.objects.Called.{Called}
@@ -46,7 +46,6 @@ module _ {P F O : Type 0} where
   abbrev pub Dealt : (F → List Called) → (O → List Seen) → DeskView P F O → List Event → DeskView P F O → Type 0
   Dealt turn_log watch_log old es new = Grew turn_log watch_log old es (record new { events = old.events ++ es })
 
-  -- the same of a desk with which a player is opened, and which it hands back
+  -- The same of the desk with which a player was opened; or none was opened, and it is as it was.
   abbrev pub DealtAnew : (F → List Called) → (O → List Seen) → DeskView P F O → List Event → DeskView P F O → Type 0
-  DealtAnew turn_log watch_log old [] new = (new ≡ old) ⊎ Dealt turn_log watch_log (anew old) [] new
-  DealtAnew turn_log watch_log old es new = Dealt turn_log watch_log (anew old) es new
+  DealtAnew turn_log watch_log old es new = ((new ≡ old) × (es ≡ [])) ⊎ Dealt turn_log watch_log (anew old) es new

@@ -56,6 +56,7 @@ impl<P: PureFn, F: TurnFn, O: Watcher> Player<P, F, O> {
         ensures story { IfOk result (λ p. story_of p ≡ story_tree story) }
         ensures state { IfOk result (λ p. (c : Configuration) × (opening (story_tree story) ≡ Ok c) × (state_of p ≡ opened c)) }
         ensures desk { IfOk result (λ p. desk_of p ≡ anew desk) }
+        ensures idle { IfOk result (λ p. Idle O.at_rest (desk_of p)) }
         ensures fault { IfErr result (λ e. (globals : Values) × FailsToOpen (story_tree story) e.fault globals) }
         ensures kept_story { IfErr result (λ e. e.story ≡ story) }
         ensures kept_desk { IfErr result (λ e. e.desk ≡ desk) }
