@@ -1,5 +1,5 @@
 -- What happened between a player and the objects of its host (docs/HOST.md).
-use Rattle.std.specs.Prelude.{ℕ, ◌-◌, ◌^◌, pos, suc, nat_lt, List, [], ◌∷◌, ◌++◌, map, codes, true, if◌then◌else◌, Option, Some, None}
+use Rattle.std.specs.Prelude.{ℕ, ◌-◌, ◌^◌, pos, suc, nat_lt, List, [], ◌∷◌, map, codes, true, if◌then◌else◌, Option, Some, None}
 use Rattle.ink_model.specs.Host.{value_given}
 use Rattle.ink_model.specs.ValueJson.{value_data}
 use Rattle.serde_json.specs.Data.{Data, boolean, number, string, array, object, Items, no_items, item, no_members, member}

@@ -23,6 +23,7 @@ use Rattle.ink_model.specs.Answer.{answer, Tells, Acts, Shows, Refuses, Breaks}
 use Rattle.ink_model.specs.Bytes.{fits_text}
 use Rattle.ink_model.specs.declared.limits.TheConstants.{MAX_STACK}
 use Rattle.ink_model.specs.Effect.{Fields}
+use Rattle.ink_model.specs.Host.{no_objects}
 use Rattle.ink_model.specs.Memory.{GetsTo, asks}
 use Rattle.ink_model.specs.Session.{Session, Serves, Set, Get, Restart, passage}
 use Rattle.ink_model.specs.State.{State, Ready, Broken}
@@ -44,7 +45,6 @@ use Rattle.ink_model.specs.declared.fault.Cause.TheVariants.{NotJson, Version, S
 use Rattle.ink_model.specs.declared.fault.Fault.TheVariants as fault
 use Rattle.ink_model.specs.declared.fault.Refusal.TheVariants as refusal
 use Rattle.ink_model.specs.declared.mark.Mark.TheVariants.{Text, Blank, Newline}
-use Rattle.ink_model.specs.declared.place.Part.{Part}
 use Rattle.ink_model.specs.declared.place.Part.TheVariants.{Index, Name}
 
 -- ---- a story: ["^Hi","\n",["done",{"#n":"g"}],null], and a container by key that flow never comes to
@@ -239,7 +239,7 @@ broken = record { condition = Broken fault.TooDeep []; stamp = 0 }
 
 -- where flow has stopped, running is refused, and so is a line that is no command; nothing changes
 a_stopped_session : (c : Configuration) → can_go_on c ≡ false → let after : State = record { condition = Ready c; stamp = 0 } in
-    Session small nothing_bound [] (codes "through" ∷ codes "bye" ∷ []) after (cannot ++ bad_command) after
+    Session small no_objects [] (codes "through" ∷ codes "bye" ∷ []) after (cannot ++ bad_command) after
 unfolding Serves
 a_stopped_session c stays_there = let after : State = record { condition = Ready c; stamp = 0 } in (
   Refuses refusal.CannotContinue,
@@ -253,12 +253,12 @@ a_stopped_session c stays_there = let after : State = record { condition = Ready
   (Refuses refusal.BadCommand, after, [], [], [], refl, rw other_line (inl (refl, (refl, refl))), rw a_bad_command refl, (refl, refl, refl)),
 )
 
-a_session : Session small nothing_bound [] (codes "through" ∷ codes "bye" ∷ []) stopped (cannot ++ bad_command) stopped
+a_session : Session small no_objects [] (codes "through" ∷ codes "bye" ∷ []) stopped (cannot ++ bad_command) stopped
 unfolding start fresh_at
 a_session = a_stopped_session (put_at None (start small [])) refl
 
 -- after a fault a command that runs is answered by the fault
-a_broken_session : Session small nothing_bound [] (codes "through" ∷ []) broken (codes "{\"fault\":\"TooDeep\",\"refused\":\"Broken\"}\n") broken
+a_broken_session : Session small no_objects [] (codes "through" ∷ []) broken (codes "{\"fault\":\"TooDeep\",\"refused\":\"Broken\"}\n") broken
 unfolding Serves
 a_broken_session = (Refuses (refusal.Broken fault.TooDeep), broken, [], [], [], refl, rw through_line (inl (refl, (refl, refl))), rw a_broken_answer refl, (refl, refl, refl))
 
@@ -288,8 +288,8 @@ abbrev after_small : State
 after_small = record { condition = Ready (settled small_end); stamp = 0 }
 
 -- a story is played to its end; then running is refused, and so is a line that is no command
-a_whole_session : Session small nothing_bound [] (codes "through" ∷ codes "through" ∷ codes "bye" ∷ []) (opened (start small [])) (small_passage ++ (cannot ++ bad_command)) after_small
-unfolding Serves start fresh_at settled
+a_whole_session : Session small no_objects [] (codes "through" ∷ codes "through" ∷ codes "bye" ∷ []) (opened (start small [])) (small_passage ++ (cannot ++ bad_command)) after_small
+unfolding Serves start fresh_at settled passage
 a_whole_session = (
   Tells (passage small_end),
   after_small,
@@ -297,7 +297,7 @@ a_whole_session = (
   [],
   [],
   refl,
-  rw through_line (inl (inl (rw small_through (refl, refl, refl)), refl)),
+  rw through_line (inl ([], inl (rw small_through (refl, record { all = true; saw = []; telling = record { answers = []; one_each = refl; events = refl; all_told = refl }; events = refl; replies = refl; leaves = refl })))),
   rw a_told_answer refl,
   a_stopped_session (settled small_end) refl,
 )
@@ -310,7 +310,7 @@ unfolding start fresh_at run asks entered passed_places
 first_step = record { steps = 0; within = omega arith; got_there = refl; asking = refl }
 
 -- where memory is refused at some step, the fault is OutOfMemory, and the player is broken by it
-a_short_session : Session small nothing_bound [] (codes "through" ∷ codes "bye" ∷ []) (opened (start small []))
+a_short_session : Session small no_objects [] (codes "through" ∷ codes "bye" ∷ []) (opened (start small []))
     (codes "{\"events\":[],\"fault\":\"OutOfMemory\"}\n" ++ bad_command) no_memory
 unfolding Serves start fresh_at answer serde_json_on_literals
 a_short_session = (
@@ -320,7 +320,7 @@ a_short_session = (
   [],
   [],
   refl,
-  rw through_line (inl (inr (record { reached = begun (start small []); got_there = inl first_step; replies = refl; breaks = refl }), refl)),
+  rw through_line (inl ([], inr ([], record { reached = begun (start small []); got_there = inl first_step; leaves = refl }, (refl, refl, refl)))),
   refl,
   (Refuses refusal.BadCommand, no_memory, [], [], [], refl, rw other_line (inl (refl, (refl, refl))), refl, (refl, refl, refl)),
 )
@@ -441,12 +441,12 @@ abbrev with_x : State
 with_x = opened (start declaring ((codes "x", value.Int (pos 1)) ∷ []))
 
 -- a bad value comes before an absent variable
-a_bad_value : Set (codes "y") None with_x (Refuses refusal.BadValue) with_x
-a_bad_value = (refl, refl)
+a_bad_value : Set no_objects [] (codes "y") None with_x (Refuses refusal.BadValue) with_x
+a_bad_value = (refl, (refl, refl))
 
-an_absent_variable : Set (codes "y") (Some (given.Int (pos 1))) with_x (Refuses refusal.NoSuchVariable) with_x
+an_absent_variable : Set no_objects [] (codes "y") (Some (given.Int (pos 1))) with_x (Refuses refusal.NoSuchVariable) with_x
 unfolding start fresh_at
-an_absent_variable = (refl, refl)
+an_absent_variable = (refl, (refl, refl))
 
 -- an answer of the host is pushed within the stack's limit, and no text over its limit is
 a_full_stack : (s : StoryTree) (f : Fields) (c : Configuration) → nat_lt (length f.stack) MAX_STACK ≡ false
@@ -483,5 +483,13 @@ a_broken_get : Get (codes "x") (record { condition = Broken fault.Divide ((codes
     (record { condition = Broken fault.Divide ((codes "x", value.Int (pos 3)) ∷ []); stamp = 0 })
 a_broken_get = inl (refl, refl)
 
-a_restart : Restart declaring (record { condition = Broken fault.Divide []; stamp = 0 }) (Acts []) with_x
-a_restart = inl (rw an_opening (refl, refl))
+a_restart : Restart declaring no_objects [] (record { condition = Broken fault.Divide []; stamp = 0 }) (Acts []) with_x
+unfolding start fresh_at
+a_restart = inl (rw an_opening (inl (record {
+  all = true;
+  saw = [];
+  telling = record { answers = []; one_each = refl; events = refl; all_told = refl };
+  events = refl;
+  replies = refl;
+  leaves = refl;
+})))

@@ -41,3 +41,11 @@ Bound = List ℕ → Option Binding
 
 abbrev pub nothing_bound : Bound
 nothing_bound name = None
+
+-- what a player's host has bound, and the names of globals that it watches
+pub record Bindings : Type 0 where
+  pub functions : Bound
+  pub watches : List ℕ → Bool
+
+abbrev pub no_objects : Bindings
+no_objects = record { functions = nothing_bound; watches = λ name. false }

@@ -12,6 +12,7 @@ pub mod Shown
 pub mod ShownExamples
 pub mod Clean
 pub mod Value
+pub mod Same
 pub mod Host
 pub mod Events
 pub mod Path
@@ -21,6 +22,7 @@ pub mod Acceptance
 pub mod Operator
 pub mod Joining
 pub mod Store
+pub mod Told
 pub mod Stack
 pub mod Page
 pub mod Frames

@@ -1,15 +1,18 @@
 -- Where memory may be refused, and what is answered then (docs/RUNNING.md, "Out of memory").
-use Rattle.std.specs.Prelude.{◌≡◌, ◌<◌, ◌≤◌, ◌⊎◌, ℕ, List, [], Bool, true, false, Some, Result, Ok, Err, OnErr}
+use Rattle.std.specs.Prelude.{◌≡◌, ◌<◌, ◌≤◌, ◌⊎◌, ℕ, List, [], ◌∷◌, ◌++◌, Bool, true, false, Some, Result, Ok, Err, OnErr}
 unfoldable pub use Rattle.ink_model.specs.Asks.{asks, asks_at, asks_for, content_asks, control_asks, going_in_asks, has_top, is_found_late, leaf_asks, offer_asks, operator_asks, output_asks, stopping_asks, visit_asks}
 use Rattle.ink_model.specs.Tree.{StoryTree}
 use Rattle.ink_model.specs.Configuration.{Configuration, begun}
+use Rattle.ink_model.specs.Effect.{Fields}
 use Rattle.ink_model.specs.Host.{Bound, nothing_bound}
 use Rattle.ink_model.specs.Run.{At, Stopped, Made, answers_of, moment}
+use Rattle.ink_model.specs.Move.{Wants}
 use Rattle.ink_model.specs.Opening.{declaring}
-use Rattle.ink_model.specs.Answer.{Reply, Breaks}
-use Rattle.ink_model.specs.State.{Condition, Broken}
+use Rattle.ink_model.specs.Step.{step}
+use Rattle.ink_model.specs.Store.{Values}
 use Rattle.ink_model.specs.declared.fault.Fault.{Fault}
 use Rattle.ink_model.specs.declared.fault.Fault.TheVariants.{OutOfMemory}
+use Rattle.ink_model.specs.declared.host.Given.{Given}
 use Rattle.ink_model.specs.declared.limits.TheConstants.{MAX_STEPS}
 use Rattle.ink_model.specs.declared.value.Value.{Value}
 use Rattle.ink_model.specs.declared.value.Value.TheVariants as value
@@ -60,19 +63,33 @@ pub record GetsTo (s : StoryTree) (b : Bound) (c : Configuration) (made : List M
   pub got_there : moment s b c (answers_of made) steps ≡ At reached [] made
   pub asking : asks s b reached ≡ true
 
--- A run stopped, and its passage is made in memory.
+-- A run got to a configuration whose step called a turn function, and memory was refused for what came of the answer. That call
+-- is the last of those made.
+pub record CallsAt (s : StoryTree) (b : Bound) (c : Configuration) (made : List Made) (reached : Configuration) : Type 0 where
+  pub steps : ℕ
+  pub within : steps < MAX_STEPS
+  pub before : List Made
+  pub got_there : moment s b c (answers_of before) steps ≡ At reached [] before
+  pub name : List ℕ
+  pub arguments : List Value
+  pub given : Given
+  pub fields : Fields
+  pub calling : Configuration
+  pub wants : step s b reached ≡ Wants name arguments fields calling
+  pub calls : made ≡ before ++ (record { name = name; arguments = arguments; gave = Some given }) ∷ []
+
+-- A run stopped: its passage is made in memory, and what watchers are told.
 pub record StopsAt (s : StoryTree) (b : Bound) (c : Configuration) (made : List Made) (reached : Configuration) : Type 0 where
   pub steps : ℕ
   pub within : steps ≤ MAX_STEPS
   pub got_there : moment s b c (answers_of made) steps ≡ Stopped reached [] made
 
--- The run of a command got as far as some moment of it, and there memory was refused: the fault is
--- OutOfMemory, and the player is broken by it, with the globals of that moment.
-pub record FallsShort (s : StoryTree) (b : Bound) (c : Configuration) (made : List Made) (reply : Reply) (new : Condition) : Type 0 where
+-- The run of a command, with these calls made, got as far as some moment of it, where memory was refused and the globals had these
+-- values.
+pub record FallsShort (s : StoryTree) (b : Bound) (c : Configuration) (made : List Made) (globals : Values) : Type 0 where
   pub reached : Configuration
-  pub got_there : GetsTo s b (begun c) made reached ⊎ StopsAt s b (begun c) made reached
-  pub replies : reply ≡ Breaks OutOfMemory []
-  pub breaks : new ≡ Broken OutOfMemory reached.shared.globals
+  pub got_there : GetsTo s b (begun c) made reached ⊎ (CallsAt s b (begun c) made reached ⊎ StopsAt s b (begun c) made reached)
+  pub leaves : globals ≡ reached.shared.globals
 
 -- the run of a story's declarations got to a step that asks for memory
 pub record OpensShort (s : StoryTree) : Type 0 where

@@ -1,23 +1,18 @@
 -- A forward run, by its moments (docs/RUNNING.md, "Runs").
-use Rattle.std.specs.Prelude.{ℕ, zero, suc, List, [], ◌∷◌, ◌++◌, map, Bool, true, if◌then◌else◌, Option, Some, None}
+use Rattle.std.specs.Prelude.{ℕ, zero, suc, List, [], ◌∷◌, ◌++◌, Option}
 use Rattle.ink_model.specs.declared.limits.TheConstants.{MAX_STEPS}
 pub use Rattle.ink_model.specs.Events.{Made, answers_of}
 use Rattle.ink_model.specs.Host.{Bound}
 use Rattle.ink_model.specs.Step.Host.{answering}
 use Rattle.ink_model.specs.Tree.{StoryTree}
-use Rattle.ink_model.specs.Place.{entered}
 use Rattle.ink_model.specs.Choosing.{following}
-use Rattle.ink_model.specs.Configuration.{Configuration, current_place, begun, put_at}
-use Rattle.ink_model.specs.Effect.{Fields, Effect, Fails, fields_of, pushing}
+use Rattle.ink_model.specs.Configuration.{Configuration, begun}
+use Rattle.ink_model.specs.Effect.{Fields}
 use Rattle.ink_model.specs.Move.{Outcome, Next, Stop, Wants, Faults, move}
 use Rattle.ink_model.specs.Step.{Bound, step}
 use Rattle.ink_model.specs.declared.fault.Fault.{Fault}
-use Rattle.ink_model.specs.declared.fault.Fault.TheVariants.{HostRefused, OutOfSteps, TooDeep}
+use Rattle.ink_model.specs.declared.fault.Fault.TheVariants.{OutOfSteps}
 use Rattle.ink_model.specs.declared.host.Given.{Given}
-use Rattle.ink_model.specs.declared.host.Given.TheVariants as given
-use Rattle.ink_model.specs.declared.place.Part.{Part}
-use Rattle.ink_model.specs.declared.value.Value.{Value}
-use Rattle.ink_model.specs.declared.value.Value.TheVariants as value
 
 -- a wanted call was answered, or refused: the answer is pushed, and flow goes on
 abbrev pub answered : StoryTree → Fields → Configuration → Option Given → Outcome

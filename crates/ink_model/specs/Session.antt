@@ -1,26 +1,31 @@
 -- What a player answers to command lines (docs/PROTOCOL.md, "Sessions").
-use Rattle.std.specs.Prelude.{is_some, Result, Ok, Err, ◌≡◌, ℕ, ℤ, List, [], ◌∷◌, ◌++◌, Bool, true, false, not, ◌&&◌, ◌⊎◌, Option, Some, None, MatchBool}
+use Rattle.std.specs.Prelude.{is_some, Result, Ok, Err, ◌≡◌, ◌≢◌, ℕ, ℤ, List, [], ◌∷◌, ◌++◌, Bool, true, false, not, ◌&&◌, ◌⊎◌, Option, Some, None, MatchBool}
 use Rattle.ink_model.specs.Bytes.{fits_text}
 use Rattle.ink_model.specs.Tree.{StoryTree}
 use Rattle.ink_model.specs.Mark.{tags}
 use Rattle.ink_model.specs.Shown.{shown_text}
 use Rattle.ink_model.specs.Clean.{clean}
 use Rattle.ink_model.specs.Configuration.{Configuration, ChoiceOf, can_go_on, settled, with_globals}
-use Rattle.ink_model.specs.Host.{Bound}
-use Rattle.ink_model.specs.Host.{value_given}
+use Rattle.ink_model.specs.Events.{calls, later}
+use Rattle.ink_model.specs.Host.{Bindings, value_given}
 use Rattle.ink_model.specs.Run.{Made, answers_of, Moment, Stopped, Faulted, through}
 use Rattle.ink_model.specs.Memory.{FallsShort, OpensShort, holds_memory}
-pub use Rattle.ink_model.specs.Changed.{FailsAllocation, Keeps, with_condition}
+pub use Rattle.ink_model.specs.Changed.{FailsAllocation, Keeps}
 use Rattle.ink_model.specs.Command.{command_of, NeedsMemory}
 use Rattle.ink_model.specs.Answer.{Reply, Tells, Acts, Shows, Counts, Refuses, Breaks, answer}
 use Rattle.ink_model.specs.State.{State, Condition, Ready, Broken, globals_of}
-use Rattle.ink_model.specs.Store.{stored, store}
+use Rattle.ink_model.specs.Store.{Values, stored, store}
+use Rattle.ink_model.specs.Told.{ToldAs, told}
 use Rattle.ink_model.specs.Opening.{opening, Unopened}
 use Rattle.ink_model.specs.Turns.{Choose, Jump, open_choices}
 use Rattle.ink_model.specs.Visits.{visits_by}
 use Rattle.ink_model.specs.declared.command.Command.{Command}
 use Rattle.ink_model.specs.declared.command.Command.TheVariants as command
+use Rattle.ink_model.specs.declared.fault.Fault.{Fault}
+use Rattle.ink_model.specs.declared.fault.Fault.TheVariants.{OutOfMemory}
 use Rattle.ink_model.specs.declared.fault.Refusal.TheVariants as refusal
+use Rattle.ink_model.specs.declared.host.Change.{Change}
+use Rattle.ink_model.specs.declared.host.Event.{Event}
 use Rattle.ink_model.specs.declared.host.Given.{Given}
 use Rattle.ink_model.specs.declared.host.Given.TheVariants as given
 use Rattle.ink_model.specs.declared.value.Value.{Value}
@@ -48,37 +53,78 @@ passage c = record {
   loose = is_loose c;
 }
 
+-- ---- telling, and faults
+
+-- the state after these events, from an old one
+abbrev pub left_with : Condition → List Event → State → State
+left_with c es old = record { condition = c; stamp = later old.stamp es }
+
+-- what is answered and left where all watchers were told; else a fault breaks the player, with the globals as they are then
+abbrev pub reply_told : Bool → Reply → List Event → Reply
+reply_told true reply es = reply
+reply_told false reply es = Breaks OutOfMemory es
+
+abbrev pub condition_told : Bool → Condition → Condition
+condition_told true c = c
+condition_told false c = Broken OutOfMemory (globals_of c)
+
+-- A command is done, in this condition, with these events before, and tells these changes: the answer has all its events. Where
+-- a watcher was without memory, the command stands.
+pub record TellsDone (cs : List Change) (done : Condition) (answers : List Event → Reply) (before es : List Event) (old : State) (reply : Reply) (new : State) : Type 0 where
+  pub all : Bool
+  pub saw : List Event
+  pub telling : ToldAs (later old.stamp before) cs all saw
+  pub events : es ≡ before ++ saw
+  pub replies : reply ≡ reply_told all (answers es) es
+  pub leaves : new ≡ left_with (condition_told all done) es old
+
+-- The same of a command that runs nothing: where there is something to tell, and no memory for that, nothing has changed.
+abbrev pub TellsOrKeeps : List Change → Condition → List Event → State → Reply → State → Type 0
+TellsOrKeeps cs done es old reply new = TellsDone cs done Acts [] es old reply new ⊎ ((cs ≢ []) × (es ≡ []) × FailsAllocation old reply new)
+
+-- a fault, with the events before it: the player is broken, with these globals, and nobody is told
+abbrev pub BreaksBy : Fault → Values → List Event → List Event → State → Reply → State → Type 0
+BreaksBy f globals before es old reply new = (es ≡ before) × (reply ≡ Breaks f before) × (new ≡ left_with (Broken f globals) before old)
+
 -- ---- one command
 
--- The end of a run, with the answers of all calls that were made used, gives this reply and leaves this.
-abbrev pub EndsAs : Moment → List Made → Reply → Condition → Type 0
-EndsAs (Stopped c [] calls) made reply new = (calls ≡ made) × (reply ≡ Tells (passage c)) × (new ≡ Ready (settled c))
-EndsAs (Faulted f c [] calls) made reply new = (calls ≡ made) × (reply ≡ Breaks f []) × (new ≡ Broken f c.shared.globals)
-EndsAs m made reply new = ⊥
+-- a passage with what happened
+abbrev pub telling : Configuration → List Event → Reply
+telling c es = Tells (record (passage c) { events = es })
+
+-- The end of a run, with the answers of all calls that were made used, has these events, gives this reply and leaves this. The
+-- globals had these values at its start.
+abbrev pub EndsAs : Bindings → Values → Moment → List Made → List Event → State → Reply → State → Type 0
+EndsAs h start (Stopped c [] calls_made) made es old reply new = (calls_made ≡ made)
+    × TellsDone (told h.watches start c.shared.globals) (Ready (settled c)) (telling c) (calls old.stamp made) es old reply new
+EndsAs h start (Faulted f c [] calls_made) made es old reply new = (calls_made ≡ made)
+    × BreaksBy f c.shared.globals (calls old.stamp made) es old reply new
+EndsAs h start m made es old reply new = ⊥
 
 -- From a configuration in which flow has not stopped: the end of the run under the answers of the calls that were made. Only
 -- where memory was refused it may fall short of that.
-abbrev pub RunsThrough : StoryTree → Bound → Configuration → List Made → Reply → Condition → Type 0
-RunsThrough s b c made reply new = EndsAs (through s b c (answers_of made)) made reply new ⊎ FallsShort s b c made reply new
+abbrev pub RunsThrough : StoryTree → Bindings → Configuration → List Made → List Event → State → Reply → State → Type 0
+RunsThrough s h c made es old reply new = EndsAs h c.shared.globals (through s h.functions c (answers_of made)) made es old reply new
+    ⊎ ((globals : Values) × FallsShort s h.functions c made globals × BreaksBy OutOfMemory globals (calls old.stamp made) es old reply new)
 
-abbrev pub ThroughFrom : StoryTree → Bound → List Made → Condition → State → Reply → State → Type 0
-ThroughFrom s b made (Broken f globals) old reply new = (made ≡ []) × Keeps (Refuses (refusal.Broken f)) old reply new
-ThroughFrom s b made (Ready c) old reply new = MatchBool (can_go_on c)
-    (RunsThrough s b c made reply new.condition × (new.stamp ≡ old.stamp))
-    ((made ≡ []) × Keeps (Refuses refusal.CannotContinue) old reply new)
+abbrev pub ThroughFrom : StoryTree → Bindings → List Event → Condition → State → Reply → State → Type 0
+ThroughFrom s h es (Broken f globals) old reply new = (es ≡ []) × Keeps (Refuses (refusal.Broken f)) old reply new
+ThroughFrom s h es (Ready c) old reply new = MatchBool (can_go_on c)
+    ((made : List Made) × RunsThrough s h c made es old reply new)
+    ((es ≡ []) × Keeps (Refuses refusal.CannotContinue) old reply new)
 
--- `through`, with the calls that it made
-abbrev pub Through : StoryTree → Bound → List Made → State → Reply → State → Type 0
-Through s b made old reply new = ThroughFrom s b made old.condition old reply new
+-- `through`, with its events: the calls that it made, and what was told at its end
+abbrev pub Through : StoryTree → Bindings → List Event → State → Reply → State → Type 0
+Through s h es old reply new = ThroughFrom s h es old.condition old reply new
 
--- `restart`, by what opening comes to: as the story was opened, with the stamps going on; or broken by the declarations, with
--- the globals as they stood before the step that faulted
-abbrev pub RestartsAs : Result Configuration Unopened → State → Reply → State → Type 0
-RestartsAs (Ok c) old reply new = (reply ≡ Acts []) × (new ≡ with_condition (Ready c) old)
-RestartsAs (Err e) old reply new = (reply ≡ Breaks e.fault []) × (new ≡ with_condition (Broken e.fault e.globals) old)
+-- `restart`, by what opening comes to: as the story was opened, and told of what has another value than `get` read before; or
+-- broken by the declarations, with the globals as they stood before the step that faulted. Stamps go on.
+abbrev pub RestartsAs : Bindings → Result Configuration Unopened → List Event → State → Reply → State → Type 0
+RestartsAs h (Ok c) es old reply new = TellsOrKeeps (told h.watches (globals_of old.condition) c.shared.globals) (Ready c) es old reply new
+RestartsAs h (Err e) es old reply new = BreaksBy e.fault e.globals [] es old reply new
 
-abbrev pub Restart : StoryTree → State → Reply → State → Type 0
-Restart s old reply new = RestartsAs (opening s) old reply new ⊎ (OpensShort s × FailsAllocation old reply new)
+abbrev pub Restart : StoryTree → Bindings → List Event → State → Reply → State → Type 0
+Restart s h es old reply new = RestartsAs h (opening s) es old reply new ⊎ (OpensShort s × (es ≡ []) × FailsAllocation old reply new)
 
 -- `get`, also of a broken player; only a value that holds memory may find none for its copy
 abbrev pub GetsFrom : Option Value → State → Reply → State → Type 0
@@ -95,24 +141,24 @@ settable (given.Bool b) = true
 settable (given.Text t) = fits_text t
 settable given.Void = false
 
--- `set` of a value, without memory: a bad value comes before an absent variable
-abbrev pub SetsIn : List ℕ → Given → Configuration → State → Reply → State → Type 0
-SetsIn name g c old reply new = MatchBool (settable g)
+-- `set` of a value: a bad value comes before an absent variable, and the one global is told of
+abbrev pub SetsIn : Bindings → List ℕ → Given → Configuration → List Event → State → Reply → State → Type 0
+SetsIn h name g c es old reply new = MatchBool (settable g)
     (MatchBool (is_some (stored name c.shared.globals))
-    ((reply ≡ Acts []) × (new ≡ with_condition (Ready (with_globals (store name (value_given g) c.shared.globals) c)) old))
-    (Keeps (Refuses refusal.NoSuchVariable) old reply new))
-    (Keeps (Refuses refusal.BadValue) old reply new)
+    (TellsOrKeeps (told h.watches c.shared.globals ((name, value_given g) ∷ [])) (Ready (with_globals (store name (value_given g) c.shared.globals) c)) es old reply new)
+    ((es ≡ []) × Keeps (Refuses refusal.NoSuchVariable) old reply new))
+    ((es ≡ []) × Keeps (Refuses refusal.BadValue) old reply new)
 
-abbrev pub SetsBy : List ℕ → Option Given → Configuration → State → Reply → State → Type 0
-SetsBy name None c old reply new = Keeps (Refuses refusal.BadValue) old reply new
-SetsBy name (Some g) c old reply new = SetsIn name g c old reply new
+abbrev pub SetsBy : Bindings → List ℕ → Option Given → Configuration → List Event → State → Reply → State → Type 0
+SetsBy h name None c es old reply new = (es ≡ []) × Keeps (Refuses refusal.BadValue) old reply new
+SetsBy h name (Some g) c es old reply new = SetsIn h name g c es old reply new
 
-abbrev pub SetsFrom : List ℕ → Option Given → Condition → State → Reply → State → Type 0
-SetsFrom name value (Broken f globals) old reply new = Keeps (Refuses (refusal.Broken f)) old reply new
-SetsFrom name value (Ready c) old reply new = SetsBy name value c old reply new
+abbrev pub SetsFrom : Bindings → List ℕ → Option Given → Condition → List Event → State → Reply → State → Type 0
+SetsFrom h name value (Broken f globals) es old reply new = (es ≡ []) × Keeps (Refuses (refusal.Broken f)) old reply new
+SetsFrom h name value (Ready c) es old reply new = SetsBy h name value c es old reply new
 
-abbrev pub Set : List ℕ → Option Given → State → Reply → State → Type 0
-Set name value old reply new = SetsFrom name value old.condition old reply new
+abbrev pub Set : Bindings → List Event → List ℕ → Option Given → State → Reply → State → Type 0
+Set h es name value old reply new = SetsFrom h name value old.condition es old reply new
 
 -- `visits`, without memory: a path that leads to nothing whose visits are counted is refused
 abbrev pub VisitsBy : Option ℤ → State → Reply → State → Type 0
@@ -126,31 +172,30 @@ VisitsFrom s path (Ready c) old reply new = VisitsBy (visits_by s path c) old re
 abbrev pub Visits : StoryTree → List ℕ → State → Reply → State → Type 0
 Visits s path old reply new = VisitsFrom s path old.condition old reply new
 
--- one command, with the calls that it made
-abbrev pub Does : StoryTree → Bound → List Made → Option Command → State → Reply → State → Type 0
-Does s b made None old reply new = (made ≡ []) × Keeps (Refuses refusal.BadCommand) old reply new
-Does s b made (Some command.Through) old reply new = Through s b made old reply new
-Does s b made (Some (command.Set name value)) old reply new = (made ≡ []) × Set name value old reply new
-Does s b made (Some (command.Get name)) old reply new = (made ≡ []) × Get name old reply new
-Does s b made (Some (command.Visits path)) old reply new = (made ≡ []) × Visits s path old reply new
-Does s b made (Some (command.Choose number)) old reply new = (made ≡ []) × Choose s number old reply new
-Does s b made (Some (command.Jump path)) old reply new = (made ≡ []) × Jump s path old reply new
-Does s b made (Some command.Restart) old reply new = (made ≡ []) × Restart s old reply new
+-- one command, with its events
+abbrev pub Does : StoryTree → Bindings → List Event → Option Command → State → Reply → State → Type 0
+Does s h es None old reply new = (es ≡ []) × Keeps (Refuses refusal.BadCommand) old reply new
+Does s h es (Some command.Through) old reply new = Through s h es old reply new
+Does s h es (Some (command.Set name value)) old reply new = Set h es name value old reply new
+Does s h es (Some (command.Get name)) old reply new = (es ≡ []) × Get name old reply new
+Does s h es (Some (command.Visits path)) old reply new = (es ≡ []) × Visits s path old reply new
+Does s h es (Some (command.Choose number)) old reply new = (es ≡ []) × Choose s number old reply new
+Does s h es (Some (command.Jump path)) old reply new = (es ≡ []) × Jump s path old reply new
+Does s h es (Some command.Restart) old reply new = Restart s h es old reply new
 
 -- memory was refused for reading a line, or the path in it, which only a line with a name or a path needs
 abbrev pub LineFails : Option Command → State → Reply → State → Type 0
 LineFails command old reply new = NeedsMemory command × FailsAllocation old reply new
 
--- one line: the calls that it made, its reply, and the state after it
-unfoldable pub Serves : StoryTree → Bound → List Made → List ℕ → State → Reply → State → Type 0
-Serves s b made line old reply new =
-    Does s b made (command_of line) old reply new ⊎ ((made ≡ []) × LineFails (command_of line) old reply new)
+-- one line: its events, its reply, and the state after it
+unfoldable pub Serves : StoryTree → Bindings → List Event → List ℕ → State → Reply → State → Type 0
+Serves s h es line old reply new = Does s h es (command_of line) old reply new ⊎ ((es ≡ []) × LineFails (command_of line) old reply new)
 
 -- ---- sessions
 
--- These lines, one after another, make these calls, are answered by these bytes, and leave this state.
-abbrev pub Session : StoryTree → Bound → List Made → List (List ℕ) → State → List ℕ → State → Type 0
-Session s b made [] old written new = (made ≡ []) × (written ≡ []) × (new ≡ old)
-Session s b made (line ∷ lines) old written new =
-    (reply : Reply) × (mid : State) × (rest : List ℕ) × (first : List Made) × (later : List Made)
-    × (made ≡ first ++ later) × Serves s b first line old reply mid × (written ≡ answer reply ++ rest) × Session s b later lines mid rest new
+-- These lines, one after another, have these events, are answered by these bytes, and leave this state.
+abbrev pub Session : StoryTree → Bindings → List Event → List (List ℕ) → State → List ℕ → State → Type 0
+Session s h es [] old written new = (es ≡ []) × (written ≡ []) × (new ≡ old)
+Session s h es (line ∷ lines) old written new =
+    (reply : Reply) × (mid : State) × (rest : List ℕ) × (first : List Event) × (others : List Event)
+    × (es ≡ first ++ others) × Serves s h first line old reply mid × (written ≡ answer reply ++ rest) × Session s h others lines mid rest new

@@ -17,7 +17,7 @@ use Rattle.ink_model.specs.Path.{read_path, target}
 use Rattle.ink_model.specs.Place.{landed}
 use Rattle.ink_model.specs.Session.{Serves, Session, passage}
 use Rattle.ink_model.specs.State.{State, Broken, Ready}
-use Rattle.ink_model.specs.Step.{nothing_bound}
+use Rattle.ink_model.specs.Host.{no_objects}
 use Rattle.ink_model.specs.Tree.{StoryTree}
 use Rattle.ink_model.specs.Turns.{Choose, Jump, ShowsChoices}
 use Rattle.ink_model.specs.declared.command.Command.TheVariants as command
@@ -145,7 +145,7 @@ unfolding command_of encode_utf8
 first_choice = rw (is_utf8-from_IsUtf8 (codes "choose 0") (codes "choose 0", (refl, refl))) refl
 
 -- refused commands change nothing, and then the choice is there still
-a_session : Session story nothing_bound [] (codes "choose 1" ∷ codes "jump m" ∷ codes "choose 0" ∷ []) (ready offering) (refusals ++ codes "{\"events\":[]}\n") (ready in_the_knot)
+a_session : Session story no_objects [] (codes "choose 1" ∷ codes "jump m" ∷ codes "choose 0" ∷ []) (ready offering) (refusals ++ codes "{\"events\":[]}\n") (ready in_the_knot)
 unfolding Serves start fresh_at entered_places read_path target landed answer serde_json_on_literals
 a_session = (
   Refuses refusal.NotAChoice,

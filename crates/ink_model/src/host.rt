@@ -59,3 +59,10 @@ pub enum Event {
         value: Value,
     },
 }
+
+/// A global that has another value than before, with the new one; also one that was not there.
+#[derive(Drop)]
+pub struct Change {
+    pub name: Text,
+    pub value: Value,
+}
