@@ -223,7 +223,7 @@ a_fault_answer : answer (Breaks fault.OutOfSteps []) ≡ codes "{\"events\":[],\
 unfolding answer serde_json_on_literals
 a_fault_answer = refl
 
-through_line : command_of (codes "through") ≡ Some Through
+pub through_line : command_of (codes "through") ≡ Some Through
 unfolding command_of encode_utf8
 through_line = rw (is_utf8-from_IsUtf8 (codes "through") (codes "through", (refl, refl))) refl
 
@@ -263,7 +263,7 @@ unfolding Serves
 a_broken_session = (Refuses (refusal.Broken fault.TooDeep), broken, [], [], [], refl, rw through_line (inl (refl, (refl, refl))), rw a_broken_answer refl, (refl, refl, refl))
 
 -- a run that has stopped stays as it is
-stays : (s : StoryTree) (b : Bound) (c d : Configuration) (k j : ℕ) (left answers : List (Option Given)) (made : List Made)
+pub stays : (s : StoryTree) (b : Bound) (c d : Configuration) (k j : ℕ) (left answers : List (Option Given)) (made : List Made)
     → moment s b c answers k ≡ Stopped d left made → run s b (j + k) (At c answers []) ≡ Stopped d left made
 unfolding run
 stays s b c d k zero left answers made e = rw (zero-add k) e
@@ -407,7 +407,7 @@ unfolding step fresh_at entered next_place passed_places entered_places
 read_absent = refl
 
 -- ["ev",1,{"VAR=":"x"},"end",null] as the knot `global decl`
-abbrev declaring : StoryTree
+abbrev pub declaring : StoryTree
 declaring = container None 0 (tree (leaf (leaves.Control Done)) no_trees)
     (key (codes "global decl") (list (tree (control_content control.BeginEval) (tree (number_content (pos 1)) (tree (leaf (leaves.Declare (codes "x"))) (tree (leaf (leaves.Control End)) no_trees))))) no_keys)
 
@@ -432,7 +432,7 @@ unfolding run step fresh_at entered next_place passed_places entered_places
 declarations_run = refl
 
 -- a story is opened with the globals that it declares
-an_opening : opening declaring ≡ Ok (start declaring ((codes "x", value.Int (pos 1)) ∷ []))
+pub an_opening : opening declaring ≡ Ok (start declaring ((codes "x", value.Int (pos 1)) ∷ []))
 unfolding opening knot landed fresh_at
 an_opening = ap (λ m. opened_by declaring (cut_off m))
     (stays declaring nothing_bound (fresh_at (Name (codes "global decl") ∷ Index 0 ∷ [])) declared_end 4 999996 [] [] [] declarations_run)

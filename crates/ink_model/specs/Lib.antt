@@ -74,6 +74,8 @@ pub mod ChoiceStories
 pub mod OfferExamples
 pub mod DefaultExamples
 pub mod ChoosingExamples
+pub mod HostExamples
+pub mod ToldExamples
 pub mod JumpExamples
 pub mod TurnExamples
 pub mod Examples
