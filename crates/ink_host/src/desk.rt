@@ -1,0 +1,253 @@
+//! The desk: what a host has bound and who watches, and what happened.
+
+ghost use Rattle.std.specs.Prelude.{◌≡◌, ◌⊎◌, [], ◌∷◌, List, Option, None, Some, Ok, Err, option_map, string_bytes, IfOk, IfErr, IfSome, OnOk, OnErr, true};
+ghost use Rattle.ink_model.specs.Host.{shares};
+ghost use Rattle.ink_model.specs.declared.fault.Fault.TheVariants as fault;
+ghost use Rattle.ink_model.specs.declared.host.Event.{Event as Happening};
+ghost use Rattle.ink_model.specs.declared.host.Event.TheVariants as event;
+ghost use Rattle.ink_model.specs.declared.host.Given.{Given as Answer};
+ghost use Rattle.ink_host.specs.Desk.{DeskView, Grew, Resting, answer_of, at, empty_desk, has_rows, kind_of, put, shown, without};
+ghost use Rattle.ink_host.specs.Desk as view;
+ghost use Rattle.ink_host.specs.declared.objects.Bound.TheVariants as bound;
+
+use crate::objects::{Bound, FnKind, PureFn, TurnFn, Watcher};
+use crate::rows::{ask_at, call_at, copied, keep};
+use indexmap::IndexMap;
+use ink_model::{Event, Fault, Given, HostFault, Seq, Text, Value};
+use std::alloc::Global;
+use std::marker::Model;
+use std::mem;
+
+/// Functions and watchers by name, in the order in which they came, and what happened since the events were last taken. It is
+/// generic in the objects and asks nothing of them but their traits: each that is given is kept or handed back.
+pub struct Desk<P, T, W> {
+    pub(crate) functions: IndexMap<String, Bound<P, T>>,
+    pub(crate) watchers: IndexMap<String, W>,
+    pub(crate) events: Vec<Event>,
+    pub(crate) next: u64,
+    pub(crate) alloc: Global,
+}
+
+impl<P, T, W> Model for Desk<P, T, W> {
+    ghost Value = { DeskView P T W };
+
+    ghost view = { λ d. record { functions = shown string_bytes (λ b. b) d.functions.entries; watchers = shown string_bytes (λ w. w) d.watchers.entries; events = d.events.items; next = d.next } };
+}
+
+impl<P, T, W> Desk<P, T, W> {
+    /// A desk with nothing bound and nobody who watches, which takes no memory.
+    pub fn new(alloc: Global) -> Desk<P, T, W>
+        ensures { result ≡ empty_desk }
+    {
+        Desk {
+            functions: IndexMap::new(alloc),
+            watchers: IndexMap::new(alloc),
+            events: Vec::new(alloc),
+            next: 0,
+            alloc,
+        }
+    }
+
+    /// Binds a name to a pure function, and hands back what it was bound to before. The one error is a refused request for
+    /// memory; it hands back the function, and nothing has changed.
+    pub fn bind_pure(&mut self, name: &str, object: P) -> Result<Option<Bound<P, T>>, P>
+        ensures old { IfOk result (λ old. old ≡ at name.now self.old.functions) }
+        ensures kept { OnOk result (self.new ≡ record self.old { functions = put name.now (bound.Pure object) self.old.functions }) }
+        ensures back { IfErr result (λ p. p ≡ object) }
+        ensures err { OnErr result (self.new ≡ self.old) }
+    {
+        match self.bind(name, Bound::Pure(object)) {
+            Ok(old) => Ok(old),
+            Err(Bound::Pure(object)) => Err(object),
+            Err(Bound::Turn(_)) => unreachable!(),
+        }
+    }
+
+    /// Binds a name to a turn function, and hands back what it was bound to before. The one error is a refused request for
+    /// memory; it hands back the function, and nothing has changed.
+    pub fn bind_turn(&mut self, name: &str, object: T) -> Result<Option<Bound<P, T>>, T>
+        ensures old { IfOk result (λ old. old ≡ at name.now self.old.functions) }
+        ensures kept { OnOk result (self.new ≡ record self.old { functions = put name.now (bound.Turn object) self.old.functions }) }
+        ensures back { IfErr result (λ t. t ≡ object) }
+        ensures err { OnErr result (self.new ≡ self.old) }
+    {
+        match self.bind(name, Bound::Turn(object)) {
+            Ok(old) => Ok(old),
+            Err(Bound::Turn(object)) => Err(object),
+            Err(Bound::Pure(_)) => unreachable!(),
+        }
+    }
+
+    // Binds a name to a function.
+    fn bind(&mut self, name: &str, object: Bound<P, T>) -> Result<Option<Bound<P, T>>, Bound<P, T>>
+        ensures old { IfOk result (λ old. old ≡ at name.now self.old.functions) }
+        ensures kept { OnOk result (self.new ≡ record self.old { functions = put name.now object self.old.functions }) }
+        ensures back { IfErr result (λ b. b ≡ object) }
+        ensures err { OnErr result (self.new ≡ self.old) }
+    {
+        keep(&mut self.functions, self.alloc, name, object)
+    }
+
+    /// Takes what a name is bound to away and hands it back; none where it is not bound. Takes no memory.
+    pub fn unbind(&mut self, name: &str) -> Option<Bound<P, T>>
+        ensures old { result ≡ at name.now self.old.functions }
+        ensures left { self.new ≡ record self.old { functions = without name.now self.old.functions } }
+    {
+        self.functions.shift_remove(name)
+    }
+
+    /// Which kind of function a name is bound to; none where it is not bound. Takes no memory.
+    pub fn kind(&self, name: &str) -> Option<FnKind>
+        ensures { result ≡ option_map kind_of (at name.now self.now.functions) }
+    {
+        match self.functions.get(name) {
+            None => None,
+            Some(Bound::Pure(_)) => Some(FnKind::Pure),
+            Some(Bound::Turn(_)) => Some(FnKind::Turn),
+        }
+    }
+
+    /// Whether somebody watches a global.
+    pub fn watches(&self, name: &str) -> bool
+        ensures { result ≡ view.watches self.now.watchers name.now }
+    {
+        self.watchers.contains_key(name)
+    }
+
+    /// Whether anybody watches.
+    pub fn has_watchers(&self) -> bool
+        ensures { result ≡ has_rows self.now.watchers }
+    {
+        !self.watchers.is_empty()
+    }
+
+    /// Hands out the events that happened since they were last taken. Takes no memory.
+    pub fn take_events(&mut self) -> Seq<Event>
+        ensures events { result ≡ self.old.events }
+        ensures rest { self.new ≡ record self.old { events = [] } }
+    {
+        Seq::from_vec(mem::replace(&mut self.events, Vec::new(self.alloc)))
+    }
+
+    /// Begins anew: no events are kept, and the next has the stamp 0.
+    pub fn start_anew(&mut self)
+        ensures { self.new ≡ record self.old { events = []; next = 0 } }
+    {
+        self.events.clear();
+        self.next = 0;
+    }
+}
+
+impl<P: PureFn, T, W> Desk<P, T, W> {
+    /// Asks the pure function that a name is bound to. `HostRefused` where it has no answer to these arguments, `OutOfMemory`
+    /// where it was refused memory.
+    pub fn ask(&self, name: &str, arguments: &[Value]) -> Result<Given, Fault>
+        requires { (p : P) × (at name.now self.now.functions ≡ Some (bound.Pure p)) }
+        ensures answer { (g : Answer) → result ≡ Ok g → answer_of P.meaning (at name.now self.now.functions) arguments.now ≡ Some g }
+        ensures refused { result ≡ Err fault.HostRefused → answer_of P.meaning (at name.now self.now.functions) arguments.now ≡ None }
+        ensures faults { IfErr result (λ f. (f ≡ fault.HostRefused) ⊎ (f ≡ fault.OutOfMemory)) }
+    {
+        match ask_at(&self.functions, name, arguments) {
+            Ok(given) => Ok(given),
+            Err(HostFault::Refused) => Err(Fault::HostRefused),
+            Err(HostFault::OutOfMemory) => Err(Fault::OutOfMemory),
+        }
+    }
+}
+
+impl<P, T: TurnFn, W: Watcher> Desk<P, T, W> {
+    /// Calls the turn function that a name is bound to, once, and keeps the call as an event with the next stamp.
+    /// `HostRefused` where it refused, which is an event too. `OutOfMemory` where memory was refused before it was called or to
+    /// itself, and then it was not called or has not acted; or where a text that it gave can have no further owner, and then
+    /// the event is kept.
+    pub fn call(&mut self, name: &str, arguments: &[Value]) -> Result<Given, Fault>
+        requires { (t : T) × (at name.now self.old.functions ≡ Some (bound.Turn t)) }
+        ensures answer { (g : Answer) → result ≡ Ok g → Grew T.log W.log self.old (event.Call name.now arguments.now (Some g) self.old.next ∷ []) self.new }
+        ensures refused { result ≡ Err fault.HostRefused → Grew T.log W.log self.old (event.Call name.now arguments.now None self.old.next ∷ []) self.new }
+        ensures memory { result ≡ Err fault.OutOfMemory → (es : List Happening) × Grew T.log W.log self.old es self.new
+            × ((es ≡ []) ⊎ ((g : Answer) × shares g × (es ≡ event.Call name.now arguments.now (Some g) self.old.next ∷ []))) }
+        ensures faults { IfErr result (λ f. (f ≡ fault.HostRefused) ⊎ (f ≡ fault.OutOfMemory)) }
+        ensures watchers { self.new.watchers ≡ self.old.watchers }
+    {
+        let noted = Text::from_str(self.alloc, name)?;
+        let noted_arguments = copied(self.alloc, arguments)?;
+        self.events.reserve(1)?;
+        let stamp = self.next;
+        match call_at(&mut self.functions, name, stamp, arguments) {
+            Ok(given) => {
+                let copy = given.clone_in(self.alloc);
+                self.events
+                    .push(Event::Call {
+                        name: noted,
+                        arguments: noted_arguments,
+                        gave: Some(given),
+                        stamp,
+                    })
+                    .unwrap();
+                self.next = stamp.saturating_add(1);
+                match copy {
+                    Ok(copy) => Ok(copy),
+                    Err(_) => Err(Fault::OutOfMemory),
+                }
+            }
+            Err(HostFault::Refused) => {
+                self.events
+                    .push(Event::Call {
+                        name: noted,
+                        arguments: noted_arguments,
+                        gave: None,
+                        stamp,
+                    })
+                    .unwrap();
+                self.next = stamp.saturating_add(1);
+                Err(Fault::HostRefused)
+            }
+            Err(HostFault::OutOfMemory) => Err(Fault::OutOfMemory),
+        }
+    }
+}
+
+impl<P, T, W: Watcher> Desk<P, T, W> {
+    /// Has a watcher told the new values of a global, and hands back who was told them before. The one error is a refused
+    /// request for memory; it hands back the watcher, and nothing has changed.
+    pub fn watch(&mut self, name: &str, watcher: W) -> Result<Option<W>, W>
+        requires given { W.at_rest watcher ≡ true }
+        requires rest { Resting W.at_rest self.old.watchers }
+        ensures old { IfOk result (λ old. old ≡ at name.now self.old.watchers) }
+        ensures kept { OnOk result (self.new ≡ record self.old { watchers = put name.now watcher self.old.watchers }) }
+        ensures rest { Resting W.at_rest self.new.watchers }
+        ensures old_rest { IfOk result (λ old. IfSome old (λ w. W.at_rest w ≡ true)) }
+        ensures back { IfErr result (λ w. w ≡ watcher) }
+        ensures err { OnErr result (self.new ≡ self.old) }
+    {
+        keep(&mut self.watchers, self.alloc, name, watcher)
+    }
+
+    /// Takes the watcher of a global away and hands it back; none where nobody watches it. Takes no memory.
+    pub fn unwatch(&mut self, name: &str) -> Option<W>
+        requires rest { Resting W.at_rest self.old.watchers }
+        ensures old { result ≡ at name.now self.old.watchers }
+        ensures left { self.new ≡ record self.old { watchers = without name.now self.old.watchers } }
+        ensures rest { Resting W.at_rest self.new.watchers }
+        ensures old_rest { IfSome result (λ w. W.at_rest w ≡ true) }
+    {
+        self.watchers.shift_remove(name)
+    }
+
+    /// Hands back all that was bound and all who watch, each by its name.
+    pub fn close(self) -> (IndexMap<String, Bound<P, T>>, IndexMap<String, W>)
+        requires rest { Resting W.at_rest self.watchers }
+        ensures functions { shown string_bytes (λ b. b) result.0.entries ≡ self.functions }
+        ensures watchers { shown string_bytes (λ w. w) result.1.entries ≡ self.watchers }
+        ensures rest { Resting W.at_rest (shown string_bytes (λ w. w) result.1.entries) }
+    {
+        let Desk {
+            functions,
+            watchers,
+            events: _,
+            next: _,
+            alloc: _,
+        } = self;
+        (functions, watchers)
+    }
+}
