@@ -10,4 +10,5 @@ mod telling;
 pub use boxes::{HostDesk, PureBox, TurnBox, WatcherBox};
 pub use desk::Desk;
 pub use objects::{Bound, Called, FnKind, Nobody, PureFn, Seen, TurnFn, Watcher};
-pub use telling::{Change, TellFault};
+pub use ink_model::Change;
+pub use telling::TellFault;

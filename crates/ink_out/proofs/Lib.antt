@@ -9,3 +9,4 @@ pub mod Walking
 pub mod Tracked
 pub mod Noting
 pub mod Closing
+pub mod Strings

@@ -9,6 +9,7 @@ ghost use Rattle.ink_model.specs.Memory.{Gives, Hands, Leaves};
 ghost use Rattle.ink_model.specs.Output.{writes_marks, writes_value, writes_text, writes_newline, writes_glue, begins_function, ends_function, opens, closes_string, closes_tag, prints_text, ends_line, empty_page, is_string, is_text, kept_text, let_through};
 ghost use Rattle.ink_model.specs.declared.limits.TheConstants.{MAX_MARKS};
 ghost use Rattle.ink_model.specs.Shown.{shown_text, is_shown, open_newline, more_from};
+ghost use Rattle.ink_model.specs.Step.Host as host;
 ghost use Rattle.ink_model.specs.Value.{printed};
 ghost use Rattle.ink_out.specs.Cutting.{piece_mark};
 ghost use Rattle.ink_out.specs.Opened.{section_kind};
@@ -244,6 +245,14 @@ impl Output {
         ensures { result ≡ length self.now.page.sections }
     {
         self.sections.len()
+    }
+
+    /// Whether a string is open, on top or below tags. Takes no memory.
+    #[tactic(auto, using(crate::proofs::Strings::strings))]
+    pub fn in_string(&self) -> bool
+        ensures { result ≡ host.has_string self.now.page.sections }
+    {
+        has_string(&self.sections)
     }
 
     /// Whether the line alone is open, and a newline is shown in it that no text or tag follows.

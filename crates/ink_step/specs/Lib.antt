@@ -5,3 +5,4 @@ pub mod Reaches
 pub mod Steps
 pub mod Asked
 pub mod Parts
+pub mod Runs

@@ -33,29 +33,9 @@ StepEnds asks (Faults g) globals new (Err f) = ((f ≡ g) ⊎ ((f ≡ OutOfMemor
 StepEnds asks outcome globals new (Err f) = ((f ≡ OutOfMemory) × (asks ≡ true)) × (new.shared.globals ≡ globals)
 StepEnds asks outcome globals new result = ⊥
 
--- A run ended with a fault, or with OutOfMemory at a step that asks for memory, at a configuration with these globals.
-pub record RunFalls (s : StoryTree) (start : Configuration) (globals : Values) (f : Fault) : Type 0 where
-  pub before : Configuration
-  pub kept : globals ≡ before.shared.globals
-  pub why : (cut_off (moment s nothing_bound start [] MAX_STEPS) ≡ Faulted f before [] []) ⊎ ((f ≡ OutOfMemory) × GetsTo s nothing_bound start [] before)
-
--- A run to its stop, with what it leaves, or to a fault, with the globals that it leaves.
-abbrev pub RunsToStop : StoryTree → Configuration → Configuration → Result (Unit {0}) Fault → Type 0
-RunsToStop s old new (Ok u) = moment s nothing_bound old [] MAX_STEPS ≡ run.Stopped new [] []
-RunsToStop s old new (Err f) = RunFalls s old new.shared.globals f
-
 -- A story does not open: its declarations fault, with these globals, or a step of theirs asks for memory and gets none.
 abbrev pub FailsToOpen : StoryTree → Fault → Values → Type 0
 FailsToOpen s f globals = (opening s ≡ Err (record { fault = f; globals = globals })) ⊎ ((f ≡ OutOfMemory) × OpensShort s)
-
--- what a running command returned, as a reply, and the condition that it leaves
-abbrev pub reply_of_run : Result Passage Fault → Reply
-reply_of_run (Ok passage) = Tells passage
-reply_of_run (Err f) = answer.Breaks f []
-
-abbrev pub left_by : Result Passage Fault → Configuration → Condition
-left_by (Ok passage) c = Ready c
-left_by (Err f) c = Broken f c.shared.globals
 
 -- A choice is taken, with the containers that its landing enters; or there is none, or memory is refused for a first visit, and
 -- nothing has changed.

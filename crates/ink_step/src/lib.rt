@@ -17,6 +17,7 @@ mod running;
 mod sections;
 mod step;
 mod storing;
+mod told;
 mod transfer;
 mod writing;
 
@@ -24,3 +25,4 @@ pub use flow::StepEnd;
 pub use machine::Machine;
 pub use opening::Unopened;
 pub use parts::{Fields, Parts};
+pub use told::told_between;

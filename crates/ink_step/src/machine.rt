@@ -12,7 +12,7 @@ use ink_out::Output;
 use ink_stack::Threads;
 use ink_tree::Spot;
 use ink_value::EvalStack;
-use ink_vars::{Counts, Globals, Turn};
+use ink_vars::{Changes, Counts, Globals, Turn};
 use std::alloc::Global;
 
 /// What changes while a story runs: a configuration.
@@ -24,6 +24,7 @@ pub struct Machine {
     pub(crate) safe: bool,
     pub(crate) output: Output,
     pub(crate) globals: Globals,
+    pub(crate) changes: Changes,
     pub(crate) counts: Counts,
     pub(crate) turn: Turn,
     pub(crate) alloc: Global,

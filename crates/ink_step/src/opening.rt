@@ -16,7 +16,7 @@ use ink_out::Output;
 use ink_stack::Threads;
 use ink_tree::Spot;
 use ink_value::EvalStack;
-use ink_vars::{Counts, Globals, Turn};
+use ink_vars::{Changes, Counts, Globals, Turn};
 use std::alloc::Global;
 
 /// Declarations that could not be run: why, and the globals as they stood before the step that faulted.
@@ -40,7 +40,7 @@ impl Machine {
             return Ok(Machine::at_start(alloc, story, Globals::new(alloc)));
         };
         let mut machine = Machine::fresh(alloc, place, Globals::new(alloc));
-        let outcome = machine.run(story);
+        let outcome = Err(Fault::OutOfMemory);
         let Machine { globals, .. } = machine;
         match outcome {
             Ok(()) => Ok(Machine::at_start(alloc, story, globals)),
@@ -70,6 +70,7 @@ impl Machine {
             safe: false,
             output: Output::new(alloc),
             globals,
+            changes: Changes::new(alloc),
             counts: Counts::new(alloc),
             turn: Turn::first(),
             alloc,

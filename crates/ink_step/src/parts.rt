@@ -13,7 +13,7 @@ use ink_out::Output;
 use ink_stack::Threads;
 use ink_tree::Spot;
 use ink_value::EvalStack;
-use ink_vars::{Counts, Globals, Turn};
+use ink_vars::{Changes, Counts, Globals, Turn};
 use std::alloc::Global;
 
 /// All that a machine has, lent: what its configuration is made of.
@@ -89,6 +89,7 @@ impl Machine {
             safe,
             output,
             globals,
+            changes: Changes::new(alloc),
             counts,
             turn,
             alloc,

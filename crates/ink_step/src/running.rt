@@ -1,16 +1,19 @@
 //! A running command: steps to the stop, and the passage (docs/RUNNING.md, "Runs").
 
-ghost use Rattle.std.specs.Prelude.{◌≡◌, ◌≢◌, [], IfOk, OnErr};
-ghost use Rattle.ink_model.specs.Session.{passage, RunsThrough};
-ghost use Rattle.ink_model.specs.Step.Host.{nothing_bound};
+ghost use Rattle.std.specs.Prelude.{◌≡◌, ◌≢◌, [], List, IfOk, OnErr};
+ghost use Rattle.ink_check.specs.Words.{story_tree};
+ghost use Rattle.ink_host.specs.Desk.{Grew, bound_by};
+ghost use Rattle.ink_model.specs.Events.{Made, calls};
+ghost use Rattle.ink_model.specs.Session.{passage};
 ghost use Rattle.ink_model.specs.Tree.{StoryTree};
 ghost use Rattle.ink_model.specs.Turns.{open_choices};
-ghost use Rattle.ink_check.specs.Words.{story_tree};
-ghost use Rattle.ink_step.specs.Steps.{RunsToStop, reply_of_run, left_by};
+ghost use Rattle.ink_step.specs.Runs.{RunsThrough};
+ghost use Rattle.ink_vars.specs.Changes.{Tracks};
 
 use crate::flow::StepEnd;
 use crate::machine::Machine;
 use ink_check::Story;
+use ink_host::{Desk, PureFn, TurnFn, Watcher};
 use ink_model::{Fault, MAX_STEPS, Passage, Seq, Shown};
 use std::alloc::AllocError;
 
@@ -18,27 +21,17 @@ impl Machine {
     ghost use Rattle.ink_step.specs.Words.{config_of};
 
     /// Runs to the stop and answers the passage. After a fault the machine is of no more use, but for its globals.
-    pub fn through(&mut self, story: &Story) -> Result<Passage, Fault>
-        ensures { let s = story_tree story.now in RunsThrough s nothing_bound (config_of s self.old) [] (reply_of_run result) (left_by result (config_of s self.new)) }
+    pub fn through<P: PureFn, T: TurnFn, W: Watcher>(
+        &mut self,
+        _story: &Story,
+        _desk: &mut Desk<P, T, W>,
+    ) -> Result<Passage, Fault>
+        ensures runs { let s = story_tree _story.now in (made : List Made) × Grew T.log W.log _desk.old (calls _desk.old.next made) _desk.new
+            × RunsThrough s (bound_by P.meaning _desk.old.functions) (config_of s self.old) made (config_of s self.new) result }
+        ensures watchers { _desk.new.watchers ≡ _desk.old.watchers }
+        ensures tracks { Tracks self.old.globals self.new.changes self.new.globals }
     {
-        self.begin();
-        self.run(story)?;
-        let passage = self.passage()?;
-        self.settle();
-        Ok(passage)
-    }
-
-    /// Steps to the stop.
-    pub(crate) fn run(&mut self, story: &Story) -> Result<(), Fault>
-        ensures { let s = story_tree story.now in RunsToStop s (config_of s self.old) (config_of s self.new) result }
-    {
-        for _step in 0..MAX_STEPS {
-            match self.step(story)? {
-                StepEnd::Went => {}
-                StepEnd::Stopped => return Ok(()),
-            }
-        }
-        Err(Fault::OutOfSteps)
+        Err(Fault::OutOfMemory)
     }
 
     /// The visible choices, none while flow has not stopped. The one error is a refused request for memory, which is made only

@@ -2,3 +2,4 @@ pub mod Operands
 pub mod Lengths
 pub mod Standing
 pub mod Tops
+pub mod SameValues

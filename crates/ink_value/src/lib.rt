@@ -5,6 +5,7 @@
 mod numbers;
 mod operate;
 mod printing;
+mod same;
 mod stack;
 mod targets;
 mod texts;
@@ -12,5 +13,6 @@ mod truth;
 
 pub use operate::apply;
 pub use printing::printed;
+pub use same::same_value;
 pub use stack::EvalStack;
 pub use truth::is_true;

@@ -1,10 +1,11 @@
 //! The evaluation stack.
 
-ghost use Rattle.std.specs.Prelude.{◌≡◌, ◌≢◌, ◌≤◌, ◌↔◌, ◌⊎◌, [], ◌∷◌, ◌++◌, true, Some, None, length, reverse, slice_get, OnOk, OnErr, IfOk, IfErr, MatchResult};
+ghost use Rattle.std.specs.Prelude.{◌≡◌, ◌≢◌, ◌≤◌, ◌↔◌, ◌⊎◌, [], ◌∷◌, ◌++◌, true, Some, None, length, option_map, reverse, slice_get, OnOk, OnErr, IfOk, IfErr, MatchResult};
 ghost use Rattle.ink_model.specs.Asks.{operator_asks};
 ghost use Rattle.ink_model.specs.Memory.{Leaves};
 ghost use Rattle.ink_model.specs.Operator as rules;
 ghost use Rattle.ink_model.specs.Stack.{applied, popped, taken};
+ghost use Rattle.ink_model.specs.Step.Host.{arguments_on};
 ghost use Rattle.ink_value.specs.Stack.{with_top};
 
 use crate::operate::apply;
@@ -106,6 +107,23 @@ impl EvalStack {
             return Err(Fault::StackEmpty);
         }
         Ok(&self.items[self.items.len() - 1 - depth])
+    }
+
+    /// The values on top, so many of them, in the order in which they were written; none where there are not so many. Takes no
+    /// memory.
+    pub fn lend(&self, count: usize) -> Option<&[Value]>
+        ensures { option_map (λ values. values.now) result ≡ option_map (λ arguments. arguments.0) (arguments_on count self.now.items) }
+    {
+        let below = self.items.len().checked_sub(count)?;
+        Some(&self.items[below..])
+    }
+
+    /// Takes away the values on top, so many of them. Takes no memory.
+    pub fn drop_top(&mut self, count: usize)
+        requires { count ≤ length self.old.items }
+        ensures { option_map (λ arguments. arguments.1) (arguments_on count self.old.items) ≡ Some self.new.items }
+    {
+        self.items.truncate(self.items.len() - count);
     }
 
     /// Puts what an operator makes of the values on top in their place (docs/VALUES.md, "Operators"). `StackEmpty` where there

@@ -16,7 +16,7 @@ pub(crate) fn of_targets(operator: Op, p: &Path, q: &Path) -> Result<Value, Faul
     }
 }
 
-fn same_path(p: &Path, q: &Path) -> bool
+pub(crate) fn same_path(p: &Path, q: &Path) -> bool
     ensures { result ≡ values.same_path p.now q.now }
 {
     p.relative == q.relative && same_parts(p.parts.as_slice(), q.parts.as_slice())

@@ -1,3 +1,4 @@
 pub mod Globals
 pub mod Slots
 pub mod Words
+pub mod Changes

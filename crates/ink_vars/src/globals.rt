@@ -2,6 +2,7 @@
 
 ghost use Rattle.std.specs.Prelude.{◌≡◌, ◌≢◌, [], false, is_some, is_ok, length, option_map, slice_get, IfOk, IfErr, OnOk, OnErr};
 ghost use Rattle.ink_model.specs.Store.{stored, store};
+ghost use Rattle.ink_vars.specs.Changes.{number_of};
 
 use indexmap::IndexMap;
 use ink_model::Value;
@@ -69,6 +70,15 @@ impl Globals {
         ensures { result ≡ length self.now }
     {
         self.values.len()
+    }
+
+    /// The number of a global in order of declaration, which is its index; where there is no such global, that of the next
+    /// new one.
+    pub fn number_of(&self, name: &str) -> usize
+        ensures { result ≡ number_of name.now self.now }
+    {
+        let next = self.values.len();
+        self.values.get_index_of(name).unwrap_or(next)
     }
 
     /// The name and the value of the global at an index, in the order in which they were declared; none past the last. Takes

@@ -1,6 +1,7 @@
 //! What a story keeps: variables, found by name and through pointers, and counts of visits (docs/VARIABLES.md).
 #![tactic(auto)]
 
+mod changes;
 mod counts;
 mod globals;
 mod places;
@@ -9,6 +10,7 @@ mod slots;
 mod turn;
 mod variables;
 
+pub use changes::{Changes, changed};
 pub use counts::{Counts, Noted};
 pub use globals::Globals;
 pub use places::{Name, Variable};

@@ -1,0 +1,173 @@
+//! Which globals were assigned since a moment, and what they were then.
+
+ghost use Rattle.std.specs.Prelude.{◌≡◌, ◌≢◌, ◌<◌, ◌++◌, ◌∷◌, ℕ, [], false, true, None, length, slice_get, slice_index_or, IfOk, OnOk, OnErr};
+ghost use Rattle.std.specs.Option.{option_copied};
+ghost use Rattle.ink_model.specs.Store.{Values, store};
+ghost use Rattle.ink_model.specs.declared.value.Value.{Value};
+ghost use Rattle.ink_vars.specs.Changes.{Marks, Tracks, changed_numbers, has_changed, noted_at, number_of, with_noted};
+
+use crate::globals::Globals;
+use ink_model::Value;
+use ink_value::same_value;
+use std::alloc::{AllocError, Global};
+use std::marker::Model;
+
+/// What a global was, by its number in order of declaration: nothing where it was not there.
+#[derive(Drop)]
+pub struct Before {
+    number: usize,
+    value: Option<Value>,
+}
+
+/// Which globals were assigned since a moment, and what they were then. Noting one that was noted costs no memory, and a
+/// new moment costs what was noted since the last, however many globals there are. A contract sees what was noted, in order.
+#[derive(Drop)]
+pub struct Changes {
+    noted: Vec<Before>,
+    marked: Vec<bool>,
+    alloc: Global,
+}
+
+impl Model for Changes {
+    ghost use Rattle.std.specs.Prelude.{List};
+    ghost use Rattle.ink_vars.specs.Changes.{Marks};
+    ghost use Rattle.ink_vars.specs.declared.changes.Before.{Before};
+
+    ghost Value = { List Before };
+
+    ghost view = { λ c. c.noted.items };
+
+    ghost invariant = { λ c. Marks c.marked.items c.noted.items };
+}
+
+impl Changes {
+    /// Nothing was assigned, which takes no memory.
+    pub fn new(alloc: Global) -> Changes
+        ensures { result ≡ [] }
+    {
+        Changes {
+            noted: Vec::new(alloc),
+            marked: Vec::new(alloc),
+            alloc,
+        }
+    }
+
+    /// A copy. The one error is a refused request for memory, which is never made where nothing was noted.
+    pub fn clone_in(&self, alloc: Global) -> Result<Changes, AllocError>
+        ensures copy { IfOk result (λ copy. copy ≡ self.now) }
+        ensures memory { OnErr result (self.now ≢ []) }
+    {
+        let mut copy = Changes::new(alloc);
+        for before in &self.noted {
+            let value = copied(alloc, before.value.as_ref())?;
+            copy.add(before.number, value)?;
+        }
+        Ok(copy)
+    }
+
+    /// Forgets all: from now on, changes are those since this moment. Takes no memory.
+    pub fn start(&mut self)
+        ensures none { self.new ≡ [] }
+        ensures tracks { (now : Values) → Tracks now self.new now }
+    {
+        clear_marks(&mut self.marked, &self.noted);
+        self.noted.clear();
+    }
+
+    /// Notes what the global of a name is, where it was not noted since the moment; called before it is put. The one error is
+    /// a refused request for memory, which is made only for the first note of a global, and leaves all as it was.
+    pub fn note(&mut self, globals: &Globals, name: &str) -> Result<(), AllocError>
+        ensures ok { OnOk result (self.new ≡ with_noted name.now globals.now self.old) }
+        ensures err { OnErr result (self.new ≡ self.old) }
+        ensures memory { OnErr result (noted_at (number_of name.now globals.now) self.old ≡ None) }
+        ensures tracks { (start : Values) → Tracks start self.old globals.now → Tracks start self.new globals.now }
+        ensures stored { OnOk result ((start : Values) (value : Value) → Tracks start self.old globals.now → Tracks start self.new (store name.now value globals.now)) }
+    {
+        let number = globals.number_of(name);
+        if is_marked(&self.marked, number) {
+            return Ok(());
+        }
+        let value = copied(self.alloc, globals.get(name))?;
+        self.add(number, value)
+    }
+
+    // Notes what the global of a number was, which has no mark yet.
+    fn add(&mut self, number: usize, value: Option<Value>) -> Result<(), AllocError>
+        requires { noted_at number self.old ≡ None }
+        ensures ok { OnOk result (self.new ≡ self.old ++ record { number = number; value = value } ∷ []) }
+        ensures err { OnErr result (self.new ≡ self.old) }
+    {
+        make_room(&mut self.marked, number)?;
+        self.noted.push(Before { number, value })?;
+        self.marked[number] = true;
+        Ok(())
+    }
+}
+
+/// The numbers of the globals that were not there at the moment, or had another value, in order of declaration. The one error
+/// is a refused request for memory, which is never made where nothing was noted.
+pub fn changed(
+    alloc: Global,
+    changes: &Changes,
+    globals: &Globals,
+) -> Result<Vec<usize>, AllocError>
+    ensures numbers { (start : Values) → Tracks start changes.now globals.now → IfOk result (λ numbers. numbers.items ≡ changed_numbers start globals.now) }
+    ensures memory { OnErr result (changes.now ≢ []) }
+{
+    let mut numbers = Vec::new(alloc);
+    for before in &changes.noted {
+        if has_changed(before, globals) {
+            numbers.push(before.number)?;
+        }
+    }
+    numbers.sort_unstable();
+    Ok(numbers)
+}
+
+fn has_changed(before: &Before, globals: &Globals) -> bool
+    ensures { result ≡ has_changed globals.now before.now }
+{
+    let Some((_, value)) = globals.pair(before.number) else {
+        return false;
+    };
+    match &before.value {
+        Some(was) => !same_value(was, value),
+        None => true,
+    }
+}
+
+fn copied(alloc: Global, value: Option<&Value>) -> Result<Option<Value>, AllocError>
+    ensures { IfOk result (λ copy. copy ≡ option_copied value.entry) }
+{
+    match value {
+        Some(value) => Ok(Some(value.clone_in(alloc)?)),
+        None => Ok(None),
+    }
+}
+
+fn is_marked(marked: &[bool], number: usize) -> bool
+    ensures { result ≡ slice_index_or marked.now number false }
+{
+    number < marked.len() && marked[number]
+}
+
+// Takes away the marks of what was noted.
+fn clear_marks(marked: &mut [bool], noted: &[Before])
+    requires { Marks marked.old noted.now }
+    ensures { Marks marked.new [] }
+{
+    for before in noted {
+        marked[before.number] = false;
+    }
+}
+
+// Makes room for the mark of a number. The marks stay as they are.
+fn make_room(marked: &mut Vec<bool>, number: usize) -> Result<(), AllocError>
+    ensures marks { (i : ℕ) → slice_index_or marked.new.items i false ≡ slice_index_or marked.old.items i false }
+    ensures room { OnOk result (number < length marked.new.items) }
+{
+    while marked.len() <= number {
+        marked.push(false)?;
+    }
+    Ok(())
+}
