@@ -3,7 +3,8 @@
 ghost use Rattle.std.specs.Prelude.{◌≡◌, ◌≢◌, List, filter, is_ok, is_some, Err};
 ghost use Rattle.ink_model.specs.declared.host.Event.{Event as Happening};
 ghost use Rattle.ink_host.specs.Desk.{Grew, Resting, watches};
-ghost use Rattle.ink_host.specs.Telling.{OncePerName, Tells};
+ghost use Rattle.ink_host.specs.Telling.{OncePerName};
+ghost use Rattle.ink_model.specs.Told.{ToldAs};
 
 use crate::desk::Desk;
 use crate::objects::{TurnFn, Watcher};
@@ -24,8 +25,9 @@ impl<P, T: TurnFn, W: Watcher> Desk<P, T, W> {
         requires once { OncePerName _changes.now }
         requires rest { Resting W.at_rest self.old.watchers }
         ensures rest { Resting W.at_rest self.new.watchers }
+        ensures functions { self.new.functions ≡ self.old.functions }
         ensures no_room { result ≡ Err NoRoom → self.new ≡ self.old }
-        ensures told { result ≢ Err NoRoom → (es : List Happening) × Tells self.old.next (filter (λ c. watches self.old.watchers c.name) _changes.now) (is_ok result) es × Grew T.log W.log self.old es self.new }
+        ensures told { result ≢ Err NoRoom → (es : List Happening) × ToldAs self.old.next (filter (λ c. watches self.old.watchers c.name) _changes.now) (is_ok result) es × Grew T.log W.log self.old es self.new }
     {
         Err(TellFault::NoRoom)
     }

@@ -1,10 +1,10 @@
 -- Which stories are accepted: each written path leads somewhere (docs/STORY_FORMAT.md, "Paths").
-use Rattle.std.specs.Prelude.{ℕ, List, map, filter, Bool, true, false, not, ◌&&◌, if◌then◌else◌, Option, Some, None, option_and_then, is_some, Result}
+use Rattle.std.specs.Prelude.{ℕ, List, map, filter, Bool, true, false, not, ◌&&◌, if◌then◌else◌, Option, Some, None, option_and_then, is_some, Result, Ok, Err}
 use Rattle.std.specs.Option.{option_map}
 use Rattle.ink_model.specs.Tree.{StoryTree, leaf, container, at}
 use Rattle.ink_model.specs.Entered.{flags_at}
 use Rattle.ink_model.specs.Flags.{counts_visits, is_once_only}
-use Rattle.ink_model.specs.Grammar.{first}
+use Rattle.ink_model.specs.Grammar.{first, story}
 use Rattle.ink_model.specs.Path.{read_path, target, landing}
 use Rattle.ink_model.specs.Places.{places}
 use Rattle.ink_model.specs.declared.content.Destination.{Destination}
@@ -108,3 +108,12 @@ bad_path p = record { cause = BadPath; place = p }
 -- a story whose paths are all good, or the first that is not
 unfoldable pub accepted : StoryTree → Result StoryTree ReadRefusal
 accepted s = first (map bad_path (bad_places s)) s
+
+-- what is asked of a story, unless there is a reason against it already
+abbrev pub and_then : (StoryTree → Result StoryTree ReadRefusal) → Result StoryTree ReadRefusal → Result StoryTree ReadRefusal
+and_then asks (Ok s) = asks s
+and_then asks (Err r) = Err r
+
+-- the story that bytes spell, where it is accepted, or the first reason against it
+unfoldable pub accepted_story : List ℕ → Result StoryTree ReadRefusal
+accepted_story bytes = and_then accepted (story bytes)

@@ -19,7 +19,6 @@ pub mod Path
 pub mod Places
 pub mod Entered
 pub mod Acceptance
-pub mod Supported
 pub mod Operator
 pub mod Joining
 pub mod Store

@@ -9,7 +9,6 @@ use Rattle.ink_model.specs.Leaves.{object_leaf, jump_readings, value_readings, s
 use Rattle.ink_model.specs.Path.{read_path, target, is_place}
 use Rattle.ink_model.specs.Place.{entered, landed, next_place}
 use Rattle.ink_model.specs.Places.{places}
-use Rattle.ink_model.specs.Supported.{unsupported}
 use Rattle.ink_model.specs.Configuration.{Configuration, with_globals, fresh_at, moved}
 use Rattle.ink_model.specs.Effect.{with_stack}
 use Rattle.ink_model.specs.Step.{step, nothing_bound, Next, Faults}
@@ -137,10 +136,6 @@ a_count_of_what_is_not_counted = refl
 a_relative_value : accepted (container None 0 (tree (leaf (leaves.Target (codes ".^"))) no_trees) no_keys) ≡ Err (bad_path (Index 0 ∷ []))
 unfolding accepted bad_places read_path target
 a_relative_value = refl
-
-the_first_unsupported : unsupported (container None 0 (tree (leaf (leaves.Choice (codes "k") 0)) (tree (leaf (leaves.External (codes "f") 0 false)) no_trees)) no_keys) ≡ (Index 1 ∷ []) ∷ []
-unfolding unsupported
-the_first_unsupported = refl
 
 -- ---- places
 

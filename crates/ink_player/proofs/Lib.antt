@@ -5,7 +5,6 @@ pub mod Reading
 pub mod Sessions
 pub mod Refusing
 pub mod Playings
-pub mod Supporting
 pub mod Spelling
 pub mod Restarts
 pub mod Paths

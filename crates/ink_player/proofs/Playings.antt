@@ -6,14 +6,15 @@ use Rattle.ink_model.specs.Bytes.{has_newline}
 use Rattle.ink_model.specs.declared.limits.TheConstants.{MAX_STORY, MAX_INPUT}
 use Rattle.ink_model.specs.Opening.{opened}
 use Rattle.ink_model.specs.State.{State}
-use Rattle.ink_model.specs.Step.{nothing_bound}
+use Rattle.ink_model.specs.Host.{Bindings}
+use Rattle.ink_model.specs.declared.host.Event.{Event}
+use Rattle.ink_host.specs.Desk.{DeskView}
 use Rattle.ink_player.specs.Buffered.{Buffered}
 use Rattle.ink_player.specs.Input.{Takes}
 use Rattle.ink_player.specs.Lines.{TakesLine, GivesLine}
 use Rattle.ink_player.specs.Playing.{IsStoryLine, PlaysOn, EndsEarly, PlayFails, PlayEnds, Plays, play_fault, OpenFails, Opens}
 use Rattle.ink_player.specs.Serving.{HasRoom, RunEnds, Runs}
 use Rattle.ink_player.specs.Words.{state_of, story_of}
-use Rattle.ink_player.specs.declared.desk.Desk.{Desk}
 use Rattle.ink_player.specs.declared.end.PlayEnd.{PlayEnd}
 use Rattle.ink_player.specs.declared.end.PlayFault.{PlayFault}
 use Rattle.ink_player.specs.declared.end.PlayFault.TheVariants as play
@@ -39,136 +40,138 @@ none_left : (l : List ℕ) → length l ≡ 0 → l ≡ []
 none_left [] e = refl
 none_left (x ∷ xs) e = let no : ⊥ = omega (arith, e) in absurd no
 
--- ---- ends before a session
-
-plays_early : (a b h : Option (List ℕ)) (o n : Buffered) (taken : List ℕ) (r : Result Desk PlayEnd) → o ≡ fresh → Takes a b o n taken → length (taken ++ n.unread) ≤ MAX_STORY + 1
-    → PlayEnds b (taken ++ n.unread) [] r → Plays a b h h r
-plays_early a b h o n taken r e t bound p = record {
-  bytes = t.got;
-  consumed = t.consumed;
-  bound = omega (arith, bound, ap length (got_is a b o n taken e t));
-  written = [];
-  appended = Appends-nil h;
-  ends = subst (λ l. PlayEnds b l [] r) (sym (got_is a b o n taken e t)) p;
-}
-
 early : (bytes : List ℕ) → length bytes ≤ MAX_STORY + 1 → EndsEarly bytes []
 early bytes bound = record { nothing = refl; bound = bound }
 
-no_story_for : (a b h : Option (List ℕ)) (o n : Buffered) (f : RunFault) (d : Desk) → o ≡ fresh → GivesLine a b o n MAX_STORY (Err f)
-    → Plays a b h h (Err (record { fault = play_fault f; desk = d }))
-no_story_for a b h o n fault.Read d e g =
-    let t = g.0.takes in
-    let bound = story_bound a b o n g.0.part g.0.part e t in
-    plays_early a b h o n g.0.part _ e t.takes bound
-    (inl (early _ bound, refl, ap (λ l. has_newline (g.0.part ++ l)) g.1 ∙ ap has_newline (append-nil g.0.part) ∙ t.plain))
-no_story_for a b h o n fault.Write d e g = absurd g
-no_story_for a b h o n fault.TooLong d e g =
-    let t = g.0.takes in
-    let bound = story_bound a b o n g.0.part g.0.part e t in
-    let long = elim g.1 as (λ _. (has_newline (g.0.part ++ n.unread) ≡ false) × (MAX_STORY < length (g.0.part ++ n.unread))) [
-      | inl more ↦
-          let all : n.unread ≡ [] = none_left n.unread (omega (arith, more, bound, length-append g.0.part n.unread)) in
-          (ap (λ l. has_newline (g.0.part ++ l)) all ∙ ap has_newline (append-nil g.0.part) ∙ t.plain, omega (arith, more, length-append g.0.part n.unread))
-      | inr q ↦
-          let no : ⊥ = omega (arith, q.0, q.1, count_is a b o n g.0.part e t.takes) in absurd no
-    ] in
-    plays_early a b h o n g.0.part _ e t.takes bound (early _ bound, inr (inr (refl, long.0, long.1)))
-no_story_for a b h o n fault.OutOfMemory d e g =
-    let none : length o.unread ≡ 0 = ap (λ z. length z.unread) e in
-    let bound : length (g.part ++ n.unread) ≤ MAX_STORY + 1 = omega (arith, g.takes.room, none, length-append g.part n.unread) in
-    let w = subst (λ m. HasRoom MAX_STORY m (g.part ++ n.unread) (g.part ++ n.unread)) (ap (λ z. z.spare) e) (has_room a b o n MAX_STORY (omega (arith, none)) g) in
-    plays_early a b h o n g.part _ e g.takes.takes bound (early _ bound, inr (inl (refl, w)))
+pub opens_as : {P F O : Type 0} (text line : List ℕ) (r : Result (Player P F O) (PlayEnd P F O)) → text ≡ line → Opens text r → Opens line r
+opens_as text line r e p = subst (λ l. Opens l r) e p
 
-pub no_story : (a b h : Option (List ℕ)) (o n : Buffered) (f : RunFault) (pf : PlayFault) (d : Desk) → o ≡ fresh → GivesLine a b o n MAX_STORY (Err f) → pf ≡ play_fault f
-    → Plays a b h h (Err (record { fault = pf; desk = d }))
-no_story a b h o n f pf d e g k =
-    subst (λ x. Plays a b h h (Err (record { fault = x; desk = d }))) (sym k) (no_story_for a b h o n f d e g)
+module _ {P F O : Type 0} (host : Bindings) where
+  -- ---- ends before a session
 
-fails_early : (left : Option (List ℕ)) (bytes line input : List ℕ) (f : PlayFault) → IsStoryLine left bytes line input → length bytes ≤ MAX_STORY + 1 → OpenFails line f → PlayFails left bytes [] f
-fails_early left bytes line input (play.Story r) l bound p = (early bytes bound, inl (line, input, l, p))
-fails_early left bytes line input (play.Start f) l bound p =
-    (early bytes bound, record { tree = p.0; story = record { line = line; input = input; story_line = l; reads = p.1 }; globals = p.2.0; why = p.2.1 })
-fails_early left bytes line input (play.Run f) l bound p = absurd p
+  plays_early : (a b h : Option (List ℕ)) (o n : Buffered) (taken : List ℕ) (r : Result (DeskView P F O) (PlayEnd P F O)) → o ≡ fresh → Takes a b o n taken → length (taken ++ n.unread) ≤ MAX_STORY + 1
+      → PlayEnds host [] b (taken ++ n.unread) [] r → Plays host [] a b h h r
+  plays_early a b h o n taken r e t bound p = record {
+    bytes = t.got;
+    consumed = t.consumed;
+    bound = omega (arith, bound, ap length (got_is a b o n taken e t));
+    written = [];
+    appended = Appends-nil h;
+    ends = subst (λ l. PlayEnds host [] b l [] r) (sym (got_is a b o n taken e t)) p;
+  }
 
--- a story that ended at its newline, or at the reader's end
-abbrev pub TakesStory : Option (List ℕ) → Option (List ℕ) → Buffered → Buffered → List ℕ → Type 0
-TakesStory a b o n line = TakesLine a b o n (MAX_STORY + 1) (line ++ 10 ∷ []) line × (length line ≤ MAX_STORY)
+  no_story_for : (a b h : Option (List ℕ)) (o n : Buffered) (f : RunFault) (d : DeskView P F O) → o ≡ fresh → GivesLine a b o n MAX_STORY (Err f)
+      → Plays host [] a b h h (Err (record { fault = play_fault f; desk = d }))
+  no_story_for a b h o n fault.Read d e g =
+      let t = g.0.takes in
+      let bound = story_bound a b o n g.0.part g.0.part e t in
+      plays_early a b h o n g.0.part _ e t.takes bound
+      (inl (early _ bound, refl, refl, ap (λ l. has_newline (g.0.part ++ l)) g.1 ∙ ap has_newline (append-nil g.0.part) ∙ t.plain))
+  no_story_for a b h o n fault.Write d e g = absurd g
+  no_story_for a b h o n fault.TooLong d e g =
+      let t = g.0.takes in
+      let bound = story_bound a b o n g.0.part g.0.part e t in
+      let long = elim g.1 as (λ _. (has_newline (g.0.part ++ n.unread) ≡ false) × (MAX_STORY < length (g.0.part ++ n.unread))) [
+        | inl more ↦
+            let all : n.unread ≡ [] = none_left n.unread (omega (arith, more, bound, length-append g.0.part n.unread)) in
+            (ap (λ l. has_newline (g.0.part ++ l)) all ∙ ap has_newline (append-nil g.0.part) ∙ t.plain, omega (arith, more, length-append g.0.part n.unread))
+        | inr q ↦
+            let no : ⊥ = omega (arith, q.0, q.1, count_is a b o n g.0.part e t.takes) in absurd no
+      ] in
+      plays_early a b h o n g.0.part _ e t.takes bound (early _ bound, refl, inr (inr (refl, long.0, long.1)))
+  no_story_for a b h o n fault.OutOfMemory d e g =
+      let none : length o.unread ≡ 0 = ap (λ z. length z.unread) e in
+      let bound : length (g.part ++ n.unread) ≤ MAX_STORY + 1 = omega (arith, g.takes.room, none, length-append g.part n.unread) in
+      let w = subst (λ m. HasRoom MAX_STORY m (g.part ++ n.unread) (g.part ++ n.unread)) (ap (λ z. z.spare) e) (has_room a b o n MAX_STORY (omega (arith, none)) g) in
+      plays_early a b h o n g.part _ e g.takes.takes bound (early _ bound, refl, inr (inl (refl, w)))
 
-abbrev pub TakesAll : Option (List ℕ) → Option (List ℕ) → Buffered → Buffered → List ℕ → Type 0
-TakesAll a b o n line = TakesLine a b o n (MAX_STORY + 1) line line × (length line ≤ MAX_STORY) × (n.unread ≡ []) × IsAtEnd b
+  pub no_story : (a b h : Option (List ℕ)) (o n : Buffered) (f : RunFault) (pf : PlayFault) (d : DeskView P F O) → o ≡ fresh → GivesLine a b o n MAX_STORY (Err f) → pf ≡ play_fault f
+      → Plays host [] a b h h (Err (record { fault = pf; desk = d }))
+  no_story a b h o n f pf d e g k =
+      subst (λ x. Plays host [] a b h h (Err (record { fault = x; desk = d }))) (sym k) (no_story_for a b h o n f d e g)
 
-pub unopened : (a b h : Option (List ℕ)) (o n : Buffered) (line : List ℕ) (x : PlayEnd) → o ≡ fresh → TakesStory a b o n line → Opens line (Err x) → Plays a b h h (Err x)
-unopened a b h o n line x e t p =
-    let bound = story_bound a b o n (line ++ 10 ∷ []) line e t.0 in
-    plays_early a b h o n (line ++ 10 ∷ []) (Err x) e t.0.takes bound
-    (fails_early b _ line n.unread x.fault (record { plain = t.0.plain; within = t.1; whole = inl (append_assoc line (10 ∷ []) n.unread) }) bound p)
+  fails_early : (left : Option (List ℕ)) (bytes line input : List ℕ) (f : PlayFault) → IsStoryLine left bytes line input → length bytes ≤ MAX_STORY + 1 → OpenFails line f → PlayFails host [] left bytes [] f
+  fails_early left bytes line input (play.Story r) l bound p = (early bytes bound, refl, inl (line, input, l, p))
+  fails_early left bytes line input (play.Start f) l bound p =
+      (early bytes bound, refl, record { tree = p.0; story = record { line = line; input = input; story_line = l; reads = p.1 }; globals = p.2.0; why = p.2.1 })
+  fails_early left bytes line input (play.Run f) l bound p = absurd p
 
-all_is : (a b : Option (List ℕ)) (o n : Buffered) (line : List ℕ) → TakesAll a b o n line → IsStoryLine b (line ++ n.unread) line []
-all_is a b o n line t = record {
-  plain = t.0.plain;
-  within = t.1;
-  whole = inr (ap (λ l. line ++ l) t.2 ∙ append-nil line, refl, t.3);
-}
+  -- a story that ended at its newline, or at the reader's end
+  abbrev pub TakesStory : Option (List ℕ) → Option (List ℕ) → Buffered → Buffered → List ℕ → Type 0
+  TakesStory a b o n line = TakesLine a b o n (MAX_STORY + 1) (line ++ 10 ∷ []) line × (length line ≤ MAX_STORY)
 
-pub unopened_last : (a b h : Option (List ℕ)) (o n : Buffered) (line : List ℕ) (x : PlayEnd) → o ≡ fresh → TakesAll a b o n line → Opens line (Err x) → Plays a b h h (Err x)
-unopened_last a b h o n line x e t p =
-    let bound = story_bound a b o n line line e t.0 in
-    plays_early a b h o n line (Err x) e t.0.takes bound (fails_early b _ line [] x.fault (all_is a b o n line t) bound p)
+  abbrev pub TakesAll : Option (List ℕ) → Option (List ℕ) → Buffered → Buffered → List ℕ → Type 0
+  TakesAll a b o n line = TakesLine a b o n (MAX_STORY + 1) line line × (length line ≤ MAX_STORY) × (n.unread ≡ []) × IsAtEnd b
 
--- ---- a session after the story
+  pub unopened : (a b h : Option (List ℕ)) (o n : Buffered) (line : List ℕ) (x : PlayEnd P F O) → o ≡ fresh → TakesStory a b o n line → Opens line (Err x) → Plays host [] a b h h (Err x)
+  unopened a b h o n line x e t p =
+      let bound = story_bound a b o n (line ++ 10 ∷ []) line e t.0 in
+      plays_early a b h o n (line ++ 10 ∷ []) (Err x) e t.0.takes bound
+      (fails_early b _ line n.unread x.fault (record { plain = t.0.plain; within = t.1; whole = inl (append_assoc line (10 ∷ []) n.unread) }) bound p)
 
--- there is nothing after it
-pub plays_last : (a b h : Option (List ℕ)) (o n : Buffered) (line : List ℕ) (p : Player) (d : Desk) → o ≡ fresh → TakesAll a b o n line → Opens line (Ok p) → Plays a b h h (Ok d)
-plays_last a b h o n line p d e t opens =
-    plays_early a b h o n line (Ok d) e t.0.takes (story_bound a b o n line line e t.0) (record {
-      tree = story_of p;
-      story = record { line = line; input = []; story_line = all_is a b o n line t; reads = opens.0 };
-      first = opens.1.0;
-      opens = opens.1.1;
-      new = opened opens.1.0;
-      ends = record { at_end = t.3; within = omega arith; each = tt; session = (refl, refl, refl) };
-    })
+  all_is : (a b : Option (List ℕ)) (o n : Buffered) (line : List ℕ) → TakesAll a b o n line → IsStoryLine b (line ++ n.unread) line []
+  all_is a b o n line t = record {
+    plain = t.0.plain;
+    within = t.1;
+    whole = inr (ap (λ l. line ++ l) t.2 ∙ append-nil line, refl, t.3);
+  }
 
-plays_from : (a b c h j : Option (List ℕ)) (o n : Buffered) (line : List ℕ) (p : Player) (new : State) (r : Result (Unit {0}) RunFault) (x : Result Desk PlayEnd)
-    → o ≡ fresh → TakesStory a b o n line → Opens line (Ok p) → Runs (story_of p) nothing_bound [] n.spare n.unread b c h j (state_of p) new r
-    → ((bytes written : List ℕ) → PlaysOn c bytes written r → PlayEnds c bytes written x) → Plays a c h j x
-plays_from a b c h j o n line p new r x e t opens q into =
-    let got = t.0.takes.got in
-    let bytes : got ++ q.bytes ≡ line ++ 10 ∷ (n.unread ++ q.bytes) =
-    ap (λ l. l ++ q.bytes) (got_is a b o n (line ++ 10 ∷ []) e t.0.takes) ∙ append_assoc (line ++ 10 ∷ []) n.unread q.bytes ∙ append_assoc line (10 ∷ []) (n.unread ++ q.bytes) in
-    let count : n.spare + (length line + 1) ≡ MAX_INPUT = omega (arith, count_is a b o n (line ++ 10 ∷ []) e t.0.takes, length-append line (10 ∷ [])) in
-    let most : n.spare ≡ MAX_INPUT - (length line + 1) = omega (arith, count) in
-    record {
-      bytes = got ++ q.bytes;
-      consumed = Consumes-trans a b c got q.bytes t.0.takes.consumed q.consumed;
-      bound = omega (arith, q.bound, count, ap length bytes, length-append line (10 ∷ (n.unread ++ q.bytes)));
-      written = q.written;
-      appended = q.appended;
-      ends = into (got ++ q.bytes) q.written (record {
+  pub unopened_last : (a b h : Option (List ℕ)) (o n : Buffered) (line : List ℕ) (x : PlayEnd P F O) → o ≡ fresh → TakesAll a b o n line → Opens line (Err x) → Plays host [] a b h h (Err x)
+  unopened_last a b h o n line x e t p =
+      let bound = story_bound a b o n line line e t.0 in
+      plays_early a b h o n line (Err x) e t.0.takes bound (fails_early b _ line [] x.fault (all_is a b o n line t) bound p)
+
+  -- ---- a session after the story
+
+  -- there is nothing after it
+  pub plays_last : (a b h : Option (List ℕ)) (o n : Buffered) (line : List ℕ) (p : Player P F O) (d : DeskView P F O) → o ≡ fresh → TakesAll a b o n line → Opens line (Ok p) → Plays host [] a b h h (Ok d)
+  plays_last a b h o n line p d e t opens =
+      plays_early a b h o n line (Ok d) e t.0.takes (story_bound a b o n line line e t.0) (record {
         tree = story_of p;
-        story = record {
-          line = line;
-          input = n.unread ++ q.bytes;
-          story_line = record { plain = t.0.plain; within = t.1; whole = inl bytes };
-          reads = opens.0;
-        };
+        story = record { line = line; input = []; story_line = all_is a b o n line t; reads = opens.0 };
         first = opens.1.0;
         opens = opens.1.1;
-        new = new;
-        ends = subst (λ m. RunEnds (story_of p) nothing_bound [] m c (n.unread ++ q.bytes) (opened opens.1.0) q.written new r) most
-            (subst (λ s. RunEnds (story_of p) nothing_bound [] n.spare c (n.unread ++ q.bytes) s q.written new r) opens.1.2 q.ends);
-      });
-    }
+        new = opened opens.1.0;
+        ends = record { at_end = t.3; within = omega arith; each = tt; session = (refl, refl, refl) };
+      })
 
-pub plays_on : (a b c h j : Option (List ℕ)) (o n : Buffered) (line : List ℕ) (p : Player) (new : State) (d : Desk)
-    → o ≡ fresh → TakesStory a b o n line → Opens line (Ok p) → Runs (story_of p) nothing_bound [] n.spare n.unread b c h j (state_of p) new (Ok tt) → Plays a c h j (Ok d)
-plays_on a b c h j o n line p new d e t opens q = plays_from a b c h j o n line p new (Ok tt) (Ok d) e t opens q (λ bytes written y. y)
+  plays_from : (a b c h j : Option (List ℕ)) (o n : Buffered) (line : List ℕ) (p : Player P F O) (es : List Event) (new : State) (r : Result (Unit {0}) RunFault) (x : Result (DeskView P F O) (PlayEnd P F O))
+      → o ≡ fresh → TakesStory a b o n line → Opens line (Ok p) → Runs (story_of p) host es n.spare n.unread b c h j (state_of p) new r
+      → ((bytes written : List ℕ) → PlaysOn host es c bytes written r → PlayEnds host es c bytes written x) → Plays host es a c h j x
+  plays_from a b c h j o n line p es new r x e t opens q into =
+      let got = t.0.takes.got in
+      let bytes : got ++ q.bytes ≡ line ++ 10 ∷ (n.unread ++ q.bytes) =
+      ap (λ l. l ++ q.bytes) (got_is a b o n (line ++ 10 ∷ []) e t.0.takes) ∙ append_assoc (line ++ 10 ∷ []) n.unread q.bytes ∙ append_assoc line (10 ∷ []) (n.unread ++ q.bytes) in
+      let count : n.spare + (length line + 1) ≡ MAX_INPUT = omega (arith, count_is a b o n (line ++ 10 ∷ []) e t.0.takes, length-append line (10 ∷ [])) in
+      let most : n.spare ≡ MAX_INPUT - (length line + 1) = omega (arith, count) in
+      record {
+        bytes = got ++ q.bytes;
+        consumed = Consumes-trans a b c got q.bytes t.0.takes.consumed q.consumed;
+        bound = omega (arith, q.bound, count, ap length bytes, length-append line (10 ∷ (n.unread ++ q.bytes)));
+        written = q.written;
+        appended = q.appended;
+        ends = into (got ++ q.bytes) q.written (record {
+          tree = story_of p;
+          story = record {
+            line = line;
+            input = n.unread ++ q.bytes;
+            story_line = record { plain = t.0.plain; within = t.1; whole = inl bytes };
+            reads = opens.0;
+          };
+          first = opens.1.0;
+          opens = opens.1.1;
+          new = new;
+          ends = subst (λ m. RunEnds (story_of p) host es m c (n.unread ++ q.bytes) (opened opens.1.0) q.written new r) most
+              (subst (λ s. RunEnds (story_of p) host es n.spare c (n.unread ++ q.bytes) s q.written new r) opens.1.2 q.ends);
+        });
+      }
 
-pub plays_short : (a b c h j : Option (List ℕ)) (o n : Buffered) (line : List ℕ) (p : Player) (new : State) (f : RunFault) (d : Desk)
-    → o ≡ fresh → TakesStory a b o n line → Opens line (Ok p) → Runs (story_of p) nothing_bound [] n.spare n.unread b c h j (state_of p) new (Err f) → Plays a c h j (Err (record { fault = play.Run f; desk = d }))
-plays_short a b c h j o n line p new f d e t opens q =
-    plays_from a b c h j o n line p new (Err f) (Err (record { fault = play.Run f; desk = d })) e t opens q (λ bytes written y. inr y)
+  pub plays_on : (a b c h j : Option (List ℕ)) (o n : Buffered) (line : List ℕ) (p : Player P F O) (es : List Event) (new : State) (d : DeskView P F O)
+      → o ≡ fresh → TakesStory a b o n line → Opens line (Ok p) → Runs (story_of p) host es n.spare n.unread b c h j (state_of p) new (Ok tt) → Plays host es a c h j (Ok d)
+  plays_on a b c h j o n line p es new d e t opens q = plays_from a b c h j o n line p es new (Ok tt) (Ok d) e t opens q (λ bytes written y. y)
 
-pub opens_as : (text line : List ℕ) (r : Result Player PlayEnd) → text ≡ line → Opens text r → Opens line r
-opens_as text line r e p = subst (λ l. Opens l r) e p
+  pub plays_short : (a b c h j : Option (List ℕ)) (o n : Buffered) (line : List ℕ) (p : Player P F O) (es : List Event) (new : State) (f : RunFault) (d : DeskView P F O)
+      → o ≡ fresh → TakesStory a b o n line → Opens line (Ok p) → Runs (story_of p) host es n.spare n.unread b c h j (state_of p) new (Err f) → Plays host es a c h j (Err (record { fault = play.Run f; desk = d }))
+  plays_short a b c h j o n line p es new f d e t opens q =
+      plays_from a b c h j o n line p es new (Err f) (Err (record { fault = play.Run f; desk = d })) e t opens q (λ bytes written y. inr y)
+

@@ -6,13 +6,13 @@ use Rattle.std.proofs.KnownBytes.{Appends-nil, Appends-trans, Consumes-trans}
 use Rattle.ink_model.specs.Answer.{Reply, Refuses, answer}
 use Rattle.ink_model.specs.Bytes.{has_newline, onto}
 use Rattle.ink_model.specs.Command.{NeedsMemory, command_of, lines_of}
-use Rattle.ink_model.specs.Run.{Made}
 use Rattle.ink_model.specs.Session.{Does, LineFails, Serves, Session}
 use Rattle.ink_model.specs.State.{State}
-use Rattle.ink_model.specs.Step.{Bound}
+use Rattle.ink_model.specs.Host.{Bindings}
 use Rattle.ink_model.specs.Tree.{StoryTree}
 use Rattle.ink_model.specs.declared.command.Command.{Command}
 use Rattle.ink_model.specs.declared.command.Command.TheVariants as command
+use Rattle.ink_model.specs.declared.host.Event.{Event}
 use Rattle.ink_model.specs.declared.fault.Refusal.TheVariants as refusal
 use Rattle.ink_player.specs.Buffered.{Buffered}
 use Rattle.ink_player.specs.Ends.{Falls}
@@ -68,11 +68,11 @@ room_more most all line input rest e p = record {
   in_input = omega (arith, p.in_input, length-append line (10 ∷ input));
 }
 
-calls_more : (first made before after : List Made) → made ≡ before ++ after → first ++ made ≡ (first ++ before) ++ after
-calls_more first made before after e = ap (λ l. first ++ l) e ∙ sym (append_assoc first before after)
+events_more : (first made before after : List Event) → made ≡ before ++ after → first ++ made ≡ (first ++ before) ++ after
+events_more first made before after e = ap (λ l. first ++ l) e ∙ sym (append_assoc first before after)
 
-module _ (s : StoryTree) (host : Bound) (first : List Made) (line input : List ℕ) (old mid : State) (reply : Reply) (is : IsLine line) (serves : Serves s host first line old reply mid) where
-  abbrev front_more : (made : List Made) (written : List ℕ) (new : State) → ServesFront s host made input mid written new → ServesFront s host (first ++ made) (line ++ 10 ∷ input) old (answer reply ++ written) new
+module _ (s : StoryTree) (host : Bindings) (first : List Event) (line input : List ℕ) (old mid : State) (reply : Reply) (is : IsLine line) (serves : Serves s host first line old reply mid) where
+  abbrev front_more : (made : List Event) (written : List ℕ) (new : State) → ServesFront s host made input mid written new → ServesFront s host (first ++ made) (line ++ 10 ∷ input) old (answer reply ++ written) new
   front_more made written new p = record {
     lines = line ∷ p.lines;
     rest = p.rest;
@@ -80,7 +80,7 @@ module _ (s : StoryTree) (host : Bound) (first : List Made) (line input : List �
     session = (reply, mid, written, first, made, refl, serves, refl, p.session);
   }
 
-  module _ (made : List Made) (most all : ℕ) (left : Option (List ℕ)) (written : List ℕ) (new : State) (e : most + (length line + 1) ≡ all) where
+  module _ (made : List Event) (most all : ℕ) (left : Option (List ℕ)) (written : List ℕ) (new : State) (e : most + (length line + 1) ≡ all) where
     ends_more : (r : Result (Unit {0}) RunFault) → RunEnds s host made most left input mid written new r → RunEnds s host (first ++ made) all left (line ++ 10 ∷ input) old (answer reply ++ written) new r
     ends_more (Ok x) p = record {
       at_end = p.at_end;
@@ -93,7 +93,7 @@ module _ (s : StoryTree) (host : Bound) (first : List Made) (line input : List �
     ends_more (Err fault.Write) p = record {
       before = first ++ p.before;
       after = p.after;
-      calls = calls_more first made p.before p.after p.calls;
+      events = events_more first made p.before p.after p.events;
       mid = p.mid;
       answers = answer reply ++ p.answers;
       served = front_more p.before p.answers p.mid p.served;
@@ -112,13 +112,13 @@ module _ (s : StoryTree) (host : Bound) (first : List Made) (line input : List �
     ends_more (Err fault.OutOfMemory) p = record {
       before = first ++ p.before;
       after = p.after;
-      calls = calls_more first made p.before p.after p.calls;
+      events = events_more first made p.before p.after p.events;
       mid = p.mid;
       served = front_more p.before written p.mid p.served;
       next = elim p.next [ inl q ↦ inl (room_more most all line input p.served.rest e q.0, q.1, q.2) | inr q ↦ inr q ];
     }
 
-pub runs_more : (s t : StoryTree) (host : Bound) (first made : List Made) (a b c h i j : Option (List ℕ)) (o m : Buffered) (old mid new : State) (r : Result (Unit {0}) RunFault)
+pub runs_more : (s t : StoryTree) (host : Bindings) (first made : List Event) (a b c h i j : Option (List ℕ)) (o m : Buffered) (old mid new : State) (r : Result (Unit {0}) RunFault)
     → ServesLine s host first a b h i o m old mid → t ≡ s → Runs t host made m.spare m.unread b c i j mid new r → Runs s host (first ++ made) o.spare o.unread a c h j old new r
 runs_more s t host first made a b c h i j o m old mid new r l e p =
     let q = subst (λ x. Runs x host made m.spare m.unread b c i j mid new r) e p in
@@ -137,7 +137,7 @@ runs_more s t host first made a b c h i j o m old mid new r l e p =
 
 -- ---- ends
 
-abbrev none_served : (s : StoryTree) (host : Bound) (input : List ℕ) (old : State) → ServesFront s host [] input old [] old
+abbrev none_served : (s : StoryTree) (host : Bindings) (input : List ℕ) (old : State) → ServesFront s host [] input old [] old
 none_served s host input old = record { lines = []; rest = input; splits = record { whole = refl; each = tt }; session = (refl, refl, refl) }
 
 -- the last line, which ends at the reader's end
@@ -147,9 +147,9 @@ TakesLast a b o n line = TakesLine a b o n (MAX_LINE + 1) line line × (length l
 all_taken : (line unread : List ℕ) → unread ≡ [] → line ++ unread ≡ line
 all_taken line unread e = ap (λ l. line ++ l) e ∙ append-nil line
 
-module _ (s : StoryTree) (host : Bound) (a b h : Option (List ℕ)) (o n : Buffered) (bound : length n.unread ≤ n.spare + 1) (old : State) where
+module _ (s : StoryTree) (host : Bindings) (a b h : Option (List ℕ)) (o n : Buffered) (bound : length n.unread ≤ n.spare + 1) (old : State) where
   -- what was taken and what is left of what was read is the input
-  runs_of : (made : List Made) (i : Option (List ℕ)) (taken written : List ℕ) (new : State) (r : Result (Unit {0}) RunFault)
+  runs_of : (made : List Event) (i : Option (List ℕ)) (taken written : List ℕ) (new : State) (r : Result (Unit {0}) RunFault)
       → Takes a b o n taken → Appends h i written → RunEnds s host made o.spare b (taken ++ n.unread) old written new r → Runs s host made o.spare o.unread a b h i old new r
   runs_of made i taken written new r t w p = record {
     bytes = t.got;
@@ -183,7 +183,7 @@ module _ (s : StoryTree) (host : Bound) (a b h : Option (List ℕ)) (o n : Buffe
       ends_at g.part (Err fault.OutOfMemory) g.takes.takes (record {
         before = [];
         after = [];
-        calls = refl;
+        events = refl;
         mid = old;
         served = none_served s host _ old;
         next = inl (has_room a b o n MAX_LINE (omega arith) g, refl, refl);
@@ -199,7 +199,7 @@ module _ (s : StoryTree) (host : Bound) (a b h : Option (List ℕ)) (o n : Buffe
         session = subst (λ ls. Session s host [] ls old [] old) (sym lines) (refl, refl, refl);
       })
 
-  module _ (made : List Made) (i : Option (List ℕ)) (line : List ℕ) (new : State) where
+  module _ (made : List Event) (i : Option (List ℕ)) (line : List ℕ) (new : State) where
     -- a line was taken, and its answer not written
     unserved : (taken : List ℕ) (f : RunFault) → Takes a b o n taken → IsLine line → IsFirst b (taken ++ n.unread) line → Answers s host made line h i old new (Err f)
         → Runs s host made o.spare o.unread a b h i old new (Err f)
@@ -208,7 +208,7 @@ module _ (s : StoryTree) (host : Bound) (a b h : Option (List ℕ)) (o n : Buffe
         runs_of made i taken p.falls.part new (Err fault.Write) t p.falls.appended (record {
           before = [];
           after = made;
-          calls = refl;
+          events = refl;
           mid = old;
           answers = [];
           served = none_served s host _ old;
@@ -225,7 +225,7 @@ module _ (s : StoryTree) (host : Bound) (a b h : Option (List ℕ)) (o n : Buffe
         runs_of made i taken [] new (Err fault.OutOfMemory) t p.appended (record {
           before = [];
           after = made;
-          calls = refl;
+          events = refl;
           mid = old;
           served = none_served s host _ old;
           next = inr (p.reply, record { line = line; is_line = l; first = first; serves = p.serves });
@@ -256,7 +256,7 @@ module _ (s : StoryTree) (host : Bound) (a b h : Option (List ℕ)) (o n : Buffe
 
 -- ---- one line's answer
 
-module _ (s : StoryTree) (host : Bound) (made : List Made) where
+module _ (s : StoryTree) (host : Bindings) (made : List Event) where
   pub serves_by : (line : List ℕ) (k : Option Command) (old : State) (reply : Reply) (new : State) → k ≡ command_of line → Does s host made k old reply new → Serves s host made line old reply new
   unfolding Serves
   serves_by line k old reply new e p = inl (subst (λ x. Does s host made x old reply new) e p)
@@ -266,7 +266,7 @@ module _ (s : StoryTree) (host : Bound) (made : List Made) where
   answers_as text line h i old new r e p = subst (λ l. Answers s host made l h i old new r) e p
 
 -- memory was refused for reading the path
-path_unread : (s : StoryTree) (host : Bound) (line : List ℕ) (k : Option Command) (old : State) (reply : Reply) (new : State) → k ≡ command_of line → PathFails k old reply new → Serves s host [] line old reply new
+path_unread : (s : StoryTree) (host : Bindings) (line : List ℕ) (k : Option Command) (old : State) (reply : Reply) (new : State) → k ≡ command_of line → PathFails k old reply new → Serves s host [] line old reply new
 unfolding Serves
 path_unread s host line (Some (command.Visits path)) old reply new e p = inr (refl, subst (λ x. LineFails x old reply new) e (tt, p.1))
 path_unread s host line (Some (command.Jump path)) old reply new e p = inr (refl, subst (λ x. LineFails x old reply new) e (tt, p.1))
@@ -277,21 +277,22 @@ path_unread s host line (Some (command.Get name)) old reply new e p = absurd p
 path_unread s host line (Some (command.Choose number)) old reply new e p = absurd p
 path_unread s host line (Some command.Restart) old reply new e p = absurd p
 
-pub serves_command : (s : StoryTree) (host : Bound) (line : List ℕ) (k : Option Command) (old : State) (reply : Reply) (new : State) → k ≡ command_of line
-    → Does s host [] k old reply new ⊎ PathFails k old reply new → Serves s host [] line old reply new
-serves_command s host line k old reply new e (inl p) = serves_by s host [] line k old reply new e p
-serves_command s host line k old reply new e (inr p) = path_unread s host line k old reply new e p
+pub serves_command : (s : StoryTree) (host : Bindings) (line : List ℕ) (k : Option Command) (old : State) (reply : Reply) (new : State) → k ≡ command_of line
+    → (es : List Event) → Does s host es k old reply new ⊎ ((es ≡ []) × PathFails k old reply new) → Serves s host es line old reply new
+serves_command s host line k old reply new e es (inl p) = serves_by s host es line k old reply new e p
+serves_command s host line k old reply new e es (inr p) =
+    subst (λ x. Serves s host x line old reply new) (sym p.0) (path_unread s host line k old reply new e p.1)
 
 -- memory was refused for reading the line
-pub serves_unread : (s : StoryTree) (host : Bound) (line : List ℕ) (st : State) → NeedsMemory (command_of line) → Serves s host [] line st (Refuses refusal.OutOfMemory) st
+pub serves_unread : (s : StoryTree) (host : Bindings) (line : List ℕ) (st : State) → NeedsMemory (command_of line) → Serves s host [] line st (Refuses refusal.OutOfMemory) st
 unfolding Serves
 serves_unread s host line st h = inr (refl, (h, (refl, refl)))
 
 -- the text of a reply's answer is written, or a front of it
-pub answered_by : (s : StoryTree) (host : Bound) (line : List ℕ) (h i : Option (List ℕ)) (old new : State) (r : Result (Unit {0}) RunFault) (reply : Reply) (text : List ℕ)
-    → Serves s host [] line old reply new → text ≡ answer reply → WritesText h i text r → Answers s host [] line h i old new r
-answered_by s host line h i old new (Ok x) reply text p e w = record { reply = reply; serves = p; appended = subst (Appends h i) e w }
-answered_by s host line h i old new (Err fault.Read) reply text p e w = absurd w
-answered_by s host line h i old new (Err fault.Write) reply text p e w = record { reply = reply; serves = p; falls = subst (Falls h i) e w }
-answered_by s host line h i old new (Err fault.TooLong) reply text p e w = absurd w
-answered_by s host line h i old new (Err fault.OutOfMemory) reply text p e w = absurd w
+pub answered_by : (s : StoryTree) (host : Bindings) (es : List Event) (line : List ℕ) (h i : Option (List ℕ)) (old new : State) (r : Result (Unit {0}) RunFault) (reply : Reply) (text : List ℕ)
+    → Serves s host es line old reply new → text ≡ answer reply → WritesText h i text r → Answers s host es line h i old new r
+answered_by s host es line h i old new (Ok x) reply text p e w = record { reply = reply; serves = p; appended = subst (Appends h i) e w }
+answered_by s host es line h i old new (Err fault.Read) reply text p e w = absurd w
+answered_by s host es line h i old new (Err fault.Write) reply text p e w = record { reply = reply; serves = p; falls = subst (Falls h i) e w }
+answered_by s host es line h i old new (Err fault.TooLong) reply text p e w = absurd w
+answered_by s host es line h i old new (Err fault.OutOfMemory) reply text p e w = absurd w

@@ -2,7 +2,7 @@
 use Rattle.std.specs.Prelude.{◌≡◌, ◌<◌, ℕ, List, ◌++◌, length, Bool, true, false, ◌==◌, ◌&&◌, ◌||◌, Option, Result, Ok, Err}
 use Rattle.std.specs.Io.KnownBytes.{Appends}
 use Rattle.ink_model.specs.Bytes.{is_filled}
-use Rattle.ink_player.specs.declared.desk.Desk.{Desk}
+use Rattle.ink_host.specs.Desk.{DeskView}
 use Rattle.ink_player.specs.declared.end.PlayEnd.{PlayEnd}
 use Rattle.ink_player.specs.declared.end.PlayFault.{PlayFault}
 use Rattle.ink_player.specs.declared.end.PlayFault.TheVariants as play
@@ -53,10 +53,10 @@ abbrev pub in_run : (RunFault → Bool) → PlayFault → Bool
 in_run test (play.Run f) = test f
 in_run test f = false
 
-abbrev pub play_reads_fail : Result Desk PlayEnd → Bool
+abbrev pub play_reads_fail : {P F O : Type 0} → Result (DeskView P F O) (PlayEnd P F O) → Bool
 play_reads_fail (Ok desk) = false
 play_reads_fail (Err e) = in_run is_read e.fault
 
-abbrev pub play_writes_fail : Result Desk PlayEnd → Bool
+abbrev pub play_writes_fail : {P F O : Type 0} → Result (DeskView P F O) (PlayEnd P F O) → Bool
 play_writes_fail (Ok desk) = false
 play_writes_fail (Err e) = in_run is_write e.fault

@@ -7,9 +7,11 @@ use Rattle.ink_model.specs.Grammar.{here}
 use Rattle.ink_model.specs.declared.limits.TheConstants.{MAX_STORY, MAX_INPUT}
 use Rattle.ink_model.specs.Configuration.{Configuration}
 use Rattle.ink_model.specs.Opening.{opening, opened}
-use Rattle.ink_model.specs.Supported.{supported_story}
+use Rattle.ink_model.specs.Acceptance.{accepted_story}
 use Rattle.ink_model.specs.State.{State}
-use Rattle.ink_model.specs.Step.{nothing_bound}
+use Rattle.ink_model.specs.Host.{Bindings}
+use Rattle.ink_model.specs.declared.host.Event.{Event}
+use Rattle.ink_host.specs.Desk.{DeskView}
 use Rattle.ink_model.specs.Store.{Values}
 use Rattle.ink_model.specs.Tree.{StoryTree}
 use Rattle.ink_model.specs.declared.fault.Cause.TheVariants as cause
@@ -17,8 +19,7 @@ use Rattle.ink_model.specs.declared.fault.Fault.{Fault}
 use Rattle.ink_model.specs.declared.fault.ReadRefusal.{ReadRefusal}
 use Rattle.ink_player.specs.Serving.{HasRoom, RunEnds}
 use Rattle.ink_step.specs.Steps.{FailsToOpen}
-use Rattle.ink_player.specs.Words.{desk_of, state_of, story_of}
-use Rattle.ink_player.specs.declared.desk.Desk.{Desk}
+use Rattle.ink_player.specs.Words.{anew, desk_of, state_of, story_of}
 use Rattle.ink_player.specs.declared.end.PlayEnd.{PlayEnd}
 use Rattle.ink_player.specs.declared.end.PlayFault.{PlayFault}
 use Rattle.ink_player.specs.declared.end.PlayFault.TheVariants as play
@@ -33,31 +34,31 @@ pub record IsStoryLine (left : Option (List ℕ)) (bytes line input : List ℕ) 
   pub within : length line ≤ MAX_STORY
   pub whole : (bytes ≡ line ++ 10 ∷ input) ⊎ ((bytes ≡ line) × (input ≡ []) × IsAtEnd left)
 
--- the story line spells this story, which is supported
+-- the story line spells this story
 pub record BringsStory (left : Option (List ℕ)) (bytes : List ℕ) (tree : StoryTree) : Type 0 where
   pub line : List ℕ
   pub input : List ℕ
   pub story_line : IsStoryLine left bytes line input
-  pub reads : supported_story line ≡ Ok tree
+  pub reads : accepted_story line ≡ Ok tree
 
 -- The story was opened, and the lines behind it were served to the reader's end or to what ended the session. The input's
 -- limit counts the story and its newline.
-pub record PlaysOn (left : Option (List ℕ)) (bytes written : List ℕ) (result : Result (Unit {0}) RunFault) : Type 0 where
+pub record PlaysOn (h : Bindings) (es : List Event) (left : Option (List ℕ)) (bytes written : List ℕ) (result : Result (Unit {0}) RunFault) : Type 0 where
   pub tree : StoryTree
   pub story : BringsStory left bytes tree
   pub first : Configuration
   pub opens : opening tree ≡ Ok first
   pub new : State
-  pub ends : RunEnds tree nothing_bound [] (MAX_INPUT - (length story.line + 1)) left story.input (opened first) written new result
+  pub ends : RunEnds tree h es (MAX_INPUT - (length story.line + 1)) left story.input (opened first) written new result
 
 -- the story ended what came: nothing was written, and no more was read than tells that a story is over its limit
 pub record EndsEarly (bytes written : List ℕ) : Type 0 where
   pub nothing : written ≡ []
   pub bound : length bytes ≤ MAX_STORY + 1
 
--- the story is not one that is supported; or memory was refused, where it is parsed
+-- the story is not accepted; or memory was refused, where it is parsed
 abbrev pub IsRefused : List ℕ → ReadRefusal → Type 0
-IsRefused line r = ((r ≡ here cause.OutOfMemory) × (is_parsed line ≡ true)) ⊎ (supported_story line ≡ Err r)
+IsRefused line r = ((r ≡ here cause.OutOfMemory) × (is_parsed line ≡ true)) ⊎ (accepted_story line ≡ Err r)
 
 -- The story was refused. Where it is over its limit, it is refused for that; and where memory was refused for a byte of it, for
 -- that.
@@ -73,23 +74,23 @@ pub record IsUnopened (left : Option (List ℕ)) (bytes : List ℕ) (f : Fault) 
   pub globals : Values
   pub why : FailsToOpen tree f globals
 
-abbrev pub PlayFails : Option (List ℕ) → List ℕ → List ℕ → PlayFault → Type 0
-PlayFails left bytes written (play.Story r) = EndsEarly bytes written × IsStoryRefused left bytes r
-PlayFails left bytes written (play.Start f) = EndsEarly bytes written × IsUnopened left bytes f
-PlayFails left bytes written (play.Run f) = (EndsEarly bytes written × (f ≡ fault.Read) × (has_newline bytes ≡ false)) ⊎ PlaysOn left bytes written (Err f)
+abbrev pub PlayFails : Bindings → List Event → Option (List ℕ) → List ℕ → List ℕ → PlayFault → Type 0
+PlayFails h es left bytes written (play.Story r) = EndsEarly bytes written × (es ≡ []) × IsStoryRefused left bytes r
+PlayFails h es left bytes written (play.Start f) = EndsEarly bytes written × (es ≡ []) × IsUnopened left bytes f
+PlayFails h es left bytes written (play.Run f) = (EndsEarly bytes written × (es ≡ []) × (f ≡ fault.Read) × (has_newline bytes ≡ false)) ⊎ PlaysOn h es left bytes written (Err f)
 
-abbrev pub PlayEnds : Option (List ℕ) → List ℕ → List ℕ → Result Desk PlayEnd → Type 0
-PlayEnds left bytes written (Ok desk) = PlaysOn left bytes written (Ok tt)
-PlayEnds left bytes written (Err e) = PlayFails left bytes written e.fault
+abbrev pub PlayEnds : {P F O : Type 0} → Bindings → List Event → Option (List ℕ) → List ℕ → List ℕ → Result (DeskView P F O) (PlayEnd P F O) → Type 0
+PlayEnds h es left bytes written (Ok desk) = PlaysOn h es left bytes written (Ok tt)
+PlayEnds h es left bytes written (Err e) = PlayFails h es left bytes written e.fault
 
 -- Which bytes were read, not more than one beyond those that an input may have, what was written, and how it ended.
-pub record Plays (left left' held held' : Option (List ℕ)) (result : Result Desk PlayEnd) : Type 0 where
+pub record Plays {P F O : Type 0} (h : Bindings) (es : List Event) (left left' held held' : Option (List ℕ)) (result : Result (DeskView P F O) (PlayEnd P F O)) : Type 0 where
   pub bytes : List ℕ
   pub consumed : Consumes left left' bytes
   pub bound : length bytes ≤ MAX_INPUT + 1
   pub written : List ℕ
   pub appended : Appends held held' written
-  pub ends : PlayEnds left' bytes written result
+  pub ends : PlayEnds h es left' bytes written result
 
 -- ---- parts of it
 
@@ -102,20 +103,21 @@ play_fault fault.OutOfMemory = play.Story (here cause.OutOfMemory)
 
 abbrev pub OpenFails : List ℕ → PlayFault → Type 0
 OpenFails line (play.Story r) = IsRefused line r
-OpenFails line (play.Start f) = (tree : StoryTree) × (supported_story line ≡ Ok tree) × ((globals : Values) × FailsToOpen tree f globals)
+OpenFails line (play.Start f) = (tree : StoryTree) × (accepted_story line ≡ Ok tree) × ((globals : Values) × FailsToOpen tree f globals)
 OpenFails line (play.Run f) = ⊥
 
-abbrev pub Opens : List ℕ → Result Player PlayEnd → Type 0
-Opens line (Ok p) = (supported_story line ≡ Ok (story_of p)) × ((c : Configuration) × (opening (story_of p) ≡ Ok c) × (state_of p ≡ opened c))
-Opens line (Err e) = OpenFails line e.fault
+module _ {P F O : Type 0} where
+  abbrev pub Opens : List ℕ → Result (Player P F O) (PlayEnd P F O) → Type 0
+  Opens line (Ok p) = (accepted_story line ≡ Ok (story_of p)) × ((c : Configuration) × (opening (story_of p) ≡ Ok c) × (state_of p ≡ opened c))
+  Opens line (Err e) = OpenFails line e.fault
 
--- ---- the desk that is handed back
+  -- ---- the desk that is handed back
 
-abbrev pub desk_left : Result Desk PlayEnd → Desk
-desk_left (Ok desk) = desk
-desk_left (Err e) = e.desk
+  abbrev pub desk_left : Result (DeskView P F O) (PlayEnd P F O) → DeskView P F O
+  desk_left (Ok desk) = desk
+  desk_left (Err e) = e.desk
 
--- the player has it, or it is handed back
-abbrev pub opened_desk : Result Player PlayEnd → Desk
-opened_desk (Ok p) = desk_of p
-opened_desk (Err e) = e.desk
+  -- the player has it, with no event and the first stamp; or it is handed back as it was
+  abbrev pub OpensDesk : DeskView P F O → Result (Player P F O) (PlayEnd P F O) → Type 0
+  OpensDesk desk (Ok p) = desk_of p ≡ anew desk
+  OpensDesk desk (Err e) = e.desk ≡ desk

@@ -1,6 +1,6 @@
 //! How sessions end before their reader does.
 
-use crate::desk::Desk;
+use ink_host::Desk;
 use ink_model::{Fault, ReadRefusal};
 
 /// Why a session ended before its reader did. What was answered before stands.
@@ -33,7 +33,7 @@ pub enum PlayFault {
 }
 
 /// A story that was not played to its reader's end: why, and the desk.
-pub struct PlayEnd {
+pub struct PlayEnd<P, F, O> {
     pub fault: PlayFault,
-    pub desk: Desk,
+    pub desk: Desk<P, F, O>,
 }

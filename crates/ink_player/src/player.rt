@@ -1,70 +1,78 @@
 //! The player.
 
-ghost use Rattle.std.specs.Prelude.{◌≡◌, [], Some, IfOk, IfErr, Ok};
+ghost use Rattle.std.specs.Prelude.{◌≡◌, List, [], Ok, Err, IfOk, IfErr, IfSome, OnOk, OnErr};
+ghost use Rattle.ink_host.specs.Desk.{Resting, at, put, without};
 ghost use Rattle.ink_model.specs.Answer.{Breaks, reply_of, reply_of_events, reply_of_halt, reply_of_landing, reply_of_value, reply_of_visits};
 ghost use Rattle.ink_model.specs.Configuration.{Configuration};
+ghost use Rattle.ink_model.specs.Host as host;
 ghost use Rattle.ink_model.specs.Opening.{opening, opened};
-ghost use Rattle.ink_model.specs.Supported.{unsupported};
 ghost use Rattle.ink_model.specs.Session.{Through, Set, Get, Restart, settable};
-ghost use Rattle.ink_model.specs.Host as rules;
 ghost use Rattle.ink_model.specs.State.{is_running, fault_in};
-ghost use Rattle.ink_model.specs.Step.{nothing_bound};
 ghost use Rattle.ink_model.specs.Turns.{Choose, ShowsChoices};
+ghost use Rattle.ink_model.specs.declared.host.Event.{Event as Happening};
+ghost use Rattle.ink_player.specs.Words.{Dealt, Idle, anew, bindings, desk_of, state_of, story_of};
 
-use crate::desk::Desk;
 use crate::path::landing_by;
 use crate::visits::visits_by;
 use ink_check::Story;
-use ink_model::{Event, Fault, Given, Halt, MAX_TEXT, Passage, Refusal, Seq, Shown, Value};
-use ink_step::{Machine, Unopened};
-use std::alloc::Global;
+use ink_host::{Bound, Change, Desk, PureFn, TellFault, TurnFn, Watcher};
+use ink_model::{Event, Fault, Given, Halt, MAX_TEXT, Passage, Refusal, Seq, Shown, Text, Value};
+use ink_step::{Machine, Unopened, told_between};
+use ink_value::same_value;
+use std::alloc::{AllocError, Global};
 
 /// A story that runs: where it stands, and the desk of the host's objects.
-pub struct Player {
+pub struct Player<P, F, O> {
     pub(crate) story: Story,
-    pub(crate) desk: Desk,
+    pub(crate) desk: Desk<P, F, O>,
     pub(crate) machine: Machine,
     pub(crate) broken: Option<Fault>,
-    pub(crate) stamp: u64,
     pub(crate) alloc: Global,
 }
 
 /// A story that could not be opened. Story and desk are handed back.
-pub struct OpenFault {
+pub struct OpenFault<P, F, O> {
     pub fault: Fault,
     pub story: Story,
-    pub desk: Desk,
+    pub desk: Desk<P, F, O>,
 }
 
-impl Player {
+impl<P: PureFn, F: TurnFn, O: Watcher> Player<P, F, O> {
     ghost use Rattle.ink_check.specs.Words.{story_tree};
     ghost use Rattle.ink_model.specs.Store.{Values};
     ghost use Rattle.ink_step.specs.Steps.{FailsToOpen};
     ghost use Rattle.ink_player.specs.Paths.{JumpsTo};
     ghost use Rattle.ink_player.specs.Visits.{TellsVisits};
-    ghost use Rattle.ink_player.specs.Words.{desk_of, state_of, story_of};
 
-    /// Opens a story at its start, with the globals that it declares (docs/RUNNING.md, "Opening"). All of its content is
-    /// supported, as `runnable` finds out. The fault is that of the declarations, or `OutOfMemory` where they run to a step that
-    /// asks for memory; story and desk are handed back with it.
-    pub fn open(alloc: Global, story: Story, desk: Desk) -> Result<Player, OpenFault>
-        requires supported { unsupported (story_tree story) ≡ [] }
+    /// Opens a story at its start, with the globals that it declares (docs/RUNNING.md, "Opening"). No object is
+    /// called or told; events that are left on the desk go, and stamps begin at 0. The fault is that of the declarations, or
+    /// `OutOfMemory` where they run to a step that asks for memory; story and desk are handed back with it as they were.
+    pub fn open(
+        alloc: Global,
+        story: Story,
+        desk: Desk<P, F, O>,
+    ) -> Result<Player<P, F, O>, OpenFault<P, F, O>>
+        requires rest { Resting O.at_rest desk.watchers }
         ensures story { IfOk result (λ p. story_of p ≡ story_tree story) }
         ensures state { IfOk result (λ p. (c : Configuration) × (opening (story_tree story) ≡ Ok c) × (state_of p ≡ opened c)) }
-        ensures desk { IfOk result (λ p. desk_of p ≡ desk) }
+        ensures desk { IfOk result (λ p. desk_of p ≡ anew desk) }
+        ensures idle { IfOk result (λ p. Idle O.at_rest (desk_of p)) }
         ensures fault { IfErr result (λ e. (globals : Values) × FailsToOpen (story_tree story) e.fault globals) }
         ensures kept_story { IfErr result (λ e. e.story ≡ story) }
         ensures kept_desk { IfErr result (λ e. e.desk ≡ desk) }
     {
         match Machine::open(alloc, &story) {
-            Ok(machine) => Ok(Player {
-                story,
-                desk,
-                machine,
-                broken: None,
-                stamp: 0,
-                alloc,
-            }),
+            Ok(machine) => {
+                let mut desk = desk;
+                desk.start_anew();
+                Ok(Player {
+                    story,
+                    desk,
+                    machine,
+                    broken: None,
+                    alloc,
+                })
+            }
             Err(Unopened { fault, globals: _ }) => Err(OpenFault { fault, story, desk }),
         }
     }
@@ -78,11 +86,15 @@ impl Player {
 
     /// Runs to the stop, and answers the passage. Refused with `Broken` after a fault, and with `CannotContinue` where flow has
     /// stopped; nothing has changed then. A fault breaks the player: that of the step that faulted, `OutOfSteps` after 1,000,000
-    /// steps, and `OutOfMemory` where memory was refused to a step or to the passage.
+    /// steps, and `OutOfMemory` where memory was refused to a step, to the passage, or to a watcher that is told: then the run
+    /// stands, and all others are told. What happened with the objects of the host is among the answer's events, also after a
+    /// fault, which tells no watcher (docs/HOST.md).
     pub fn through(&mut self) -> Result<Passage, Halt>
-        ensures does { Through (story_of self.old) nothing_bound [] (state_of self.old) (reply_of result) (state_of self.new) }
+        requires idle { Idle O.at_rest (desk_of self.old) }
+        ensures does { (es : List Happening) × Through (story_of self.old) (bindings P.meaning (desk_of self.old)) es (state_of self.old) (reply_of result) (state_of self.new)
+            × Dealt F.log O.log (desk_of self.old) es (desk_of self.new) }
+        ensures idle { Idle O.at_rest (desk_of self.new) }
         ensures story { story_of self.new ≡ story_of self.old }
-        ensures desk { desk_of self.new ≡ desk_of self.old }
     {
         if let Some(fault) = self.broken {
             return Err(Halt::Refused(Refusal::Broken(fault)));
@@ -90,30 +102,66 @@ impl Player {
         if !self.machine.can_go_on() {
             return Err(Halt::Refused(Refusal::CannotContinue));
         }
-        match self.machine.through(&self.story) {
-            Ok(passage) => Ok(passage),
-            Err(fault) => Err(self.break_by(fault)),
+        let passage = match self.machine.through(&self.story, &mut self.desk) {
+            Ok(passage) => passage,
+            Err(fault) => return Err(self.break_by(fault)),
+        };
+        match self.tell() {
+            Ok(()) => Ok(self.with_events(passage)),
+            Err(_) => Err(self.break_by(Fault::OutOfMemory)),
         }
     }
 
-    /// A fault breaks the player.
+    /// Tells the watchers what has changed since the running command began.
+    fn tell(&mut self) -> Result<(), TellFault> {
+        let Ok(changes) = self.machine.told(&self.desk) else {
+            return Err(TellFault::NoRoom);
+        };
+        self.desk.tell(changes.as_slice())
+    }
+
+    /// A passage with what happened on the way to it.
+    fn with_events(&mut self, passage: Passage) -> Passage {
+        let Passage {
+            text,
+            tags,
+            choices,
+            events: _,
+            more,
+            loose,
+        } = passage;
+        Passage {
+            text,
+            tags,
+            choices,
+            events: self.desk.take_events(),
+            more,
+            loose,
+        }
+    }
+
+    /// A fault breaks the player; the events so far are told with it.
     fn break_by(&mut self, fault: Fault) -> Halt
-        ensures reply { reply_of_halt result ≡ Breaks fault [] }
-        ensures player { self.new ≡ record self.old { broken = Some fault } }
+        ensures reply { reply_of_halt result ≡ Breaks fault (desk_of self.old).events }
+        ensures player { self.new ≡ record self.old { broken = Some fault; desk = record (desk_of self.old) { events = [] } } }
     {
         self.broken = Some(fault);
         Halt::Fault {
             fault,
-            events: Seq::new(self.alloc),
+            events: self.desk.take_events(),
         }
     }
 
-    /// Gives a global a value. Refused with `Broken` after a fault, with `BadValue` for void and for a text over its limit,
-    /// and with `NoSuchVariable` where there is no such global; nothing has changed then. Takes no memory.
+    /// Gives a global a value, and tells its watcher where that is another one (docs/HOST.md, "Telling"). Refused with `Broken`
+    /// after a fault, with `BadValue` for void and for a text over its limit, with `NoSuchVariable` where there is no such global,
+    /// and with `OutOfMemory` where memory for telling was refused; nothing has changed then. Where the watcher finds no memory
+    /// the global has its value, and the player is broken by the fault `OutOfMemory`.
     pub fn set(&mut self, name: &str, value: Given) -> Result<Seq<Event>, Halt>
-        ensures does { Set name.now (Some value) (state_of self.old) (reply_of_events result) (state_of self.new) }
+        requires idle { Idle O.at_rest (desk_of self.old) }
+        ensures does { (es : List Happening) × Set (bindings P.meaning (desk_of self.old)) es name.now (Some value) (state_of self.old) (reply_of_events result) (state_of self.new)
+            × Dealt F.log O.log (desk_of self.old) es (desk_of self.new) }
+        ensures idle { Idle O.at_rest (desk_of self.new) }
         ensures story { story_of self.new ≡ story_of self.old }
-        ensures desk { desk_of self.new ≡ desk_of self.old }
     {
         if let Some(cause) = self.broken {
             return Err(Halt::Refused(Refusal::Broken(cause)));
@@ -121,10 +169,30 @@ impl Player {
         if !is_settable(&value) {
             return Err(Halt::Refused(Refusal::BadValue));
         }
-        match self.machine.set(name, value_given(value)) {
-            Ok(()) => Ok(Seq::new(self.alloc)),
-            Err(_) => Err(Halt::Refused(Refusal::NoSuchVariable)),
+        let value = value_given(value);
+        let Some(before) = self.machine.globals().get(name) else {
+            return Err(Halt::Refused(Refusal::NoSuchVariable));
+        };
+        if !self.desk.watches(name) || same_value(before, &value) {
+            return Ok(self.store(name, value));
         }
+        let Ok(changes) = one_change(self.alloc, name, &value) else {
+            return Err(Halt::Refused(Refusal::OutOfMemory));
+        };
+        match self.desk.tell(changes.as_slice()) {
+            Ok(()) => Ok(self.store(name, value)),
+            Err(TellFault::NoRoom) => Err(Halt::Refused(Refusal::OutOfMemory)),
+            Err(TellFault::Watcher) => {
+                let _stored = self.machine.set(name, value);
+                Err(self.break_by(Fault::OutOfMemory))
+            }
+        }
+    }
+
+    /// Gives a global that is there a value, and hands out the events so far.
+    fn store(&mut self, name: &str, value: Value) -> Seq<Event> {
+        let _stored = self.machine.set(name, value);
+        self.desk.take_events()
     }
 
     /// A global's value; of a broken player as it stood before the step that faulted. Takes no memory: a text, a target or a tag
@@ -205,20 +273,20 @@ impl Player {
         }
     }
 
-    /// Begins anew, as the story was opened; a broken player too. Refused with `OutOfMemory` alone, where the declarations run to a
-    /// step that asks for memory; nothing has changed then. A fault of the declarations breaks the player, which keeps the globals
-    /// as they stood before the step that faulted.
+    /// Begins anew, as the story was opened; a broken player too. Watchers are told of each global that has another value than
+    /// before, or was not there (docs/HOST.md, "Telling"). Refused with `OutOfMemory` alone, where the declarations run to a step
+    /// that asks for memory, or memory for telling was refused; nothing has changed then. A fault of the declarations breaks the
+    /// player, which keeps the globals as they stood before the step that faulted, and tells nobody. Where a watcher finds no
+    /// memory the story has begun anew, all others are told, and the player is broken by the fault `OutOfMemory`.
     pub fn restart(&mut self) -> Result<Seq<Event>, Halt>
-        ensures does { Restart (story_of self.old) (state_of self.old) (reply_of_events result) (state_of self.new) }
+        requires idle { Idle O.at_rest (desk_of self.old) }
+        ensures does { (es : List Happening) × Restart (story_of self.old) (bindings P.meaning (desk_of self.old)) es (state_of self.old) (reply_of_events result) (state_of self.new)
+            × Dealt F.log O.log (desk_of self.old) es (desk_of self.new) }
+        ensures idle { Idle O.at_rest (desk_of self.new) }
         ensures story { story_of self.new ≡ story_of self.old }
-        ensures desk { desk_of self.new ≡ desk_of self.old }
     {
         match Machine::open(self.alloc, &self.story) {
-            Ok(machine) => {
-                self.machine = machine;
-                self.broken = None;
-                Ok(Seq::new(self.alloc))
-            }
+            Ok(machine) => self.begin_anew(machine),
             Err(Unopened { fault, globals }) => match fault {
                 Fault::OutOfMemory => Err(Halt::Refused(Refusal::OutOfMemory)),
                 _ => {
@@ -229,6 +297,95 @@ impl Player {
         }
     }
 
+    /// Begins anew with a machine that was opened.
+    fn begin_anew(&mut self, machine: Machine) -> Result<Seq<Event>, Halt> {
+        let Ok(changes) = told_between(
+            self.alloc,
+            self.machine.globals(),
+            machine.globals(),
+            &self.desk,
+        ) else {
+            return Err(Halt::Refused(Refusal::OutOfMemory));
+        };
+        match self.desk.tell(changes.as_slice()) {
+            Ok(()) => {
+                self.machine = machine;
+                self.broken = None;
+                Ok(self.desk.take_events())
+            }
+            Err(TellFault::NoRoom) => Err(Halt::Refused(Refusal::OutOfMemory)),
+            Err(TellFault::Watcher) => {
+                self.machine = machine;
+                Err(self.break_by(Fault::OutOfMemory))
+            }
+        }
+    }
+
+    /// Binds a name to a pure function. The function or turn function that was bound to it is handed back; where memory is
+    /// refused the given one is, and nothing has changed.
+    pub fn bind_pure(&mut self, name: &str, function: P) -> Result<Option<Bound<P, F>>, P>
+        ensures old { IfOk result (λ old. old ≡ at name.now (desk_of self.old).functions) }
+        ensures kept { OnOk result (desk_of self.new ≡ record (desk_of self.old) { functions = put name.now (Bound.Pure function) (desk_of self.old).functions }) }
+        ensures back { IfErr result (λ back. back ≡ function) }
+        ensures err { OnErr result (desk_of self.new ≡ desk_of self.old) }
+        ensures state { state_of self.new ≡ state_of self.old }
+        ensures story { story_of self.new ≡ story_of self.old }
+    {
+        self.desk.bind_pure(name, function)
+    }
+
+    /// The same of a turn function.
+    pub fn bind_turn(&mut self, name: &str, function: F) -> Result<Option<Bound<P, F>>, F>
+        ensures old { IfOk result (λ old. old ≡ at name.now (desk_of self.old).functions) }
+        ensures kept { OnOk result (desk_of self.new ≡ record (desk_of self.old) { functions = put name.now (Bound.Turn function) (desk_of self.old).functions }) }
+        ensures back { IfErr result (λ back. back ≡ function) }
+        ensures err { OnErr result (desk_of self.new ≡ desk_of self.old) }
+        ensures state { state_of self.new ≡ state_of self.old }
+        ensures story { story_of self.new ≡ story_of self.old }
+    {
+        self.desk.bind_turn(name, function)
+    }
+
+    /// Takes away what is bound to a name, and hands it back; none where nothing is. Takes no memory.
+    pub fn unbind(&mut self, name: &str) -> Option<Bound<P, F>>
+        ensures old { result ≡ at name.now (desk_of self.old).functions }
+        ensures desk { desk_of self.new ≡ record (desk_of self.old) { functions = without name.now (desk_of self.old).functions } }
+        ensures state { state_of self.new ≡ state_of self.old }
+        ensures story { story_of self.new ≡ story_of self.old }
+    {
+        self.desk.unbind(name)
+    }
+
+    /// Watches the global of a name, whether it is there or not, by a watcher at rest. The watcher of that name before is handed
+    /// back; where memory is refused the given one is, and nothing has changed.
+    pub fn watch(&mut self, name: &str, watcher: O) -> Result<Option<O>, O>
+        requires given { O.at_rest watcher ≡ true }
+        requires idle { Idle O.at_rest (desk_of self.old) }
+        ensures old { IfOk result (λ old. old ≡ at name.now (desk_of self.old).watchers) }
+        ensures old_rest { IfOk result (λ old. IfSome old (λ w. O.at_rest w ≡ true)) }
+        ensures kept { OnOk result (desk_of self.new ≡ record (desk_of self.old) { watchers = put name.now watcher (desk_of self.old).watchers }) }
+        ensures back { IfErr result (λ back. back ≡ watcher) }
+        ensures err { OnErr result (desk_of self.new ≡ desk_of self.old) }
+        ensures idle { Idle O.at_rest (desk_of self.new) }
+        ensures state { state_of self.new ≡ state_of self.old }
+        ensures story { story_of self.new ≡ story_of self.old }
+    {
+        self.desk.watch(name, watcher)
+    }
+
+    /// Takes away the watcher of a name, and hands it back at rest; none where there is none. Takes no memory.
+    pub fn unwatch(&mut self, name: &str) -> Option<O>
+        requires idle { Idle O.at_rest (desk_of self.old) }
+        ensures old { result ≡ at name.now (desk_of self.old).watchers }
+        ensures old_rest { IfSome result (λ w. O.at_rest w ≡ true) }
+        ensures desk { desk_of self.new ≡ record (desk_of self.old) { watchers = without name.now (desk_of self.old).watchers } }
+        ensures idle { Idle O.at_rest (desk_of self.new) }
+        ensures state { state_of self.new ≡ state_of self.old }
+        ensures story { story_of self.new ≡ story_of self.old }
+    {
+        self.desk.unwatch(name)
+    }
+
     /// The fault that broke the player, if one did. Takes no memory.
     pub(crate) fn fault(&self) -> Option<Fault>
         ensures { result ≡ fault_in (state_of self.now).condition }
@@ -237,7 +394,7 @@ impl Player {
     }
 
     /// Ends the player and hands its desk back. Takes no memory.
-    pub fn close(self) -> Desk
+    pub fn close(self) -> Desk<P, F, O>
         ensures { result ≡ desk_of self }
     {
         let Player {
@@ -245,7 +402,6 @@ impl Player {
             desk,
             machine: _,
             broken: _,
-            stamp: _,
             alloc: _,
         } = self;
         desk
@@ -264,7 +420,7 @@ fn is_settable(value: &Given) -> bool
 }
 
 fn value_given(value: Given) -> Value
-    ensures { result ≡ rules.value_given value }
+    ensures { result ≡ host.value_given value }
 {
     match value {
         Given::Int(number) => Value::Int(number),
@@ -272,4 +428,15 @@ fn value_given(value: Given) -> Value
         Given::Text(text) => Value::Text(text),
         Given::Void => Value::Void,
     }
+}
+
+/// One change, to be told. The one error is a refused request for memory.
+fn one_change(alloc: Global, name: &str, value: &Value) -> Result<Seq<Change>, AllocError> {
+    let change = Change {
+        name: Text::from_str(alloc, name)?,
+        value: value.clone_in(alloc)?,
+    };
+    let mut changes = Vec::new(alloc);
+    changes.push(change)?;
+    Ok(Seq::from_vec(changes))
 }

@@ -2,21 +2,22 @@
 
 ghost use Rattle.std.specs.Prelude.{◌≡◌, ◌||◌, [], Ok, IfOk, IfErr};
 ghost use Rattle.ink_check.specs.Words.{story_tree};
-ghost use Rattle.ink_model.specs.Supported as rules;
-ghost use Rattle.ink_model.specs.Supported.{unsupported};
+ghost use Rattle.ink_host.specs.Desk.{Resting};
+ghost use Rattle.ink_model.specs.Acceptance as rules;
+ghost use Rattle.ink_model.specs.declared.host.Event.{Event};
 ghost use Rattle.ink_player.specs.Ends.{Reports, play_reads_fail, play_writes_fail};
-ghost use Rattle.ink_player.specs.Playing.{IsRefused, Opens, Plays, desk_left, opened_desk, play_fault};
+ghost use Rattle.ink_player.specs.Playing.{IsRefused, Opens, OpensDesk, Plays, desk_left, play_fault};
+ghost use Rattle.ink_player.specs.Words.{DealtAnew, bindings};
 
-use crate::desk::Desk;
 use crate::end::{PlayEnd, PlayFault, RunFault};
 use crate::input::{Ahead, Source};
 use crate::lines::{Line, next_line};
 use crate::output::Sink;
 use crate::player::{OpenFault, Player};
 use crate::session::serve_lines;
-use crate::supported::runnable;
 use crate::watched::Watched;
 use ink_check::{Story, check};
+use ink_host::{Desk, PureFn, TurnFn, Watcher};
 use ink_json::read_story;
 use ink_model::{Cause, MAX_INPUT, MAX_STORY, ReadRefusal};
 use std::alloc::Global;
@@ -26,17 +27,18 @@ use std::io::{Read, Write};
 /// limit of the input, 64 MiB, counts the story. The desk is handed back, at an error too.
 ///
 /// Errors: `Story`, where the story is refused, with nothing written; a story line over 16 MiB is refused with `Limit` at
-/// the root, whatever memory there is, and a story that can be read and accepted, but is not all supported yet, with
-/// `Unsupported` at the first content that is not. `Start`, where its declarations fault, or where they run to a step that asks
+/// the root, whatever memory there is. `Start`, where its declarations fault, or where they run to a step that asks
 /// for memory and gets none. `Run`, as of `run`; the reader may also fail within the story.
-pub fn play<R: Read, W: Write>(
+pub fn play<R: Read, W: Write, P: PureFn, F: TurnFn, O: Watcher>(
     alloc: Global,
     reader: &mut R,
     writer: &mut W,
-    desk: Desk,
-) -> Result<Desk, PlayEnd>
-    ensures plays { Plays (R.remaining reader.old) (R.remaining reader.new) (W.contents writer.old) (W.contents writer.new) result }
-    ensures desk { desk_left result ≡ desk }
+    desk: Desk<P, F, O>,
+) -> Result<Desk<P, F, O>, PlayEnd<P, F, O>>
+    requires rest { Resting O.at_rest desk.watchers }
+    ensures plays { (es : List Event) × Plays (bindings P.meaning desk) es (R.remaining reader.old) (R.remaining reader.new) (W.contents writer.old) (W.contents writer.new) result
+        × DealtAnew F.log O.log desk es (desk_left result) }
+    ensures rest { Resting O.at_rest (desk_left result).watchers }
 {
     let mut source = Watched::over(reader);
     let mut sink = Watched::over(writer);
@@ -45,14 +47,16 @@ pub fn play<R: Read, W: Write>(
 
 /// Plays a story as `play` does, over a source and a sink, which say whether they have failed: the source has failed in this
 /// call exactly where the error is `Read`, and the sink, or it took no byte, exactly where it is `Write`.
-pub fn serve_story<S: Source, T: Sink>(
+pub fn serve_story<S: Source, T: Sink, P: PureFn, F: TurnFn, O: Watcher>(
     alloc: Global,
     source: &mut S,
     sink: &mut T,
-    desk: Desk,
-) -> Result<Desk, PlayEnd>
-    ensures plays { Plays (S.remaining source.old) (S.remaining source.new) (T.contents sink.old) (T.contents sink.new) result }
-    ensures desk { desk_left result ≡ desk }
+    desk: Desk<P, F, O>,
+) -> Result<Desk<P, F, O>, PlayEnd<P, F, O>>
+    requires rest { Resting O.at_rest desk.watchers }
+    ensures plays { (es : List Event) × Plays (bindings P.meaning desk) es (S.remaining source.old) (S.remaining source.new) (T.contents sink.old) (T.contents sink.new) result
+        × DealtAnew F.log O.log desk es (desk_left result) }
+    ensures rest { Resting O.at_rest (desk_left result).watchers }
     ensures source { Reports (play_reads_fail result) (S.has_failed source.old) (S.has_failed source.new) (S.name source.old) (S.name source.new) }
     ensures sink { Reports (play_writes_fail result) (T.has_failed sink.old) (T.has_failed sink.new) (T.name sink.old) (T.name sink.new) }
 {
@@ -89,14 +93,18 @@ pub fn serve_story<S: Source, T: Sink>(
 
 /// Reads a story, checks its paths, and opens it (docs/PROTOCOL.md, "Playing").
 ///
-/// Errors: `Story`, where the story is refused as by `read_story` and `check`, or with `Unsupported` at the first content that
-/// is not supported yet. `Start`, where its declarations fault, or where they run to a step that asks for memory and gets none.
+/// Errors: `Story`, where the story is refused as by `read_story` and `check`. `Start`, where its declarations fault, or where they run to a step that asks for memory and gets none.
 /// The desk is handed back.
-pub fn open_story(alloc: Global, line: &[u8], desk: Desk) -> Result<Player, PlayEnd>
+pub fn open_story<P: PureFn, F: TurnFn, O: Watcher>(
+    alloc: Global,
+    line: &[u8],
+    desk: Desk<P, F, O>,
+) -> Result<Player<P, F, O>, PlayEnd<P, F, O>>
+    requires rest { Resting O.at_rest desk.watchers }
     ensures opens { Opens line.now result }
-    ensures desk { opened_desk result ≡ desk }
+    ensures desk { OpensDesk desk result }
 {
-    let story = match supported_story(alloc, line) {
+    let story = match accepted_story(alloc, line) {
         Ok(story) => story,
         Err(refusal) => {
             let fault = PlayFault::Story(refusal);
@@ -118,30 +126,16 @@ pub fn open_story(alloc: Global, line: &[u8], desk: Desk) -> Result<Player, Play
     }
 }
 
-// Reads a story and accepts it, where all of it is supported.
-fn supported_story(alloc: Global, line: &[u8]) -> Result<Story, ReadRefusal>
-    ensures ok { IfOk result (λ s. rules.supported_story line.now ≡ Ok (story_tree s)) }
-    ensures supported { IfOk result (λ s. unsupported (story_tree s) ≡ []) }
+// Reads a story and accepts it.
+fn accepted_story(alloc: Global, line: &[u8]) -> Result<Story, ReadRefusal>
+    ensures ok { IfOk result (λ s. rules.accepted_story line.now ≡ Ok (story_tree s)) }
     ensures err { IfErr result (IsRefused line.now) }
 {
     let raw = match read_story(alloc, line) {
         Ok(raw) => raw,
         Err(refusal) => return Err(refusal),
     };
-    let story = match check(alloc, raw) {
-        Ok(story) => story,
-        Err(refusal) => return Err(refusal),
-    };
-    let Ok(unsupported) = runnable(&story) else {
-        return Err(ReadRefusal::at_root(alloc, Cause::OutOfMemory));
-    };
-    match unsupported {
-        None => Ok(story),
-        Some(place) => Err(ReadRefusal {
-            cause: Cause::Unsupported,
-            place,
-        }),
-    }
+    check(alloc, raw)
 }
 
 // Why there is no story.

@@ -3,12 +3,13 @@
 ghost use Rattle.std.specs.Prelude.{◌≡◌, ℕ, List, [], ◌||◌, ◌⊎◌, ◌≤◌, ◌+◌, length, option_map};
 ghost use Rattle.ink_model.specs.Answer.{Refuses};
 ghost use Rattle.ink_model.specs.Session.{Does, Serves, Set};
-ghost use Rattle.ink_model.specs.Step.{nothing_bound};
+ghost use Rattle.ink_model.specs.Host.{Bindings};
+ghost use Rattle.ink_model.specs.declared.host.Event.{Event};
 ghost use Rattle.ink_player.specs.Commands.{command_by};
 ghost use Rattle.ink_player.specs.Replies.{reply_by};
-ghost use Rattle.ink_player.specs.Words.{state_of, story_of};
+ghost use Rattle.ink_player.specs.Words.{Dealt, Idle, bindings, desk_of, state_of, story_of};
 ghost use Rattle.ink_player.specs.Ends.{Reports, reads_fail, writes_fail};
-ghost use Rattle.ink_player.specs.Serving.{Answers, Runs, SamePlay, ServesNext, WritesText};
+ghost use Rattle.ink_player.specs.Serving.{Answers, Runs, ServesNext, WritesText};
 ghost use Rattle.ink_player.specs.Paths.{PathFails};
 ghost use Rattle.ink_model.specs.declared.limits.TheConstants.{MAX_INPUT};
 
@@ -20,6 +21,7 @@ use crate::lines::{Line, next_line};
 use crate::output::{Sink, WriteFailed, write_whole};
 use crate::player::Player;
 use crate::watched::Watched;
+use ink_host::{PureFn, TurnFn, Watcher};
 use ink_model::{Given, MAX_INPUT, MAX_LINE, Refusal};
 use std::alloc::{AllocError, Global};
 use std::io::{Read, Write};
@@ -55,15 +57,18 @@ pub(crate) enum Served {
 /// failed or took no byte, and the command whose answer could not be written has taken effect; `TooLong`, where a line is
 /// longer than 1 MiB or the input longer than 64 MiB; `OutOfMemory`, where memory was refused for a line, or for the text of
 /// an answer, whose command has taken effect.
-pub fn run<R: Read, W: Write>(
+pub fn run<R: Read, W: Write, P: PureFn, F: TurnFn, O: Watcher>(
     alloc: Global,
     reader: &mut R,
     writer: &mut W,
-    player: &mut Player,
+    player: &mut Player<P, F, O>,
 ) -> Result<(), RunFault>
-    ensures runs { Runs (story_of player.old) nothing_bound [] MAX_INPUT [] (R.remaining reader.old) (R.remaining reader.new)
-        (W.contents writer.old) (W.contents writer.new) (state_of player.old) (state_of player.new) result }
-    ensures same { SamePlay player.old player.new }
+    requires idle { Idle O.at_rest (desk_of player.old) }
+    ensures runs { (es : List Event) × Runs (story_of player.old) (bindings P.meaning (desk_of player.old)) es MAX_INPUT [] (R.remaining reader.old) (R.remaining reader.new)
+        (W.contents writer.old) (W.contents writer.new) (state_of player.old) (state_of player.new) result
+        × Dealt F.log O.log (desk_of player.old) es (desk_of player.new) }
+    ensures idle { Idle O.at_rest (desk_of player.new) }
+    ensures story { story_of player.new ≡ story_of player.old }
 {
     let mut source = Watched::over(reader);
     let mut sink = Watched::over(writer);
@@ -72,15 +77,18 @@ pub fn run<R: Read, W: Write>(
 
 /// Serves command lines as `run` does, over a source and a sink, which say whether they have failed: the source has failed
 /// in this call exactly where the error is `Read`, and the sink, or it took no byte, exactly where it is `Write`.
-pub fn serve<S: Source, T: Sink>(
+pub fn serve<S: Source, T: Sink, P: PureFn, F: TurnFn, O: Watcher>(
     alloc: Global,
     source: &mut S,
     sink: &mut T,
-    player: &mut Player,
+    player: &mut Player<P, F, O>,
 ) -> Result<(), RunFault>
-    ensures runs { Runs (story_of player.old) nothing_bound [] MAX_INPUT [] (S.remaining source.old) (S.remaining source.new)
-        (T.contents sink.old) (T.contents sink.new) (state_of player.old) (state_of player.new) result }
-    ensures same { SamePlay player.old player.new }
+    requires idle { Idle O.at_rest (desk_of player.old) }
+    ensures runs { (es : List Event) × Runs (story_of player.old) (bindings P.meaning (desk_of player.old)) es MAX_INPUT [] (S.remaining source.old) (S.remaining source.new)
+        (T.contents sink.old) (T.contents sink.new) (state_of player.old) (state_of player.new) result
+        × Dealt F.log O.log (desk_of player.old) es (desk_of player.new) }
+    ensures idle { Idle O.at_rest (desk_of player.new) }
+    ensures story { story_of player.new ≡ story_of player.old }
     ensures source { Reports (reads_fail result) (S.has_failed source.old) (S.has_failed source.new) (S.name source.old) (S.name source.new) }
     ensures sink { Reports (writes_fail result) (T.has_failed sink.old) (T.has_failed sink.new) (T.name sink.old) (T.name sink.new) }
 {
@@ -89,16 +97,19 @@ pub fn serve<S: Source, T: Sink>(
 }
 
 // Serves lines to the end, or to what ends the session early.
-pub(crate) fn serve_lines<S: Source, T: Sink>(
+pub(crate) fn serve_lines<S: Source, T: Sink, P: PureFn, F: TurnFn, O: Watcher>(
     alloc: Global,
     ahead: &mut Ahead,
     source: &mut S,
     sink: &mut T,
-    player: &mut Player,
+    player: &mut Player<P, F, O>,
 ) -> Result<(), RunFault>
-    ensures runs { Runs (story_of player.old) nothing_bound [] ahead.old.spare ahead.old.unread (S.remaining source.old) (S.remaining source.new)
-        (T.contents sink.old) (T.contents sink.new) (state_of player.old) (state_of player.new) result }
-    ensures same { SamePlay player.old player.new }
+    requires idle { Idle O.at_rest (desk_of player.old) }
+    ensures runs { (es : List Event) × Runs (story_of player.old) (bindings P.meaning (desk_of player.old)) es ahead.old.spare ahead.old.unread (S.remaining source.old) (S.remaining source.new)
+        (T.contents sink.old) (T.contents sink.new) (state_of player.old) (state_of player.new) result
+        × Dealt F.log O.log (desk_of player.old) es (desk_of player.new) }
+    ensures idle { Idle O.at_rest (desk_of player.new) }
+    ensures story { story_of player.new ≡ story_of player.old }
     ensures source { Reports (reads_fail result) (S.has_failed source.old) (S.has_failed source.new) (S.name source.old) (S.name source.new) }
     ensures sink { Reports (writes_fail result) (T.has_failed sink.old) (T.has_failed sink.new) (T.name sink.old) (T.name sink.new) }
 {
@@ -113,17 +124,20 @@ pub(crate) fn serve_lines<S: Source, T: Sink>(
 }
 
 // Serves the next line, if there is one.
-fn serve_line<S: Source, T: Sink>(
+fn serve_line<S: Source, T: Sink, P: PureFn, F: TurnFn, O: Watcher>(
     alloc: Global,
     buffers: &mut Buffers,
     ahead: &mut Ahead,
     source: &mut S,
     sink: &mut T,
-    player: &mut Player,
+    player: &mut Player<P, F, O>,
 ) -> Result<Served, RunFault>
-    ensures next { ServesNext (story_of player.old) nothing_bound [] (S.remaining source.old) (S.remaining source.new) (T.contents sink.old) (T.contents sink.new)
-        ahead.old ahead.new (state_of player.old) (state_of player.new) result }
-    ensures same { SamePlay player.old player.new }
+    requires idle { Idle O.at_rest (desk_of player.old) }
+    ensures next { (es : List Event) × ServesNext (story_of player.old) (bindings P.meaning (desk_of player.old)) es (S.remaining source.old) (S.remaining source.new) (T.contents sink.old) (T.contents sink.new)
+        ahead.old ahead.new (state_of player.old) (state_of player.new) result
+        × Dealt F.log O.log (desk_of player.old) es (desk_of player.new) }
+    ensures idle { Idle O.at_rest (desk_of player.new) }
+    ensures story { story_of player.new ≡ story_of player.old }
     ensures source { Reports (reads_fail result) (S.has_failed source.old) (S.has_failed source.new) (S.name source.old) (S.name source.new) }
     ensures sink { Reports (writes_fail result) (T.has_failed sink.old) (T.has_failed sink.new) (T.name sink.old) (T.name sink.new) }
 {
@@ -154,15 +168,18 @@ fn serve_line<S: Source, T: Sink>(
 }
 
 // Performs the command of a line, and writes the answer.
-fn answer_line<T: Sink>(
+fn answer_line<T: Sink, P: PureFn, F: TurnFn, O: Watcher>(
     alloc: Global,
     buffer: &mut Vec<u8>,
     sink: &mut T,
-    player: &mut Player,
+    player: &mut Player<P, F, O>,
     line: &[u8],
 ) -> Result<(), RunFault>
-    ensures answers { Answers (story_of player.old) nothing_bound [] line.now (T.contents sink.old) (T.contents sink.new) (state_of player.old) (state_of player.new) result }
-    ensures same { SamePlay player.old player.new }
+    requires idle { Idle O.at_rest (desk_of player.old) }
+    ensures answers { (es : List Event) × Answers (story_of player.old) (bindings P.meaning (desk_of player.old)) es line.now (T.contents sink.old) (T.contents sink.new) (state_of player.old) (state_of player.new) result
+        × Dealt F.log O.log (desk_of player.old) es (desk_of player.new) }
+    ensures idle { Idle O.at_rest (desk_of player.new) }
+    ensures story { story_of player.new ≡ story_of player.old }
     ensures sink { Reports (writes_fail result) (T.has_failed sink.old) (T.has_failed sink.new) (T.name sink.old) (T.name sink.new) }
 {
     let outcome = outcome_of(alloc, player, line);
@@ -188,9 +205,16 @@ fn write_answer<T: Sink>(sink: &mut T, text: &[u8]) -> Result<(), RunFault>
 }
 
 // Performs the command of a line, unless memory is refused for reading it, or the path in it.
-fn outcome_of(alloc: Global, player: &mut Player, line: &[u8]) -> Outcome
-    ensures serves { Serves (story_of player.old) nothing_bound [] line.now (state_of player.old) (reply_by result) (state_of player.new) }
-    ensures same { SamePlay player.old player.new }
+fn outcome_of<P: PureFn, F: TurnFn, O: Watcher>(
+    alloc: Global,
+    player: &mut Player<P, F, O>,
+    line: &[u8],
+) -> Outcome
+    requires idle { Idle O.at_rest (desk_of player.old) }
+    ensures serves { (es : List Event) × Serves (story_of player.old) (bindings P.meaning (desk_of player.old)) es line.now (state_of player.old) (reply_by result) (state_of player.new)
+        × Dealt F.log O.log (desk_of player.old) es (desk_of player.new) }
+    ensures idle { Idle O.at_rest (desk_of player.new) }
+    ensures story { story_of player.new ≡ story_of player.old }
 {
     match read_command(alloc, line) {
         Ok(command) => perform(player, command),
@@ -199,10 +223,16 @@ fn outcome_of(alloc: Global, player: &mut Player, line: &[u8]) -> Outcome
 }
 
 // Performs a command, unless memory is refused for reading its path.
-fn perform(player: &mut Player, command: Option<LineCommand<'_>>) -> Outcome
-    ensures does { Does (story_of player.old) nothing_bound [] (option_map command_by command.entry) (state_of player.old) (reply_by result) (state_of player.new)
-        ⊎ PathFails (option_map command_by command.entry) (state_of player.old) (reply_by result) (state_of player.new) }
-    ensures same { SamePlay player.old player.new }
+fn perform<P: PureFn, F: TurnFn, O: Watcher>(
+    player: &mut Player<P, F, O>,
+    command: Option<LineCommand<'_>>,
+) -> Outcome
+    requires idle { Idle O.at_rest (desk_of player.old) }
+    ensures does { (es : List Event) × (Does (story_of player.old) (bindings P.meaning (desk_of player.old)) es (option_map command_by command.entry) (state_of player.old) (reply_by result) (state_of player.new)
+        ⊎ ((es ≡ []) × PathFails (option_map command_by command.entry) (state_of player.old) (reply_by result) (state_of player.new)))
+        × Dealt F.log O.log (desk_of player.old) es (desk_of player.new) }
+    ensures idle { Idle O.at_rest (desk_of player.new) }
+    ensures story { story_of player.new ≡ story_of player.old }
 {
     match command {
         Some(LineCommand::Through) => Outcome::Passage(player.through()),
@@ -217,9 +247,16 @@ fn perform(player: &mut Player, command: Option<LineCommand<'_>>) -> Outcome
 }
 
 // Sets a global, or refuses where the line has no value.
-fn set(player: &mut Player, name: &str, value: Option<Given>) -> Outcome
-    ensures does { Set name.now value (state_of player.old) (reply_by result) (state_of player.new) }
-    ensures same { SamePlay player.old player.new }
+fn set<P: PureFn, F: TurnFn, O: Watcher>(
+    player: &mut Player<P, F, O>,
+    name: &str,
+    value: Option<Given>,
+) -> Outcome
+    requires idle { Idle O.at_rest (desk_of player.old) }
+    ensures does { (es : List Event) × Set (bindings P.meaning (desk_of player.old)) es name.now value (state_of player.old) (reply_by result) (state_of player.new)
+        × Dealt F.log O.log (desk_of player.old) es (desk_of player.new) }
+    ensures idle { Idle O.at_rest (desk_of player.new) }
+    ensures story { story_of player.new ≡ story_of player.old }
 {
     let Some(value) = value else {
         return Outcome::Refused(no_value(player));
@@ -228,8 +265,8 @@ fn set(player: &mut Player, name: &str, value: Option<Given>) -> Outcome
 }
 
 // Why a line without a value is refused: a fault that broke the player comes first.
-fn no_value(player: &Player) -> Refusal
-    ensures { (name : List ℕ) → Set name None (state_of player.now) (Refuses result) (state_of player.now) }
+fn no_value<P: PureFn, F: TurnFn, O: Watcher>(player: &Player<P, F, O>) -> Refusal
+    ensures { (h : Bindings) (name : List ℕ) → Set h [] name None (state_of player.now) (Refuses result) (state_of player.now) }
 {
     match player.fault() {
         Some(fault) => Refusal::Broken(fault),
