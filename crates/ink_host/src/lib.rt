@@ -9,6 +9,6 @@ mod telling;
 
 pub use boxes::{HostDesk, PureBox, TurnBox, WatcherBox};
 pub use desk::Desk;
-pub use objects::{Bound, Called, FnKind, Nobody, PureFn, Seen, TurnFn, Watcher};
 pub use ink_model::Change;
+pub use objects::{Bound, Called, FnKind, Nobody, PureFn, Seen, TurnFn, Watcher};
 pub use telling::TellFault;

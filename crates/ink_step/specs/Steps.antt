@@ -31,6 +31,25 @@ StepEnds asks (Faults g) globals new (Err f) = ((f ≡ g) ⊎ ((f ≡ OutOfMemor
 StepEnds asks outcome globals new (Err f) = ((f ≡ OutOfMemory) × (asks ≡ true)) × (new.shared.globals ≡ globals)
 StepEnds asks outcome globals new result = ⊥
 
+-- a turn function is to be called
+abbrev pub wants : Outcome → Bool
+wants (Wants name arguments f d) = true
+wants outcome = false
+
+-- The same of a step that may call turn functions. Where the outcome wants one, the name is bound to one, which was called once,
+-- and the step ends as with what it gave; or memory was refused before that, and nothing was called. The events of the step
+-- count on from a stamp.
+abbrev pub StepMakes : StoryTree → Bound → ℕ → Bool → Outcome → List Event → Values → Configuration → Result StepEnd Fault → Type 0
+StepMakes s b n asks (Wants name arguments f d) es globals new result =
+    ((gave : Option Given) × (b name ≡ Some turn_function) × (es ≡ calls n (made_call name arguments gave ∷ [])) × StepEnds (is_some gave) (answered s f d gave) globals new result)
+    ⊎ ((es ≡ []) × (result ≡ Err OutOfMemory) × (asks ≡ true) × (new.shared.globals ≡ globals))
+StepMakes s b n asks outcome es globals new result = (es ≡ []) × StepEnds asks outcome globals new result
+
+-- A quiet step calls none: where its outcome wants one, it says so and has changed nothing.
+abbrev pub Steps : Bool → StoryTree → Bound → ℕ → Bool → Outcome → List Event → Values → Configuration → Configuration → Result StepEnd Fault → Type 0
+Steps true s b n asks (Wants name arguments f d) es globals old new result = (result ≡ Ok ends.WantsCall) × (es ≡ []) × (new ≡ old)
+Steps quiet s b n asks outcome es globals old new result = StepMakes s b n asks outcome es globals new result
+
 -- A story does not open: its declarations fault, with these globals, or a step of theirs asks for memory and gets none.
 abbrev pub FailsToOpen : StoryTree → Fault → Values → Type 0
 FailsToOpen s f globals = (opening s ≡ Err (record { fault = f; globals = globals })) ⊎ ((f ≡ OutOfMemory) × OpensShort s)

@@ -43,7 +43,7 @@ impl Machine {
             return Ok(Machine::at_start(alloc, story, Globals::new(alloc)));
         };
         let mut machine = Machine::fresh(alloc, place, Globals::new(alloc));
-        let outcome = Err(Fault::OutOfMemory);
+        let outcome = machine.run_alone(alloc, story);
         let Machine { globals, .. } = machine;
         match outcome {
             Ok(()) => Ok(Machine::at_start(alloc, story, globals)),

@@ -5,9 +5,10 @@ ghost use Rattle.ink_check.specs.Words.{story_tree};
 ghost use Rattle.ink_host.specs.Desk.{Grew, bound_by};
 ghost use Rattle.ink_model.specs.Events.{Made, calls};
 ghost use Rattle.ink_model.specs.Session.{passage};
+ghost use Rattle.ink_model.specs.Store.{Values};
 ghost use Rattle.ink_model.specs.Tree.{StoryTree};
 ghost use Rattle.ink_model.specs.Turns.{open_choices};
-ghost use Rattle.ink_step.specs.Runs.{RunsThrough};
+ghost use Rattle.ink_step.specs.Runs.{AreBound, RunsThrough, RunsToStop};
 ghost use Rattle.ink_vars.specs.Changes.{Tracks};
 
 use crate::flow::StepEnd;
@@ -20,18 +21,44 @@ use std::alloc::AllocError;
 impl Machine {
     ghost use Rattle.ink_step.specs.Words.{config_of};
 
-    /// Runs to the stop and answers the passage. After a fault the machine is of no more use, but for its globals.
+    /// Runs to the stop and answers the passage, without its events. After a fault the machine is of no more use, but for its
+    /// globals.
     pub fn through<P: PureFn, T: TurnFn, W: Watcher>(
         &mut self,
-        _story: &Story,
-        _desk: &mut Desk<P, T, W>,
+        story: &Story,
+        desk: &mut Desk<P, T, W>,
     ) -> Result<Passage, Fault>
-        ensures runs { let s = story_tree _story.now in (made : List Made) × Grew T.log W.log _desk.old (calls _desk.old.next made) _desk.new
-            × RunsThrough s (bound_by P.meaning _desk.old.functions) (config_of s self.old) made (config_of s self.new) result }
-        ensures watchers { _desk.new.watchers ≡ _desk.old.watchers }
+        ensures runs { let s = story_tree story.now in let b = bound_by P.meaning desk.old.functions in
+            (made : List Made) × Grew T.log W.log desk.old (calls desk.old.next made) desk.new × RunsThrough s b (config_of s self.old) made (config_of s self.new) result }
+        ensures watchers { desk.new.watchers ≡ desk.old.watchers }
         ensures tracks { Tracks self.old.globals self.new.changes self.new.globals }
     {
-        Err(Fault::OutOfMemory)
+        self.begin();
+        self.run(story, desk)?;
+        let passage = self.passage()?;
+        self.settle();
+        Ok(passage)
+    }
+
+    /// Steps to the stop.
+    pub(crate) fn run<P: PureFn, T: TurnFn, W: Watcher>(
+        &mut self,
+        story: &Story,
+        desk: &mut Desk<P, T, W>,
+    ) -> Result<(), Fault>
+        ensures runs { let s = story_tree story.now in let b = bound_by P.meaning desk.old.functions in
+            (made : List Made) × Grew T.log W.log desk.old (calls desk.old.next made) desk.new × RunsToStop s b (config_of s self.old) made (config_of s self.new) result × AreBound b made }
+        ensures watchers { desk.new.watchers ≡ desk.old.watchers }
+        ensures tracks { (start : Values) → Tracks start self.old.changes self.old.globals → Tracks start self.new.changes self.new.globals }
+    {
+        for _step in 0..MAX_STEPS {
+            match self.step(story, desk, false)? {
+                StepEnd::Went => {}
+                StepEnd::Stopped => return Ok(()),
+                StepEnd::WantsCall => unreachable!(),
+            }
+        }
+        Err(Fault::OutOfSteps)
     }
 
     /// The visible choices, none while flow has not stopped. The one error is a refused request for memory, which is made only

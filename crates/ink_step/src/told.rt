@@ -1,43 +1,85 @@
-//! What watchers are told of globals (docs/HOST.md, "Telling").
+//! What watchers are to be told of globals (docs/HOST.md, "Telling").
 
-ghost use Rattle.std.specs.Prelude.{◌≡◌, ◌≢◌, [], IfOk, OnErr};
+ghost use Rattle.std.specs.Prelude.{◌≡◌, ◌≢◌, [], IfOk, OnErr, option_map};
 ghost use Rattle.ink_host.specs.Desk.{watches};
 ghost use Rattle.ink_host.specs.Telling.{OncePerName};
 ghost use Rattle.ink_model.specs.Store.{Values};
-ghost use Rattle.ink_model.specs.Told.{told};
+ghost use Rattle.ink_model.specs.Told.{is_other, told};
 ghost use Rattle.ink_vars.specs.Changes.{Tracks};
 
 use crate::machine::Machine;
 use ink_host::{Desk, PureFn, TurnFn, Watcher};
-use ink_model::{Change, Seq};
-use ink_vars::Globals;
+use ink_model::{Change, Seq, Text, Value};
+use ink_value::same_value;
+use ink_vars::{Globals, changed};
 use std::alloc::{AllocError, Global};
 
 impl Machine {
-    /// The watched globals that have changed since the running command began, in order of declaration. The one error is a
-    /// refused request for memory.
+    /// The watched globals that have another value than when the last running command began, or were not there then, in order of
+    /// declaration. The one error is a refused request for memory, which is made only where a global was assigned since then.
     pub fn told<P: PureFn, T: TurnFn, W: Watcher>(
         &self,
-        _desk: &Desk<P, T, W>,
+        desk: &Desk<P, T, W>,
     ) -> Result<Seq<Change>, AllocError>
-        ensures told { (start : Values) → Tracks start self.now.changes self.now.globals → IfOk result (λ cs. cs ≡ told (watches _desk.now.watchers) start self.now.globals) }
+        ensures told { (start : Values) → Tracks start self.now.changes self.now.globals → IfOk result (λ changes. changes ≡ told (watches desk.now.watchers) start self.now.globals) }
         ensures once { IfOk result (λ cs. OncePerName cs) }
+        ensures memory { OnErr result (self.now.changes ≢ []) }
     {
-        Err(AllocError)
+        if self.globals.len() == 0 || !desk.has_watchers() || self.changes.is_empty() {
+            return Ok(Seq::new(self.alloc));
+        }
+        let mut told = Vec::new(self.alloc);
+        let numbers = changed(self.alloc, &self.changes, &self.globals)?;
+        for number in &numbers {
+            if let Some((name, value)) = self.globals.pair(*number) {
+                if desk.watches(name) {
+                    told.push(change(self.alloc, name, value)?)?;
+                }
+            }
+        }
+        Ok(Seq::from_vec(told))
     }
 }
 
-/// The watched globals among these that were not there before, or had another value, in order of declaration. The one error is a
-/// refused request for memory, which is made only where there are some.
+/// The watched globals of the new ones that have another value than among the old ones, or are not there, in order of declaration.
+/// The one error is a refused request for memory, which is made only where there are such globals.
 pub fn told_between<P: PureFn, T: TurnFn, W: Watcher>(
-    _alloc: Global,
-    _old: &Globals,
-    _new: &Globals,
-    _desk: &Desk<P, T, W>,
+    alloc: Global,
+    old: &Globals,
+    new: &Globals,
+    desk: &Desk<P, T, W>,
 ) -> Result<Seq<Change>, AllocError>
-    ensures told { IfOk result (λ cs. cs ≡ told (watches _desk.now.watchers) _old.now _new.now) }
+    ensures told { IfOk result (λ changes. changes ≡ told (watches desk.now.watchers) old.now new.now) }
     ensures once { IfOk result (λ cs. OncePerName cs) }
-    ensures memory { OnErr result (told (watches _desk.now.watchers) _old.now _new.now ≢ []) }
+    ensures memory { OnErr result (told (watches desk.now.watchers) old.now new.now ≢ []) }
 {
-    Err(AllocError)
+    let mut told = Vec::new(alloc);
+    for number in 0..new.len() {
+        if let Some((name, value)) = new.pair(number) {
+            if desk.watches(name) && is_other(old.get(name), value) {
+                told.push(change(alloc, name, value)?)?;
+            }
+        }
+    }
+    Ok(Seq::from_vec(told))
+}
+
+/// Whether there was no value, or another one.
+fn is_other(was: Option<&Value>, value: &Value) -> bool
+    ensures { result ≡ is_other (option_map (λ v. v.now) was.entry) value.now }
+{
+    match was {
+        Some(was) => !same_value(was, value),
+        None => true,
+    }
+}
+
+/// A change, with copies of name and value. The one error is a refused request for memory.
+fn change(alloc: Global, name: &str, value: &Value) -> Result<Change, AllocError>
+    ensures { IfOk result (λ change. change ≡ record { name = name.now; value = value.now }) }
+{
+    Ok(Change {
+        name: Text::from_str(alloc, name)?,
+        value: value.clone_in(alloc)?,
+    })
 }
