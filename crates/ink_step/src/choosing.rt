@@ -23,8 +23,10 @@ impl Machine {
     /// Flow has stopped. Where there are choices and none is visible it goes on where the first of them leads, in the same turn.
     /// The one error is a refused request for memory, which is made only for a container that is entered for the first time.
     pub(crate) fn follow_default(&mut self, story: &Story) -> Result<StepEnd, Fault>
-        ensures { let s = story_tree story.now in let c = config_of s self.old in let choice = default_choice c.flow.choices in
+        ensures ends { let s = story_tree story.now in let c = config_of s self.old in let choice = default_choice c.flow.choices in
             StepEnds (default_asks s choice c) (stopped_by s choice c) self.old.globals (config_of s self.new) result }
+        ensures globals { self.new.globals ≡ self.old.globals }
+        ensures changes { self.new.changes ≡ self.old.changes }
     {
         if !self.choices.only_invisible() {
             return Ok(StepEnd::Stopped);
@@ -43,7 +45,9 @@ impl Machine {
 
     // Flow is where a choice leads, in the choice's thread alone, and no choice is left.
     fn take_up(&mut self, choice: Choice<Spot>)
-        ensures { (s : StoryTree) → config_of s self.new ≡ taken_up (map_choice (place_of s) choice) (config_of s self.old) }
+        ensures taken { (s : StoryTree) → config_of s self.new ≡ taken_up (map_choice (place_of s) choice) (config_of s self.old) }
+        ensures globals { self.new.globals ≡ self.old.globals }
+        ensures changes { self.new.changes ≡ self.old.changes }
     {
         let Choice { target, thread, .. } = choice;
         self.threads.replace(thread);

@@ -165,6 +165,7 @@ impl Machine {
         ensures fault { IfErr result (λ f. f ≡ Fault.OutOfMemory) }
         ensures memory { let s = story_tree tree.now in OnErr result (going_in_asks s (place_of s place) (config_of s self.old) ≡ true) }
         ensures globals { self.new.globals ≡ self.old.globals }
+        ensures changes { self.new.changes ≡ self.old.changes }
     {
         let Some(node) = tree.node(place) else {
             self.threads.put(Some(place));
@@ -184,6 +185,7 @@ impl Machine {
             OnErr result ((enters && adds_rows s (around s c.flow.threads) c.shared.counts) ≡ true) }
         ensures kept { let s = story_tree tree.now in OnErr result (config_of s self.new ≡ config_of s self.old) }
         ensures globals { self.new.globals ≡ self.old.globals }
+        ensures changes { self.new.changes ≡ self.old.changes }
     {
         match self.threads.place() {
             Some(place) if enters => {

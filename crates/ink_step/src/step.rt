@@ -110,6 +110,7 @@ impl Machine {
             (es : List Happening) × Grew T.log W.log desk.old es desk.new
             × StepMakes s b desk.old.next ((external_asks (b k.name) k.arguments k.conditional (fields_of c) || move_asks s e c) || following_asks s (moved s e c)) (following s (moved s e c)) es self.old.globals (config_of s self.new) result }
         ensures watchers { desk.new.watchers ≡ desk.old.watchers }
+        ensures tracks { (start : Values) → Tracks start self.old.changes self.old.globals → Tracks start self.new.changes self.new.globals }
     {
         let transfer = external::call_external(
             story,
@@ -125,9 +126,10 @@ impl Machine {
     fn act(&mut self, story: &Story, here: Spot, found: Option<&Content>) -> Result<StepEnd, Fault>
         requires stands { let s = story_tree story.now in option_map (λ c. view c.now) found ≡ at s (place_of s here) }
         requires other { external_in (option_map (λ c. view c.now) found) ≡ None }
-        ensures { (b : Bound) → let s = story_tree story.now in let p = place_of s here in let stands = option_map (λ c. view c.now) found.entry in let c = config_of s self.old in
+        ensures ends { (b : Bound) → let s = story_tree story.now in let p = place_of s here in let stands = option_map (λ c. view c.now) found.entry in let c = config_of s self.old in
             let e = effect s b p stands (context_of c) (fields_of c) in
             StepEnds ((content_asks s b p stands (context_of c) (fields_of c) || move_asks s e c) || following_asks s (moved s e c)) (following s (moved s e c)) self.old.globals (config_of s self.new) result }
+        ensures tracks { (start : Values) → Tracks start self.old.changes self.old.globals → Tracks start self.new.changes self.new.globals }
     {
         let transfer = self.perform(story, here, found)?;
         self.finish(story, transfer)
@@ -135,9 +137,10 @@ impl Machine {
 
     /// After a content was performed flow goes where it sends it, and a global is stored.
     fn finish(&mut self, story: &Story, transfer: Transfer<'_>) -> Result<StepEnd, Fault>
-        ensures { let s = story_tree story.now in (old : Before) (asks : Bool) (e : Effect) → Performs s asks e (fields_of (config_of s self.old)) (Ok transfer.entry) → Keeps s e old.threads self.old.threads → KeepsChoices s e old.choices self.old.choices
+        ensures ends { let s = story_tree story.now in (old : Before) (asks : Bool) (e : Effect) → Performs s asks e (fields_of (config_of s self.old)) (Ok transfer.entry) → Keeps s e old.threads self.old.threads → KeepsChoices s e old.choices self.old.choices
             → self.old.safe ≡ old.safe → self.old.counts ≡ old.counts → self.old.turn ≡ old.turn → self.old.globals ≡ old.globals → let c = config_of s old in
             StepEnds ((asks || move_asks s e c) || following_asks s (moved s e c)) (following s (moved s e c)) old.globals (config_of s self.new) result }
+        ensures tracks { (start : Values) → Tracks start self.old.changes self.old.globals → Tracks start self.new.changes self.new.globals }
     {
         let end = self.go(story, &transfer)?;
         self.store(transfer, end)
@@ -148,7 +151,8 @@ impl Machine {
         ensures ends { let s = story_tree story.now in (asks : Bool) (e : Effect) → Performs s asks e (fields_of (config_of s self.old)) (Ok transfer.now) → Keeps s e self.old.threads self.old.threads → KeepsChoices s e self.old.choices self.old.choices
             → let o = moved s (unstored self.old.globals e) (config_of s self.old) in
             StepEnds ((asks || move_asks s e (config_of s self.old)) || following_asks s o) (following s o) self.old.globals (config_of s self.new) result }
-        ensures globals { OnOk result (self.new.globals ≡ self.old.globals) }
+        ensures globals { self.new.globals ≡ self.old.globals }
+        ensures changes { self.new.changes ≡ self.old.changes }
     {
         match self.follow(story, transfer) {
             Ok(StepEnd::Stopped) => self.follow_default(story),
@@ -192,6 +196,7 @@ impl Machine {
         ensures turn { self.new.turn ≡ self.old.turn }
         ensures safe { self.new.safe ≡ self.old.safe }
         ensures globals { self.new.globals ≡ self.old.globals }
+        ensures changes { self.new.changes ≡ self.old.changes }
     {
         match found {
             None => Ok(Transfer::Next),
@@ -219,6 +224,7 @@ impl Machine {
         ensures turn { self.new.turn ≡ self.old.turn }
         ensures safe { self.new.safe ≡ self.old.safe }
         ensures globals { self.new.globals ≡ self.old.globals }
+        ensures changes { self.new.changes ≡ self.old.changes }
     {
         let evaluating = self.threads.is_evaluating();
         let fresh = self.threads.fresh_depth();
@@ -357,6 +363,7 @@ impl Machine {
         ensures threads { self.new.threads ≡ on_top (mode_in self.new.threads.thread.frame.evaluating) self.old.threads }
         ensures safe { self.new.safe ≡ self.old.safe }
         ensures globals { self.new.globals ≡ self.old.globals }
+        ensures changes { self.new.changes ≡ self.old.changes }
     {
         let mut evaluating = self.threads.is_evaluating();
         let fresh = self.threads.fresh_depth();
@@ -396,6 +403,7 @@ impl Machine {
         ensures ends { let s = story_tree story.now in (asks : Bool) (e : Effect) → Performs s asks e (fields_of (config_of s self.old)) (Ok transfer.now) → Keeps s e self.old.threads self.old.threads → KeepsChoices s e self.old.choices self.old.choices
             → StepEnds (asks || move_asks s e (config_of s self.old)) (moved s (unstored self.old.globals e) (config_of s self.old)) self.old.globals (config_of s self.new) result }
         ensures globals { self.new.globals ≡ self.old.globals }
+        ensures changes { self.new.changes ≡ self.old.changes }
     {
         match transfer {
             Transfer::Next => self.go_on(story),
@@ -435,6 +443,7 @@ impl Machine {
         ensures ends { let s = story_tree story.now in let c = config_of s self.old in let how = reach (place_of s to.place) in
             StepEnds (landed_asks s to.enters c.shared.counts (how c.flow.threads (written_in c))) (landing s to.enters how c) self.old.globals (config_of s self.new) result }
         ensures globals { self.new.globals ≡ self.old.globals }
+        ensures changes { self.new.changes ≡ self.old.changes }
     {
         let end = land(&mut self.threads, to.place);
         self.enter_around(story.tree(), to.enters)?;
@@ -447,6 +456,7 @@ impl Machine {
             StepEnds (nat_lt (frame_count c.flow.threads.thread) MAX_FRAMES || landed_asks s to.enters c.shared.counts (how c.flow.threads (written_in c)))
             (landing s to.enters how c) self.old.globals (config_of s self.new) result }
         ensures globals { self.new.globals ≡ self.old.globals }
+        ensures changes { self.new.changes ≡ self.old.changes }
     {
         let end = flow::call(&mut self.threads, &mut self.output, kind, to.place)?;
         self.enter_around(story.tree(), to.enters)?;
@@ -464,6 +474,7 @@ impl Machine {
             StepEnds (returned_asks (next_place s) kind (place_to goal) c.flow.threads (written_in c) || landed_asks s (may_enter goal) c.shared.counts (how c.flow.threads (written_in c)))
             (landing s (may_enter goal) how c) self.old.globals (config_of s self.new) result }
         ensures globals { self.new.globals ≡ self.old.globals }
+        ensures changes { self.new.changes ≡ self.old.changes }
     {
         let end = give_back(
             story.tree(),
@@ -482,6 +493,7 @@ impl Machine {
         ensures ends { let s = story_tree story.now in let c = config_of s self.old in
             StepEnds (moved_asks (next_place s) c.flow.threads (written_in c)) (going (moved_on (next_place s)) c) self.old.globals (config_of s self.new) result }
         ensures globals { self.new.globals ≡ self.old.globals }
+        ensures changes { self.new.changes ≡ self.old.changes }
     {
         move_on(
             story.tree(),

@@ -42,5 +42,5 @@ returns-clause-step g c =
     let asking = external_asks (b k.name) k.arguments k.conditional f in
     let called = c.in_ok-transfer.ensures.call f.evaluating f.fresh f.globals in
     (called.0, called.1, makes_ended s b desk.next asking before (config_of s c.finish.new.self) _ before.shared.globals _ c.finish.result
-    (λ asks e call performs. c.finish.ensures old asks e performs (keeps_call b s e old.threads call) (offers_call b s e old.choices call) refl refl refl refl)
+    (λ asks e call performs. c.finish.ensures.ends old asks e performs (keeps_call b s e old.threads call) (offers_call b s e old.choices call) refl refl refl refl)
     e called.0 (external_call b s k.name k.arguments k.conditional f) called.2)

@@ -47,7 +47,7 @@ returns-in-Some-take c =
     (subst (λ v. counts_in t c.enter_landed.new.counts ≡ all_visited t c.next-turn.result (entered_places t (option_map (place_of t) v.thread.previous) (place_of t v.target)) (counts_in t machine.counts)) (c.choice.view_is ∙ same)
     (subst (λ o. counts_in t c.enter_landed.new.counts ≡ all_visited t c.next-turn.result (entered_places t (option_map (place_of t) o) (place_of t c.choice.inside.target)) (counts_in t machine.counts)) c.previous.ensures c.in-Ok.ensures.ok)) in
     chooses_one s c.args.number old (config_of s c.take_up.new.self) stopped (map_choice (place_of s) y) some
-    (chosen_lands s machine y c.take.new.self c.enter_landed.new.counts c.next-turn.result c.take_up.new.self (c.take_up.ensures s) c.next-turn.ensures entering)
+    (chosen_lands s machine y c.take.new.self c.enter_landed.new.counts c.next-turn.result c.take_up.new.self (c.take_up.ensures.taken s) c.next-turn.ensures entering)
 
 pub returns-in-None : goal.returns-in-None
 returns-in-None c =

@@ -11,8 +11,8 @@ use Rattle.ink_step.proofs.Follows.{ends_after, kept_stays, offered_stay, or_fir
 use Rattle.ink_step.proofs.Stopping.{broke_storing, ends_stored}
 use Rattle.ink_step.proofs.machine.Machine.finish.Goals as goal
 
-pub returns-in_err-end : goal.returns-in_err-end
-returns-in_err-end c old asking e performs keeps offers safely counted turned kept =
+pub returns-in_err-end-clause-ends : goal.returns-in_err-end-clause-ends
+returns-in_err-end-clause-ends c old asking e performs keeps offers safely counted turned kept =
     let s = story_tree c.args.story.now in
     let mid = c.args.self.now in
     let before = config_of s old in
@@ -26,8 +26,8 @@ returns-in_err-end c old asking e performs keeps offers safely counted turned ke
     subst (λ r. StepEnds ((asking || move_asks s e before) || following_asks s (move s e before)) (following s (move s e before)) before.shared.globals new r) (sym is)
     (subst (λ vs. StepEnds ((asking || move_asks s e before) || following_asks s (move s e before)) (following s (move s e before)) vs new (Err f)) kept moved)
 
-pub returns : goal.returns
-returns c old asking e performs keeps offers safely counted turned same =
+pub returns-clause-ends : goal.returns-clause-ends
+returns-clause-ends c old asking e performs keeps offers safely counted turned same =
     let s = story_tree c.args.story.now in
     let mid = c.args.self.now in
     let before = config_of s old in

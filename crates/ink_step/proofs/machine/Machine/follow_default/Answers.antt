@@ -7,27 +7,27 @@ use Rattle.ink_step.proofs.Chosen.{follows_default, is_default, no_default, shor
 use Rattle.ink_step.proofs.machine.Machine.follow_default.Goals as goal
 use Rattle.ink_tree.specs.Nodes.{place_of}
 
-pub returns-then-not-only_invisible : goal.returns-then-not-only_invisible
-returns-then-not-only_invisible c =
+pub returns-then-not-only_invisible-clause-ends : goal.returns-then-not-only_invisible-clause-ends
+returns-then-not-only_invisible-clause-ends c =
     let s = story_tree c.args.story.now in
     let old = config_of s c.args.self.now in
     stays_stopped s old old _ (no_default (place_of s) c.args.self.now.choices (sym c.only_invisible.ensures ∙ c.if-not-only_invisible.true)) refl
 
-pub returns-in-Ok : goal.returns-in-Ok
-returns-in-Ok c =
+pub returns-in-Ok-clause-ends : goal.returns-in-Ok-clause-ends
+returns-in-Ok-clause-ends c =
     let s = story_tree c.args.story.now in
     let machine = c.args.self.now in
     let x = map_choice (place_of s) c.in-Some.choice in
     let some = is_default (place_of s) machine.choices c.take.new.self c.in-Some.choice (sym c.only_invisible.ensures ∙ c.if-not-only_invisible.false) c.in-Some.ensures in
     let entered = subst (λ t. config_of t c.enter_around.new.self ≡ entering_around t (config_of t c.take_up.new.self)) c.tree.ensures.tree c.in-Ok.ensures.ok in
-    follows_default s (config_of s machine) (config_of s c.enter_around.new.self) _ x some (entered ∙ ap (entering_around s) (c.take_up.ensures s))
+    follows_default s (config_of s machine) (config_of s c.enter_around.new.self) _ x some (entered ∙ ap (entering_around s) (c.take_up.ensures.taken s))
 
-pub returns-in-Err : goal.returns-in-Err
-returns-in-Err c =
+pub returns-in-Err-clause-ends : goal.returns-in-Err-clause-ends
+returns-in-Err-clause-ends c =
     let s = story_tree c.args.story.now in
     let machine = c.args.self.now in
     let x = map_choice (place_of s) c.in-Some.choice in
     let some = is_default (place_of s) machine.choices c.take.new.self c.in-Some.choice (sym c.only_invisible.ensures ∙ c.if-not-only_invisible.false) c.in-Some.ensures in
     let adds = subst (λ t. entering_asks t (config_of t c.take_up.new.self) ≡ true) c.tree.ensures.tree c.in-Err.ensures.memory in
-    short_of_default s (config_of s machine) (config_of s c.enter_around.new.self) _ x some c.in-Err.fault c.in-Err.ensures.fault (sym (ap (entering_asks s) (c.take_up.ensures s)) ∙ adds)
-    (c.in-Err.ensures.globals ∙ ap (λ d. d.shared.globals) (c.take_up.ensures s))
+    short_of_default s (config_of s machine) (config_of s c.enter_around.new.self) _ x some c.in-Err.fault c.in-Err.ensures.fault (sym (ap (entering_asks s) (c.take_up.ensures.taken s)) ∙ adds)
+    (c.in-Err.ensures.globals ∙ ap (λ d. d.shared.globals) (c.take_up.ensures.taken s))
