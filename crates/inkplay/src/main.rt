@@ -3,6 +3,9 @@
 //! and watch globals (docs/PROGRAM.md).
 #![tactic(auto)]
 
+ghost use Rattle.ink_host.specs.Desk.{Resting};
+ghost use Rattle.inkplay.specs.Rests.{rests};
+
 mod binding;
 mod file;
 mod objects;
@@ -10,7 +13,7 @@ mod options;
 mod report;
 
 use binding::{PlayDesk, bind_words};
-use ink_player::{Desk, PlayEnd, PlayFault, open_story, play, run};
+use ink_player::{PlayEnd, PlayFault, open_story, play, run};
 use options::command;
 use report::{refuse_file, refuse_words, tell};
 use std::alloc::Global;
@@ -35,17 +38,15 @@ fn main(rt: HostRuntime) -> ExitCode {
         return ExitCode::from(refuse_words(&rt));
     };
     let mut desk = PlayDesk::new(alloc);
-    let bound = bind_words(alloc, &mut desk, &matches);
-    // Nothing is asked of the desk yet: the player takes none with functions.
-    let _ = desk.close();
-    if bound.is_err() {
+    if bind_words(alloc, &mut desk, &matches).is_err() {
+        let _objects = desk.close();
         return ExitCode::from(refuse_words(&rt));
     }
     let mut reader = rt.reader();
     let mut writer = io::writer(&rt);
     ExitCode::from(match matches.get_str("STORY") {
-        Some(path) => serve_file(&rt, alloc, path, &mut reader, &mut writer),
-        None => serve_input(&rt, alloc, &mut reader, &mut writer),
+        Some(path) => serve_file(&rt, alloc, path, desk, &mut reader, &mut writer),
+        None => serve_input(&rt, alloc, desk, &mut reader, &mut writer),
     })
 }
 
@@ -59,16 +60,19 @@ fn words<R: Env + Alloc>(rt: &R) -> io::Result<Vec<String<R::A>, R::A>> {
 fn serve_input<R: Read, W: Write>(
     rt: &impl Eprint,
     alloc: Global,
+    desk: PlayDesk,
     reader: &mut R,
     writer: &mut W,
-) -> u8 {
-    match play(alloc, reader, writer, Desk::new()) {
+) -> u8
+    requires { Resting rests desk.watchers }
+{
+    match play(alloc, reader, writer, desk) {
         Ok(desk) => {
-            desk.close();
+            let _objects = desk.close();
             SERVED
         }
         Err(PlayEnd { fault, desk }) => {
-            desk.close();
+            let _objects = desk.close();
             tell(rt, &fault)
         }
     }
@@ -79,21 +83,25 @@ fn serve_file<R: Read, W: Write>(
     rt: &(impl Eprint + Files),
     alloc: Global,
     path: &str,
+    desk: PlayDesk,
     reader: &mut R,
     writer: &mut W,
-) -> u8 {
+) -> u8
+    requires { Resting rests desk.watchers }
+{
     let Ok(bytes) = file::read(rt, alloc, path) else {
+        let _objects = desk.close();
         return refuse_file(rt);
     };
-    let mut player = match open_story(alloc, &bytes, Desk::new()) {
+    let mut player = match open_story(alloc, &bytes, desk) {
         Ok(player) => player,
         Err(PlayEnd { fault, desk }) => {
-            desk.close();
+            let _objects = desk.close();
             return tell(rt, &fault);
         }
     };
     let outcome = run(alloc, reader, writer, &mut player);
-    player.close().close();
+    let _objects = player.close().close();
     match outcome {
         Ok(()) => SERVED,
         Err(fault) => tell(rt, &PlayFault::Run(fault)),

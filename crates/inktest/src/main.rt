@@ -9,6 +9,7 @@ mod answer;
 mod content;
 mod expansion;
 mod lines;
+mod objects;
 mod operators;
 mod output;
 mod paths;
@@ -30,7 +31,7 @@ use table::run_table;
 use tally::Tally;
 
 /// The tables that are read where none are named.
-const TABLES: [&str; 23] = [
+const TABLES: [&str; 26] = [
     "operators.txt",
     "operators_large.txt",
     "output.txt",
@@ -38,6 +39,9 @@ const TABLES: [&str; 23] = [
     "paths.txt",
     "players.txt",
     "players_large.txt",
+    "players_objects.txt",
+    "players_objects_large.txt",
+    "players_short.txt",
     "reading.txt",
     "sessions.txt",
     "sessions_calls.txt",

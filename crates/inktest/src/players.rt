@@ -1,25 +1,38 @@
 //! Tables of calls of a player. `= STORY` stands above the calls, each of which is a case: a call, ` => ` and what it has to
-//! say. All but the first two calls are of one player.
+//! say. All but the first are of one player.
 //!
-//! - `supported`: the place of the first content that is not supported yet, or `all`
 //! - `opened`: `Player::open`, which hands back a story whose declarations fault
 //! - `through`: the passage's text, ` #TAG` for each tag, ` more` and ` loose`
 //! - `choices`: each text and its tags as a passage has them, apart by ` | `; `none` where there is none
 //! - `restart`, `can_continue`, `get NAME`, `set NAME VALUE`, `visits PATH`, `choose N`, `jump PATH`
+//! - `turn NAME DEED..`, `pure NAME DEED`, `watch NAME`, `unbind NAME`, `unwatch NAME`: what is handed back, or `nothing`. A deed
+//!   is a value, `refuses` or `short`, which finds no memory; a watcher does not with `watch NAME short`
+//! - `short CALL`: that call, of which want of memory is an answer
 //!
-//! A fault or a refusal is told by its name. Where memory is refused, the calls up to the next story are not made.
+//! A fault or a refusal is told by its name. Events stand behind an answer: `roll(6)=4@0` is a call and what it gave, `roll(6)!@0`
+//! one that was refused, and `gold:7@1` a new value that was told. What is handed back is told with what it noted. Where memory is
+//! refused, the calls up to the next story are not made.
+
+ghost use Rattle.std.specs.Prelude.{◌≡◌, IfOk};
+ghost use Rattle.ink_player.specs.Words.{Idle, desk_of};
+ghost use Rattle.inktest.specs.Deeds.{rests};
 
 use crate::answer::{Answer, NoAnswer, compared, first_word, text};
 use crate::expansion::expanded;
 use crate::lines::{first_line, is_comment, question_and_answer};
+use crate::objects::{Constant, Deed, Observer, Script};
 use crate::table::Table;
 use crate::tally::{Tally, Verdict};
-use crate::words::{encode, shown_parts, shown_value, value_of};
+use crate::words::{encode, given_of, show_given, show_value, shown_value, value_of};
 use ink_check::{Story, check};
+use ink_host::{Called, Seen};
 use ink_json::read_story;
-use ink_model::{Event, Fault, Given, Halt, Passage, Refusal, Seq, Shared, Text, Value};
-use ink_player::{Desk, OpenFault, PlayEnd, PlayFault, Player, open_story, runnable};
+use ink_model::{Event, Given, Halt, Passage, Refusal, Seq, Shared, Text, Value};
+use ink_player::{Bound, Desk, OpenFault, PlayEnd, PlayFault, Player, open_story};
 use std::alloc::{AllocError, Global};
+
+/// A player with the objects of tables.
+type TestPlayer = Player<Constant, Script, Observer>;
 
 /// Makes the calls of a table.
 pub(crate) fn run_players(rt: &impl Print, alloc: Global, table: Table<'_>, tally: &mut Tally) {
@@ -37,40 +50,98 @@ fn run_player(
     (story, calls): (&str, &str),
     tally: &mut Tally,
 ) {
-    let mut player = player_of(alloc, story);
+    match player_of(alloc, story) {
+        Ok(mut player) => {
+            call_player(rt, alloc, table, (story, calls), &mut player, tally);
+            let _objects = player.close().close();
+        }
+        Err(why) => call_none(rt, alloc, table, (story, calls), why, tally),
+    }
+}
+
+/// Makes the calls of a player.
+fn call_player(
+    rt: &impl Print,
+    alloc: Global,
+    table: Table<'_>,
+    (story, calls): (&str, &str),
+    player: &mut TestPlayer,
+    tally: &mut Tally,
+)
+    requires { Idle rests (desk_of player.old) }
+    ensures { Idle rests (desk_of player.new) }
+{
     let mut is_out_of_memory = false;
     for line in calls.lines() {
         if is_out_of_memory && !is_comment(line) {
             tally.refuse();
         } else if !is_comment(line) {
-            let verdict = verdict(alloc, story, &mut player, line);
+            let verdict = verdict(alloc, story, player, line);
             is_out_of_memory = verdict.is_err();
             tally.count(rt, table.file, line, &verdict);
         }
     }
-    match player {
-        Ok(player) => player.close().close(),
-        Err(_) => {}
+}
+
+/// Answers the calls of a story that has no player.
+fn call_none(
+    rt: &impl Print,
+    alloc: Global,
+    table: Table<'_>,
+    (story, calls): (&str, &str),
+    why: NoAnswer,
+    tally: &mut Tally,
+) {
+    for line in calls.lines() {
+        if !is_comment(line) {
+            let verdict = unopened(alloc, story, why, line);
+            tally.count(rt, table.file, line, &verdict);
+        }
+    }
+}
+
+fn unopened(
+    alloc: Global,
+    story: &str,
+    why: NoAnswer,
+    line: &str,
+) -> Result<Verdict, AllocError> {
+    let line = expanded(alloc, line)?;
+    let (call, wanted) = question_and_answer(&line);
+    match call {
+        "opened" => compared(alloc, opened(alloc, story), wanted),
+        _ => compared(alloc, Err(why), wanted),
     }
 }
 
 fn verdict(
     alloc: Global,
     story: &str,
-    player: &mut Result<Player, NoAnswer>,
+    player: &mut TestPlayer,
     line: &str,
-) -> Result<Verdict, AllocError> {
+) -> Result<Verdict, AllocError>
+    requires { Idle rests (desk_of player.old) }
+    ensures { Idle rests (desk_of player.new) }
+{
     let line = expanded(alloc, line)?;
     let (call, wanted) = question_and_answer(&line);
-    compared(alloc, answer(alloc, story, player, call), wanted)
+    if call == "opened" {
+        return compared(alloc, opened(alloc, story), wanted);
+    }
+    match call.strip_prefix("short ") {
+        Some(call) => {
+            let answer = shortly(alloc, said(alloc, player, call));
+            compared(alloc, answer, wanted)
+        }
+        None => compared(alloc, said(alloc, player, call), wanted),
+    }
 }
 
-fn answer(alloc: Global, story: &str, player: &mut Result<Player, NoAnswer>, call: &str) -> Answer {
-    match (call, player) {
-        ("supported", _) => supported(alloc, story),
-        ("opened", _) => opened(alloc, story),
-        (_, Ok(player)) => said(alloc, player, call),
-        (_, Err(why)) => Err(*why),
+/// Want of memory is an answer.
+fn shortly(alloc: Global, answer: Answer) -> Answer {
+    match answer {
+        Err(NoAnswer::OutOfMemory) => text(alloc, "OutOfMemory"),
+        answer => answer,
     }
 }
 
@@ -82,50 +153,40 @@ fn accepted(alloc: Global, story: &str) -> Result<Story, NoAnswer> {
     Ok(check(alloc, raw)?)
 }
 
-fn supported(alloc: Global, story: &str) -> Answer {
-    let story = accepted(alloc, story)?;
-    match runnable(&story)? {
-        Some(place) => shown_parts(alloc, place.parts()),
-        None => text(alloc, "all"),
-    }
-}
-
 /// Opens a story. Where its declarations fault the story is handed back.
 fn opened(alloc: Global, story: &str) -> Answer {
     let story = accepted(alloc, story)?;
-    if runnable(&story)?.is_some() {
-        return Err(NoAnswer::NoQuestion);
-    }
-    match Player::open(alloc, story, Desk::new()) {
+    let desk: Desk<Constant, Script, Observer> = Desk::new(alloc);
+    match Player::open(alloc, story, desk) {
         Ok(player) => {
-            player.close().close();
+            let _objects = player.close().close();
             text(alloc, "opened")
         }
-        Err(fault) => Err(NoAnswer::from(open_fault(fault))),
+        Err(OpenFault {
+            fault,
+            story: _,
+            desk,
+        }) => {
+            let _objects = desk.close();
+            Err(NoAnswer::from(fault))
+        }
     }
 }
 
-fn open_fault(end: OpenFault) -> Fault {
-    let OpenFault {
-        fault,
-        story: _,
-        desk,
-    } = end;
-    desk.close();
-    fault
-}
-
-fn player_of(alloc: Global, story: &str) -> Result<Player, NoAnswer> {
+fn player_of(alloc: Global, story: &str) -> Result<TestPlayer, NoAnswer>
+    ensures { IfOk result (λ p. Idle rests (desk_of p)) }
+{
     let story = expanded(alloc, story)?;
-    match open_story(alloc, story.as_slice(), Desk::new()) {
+    match open_story(alloc, story.as_slice(), Desk::new(alloc)) {
         Ok(player) => Ok(player),
-        Err(end) => Err(play_fault(end)),
+        Err(PlayEnd { fault, desk }) => {
+            let _objects = desk.close();
+            Err(why_not(fault))
+        }
     }
 }
 
-fn play_fault(end: PlayEnd) -> NoAnswer {
-    let PlayEnd { fault, desk } = end;
-    desk.close();
+fn why_not(fault: PlayFault) -> NoAnswer {
     match fault {
         PlayFault::Story(refusal) => NoAnswer::from(refusal),
         PlayFault::Start(fault) => NoAnswer::from(fault),
@@ -135,7 +196,10 @@ fn play_fault(end: PlayEnd) -> NoAnswer {
 
 // ---- calls of a player
 
-fn said(alloc: Global, player: &mut Player, call: &str) -> Answer {
+fn said(alloc: Global, player: &mut TestPlayer, call: &str) -> Answer
+    requires { Idle rests (desk_of player.old) }
+    ensures { Idle rests (desk_of player.new) }
+{
     let (word, rest) = first_word(call);
     match word {
         "through" => passage(alloc, player.through()),
@@ -154,6 +218,11 @@ fn said(alloc: Global, player: &mut Player, call: &str) -> Answer {
         "choices" => choices(alloc, player),
         "choose" => choose(alloc, player, rest),
         "jump" => landed(alloc, player.jump(rest)),
+        "turn" => bind_turn(alloc, player, rest),
+        "pure" => bind_pure(alloc, player, rest),
+        "watch" => watch(alloc, player, rest),
+        "unbind" => shown_function(alloc, player.unbind(rest)),
+        "unwatch" => shown_watcher(alloc, player.unwatch(rest)),
         _ => Err(NoAnswer::NoQuestion),
     }
 }
@@ -163,9 +232,10 @@ fn passage(alloc: Global, outcome: Result<Passage, Halt>) -> Answer {
         Ok(passage) => {
             let mut said = String::new(alloc);
             show_passage(&mut said, &passage)?;
+            show_events(alloc, &mut said, passage.events.as_slice())?;
             Ok(said)
         }
-        Err(halt) => Err(NoAnswer::from(halt)),
+        Err(halt) => halted(alloc, halt),
     }
 }
 
@@ -191,19 +261,13 @@ fn show_text(said: &mut String, text: &Text, tags: &[Shared<Text>]) -> Result<()
     Ok(())
 }
 
-fn done(alloc: Global, outcome: Result<Seq<Event>, Halt>) -> Answer {
-    match outcome {
-        Ok(_) => text(alloc, "done"),
-        Err(halt) => Err(NoAnswer::from(halt)),
-    }
-}
 
-fn got(alloc: Global, player: &Player, name: &str) -> Answer {
+fn got(alloc: Global, player: &TestPlayer, name: &str) -> Answer {
     let value = player.get(name)?;
     shown_value(alloc, &value)
 }
 
-fn visits(alloc: Global, player: &Player, path: &str) -> Answer {
+fn visits(alloc: Global, player: &TestPlayer, path: &str) -> Answer {
     let visits = player.visits(path)?;
     Ok(format!(in alloc; "{visits}")?)
 }
@@ -223,7 +287,10 @@ fn choices(alloc: Global, player: &Player) -> Answer {
     Ok(said)
 }
 
-fn choose(alloc: Global, player: &mut Player, number: &str) -> Answer {
+
+fn choose(alloc: Global, player: &mut TestPlayer, number: &str) -> Answer
+    ensures { desk_of player.new ≡ desk_of player.old }
+{
     match number.parse::<u32>() {
         Ok(number) => landed(alloc, player.choose(number)),
         Err(_) => Err(NoAnswer::NoQuestion),
@@ -237,19 +304,176 @@ fn landed(alloc: Global, outcome: Result<(), Refusal>) -> Answer {
     }
 }
 
-fn set(alloc: Global, player: &mut Player, rest: &str) -> Answer {
+fn set(alloc: Global, player: &mut TestPlayer, rest: &str) -> Answer
+    requires { Idle rests (desk_of player.old) }
+    ensures { Idle rests (desk_of player.new) }
+{
     let (name, value) = first_word(rest);
     let value = given_of(value_of(alloc, value)?)?;
     done(alloc, player.set(name, value))
 }
 
-/// What a host gives.
-fn given_of(value: Value) -> Result<Given, NoAnswer> {
-    match value {
-        Value::Int(number) => Ok(Given::Int(number)),
-        Value::Bool(truth) => Ok(Given::Bool(truth)),
-        Value::Text(text) => Ok(Given::Text(text)),
-        Value::Void => Ok(Given::Void),
-        _other => Err(NoAnswer::NoQuestion),
+// ---- objects
+
+fn bind_turn(alloc: Global, player: &mut TestPlayer, rest: &str) -> Answer
+    requires { Idle rests (desk_of player.old) }
+    ensures { Idle rests (desk_of player.new) }
+{
+    let (name, words) = first_word(rest);
+    let mut deeds = Vec::new(alloc);
+    for word in words.split_whitespace() {
+        deeds.push(deed_of(alloc, word)?)?;
     }
+    match player.bind_turn(name, Script::new(alloc, deeds)) {
+        Ok(was) => shown_function(alloc, was),
+        Err(_) => Err(NoAnswer::OutOfMemory),
+    }
+}
+
+fn bind_pure(alloc: Global, player: &mut TestPlayer, rest: &str) -> Answer
+    requires { Idle rests (desk_of player.old) }
+    ensures { Idle rests (desk_of player.new) }
+{
+    let (name, word) = first_word(rest);
+    let deed = deed_of(alloc, word)?;
+    match player.bind_pure(name, Constant::new(alloc, deed)) {
+        Ok(was) => shown_function(alloc, was),
+        Err(_) => Err(NoAnswer::OutOfMemory),
+    }
+}
+
+fn watch(alloc: Global, player: &mut TestPlayer, rest: &str) -> Answer
+    requires { Idle rests (desk_of player.old) }
+    ensures { Idle rests (desk_of player.new) }
+{
+    let (name, word) = first_word(rest);
+    match player.watch(name, Observer::new(alloc, word != "short")) {
+        Ok(was) => shown_watcher(alloc, was),
+        Err(_) => Err(NoAnswer::OutOfMemory),
+    }
+}
+
+fn deed_of(alloc: Global, word: &str) -> Result<Deed, NoAnswer> {
+    match word {
+        "refuses" => Ok(Deed::Refuses),
+        "short" => Ok(Deed::FindsNoMemory),
+        word => Ok(Deed::Gives(given_of(value_of(alloc, word)?)?)),
+    }
+}
+
+fn shown_function(alloc: Global, function: Option<Bound<Constant, Script>>) -> Answer {
+    match function {
+        None => text(alloc, "nothing"),
+        Some(Bound::Pure(_)) => text(alloc, "pure"),
+        Some(Bound::Turn(script)) => {
+            let mut said = String::from_str(alloc, "turn")?;
+            for called in &script.calls {
+                show_called(alloc, &mut said, called)?;
+            }
+            Ok(said)
+        }
+    }
+}
+
+fn show_called(alloc: Global, said: &mut String, called: &Called) -> Result<(), AllocError> {
+    said.push(' ')?;
+    show_call(alloc, said, called.arguments.as_slice(), called.gave.as_ref())?;
+    write!(said, "@{}", called.stamp)
+}
+
+fn shown_watcher(alloc: Global, watcher: Option<Observer>) -> Answer {
+    match watcher {
+        None => text(alloc, "nothing"),
+        Some(observer) => {
+            let mut said = String::from_str(alloc, "watcher")?;
+            for seen in &observer.seen {
+                said.push(' ')?;
+                show_sight(alloc, &mut said, seen.name.as_str(), &seen.value, seen.stamp)?;
+            }
+            Ok(said)
+        }
+    }
+}
+
+// ---- events
+
+fn done(alloc: Global, outcome: Result<Seq<Event>, Halt>) -> Answer {
+    match outcome {
+        Ok(events) => {
+            let mut said = String::from_str(alloc, "done")?;
+            show_events(alloc, &mut said, events.as_slice())?;
+            Ok(said)
+        }
+        Err(halt) => halted(alloc, halt),
+    }
+}
+
+/// A fault, with its events.
+fn halted(alloc: Global, halt: Halt) -> Answer {
+    match halt {
+        Halt::Fault { fault, events } if !events.as_slice().is_empty() => {
+            let mut said = String::from_str(alloc, fault.name())?;
+            show_events(alloc, &mut said, events.as_slice())?;
+            Ok(said)
+        }
+        halt => Err(NoAnswer::from(halt)),
+    }
+}
+
+fn show_events(alloc: Global, said: &mut String, events: &[Event]) -> Result<(), AllocError> {
+    for event in events {
+        said.push(' ')?;
+        match event {
+            Event::Call {
+                name,
+                arguments,
+                gave,
+                stamp,
+            } => {
+                encode(said, name.as_str())?;
+                show_call(alloc, said, arguments.as_slice(), gave.as_ref())?;
+                write!(said, "@{stamp}")?;
+            }
+            Event::Saw { name, stamp, value } => {
+                show_sight(alloc, said, name.as_str(), value, *stamp)?;
+            }
+        }
+    }
+    Ok(())
+}
+
+/// The arguments of a call, and what it gave, or that it was refused.
+fn show_call(
+    alloc: Global,
+    said: &mut String,
+    arguments: &[Value],
+    gave: Option<&Given>,
+) -> Result<(), AllocError> {
+    said.push('(')?;
+    for (index, argument) in arguments.iter().enumerate() {
+        if index > 0 {
+            said.push(',')?;
+        }
+        show_value(alloc, said, argument)?;
+    }
+    match gave {
+        Some(given) => {
+            said.push_str(")=")?;
+            show_given(said, given)
+        }
+        None => said.push_str(")!"),
+    }
+}
+
+fn show_sight(
+    alloc: Global,
+    said: &mut String,
+    name: &str,
+    value: &Value,
+    stamp: u64,
+) -> Result<(), AllocError> {
+    encode(said, name)?;
+    said.push(':')?;
+    show_value(alloc, said, value)?;
+    write!(said, "@{stamp}")
 }

@@ -10,6 +10,9 @@
 //!
 //! A session is played at once, and a short one also by seven bytes at a time and by `open_story` and `run`.
 
+ghost use Rattle.std.specs.Prelude.{◌≡◌};
+ghost use Rattle.ink_host.specs.Desk.{empty_desk};
+
 use crate::answer::{Answer, NoAnswer, told};
 use crate::expansion::expand;
 use crate::lines::is_comment;
@@ -18,7 +21,8 @@ use crate::streams::{Page, Pieces};
 use crate::table::Table;
 use crate::tally::{Tally, Verdict};
 use ink_model::Fault;
-use ink_player::{Desk, PlayEnd, PlayFault, RunFault, open_story, play, run};
+use ink_host::{Desk, Nobody};
+use ink_player::{PlayEnd, PlayFault, RunFault, open_story, play, run};
 use std::alloc::{AllocError, Global};
 
 /// The longest input that is also played by `open_story` and `run`, and by few bytes at a time.
@@ -141,20 +145,24 @@ fn played(
     mut writer: Page,
     wanted: Wanted<'_>,
 ) -> Result<Verdict, AllocError> {
-    let end = match play(alloc, &mut reader, &mut writer, Desk::new()) {
+    let end = match play(alloc, &mut reader, &mut writer, nobody(alloc)) {
         Ok(desk) => {
-            desk.close();
+            let _objects = desk.close();
             None
         }
-        Err(end) => Some(fault_of(end)),
+        Err(PlayEnd { fault, desk }) => {
+            let _objects = desk.close();
+            Some(fault)
+        }
     };
     compared(alloc, &writer, end, wanted)
 }
 
-fn fault_of(end: PlayEnd) -> PlayFault {
-    let PlayEnd { fault, desk } = end;
-    desk.close();
-    fault
+/// A desk with no object.
+fn nobody(alloc: Global) -> Desk<Nobody, Nobody, Nobody>
+    ensures { result ≡ empty_desk }
+{
+    Desk::new(alloc)
 }
 
 /// Plays by few bytes at a time.
@@ -172,13 +180,16 @@ fn opened_and_run(alloc: Global, input: &[u8], wanted: Wanted<'_>) -> Result<Ver
     let story = lines.next().unwrap_or(b"");
     let mut reader = Pieces::whole(lines.next().unwrap_or(b""));
     let mut writer = Page::new(alloc);
-    let end = match open_story(alloc, story, Desk::new()) {
+    let end = match open_story(alloc, story, nobody(alloc)) {
         Ok(mut player) => {
             let outcome = run(alloc, &mut reader, &mut writer, &mut player);
-            player.close().close();
+            let _objects = player.close().close();
             outcome.err().map(PlayFault::Run)
         }
-        Err(end) => Some(fault_of(end)),
+        Err(PlayEnd { fault, desk }) => {
+            let _objects = desk.close();
+            Some(fault)
+        }
     };
     compared(alloc, &writer, end, wanted)
 }

@@ -3,7 +3,7 @@
 //! `root`.
 
 use crate::answer::{Answer, NoAnswer};
-use ink_model::{Part, Shared, Text, Value};
+use ink_model::{Given, Part, Shared, Text, Value};
 use ink_tree::{print_path, read_path};
 use std::alloc::{AllocError, Global};
 use std::str::FromStr;
@@ -98,7 +98,12 @@ pub(crate) fn shown_value(alloc: Global, value: &Value) -> Answer {
     Ok(word)
 }
 
-fn show_value(alloc: Global, word: &mut String, value: &Value) -> Result<(), AllocError> {
+/// Writes a value behind a text.
+pub(crate) fn show_value(
+    alloc: Global,
+    word: &mut String,
+    value: &Value,
+) -> Result<(), AllocError> {
     match value {
         Value::Int(number) => write!(word, "{number}"),
         Value::Bool(truth) => write!(word, "{truth}"),
@@ -107,6 +112,27 @@ fn show_value(alloc: Global, word: &mut String, value: &Value) -> Result<(), All
         Value::Tag(text) => show_text(word, '#', text.get()),
         Value::Pointer(frame, name) => write!(word, "&{}:{frame}", name.get().as_str()),
         Value::Target(path) => write!(word, "->{}", print_path(alloc, path.get())?.as_str()),
+    }
+}
+
+/// What a host gives.
+pub(crate) fn given_of(value: Value) -> Result<Given, NoAnswer> {
+    match value {
+        Value::Int(number) => Ok(Given::Int(number)),
+        Value::Bool(truth) => Ok(Given::Bool(truth)),
+        Value::Text(text) => Ok(Given::Text(text)),
+        Value::Void => Ok(Given::Void),
+        _other => Err(NoAnswer::NoQuestion),
+    }
+}
+
+/// Writes what a host gave behind a text.
+pub(crate) fn show_given(word: &mut String, given: &Given) -> Result<(), AllocError> {
+    match given {
+        Given::Int(number) => write!(word, "{number}"),
+        Given::Bool(truth) => write!(word, "{truth}"),
+        Given::Void => word.push_str("void"),
+        Given::Text(text) => show_text(word, '^', text.get()),
     }
 }
 

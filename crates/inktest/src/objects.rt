@@ -1,0 +1,159 @@
+//! The objects that tables bind to names. Each notes what was asked of it, and can refuse, or find no memory.
+
+ghost use Rattle.std.specs.Prelude.{◌≡◌, false, not, IfOk};
+ghost use Rattle.inktest.specs.Deeds.{given_by};
+
+use ink_host::{Called, PureFn, Seen, TurnFn, Watcher};
+use ink_model::{Given, HostFault, Seq, Text, Value};
+use std::alloc::{AllocError, Global};
+
+/// What a function does when it is called.
+#[derive(Drop)]
+pub(crate) enum Deed {
+    Gives(Given),
+    Refuses,
+    FindsNoMemory,
+}
+
+/// A pure function that does the same whatever it is asked.
+#[derive(Drop)]
+pub(crate) struct Constant {
+    deed: Deed,
+    alloc: Global,
+}
+
+impl Constant {
+    pub(crate) fn new(alloc: Global, deed: Deed) -> Constant {
+        Constant { deed, alloc }
+    }
+}
+
+impl PureFn for Constant {
+    ghost meaning = { λ c arguments. given_by c.deed };
+
+    fn ask(&self, _arguments: &[Value]) -> Result<Given, HostFault> {
+        match &self.deed {
+            Deed::Gives(given) => match given.clone_in(self.alloc) {
+                Ok(copy) => Ok(copy),
+                Err(_) => Err(HostFault::OutOfMemory),
+            },
+            Deed::Refuses => Err(HostFault::Refused),
+            Deed::FindsNoMemory => Err(HostFault::OutOfMemory),
+        }
+    }
+}
+
+/// A turn function that does one deed after another, and refuses once they are used up.
+#[derive(Drop)]
+pub(crate) struct Script {
+    pub calls: Vec<Called>,
+    deeds: Vec<Deed>,
+    next: usize,
+    alloc: Global,
+}
+
+impl Script {
+    pub(crate) fn new(alloc: Global, deeds: Vec<Deed>) -> Script {
+        Script {
+            calls: Vec::new(alloc),
+            deeds,
+            next: 0,
+            alloc,
+        }
+    }
+}
+
+impl TurnFn for Script {
+    ghost log = { λ s. s.calls.items };
+
+    fn call(&mut self, stamp: u64, arguments: &[Value]) -> Result<Given, HostFault> {
+        let Ok(arguments) = copied(self.alloc, arguments) else {
+            return Err(HostFault::OutOfMemory);
+        };
+        if self.calls.reserve(1).is_err() {
+            return Err(HostFault::OutOfMemory);
+        }
+        let turn = self.next;
+        self.next = turn.saturating_add(1);
+        match self.deeds.get(turn) {
+            Some(Deed::Gives(given)) => {
+                let (Ok(answer), Ok(gave)) =
+                    (given.clone_in(self.alloc), given.clone_in(self.alloc))
+                else {
+                    return Err(HostFault::OutOfMemory);
+                };
+                self.calls.push_reserved(Called {
+                    stamp,
+                    arguments,
+                    gave: Some(gave),
+                });
+                Ok(answer)
+            }
+            Some(Deed::FindsNoMemory) => Err(HostFault::OutOfMemory),
+            Some(Deed::Refuses) | None => {
+                self.calls.push_reserved(Called {
+                    stamp,
+                    arguments,
+                    gave: None,
+                });
+                Err(HostFault::Refused)
+            }
+        }
+    }
+}
+
+fn copied(alloc: Global, values: &[Value]) -> Result<Seq<Value>, AllocError>
+    ensures { IfOk result (λ copies. copies ≡ values.now) }
+{
+    let mut copies = Vec::new(alloc);
+    for value in values {
+        copies.push(value.clone_in(alloc)?)?;
+    }
+    Ok(Seq::from_vec(copies))
+}
+
+/// A watcher that notes what it is told, or never finds memory for that.
+#[derive(Drop)]
+pub(crate) struct Observer {
+    pub seen: Vec<Seen>,
+    finds_memory: bool,
+    is_told: bool,
+    alloc: Global,
+}
+
+impl Observer {
+    pub(crate) fn new(alloc: Global, finds_memory: bool) -> Observer
+        ensures { result.is_told ≡ false }
+    {
+        Observer {
+            seen: Vec::new(alloc),
+            finds_memory,
+            is_told: false,
+            alloc,
+        }
+    }
+}
+
+impl Watcher for Observer {
+    ghost log = { λ o. o.seen.items };
+
+    ghost at_rest = { λ o. not o.is_told };
+
+    fn begin(&mut self) {
+        self.is_told = true;
+    }
+
+    fn changed(&mut self, stamp: u64, name: &str, value: &Value) -> Result<(), AllocError> {
+        if !self.finds_memory {
+            return Err(AllocError);
+        }
+        let name = Text::from_str(self.alloc, name)?;
+        let value = value.clone_in(self.alloc)?;
+        self.seen.push(Seen { stamp, name, value })?;
+        Ok(())
+    }
+
+    fn end(&mut self) {
+        self.is_told = false;
+    }
+}
