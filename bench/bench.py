@@ -1,8 +1,9 @@
 #!/usr/bin/env python3
 """Times reading, checking and running stories of 1, 4 and 16 MiB, long arithmetic, long passages, command lines, calls,
-visits and choices, and prints the times side by side.
+visits, choices and objects of a host, and prints the times side by side.
 
     bench/bench.py [--program PROGRAM] [--worker WORKER] [reading] [arithmetic] [passages] [commands] [calls] [visits] [choices]
+                   [hosts]
         ./inkplay, crates/inkbench and all of them, unless others are named
 
 Each time is the least of three runs, in milliseconds, with the program's start in it. The last column is the time at
@@ -73,12 +74,12 @@ def arithmetic(steps):
     return HEAD + ",".join([ARITHMETIC] * (steps // 14)) + TAIL
 
 
-def best(program, lines):
+def best(program, lines, words=()):
     """The least time of three runs, and what was written."""
     times, written = [], b""
     for _ in range(3):
         begun = time.perf_counter()
-        done = subprocess.run([program], input=lines.encode(), stdout=subprocess.PIPE, stderr=subprocess.PIPE)
+        done = subprocess.run([program, *words], input=lines.encode(), stdout=subprocess.PIPE, stderr=subprocess.PIPE)
         times.append(time.perf_counter() - begun)
         if done.returncode != 0:
             sys.exit("bench: %s" % done.stderr.decode().strip())
@@ -273,7 +274,34 @@ def choices(program, _worker):
         print("%-34s %9d %12.0f" % ("", count, (took - start) * 1e6 / count))
 
 
-BENCHES = {"reading": reading, "arithmetic": steps, "passages": passages, "commands": commands, "calls": calls, "visits": visits, "choices": choices}
+def calling(body, count):
+    """A loop with this in it, so many times."""
+    return ('{"inkVersion":21,"root":[[{"->":"loop"},null],"done",{"loop":["ev",{"VAR?":"x"},1,"-",{"VAR=":"x","re":true},%s{"VAR?":"x"},0,">","/ev",{"->":"loop","c":true},"end",null],'
+            '"global decl":["ev",%d,{"VAR=":"x"},"/ev","end",null]}]}' % (body, count))
+
+
+def many_globals(count):
+    return '{"inkVersion":21,"root":["done",{"global decl":["ev",%s"/ev","end",null]}]}' % "".join('0,{"VAR=":"g%d"},' % n for n in range(count))
+
+
+def hosts(program, _worker):
+    """Calls of functions that a host has bound, and globals that are set, of which one is watched."""
+    print("%-34s %9s %9s" % ("calls with two arguments", "calls", "ns each"))
+    call = '1,true,{"x()":"f","exArgs":2},"pop",'
+    for name, word in (("a turn function", "f=[" + ",".join(["7"] * 60000) + "]"), ("a pure function", 'f={"[1,true]":7}')):
+        words = ("--answer" if "turn" in name else "--table", word)
+        for count in (10000, 50000):
+            with_calls, without = (best(program, calling(body, count) + "\nthrough\n", words)[0] for body in (call, ""))
+            print("%-34s %9d %9.0f" % ("  " + name, count, (with_calls - without) * 1e6 / count))
+    print("%-34s %9s %12s" % ("set, one global watched", "globals", "ns a command"))
+    lines = "".join("set g0 %d\n" % (n + 1) for n in range(10000))
+    for count in (1, 100, 10000):
+        story = many_globals(count) + "\n"
+        took = best(program, story + lines, ("--watch", "g0"))[0] - best(program, story, ("--watch", "g0"))[0]
+        print("%-34s %9d %12.0f" % ("", count, took * 1e6 / 10000))
+
+
+BENCHES = {"reading": reading, "arithmetic": steps, "passages": passages, "commands": commands, "calls": calls, "visits": visits, "choices": choices, "hosts": hosts}
 
 
 def main():
