@@ -105,7 +105,7 @@ module _ (s : StoryTree) (b : Bound) (made : List Made) (n : ℕ) (es : List Eve
 
   -- ---- with a call
 
-  module _ (name : List ℕ) (arguments : List Value) (f : Fields) (d : Configuration) (is : step s b old ≡ Wants name arguments f d) (turn : b name ≡ Some turn_function) where
+  module _ (name : List ℕ) (arguments : List Value) (f : Fields) (d : Configuration) (is : step s b old ≡ Wants name arguments f d) where
     abbrev call : Option Given → Made
     call gave = record { name = name; arguments = arguments; gave = gave }
 
@@ -130,10 +130,10 @@ module _ (s : StoryTree) (b : Bound) (made : List Made) (n : ℕ) (es : List Eve
           by None at h = absurd (cc)
           by (Some given) at h = (name, arguments, given, f, d, is, ap (λ o. call o ∷ []) at)
 
-    did_calling : (result : Result StepEnd Fault) → ((gave : Option Given) × (es ≡ calls n (call gave ∷ [])) × StepEnds (is_some gave) (answered s f d gave) old.shared.globals new result)
+    did_calling : (result : Result StepEnd Fault) → ((gave : Option Given) × (b name ≡ Some turn_function) × (es ≡ calls n (call gave ∷ [])) × StepEnds (is_some gave) (answered s f d gave) old.shared.globals new result)
         ⊎ ((es ≡ []) × (result ≡ Err OutOfMemory) × (asks s b old ≡ true) × (new.shared.globals ≡ old.shared.globals)) → Did s b made n es old new result
     did_calling result h = elim h [
-      | inl called ↦ record { more = call called.0 ∷ []; events = called.1; bound = (turn, tt); ends = ends_calling called.0 result called.2 }
+      | inl called ↦ record { more = call called.0 ∷ []; events = called.2; bound = (called.1, tt); ends = ends_calling called.0 result called.3 }
       | inr short ↦ subst (Did s b made n es old new) (sym short.1) (record { more = []; events = short.0; bound = tt; ends = (short.3, inr (refl, inl (refl, short.2))) })
     ]
 
@@ -143,7 +143,7 @@ module _ (s : StoryTree) (b : Bound) (made : List Made) (n : ℕ) (es : List Eve
   did_so result (Next c) is h = did_plainly (Next c) is (λ left. refl) result h
   did_so result (Stop c) is h = did_plainly (Stop c) is (λ left. refl) result h
   did_so result (Faults f) is h = did_plainly (Faults f) is (λ left. refl) result h
-  did_so result (Wants name arguments f d) is h = did_calling name arguments f d is h.0 result h.1
+  did_so result (Wants name arguments f d) is h = did_calling name arguments f d is result h
 
   pub did : (result : Result StepEnd Fault) → Steps false s b n (asks s b old) (step s b old) es old.shared.globals old new result → Did s b made n es old new result
   did result h = did_so result (step s b old) refl h
@@ -177,18 +177,18 @@ module _ (s : StoryTree) (b : Bound) (start : Configuration) where
 
   -- the answers of calls that come before others
   split_answers : (made more : List Made) (left : List (Option Given)) → answers_of (made ++ more) ++ left ≡ answers_of made ++ (answers_of more ++ left)
-  split_answers made more left = ap (λ as. as ++ left) (map-append (λ m. m.gave) made more) ∙ append_assoc (answers_of made) (answers_of more) left
+  split_answers made more left = ap (λ answers. answers ++ left) (map-append (λ m. m.gave) made more) ∙ append_assoc (answers_of made) (answers_of more) left
 
   -- the moment after one more step, with the calls that it makes
   one_more : (n : ℕ) (old : Configuration) (made more : List Made) (left : List (Option Given)) (m : Moment) → GotTo n old made
       → came s old (step s b old) (answers_of more ++ left) made ≡ m → moment s b start (answers_of (made ++ more) ++ left) (n + 1) ≡ m
   one_more n old made more left m h so =
-      ap (λ as. moment s b start as (n + 1)) (split_answers made more left)
+      ap (λ answers. moment s b start answers (n + 1)) (split_answers made more left)
       ∙ step_on (answers_of made ++ (answers_of more ++ left)) n (At old (answers_of more ++ left) made) (h (answers_of more ++ left)) ∙ so
 
   -- with no answer left
   alone : (made : List Made) (n : ℕ) → moment s b start (answers_of made) n ≡ moment s b start (answers_of made ++ []) n
-  alone made n = ap (λ as. moment s b start as n) (sym (append-nil (answers_of made)))
+  alone made n = ap (λ answers. moment s b start answers n) (sym (append-nil (answers_of made)))
 
   pub run_went : (n : ℕ) (old new : Configuration) (made more : List Made) → GotTo n old made → Ends s b made more old new (Ok ends.Went) → GotTo (n + 1) new (made ++ more)
   run_went n old new made more h so = λ left. one_more n old made more left (At new left (made ++ more)) h (so left)
@@ -209,7 +209,7 @@ module _ (s : StoryTree) (b : Bound) (start : Configuration) where
           inl (ap cut_off (alone (made ++ more) MAX_STEPS ∙ stays_to (answers_of (made ++ more) ++ []) (n + 1) MAX_STEPS (Faulted f old [] (made ++ more)) refl (omega arith)
           (one_more n old made more [] (Faulted f old [] (made ++ more)) h (faults []))))
       | inr short ↦ inr (short.0, elim short.1 [
-        | inl before ↦ inl (subst (λ all. GetsTo s b start all old) (ap (λ more. made ++ more) (sym before.0) )
+        | inl before ↦ inl (subst (λ all. GetsTo s b start all old) (ap (λ more. made ++ more) (sym before.0))
             (subst (λ all. GetsTo s b start all old) (sym (append-nil made)) (record { steps = n; within = below; got_there = alone made n ∙ h []; asking = before.1 })))
         | inr after ↦ inr (record {
             steps = n;

@@ -5,9 +5,6 @@ use Rattle.ink_step.specs.Words.{config_of}
 use Rattle.ink_step.proofs.Runnings.{runs_alone_at}
 use Rattle.ink_step.proofs.machine.Machine.run_alone.Goals as goal
 
-pub close-requires : goal.close-requires
-close-requires c = subst (Resting _) (sym (c.run-outcome.ensures.watchers ∙ ap (λ d. d.watchers) c.new-desk.ensures)) tt
-
 pub returns : goal.returns
 returns c =
     let s = story_tree c.args.story.now in
