@@ -17,7 +17,7 @@ returns-in-Ok-true-clause-call g c evaluating fresh globals =
     let f = fields evaluating fresh c.args.stack.now.items page globals in
     let new = fields evaluating fresh c.is_wanted.new.stack.items page globals in
     let last = fields evaluating fresh c.call_bound.new.stack.items page globals in
-    let made = c.call_bound.ensures.call s evaluating fresh globals in
+    let made = c.call_bound.ensures.call evaluating fresh globals in
     (made.0, made.1, where_wanted s desk.next o call.name.now call.arguments call.conditional f new c.in-Ok-true.field-0 c.in-Ok-true.field-0-test
     (λ so. c.in-Ok-true.ensures evaluating fresh page globals so) made.0 last c.call_bound.result made.2)
 
