@@ -1,5 +1,5 @@
--- Whether a call of an external function asks a turn function.
-use Rattle.std.proofs.Common.{◌≡◌, ◌∙◌, ◌&&◌, ◌-◌, ap, sym, refl, subst, ℕ, List, [], ◌∷◌, ◌++◌, length, drop, take, Bool, true, false, if◌then◌else◌, nat_le, Option, Some, None, option_map, Result, Ok, Err, arith}
+-- Whether a call of an external function asks a turn function, by what its name is bound to.
+use Rattle.std.proofs.Common.{◌≡◌, ◌∙◌, ◌&&◌, ◌-◌, ap, sym, refl, subst, ℕ, List, [], ◌∷◌, ◌++◌, length, drop, take, Bool, true, false, if◌then◌else◌, nat_le, Option, Some, None, option_map, Result, Ok, Err}
 use Rattle.std.proofs.Math.Nat.{le_refl, sub_self}
 use Rattle.std.proofs.lemmas.Bool.{le-leb}
 use Rattle.std.specs.List.{list_all}
@@ -104,21 +104,6 @@ module _ (s : StoryTree) (name : List ℕ) (n : ℕ) where
   abbrev in_section : Bool → Fields → Effect
   in_section b g = if b then Fails UnsafeInString else with_arguments n g (Asks name)
 
-  -- a string is open
-  pub unsafe_unasked : (conditional : Bool) (f : Fields) → has_string f.page.sections ≡ true → is_asking (where_true conditional f (call_bound s (Some turn_function) name n)) ≡ false
-  unsafe_unasked false f h = ap (λ b. is_asking (in_section b f)) h
-  unsafe_unasked true f h = by_top (popped f.stack)
-    where
-      by_truth : (x : Result Bool Fault) (vs : List Value)
-          → is_asking (or_fault x (λ b. if b then in_section (has_string f.page.sections) (record f { stack = vs }) else Moves (record f { stack = vs }))) ≡ false
-      by_truth (Ok true) vs = ap (λ b. is_asking (in_section b (record f { stack = vs }))) h
-      by_truth (Ok false) vs = refl
-      by_truth (Err e) vs = refl
-
-      by_top : (t : Option (Value × List Value)) → is_asking (or_else StackEmpty t (λ r. or_fault (is_true r.0) (λ b. if b then in_section (has_string f.page.sections) (record f { stack = r.1 }) else Moves (record f { stack = r.1 })))) ≡ false
-      by_top None = refl
-      by_top (Some r) = by_truth (is_true r.0) r.1
-
   -- no string is open
   module _ (f : Fields) (safe : has_string f.page.sections ≡ false) where
     asking_with : (t : Option (List Value × List Value)) → is_asking (or_else StackEmpty t (λ r. if list_all is_argument r.0 then Asks name r.0 (record f { stack = r.1 }) else Fails BadOperands)) ≡ takes_arguments t
@@ -135,10 +120,6 @@ module _ (s : StoryTree) (name : List ℕ) (n : ℕ) where
     -- the arguments decide, where no condition does
     pub straight : (vs : List Value) (wanted : Bool) → vs ≡ f.stack → wanted ≡ takes_arguments (arguments_on n vs) → wanted ≡ is_asking (where_true false f (call_bound s (Some turn_function) name n))
     straight vs wanted same h = h ∙ ap (λ us. takes_arguments (arguments_on n us)) same ∙ sym bound_asks
-
-    -- there is no condition
-    pub without_condition : f.stack ≡ [] → is_asking (where_true true f (call_bound s (Some turn_function) name n)) ≡ false
-    without_condition h = ap (λ vs. is_asking (or_else StackEmpty (popped vs) (λ r. or_fault (is_true r.0) (λ b. if b then call_bound s (Some turn_function) name n (record f { stack = r.1 }) else Moves (record f { stack = r.1 }))))) h
 
   -- the condition on top and the arguments below it decide
   module _ (f : Fields) (safe : has_string f.page.sections ≡ false) (vs : List Value) (same : vs ≡ f.stack) (v : Value) (left : List Value) (is : vs ≡ left ++ v ∷ [])
@@ -200,9 +181,3 @@ lent_whole n vs us is h = some_same us vs (h ∙ ap (λ k. option_map (λ r. r.0
   where
     some_same : (a b : List Value) → Some a ≡ Some b → a ≡ b
     some_same a b e = cc
-
-pub always_lent : (n : ℕ) (vs : List Value) → n ≡ length vs → None ≡ option_map (λ r. r.0) (arguments_on n vs) → ⊥
-always_lent n vs is h = no vs (h ∙ ap (λ k. option_map (λ r. r.0) (arguments_on k vs)) is ∙ ap (option_map (λ r. r.0)) (whole vs))
-  where
-    no : (us : List Value) → ◌≡◌ {A = Option (List Value)} None (Some us) → ⊥
-    no us e = cc

@@ -1,9 +1,8 @@
 -- Calls of external functions: what they ask, and what they come to.
-use Rattle.std.proofs.Common.{◌≡◌, ◌∙◌, ◌≤◌, ◌⊎◌, ◌&&◌, ◌-◌, ap, drop, take, sym, refl, subst, inl, inr, ℕ, List, [], ◌∷◌, length, Bool, true, false, not, if◌then◌else◌, Option, Some, None, option_map, is_some, Result, Ok, Err, nat_le}
-use Rattle.std.proofs.lemmas.Bool.{leb-true}
+use Rattle.std.proofs.Common.{◌≡◌, ◌∙◌, ◌⊎◌, ◌&&◌, ap, sym, refl, subst, inl, inr, ℕ, List, [], ◌∷◌, Bool, true, false, not, if◌then◌else◌, Option, Some, None, option_map, is_some, Result, Ok, Err}
 use Rattle.std.proofs.lemmas.List.{append-nil}
 use Rattle.std.specs.List.{list_all}
-use Rattle.ink_host.specs.Desk.{DeskView, Grew, Rows, answer_of, at, binding, bound_by, kind_of, pure_of}
+use Rattle.ink_host.specs.Desk.{DeskView, Grew, Rows, at, binding, bound_by, kind_of, pure_of}
 use Rattle.ink_host.proofs.Laws.{at-each}
 use Rattle.ink_host.specs.declared.objects.Bound.{Bound as Bind}
 use Rattle.ink_host.specs.declared.objects.Bound.TheVariants as bound
@@ -92,11 +91,6 @@ module _ {P T : Type 0} (meaning : P → List Value → Option Given) (name : Li
   pub bound_pure : (p : P) → at name rows ≡ Some (bound.Pure p) → bound_by meaning rows name ≡ Some (pure_function (meaning p))
   bound_pure p h = bound_at (Some (bound.Pure p)) h
 
-  -- what a pure function answers
-  pub answers_at : (p : P) → at name rows ≡ Some (bound.Pure p) → (vs us : List Value) → vs ≡ us → (gave : Option Given)
-      → answer_of meaning (at name rows) vs ≡ gave → meaning p us ≡ gave
-  answers_at p h vs us same gave is = ap (meaning p) (sym same) ∙ sym (ap (λ o. answer_of meaning o vs) h) ∙ is
-
 -- ---- arguments
 
 some_same : {A : Type 0} (a b : A) → Some a ≡ Some b → a ≡ b
@@ -110,14 +104,6 @@ lent (Some r) vs h = (r, refl, some_same vs r.0 h)
 pub not_lent : (o : Option (List Value × List Value)) → None ≡ option_map (λ r. r.0) o → o ≡ None
 not_lent None h = refl
 not_lent (Some r) h = absurd (cc)
-
--- there are so many
-pub within : (n : ℕ) (vs : List Value) (r : List Value × List Value) → arguments_on n vs ≡ Some r → n ≤ length vs
-within n vs r h = by (nat_le n (length vs)) refl h
-  where
-    by : (x : Bool) → nat_le n (length vs) ≡ x → (if x then Some (drop (length vs - n) vs, take (length vs - n) vs) else None) ≡ Some r → n ≤ length vs
-    by true is h = leb-true n (length vs) is
-    by false is h = absurd (cc)
 
 module _ (n : ℕ) (f : Fields) (so : List Value → Fields → Effect) where
   abbrev of_arguments : Option (List Value × List Value) → Effect
@@ -235,9 +221,6 @@ module _ (s : StoryTree) (name : List ℕ) (k : ℕ) (f new : Fields) (safe : ha
   pub left_by : option_map (λ r. r.1) (arguments_on k f.stack) ≡ Some taken.1
   left_by = ap (option_map (λ r. r.1)) there
 
-  pub enough : k ≤ length f.stack
-  enough = within k f.stack taken there
-
   -- the call of the turn function gave something, or refused
   pub called_once : (n : ℕ) (gave : Option Given) (es : List Event) → es ≡ event.Call name vs gave n ∷ [] → (t : Result Transfer Fault)
       → Performs s (is_some gave) (answering gave (record f { stack = taken.1 })) new t → Turned s n name k f es new t
@@ -255,10 +238,14 @@ module _ (s : StoryTree) (name : List ℕ) (k : ℕ) (f new : Fields) (safe : ha
     turn_refused grew = (event.Call name vs None a.next ∷ [], grew, called_once a.next None _ refl (Err HostRefused) (inl refl))
 
     turn_short : (es : List Event) × Grew turn_log watch_log a es b × ((es ≡ []) ⊎ ((g : Given) × shares g × (es ≡ event.Call name vs (Some g) a.next ∷ []))) → Calls_it (Err OutOfMemory)
-    turn_short m = (m.0, m.1, elim m.2 [
-      | inl none ↦ short_turn s a.next name k f safe taken there (ap (list_all is_argument) (sym same) ∙ fits) m.0 new none
-      | inr one ↦ called_once a.next (Some one.0) m.0 one.2 (Err OutOfMemory) (short s true new _ refl)
-    ])
+    turn_short m = (
+      m.0,
+      m.1,
+      elim m.2 [
+        | inl none ↦ short_turn s a.next name k f safe taken there (ap (list_all is_argument) (sym same) ∙ fits) m.0 new none
+        | inr one ↦ called_once a.next (Some one.0) m.0 one.2 (Err OutOfMemory) (short s true new _ refl)
+      ],
+    )
 
     pub turn_failed : (fault : Fault) → (fault ≡ HostRefused → Grew turn_log watch_log a (event.Call name vs None a.next ∷ []) b)
         → (fault ≡ OutOfMemory → (es : List Event) × Grew turn_log watch_log a es b × ((es ≡ []) ⊎ ((g : Given) × shares g × (es ≡ event.Call name vs (Some g) a.next ∷ []))))
@@ -267,45 +254,6 @@ module _ (s : StoryTree) (name : List ℕ) (k : ℕ) (f new : Fields) (safe : ha
       | inl is ↦ subst (λ x. Calls_it (Err x)) (sym is) (turn_refused (refused is))
       | inr is ↦ subst (λ x. Calls_it (Err x)) (sym is) (turn_short (memory is))
     ]
-
--- ---- pure functions that are asked
-
-module _ (s : StoryTree) (answers : List Value → Option Given) (name : List ℕ) (k : ℕ) (f new : Fields) where
-  abbrev Asked : Result Transfer Fault → Type 0
-  Asked r = Performs s (takes_arguments (arguments_on k f.stack)) (with_arguments k f (λ arguments left. answering (answers arguments) left)) new r
-
-  pub few_pure : arguments_on k f.stack ≡ None → Asked (Err StackEmpty)
-  few_pure h = subst (λ e. Performs s (takes_arguments (arguments_on k f.stack)) e new (Err StackEmpty)) (sym (too_few k f (λ arguments left. answering (answers arguments) left) h)) (inl refl)
-
-  module _ (r : List Value × List Value) (there : arguments_on k f.stack ≡ Some r) where
-    pub unfit_pure : list_all is_argument r.0 ≡ false → Asked (Err BadOperands)
-    unfit_pure h = subst (λ e. Performs s (takes_arguments (arguments_on k f.stack)) e new (Err BadOperands)) (sym (unfit k f (λ arguments left. answering (answers arguments) left) r there h)) (inl refl)
-
-    pub answered_pure : list_all is_argument r.0 ≡ true → (gave : Option Given) (t : Result Transfer Fault) → answers r.0 ≡ gave → Performs s true (answering gave (record f { stack = r.1 })) new t → Asked t
-    answered_pure fits gave t is h =
-        subst (λ e. Performs s (takes_arguments (arguments_on k f.stack)) e new t) (sym (fit k f (λ arguments left. answering (answers arguments) left) r there fits))
-        (subst (λ a. Performs s a (answering (answers r.0) (record f { stack = r.1 })) new t) (sym (fit_asks k f (λ arguments left. answering (answers arguments) left) r there fits))
-        (subst (λ g. Performs s true (answering g (record f { stack = r.1 })) new t) (sym is) h))
-
-    pub short_pure : list_all is_argument r.0 ≡ true → Asked (Err OutOfMemory)
-    short_pure fits = short s _ new _ (fit_asks k f (λ arguments left. answering (answers arguments) left) r there fits)
-
--- ---- what the desk tells of a question
-
-module _ (s : StoryTree) (answers : List Value → Option Given) (name : List ℕ) (k : ℕ) (f new : Fields)
-    (vs : List Value) (lends : Some vs ≡ option_map (λ r. r.0) (arguments_on k f.stack)) (fits : list_all is_argument vs ≡ true) where
-  pub pure_gave : (gave : Option Given) → answers vs ≡ gave → (t : Result Transfer Fault)
-      → ((left : List Value) → option_map (λ r. r.1) (arguments_on k f.stack) ≡ Some left → Performs s true (answering gave (record f { stack = left })) new t) → Asked s answers name k f new t
-  pure_gave gave is t h =
-      let r = lent (arguments_on k f.stack) vs lends in
-      answered_pure s answers name k f new r.0 r.1 (ap (list_all is_argument) (sym r.2) ∙ fits) gave t (ap answers (sym r.2) ∙ is) (h r.0.1 (ap (option_map (λ x. x.1)) r.1))
-
-  pub pure_failed : (fault : Fault) → (fault ≡ HostRefused → answers vs ≡ None) → (fault ≡ HostRefused) ⊎ (fault ≡ OutOfMemory) → Asked s answers name k f new (Err fault)
-  pure_failed fault refused which = elim which [
-    | inl is ↦ subst (λ x. Asked s answers name k f new (Err x)) (sym is) (pure_gave None (refused is) (Err HostRefused) (λ left h. inl refl))
-    | inr is ↦ subst (λ x. Asked s answers name k f new (Err x)) (sym is)
-      (let r = lent (arguments_on k f.stack) vs lends in short_pure s answers name k f new r.0 r.1 (ap (list_all is_argument) (sym r.2) ∙ fits))
-  ]
 
 -- ---- knots in place of functions
 

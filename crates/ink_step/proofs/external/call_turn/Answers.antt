@@ -1,4 +1,4 @@
-use Rattle.std.proofs.Common.{◌≡◌, ◌∙◌, ap, refl, sym, Ok, Err, []}
+use Rattle.std.proofs.Common.{◌∙◌, ap, refl, sym, Err, []}
 use Rattle.ink_host.proofs.Laws.{grew-none}
 use Rattle.ink_step.specs.Performs.{fields}
 use Rattle.ink_step.proofs.Calls.{few_turn, left_by, not_lent, turn_failed, turn_gave, unfit_lent, unsafe_turn}
@@ -15,18 +15,22 @@ pub returns-in_default-clause-call : goal.returns-in_default-clause-call
 returns-in_default-clause-call g c s evaluating fresh globals =
     let call = c.args.call.now in
     let desk = c.args.desk.now in
-    let f = fields evaluating fresh c.args.stack.now.items c.args.output.now.page globals in
-    ([], grew-none g.T.TurnFn.log g.W.Watcher.log desk,
-    few_turn s desk.next call.name.now call.arguments f (sym c.in_string.ensures ∙ c.if-in_string.false) (not_lent _ c.in_default.ensures) f)
+    let f = fields evaluating fresh c.args.stack.now.items c.args.output.now.page globals in (
+      [],
+      grew-none g.T.TurnFn.log g.W.Watcher.log desk,
+      few_turn s desk.next call.name.now call.arguments f (sym c.in_string.ensures ∙ c.if-in_string.false) (not_lent _ c.in_default.ensures) f,
+    )
 
 pub returns-then-not-are_arguments-clause-call : goal.returns-then-not-are_arguments-clause-call
 returns-then-not-are_arguments-clause-call g c s evaluating fresh globals =
     let call = c.args.call.now in
     let desk = c.args.desk.now in
-    let f = fields evaluating fresh c.args.stack.now.items c.args.output.now.page globals in
-    ([], grew-none g.T.TurnFn.log g.W.Watcher.log desk,
-    unfit_lent s desk.next call.name.now call.arguments f (sym c.in_string.ensures ∙ c.if-in_string.false) c.in-Some.arguments.now c.in-Some.ensures
-    (sym c.are_arguments.ensures ∙ c.if-not-are_arguments.true) f)
+    let f = fields evaluating fresh c.args.stack.now.items c.args.output.now.page globals in (
+      [],
+      grew-none g.T.TurnFn.log g.W.Watcher.log desk,
+      unfit_lent s desk.next call.name.now call.arguments f (sym c.in_string.ensures ∙ c.if-in_string.false) c.in-Some.arguments.now c.in-Some.ensures
+          (sym c.are_arguments.ensures ∙ c.if-not-are_arguments.true) f,
+    )
 
 pub returns-in-Ok-clause-call : goal.returns-in-Ok-clause-call
 returns-in-Ok-clause-call g c s evaluating fresh globals =

@@ -1,5 +1,4 @@
-use Rattle.std.proofs.Common.{◌≡◌, ◌∙◌, ap, sym, Some, option_map, subst}
-use Rattle.ink_host.specs.Desk.{at, kind_of}
+use Rattle.std.proofs.Common.{◌≡◌, ◌∙◌, ap, sym, Some}
 use Rattle.ink_host.specs.declared.objects.FnKind.TheVariants as kind
 use Rattle.ink_step.specs.Performs.{fields}
 use Rattle.ink_step.proofs.Asking.{lent_whole, none_asks, pure_asks, straight, turn_asks, under_false, under_true}
