@@ -1,29 +1,40 @@
 -- Calls of external functions: what they ask, and what they come to.
-use Rattle.std.proofs.Common.{◌≡◌, ◌∙◌, ◌≤◌, ◌&&◌, ◌-◌, ap, drop, take, sym, refl, subst, inl, inr, ℕ, List, [], ◌∷◌, length, Bool, true, false, not, if◌then◌else◌, Option, Some, None, option_map, is_some, Result, Ok, Err, nat_le}
-use Rattle.std.proofs.lemmas.Bool.{leb-true}
+use Rattle.std.proofs.Common.{◌≡◌, ◌∙◌, ◌⊎◌, ◌&&◌, ap, sym, refl, subst, inl, inr, ℕ, List, [], ◌∷◌, Bool, true, false, not, if◌then◌else◌, Option, Some, None, option_map, is_some, Result, Ok, Err}
+use Rattle.std.proofs.lemmas.List.{append-nil}
 use Rattle.std.specs.List.{list_all}
-use Rattle.ink_host.specs.Desk.{binding, kind_of}
-use Rattle.ink_host.specs.declared.objects.Bound.{Bound as Function}
+use Rattle.ink_host.specs.Desk.{DeskView, Grew, Rows, at, binding, bound_by, kind_of, pure_of}
+use Rattle.ink_host.proofs.Laws.{at-each}
+use Rattle.ink_host.specs.declared.objects.Bound.{Bound as Bind}
 use Rattle.ink_host.specs.declared.objects.Bound.TheVariants as bound
+use Rattle.ink_host.specs.declared.objects.Called.{Called}
 use Rattle.ink_host.specs.declared.objects.FnKind.TheVariants as kind
+use Rattle.ink_host.specs.declared.objects.Seen.{Seen}
 use Rattle.ink_model.specs.Asks.{binding_asks, external_asks, so_where, takes_arguments, where_popped}
-use Rattle.ink_model.specs.Effect.{Effect, Fields, Asks, Moves, Fails, or_else, or_fault}
+use Rattle.ink_model.specs.Effect.{Effect, Fields, Landing as Goal, Asks, Calls, Done, Ends, Fails, Forks, Lands, Moves, Offers, Returns, Stores, or_else, or_fault}
 use Rattle.ink_model.specs.Events.{calls}
-use Rattle.ink_model.specs.Host.{Binding, pure_function, turn_function}
+use Rattle.ink_model.specs.Host.{Binding, pure_function, shares, turn_function}
+use Rattle.ink_model.specs.Place.{knot, landed}
 use Rattle.ink_model.specs.Stack.{popped}
 use Rattle.ink_model.specs.Step.Diverts.{where_true}
-use Rattle.ink_model.specs.Step.Host.{answering, arguments_on, call_bound, has_string, is_argument, with_arguments}
+use Rattle.ink_model.specs.Step.Host.{answering, arguments_on, call_bound, fall_back, has_string, is_argument, with_arguments}
 use Rattle.ink_model.specs.Tree.{StoryTree}
 use Rattle.ink_model.specs.Value.{is_true}
 use Rattle.ink_model.specs.declared.fault.Fault.{Fault}
-use Rattle.ink_model.specs.declared.fault.Fault.TheVariants.{BadOperands, OutOfMemory, StackEmpty, UnsafeInString}
+use Rattle.ink_model.specs.declared.fault.Fault.TheVariants.{BadOperands, HostRefused, OutOfMemory, StackEmpty, Unbound, UnsafeInString}
+use Rattle.ink_model.specs.declared.frame.FrameKind.TheVariants.{Function}
 use Rattle.ink_model.specs.declared.host.Event.{Event}
+use Rattle.ink_model.specs.declared.host.Event.TheVariants as event
 use Rattle.ink_model.specs.declared.host.Given.{Given}
+use Rattle.ink_model.specs.declared.place.Part.{Part}
 use Rattle.ink_model.specs.declared.value.Value.{Value}
-use Rattle.ink_step.specs.External.{PerformsCall, made_call}
-use Rattle.ink_step.specs.Performs.{Performs}
+use Rattle.ink_step.specs.External.{PerformsCall, is_asking, made_call}
+use Rattle.ink_step.specs.Performs.{Decides, Performs}
 use Rattle.ink_step.specs.declared.transfer.Transfer.{Transfer}
 use Rattle.ink_step.specs.declared.transfer.Transfer.TheVariants as transfer
+use Rattle.ink_step.proofs.Effects.{short}
+use Rattle.ink_tree.specs.Nodes.{node_place, place_of}
+use Rattle.ink_tree.specs.declared.spot.NodeId.{NodeId}
+use Rattle.ink_tree.specs.declared.spot.Spot.{Spot}
 
 -- ---- conditions
 
@@ -47,21 +58,38 @@ wanted_asks true f new wanted o n = by_top (popped f.stack) (wanted (Asks [] [])
 
 -- ---- what a name is bound to
 
-module _ {P T : Type 0} (meaning : P → List Value → Option Given) where
-  pub turn_there : (o : Option (Function P T)) → Some kind.Turn ≡ option_map kind_of o → (t : T) × (o ≡ Some (bound.Turn t))
-  turn_there (Some (bound.Turn t)) h = (t, refl)
-  turn_there (Some (bound.Pure p)) h = absurd (cc)
-  turn_there None h = absurd (cc)
+module _ {P T : Type 0} (meaning : P → List Value → Option Given) (name : List ℕ) (rows : Rows (Bind P T)) where
+  bound_at : (o : Option (Bind P T)) → at name rows ≡ o → bound_by meaning rows name ≡ option_map (binding meaning) (option_map pure_of o)
+  bound_at o h = ap (option_map (binding meaning)) (at-each (λ n b. pure_of b) name rows ∙ ap (option_map pure_of) h)
 
-  pub pure_there : (o : Option (Function P T)) → Some kind.Pure ≡ option_map kind_of o → (p : P) × (o ≡ Some (bound.Pure p))
-  pure_there (Some (bound.Pure p)) h = (p, refl)
-  pure_there (Some (bound.Turn t)) h = absurd (cc)
-  pure_there None h = absurd (cc)
+  turn_in : (o : Option (Bind P T)) → Some kind.Turn ≡ option_map kind_of o → (t : T) × (o ≡ Some (bound.Turn t))
+  turn_in (Some (bound.Turn t)) h = (t, refl)
+  turn_in (Some (bound.Pure p)) h = absurd (cc)
+  turn_in None h = absurd (cc)
 
-  pub none_there : (o : Option (Function P T)) → None ≡ option_map kind_of o → option_map (binding meaning) o ≡ None
-  none_there (Some (bound.Pure p)) h = absurd (cc)
-  none_there (Some (bound.Turn t)) h = absurd (cc)
-  none_there None h = refl
+  pure_in : (o : Option (Bind P T)) → Some kind.Pure ≡ option_map kind_of o → (p : P) × (o ≡ Some (bound.Pure p))
+  pure_in (Some (bound.Pure p)) h = (p, refl)
+  pure_in (Some (bound.Turn t)) h = absurd (cc)
+  pure_in None h = absurd (cc)
+
+  none_in : (o : Option (Bind P T)) → None ≡ option_map kind_of o → o ≡ None
+  none_in (Some b) h = absurd (cc)
+  none_in None h = refl
+
+  pub turn_there : Some kind.Turn ≡ option_map kind_of (at name rows) → (t : T) × (at name rows ≡ Some (bound.Turn t))
+  turn_there h = turn_in (at name rows) h
+
+  pub pure_there : Some kind.Pure ≡ option_map kind_of (at name rows) → (p : P) × (at name rows ≡ Some (bound.Pure p))
+  pure_there h = pure_in (at name rows) h
+
+  pub bound_none : None ≡ option_map kind_of (at name rows) → bound_by meaning rows name ≡ None
+  bound_none h = bound_at None (none_in (at name rows) h)
+
+  pub bound_turn : Some kind.Turn ≡ option_map kind_of (at name rows) → bound_by meaning rows name ≡ Some turn_function
+  bound_turn h = let t = turn_there h in bound_at (Some (bound.Turn t.0)) t.1
+
+  pub bound_pure : (p : P) → at name rows ≡ Some (bound.Pure p) → bound_by meaning rows name ≡ Some (pure_function (meaning p))
+  bound_pure p h = bound_at (Some (bound.Pure p)) h
 
 -- ---- arguments
 
@@ -76,14 +104,6 @@ lent (Some r) vs h = (r, refl, some_same vs r.0 h)
 pub not_lent : (o : Option (List Value × List Value)) → None ≡ option_map (λ r. r.0) o → o ≡ None
 not_lent None h = refl
 not_lent (Some r) h = absurd (cc)
-
--- there are so many
-pub within : (n : ℕ) (vs : List Value) (r : List Value × List Value) → arguments_on n vs ≡ Some r → n ≤ length vs
-within n vs r h = by (nat_le n (length vs)) refl h
-  where
-    by : (x : Bool) → nat_le n (length vs) ≡ x → (if x then Some (drop (length vs - n) vs, take (length vs - n) vs) else None) ≡ Some r → n ≤ length vs
-    by true is h = leb-true n (length vs) is
-    by false is h = absurd (cc)
 
 module _ (n : ℕ) (f : Fields) (so : List Value → Fields → Effect) where
   abbrev of_arguments : Option (List Value × List Value) → Effect
@@ -111,10 +131,39 @@ module _ (s : StoryTree) (n : ℕ) (asks : Bool) (new : Fields) where
   pub uncalled_fault : (e : Effect) (f : Fault) → e ≡ Fails f → PerformsCall s n asks e [] new (Err f)
   uncalled_fault e f is = subst (λ d. PerformsCall s n asks d [] new (Err f)) (sym is) (refl, inl refl)
 
+  -- what asks no turn function
+  pub uncalled : (e : Effect) → is_asking e ≡ false → (r : Result Transfer Fault) → Performs s asks e new r → PerformsCall s n asks e [] new r
+  uncalled (Moves f) other r h = (refl, h)
+  uncalled (Stores t f) other r h = (refl, h)
+  uncalled (Offers choices f) other r h = (refl, h)
+  uncalled (Lands to f) other r h = (refl, h)
+  uncalled (Calls k to f) other r h = (refl, h)
+  uncalled (Returns k to f) other r h = (refl, h)
+  uncalled (Forks f) other r h = (refl, h)
+  uncalled (Done f) other r h = (refl, h)
+  uncalled (Ends f) other r h = (refl, h)
+  uncalled (Asks name arguments f) other r h = absurd (cc)
+  uncalled (Fails g) other r h = (refl, h)
+
   -- a call once no condition keeps from it
   pub as_wanted : (so : Fields → Effect) (e : Effect) (wanted : Bool) (es : List Event) (last : Fields) (r : Result Transfer Fault) → e ≡ so new → wanted ≡ asks
       → PerformsCall s n asks (so new) es last r → PerformsCall s n wanted e es last r
   as_wanted so e wanted es last r is same h = subst (λ a. PerformsCall s n a e es last r) (sym same) (subst (λ d. PerformsCall s n asks d es last r) (sym is) h)
+
+-- ---- a call with its condition
+
+module _ (s : StoryTree) (n : ℕ) (o : Option Binding) (name : List ℕ) (k : ℕ) (conditional : Bool) (f new : Fields) where
+  abbrev Conditional : List Event → Fields → Result Transfer Fault → Type 0
+  Conditional es last r = PerformsCall s n (external_asks o k conditional f) (where_true conditional f (call_bound s o name k)) es last r
+
+  pub where_wanted : (b : Bool) → b ≡ true → ((so : Fields → Effect) → Decides (where_true conditional f so) so new (Ok b))
+      → (es : List Event) (last : Fields) (r : Result Transfer Fault) → PerformsCall s n (binding_asks o k new) (call_bound s o name k new) es last r → Conditional es last r
+  where_wanted b is decides es last r h =
+      let wanted : (so : Fields → Effect) → where_true conditional f so ≡ so new = λ so. subst (λ x. Decides (where_true conditional f so) so new (Ok x)) is (decides so) in
+      as_wanted s n (binding_asks o k new) new (call_bound s o name k) _ _ es last r (wanted (call_bound s o name k)) (wanted_asks conditional f new wanted o k) h
+
+  pub where_unwanted : (b : Bool) → b ≡ false → Decides (where_true conditional f (call_bound s o name k)) (call_bound s o name k) new (Ok b) → Conditional [] new (Ok transfer.Next)
+  where_unwanted b is decides = uncalled_on s n _ new _ (subst (λ x. Decides (where_true conditional f (call_bound s o name k)) (call_bound s o name k) new (Ok x)) is decides)
 
 -- ---- calls of turn functions
 
@@ -150,21 +199,78 @@ module _ (s : StoryTree) (n : ℕ) (name : List ℕ) (k : ℕ) (f : Fields) wher
         pub short_turn : (es : List Event) (new : Fields) → es ≡ [] → Turned es new (Err OutOfMemory)
         short_turn es new is = subst (λ e. PerformsCall s n (binding_asks (Some turn_function) k f) e es new (Err OutOfMemory)) (sym asked) (inr (is, refl, asks_memory))
 
--- ---- pure functions that are asked
+-- values that are no arguments were lent
+pub unfit_lent : (s : StoryTree) (n : ℕ) (name : List ℕ) (k : ℕ) (f : Fields) → has_string f.page.sections ≡ false → (vs : List Value) → Some vs ≡ option_map (λ r. r.0) (arguments_on k f.stack)
+    → list_all is_argument vs ≡ false → (new : Fields) → Turned s n name k f [] new (Err BadOperands)
+unfit_lent s n name k f safe vs lends unfits new =
+    let r = lent (arguments_on k f.stack) vs lends in unfit_turn s n name k f safe r.0 r.1 (ap (list_all is_argument) (sym r.2) ∙ unfits) new
 
-module _ (s : StoryTree) (answers : List Value → Option Given) (name : List ℕ) (k : ℕ) (f new : Fields) where
-  abbrev Asked : Result Transfer Fault → Type 0
-  Asked r = Performs s (takes_arguments (arguments_on k f.stack)) (with_arguments k f (λ arguments left. answering (answers arguments) left)) new r
+-- ---- what the desk tells of a call
 
-  pub few_pure : arguments_on k f.stack ≡ None → Asked (Err StackEmpty)
-  few_pure h = subst (λ e. Performs s (takes_arguments (arguments_on k f.stack)) e new (Err StackEmpty)) (sym (too_few k f (λ arguments left. answering (answers arguments) left) h)) (inl refl)
+module _ (s : StoryTree) (name : List ℕ) (k : ℕ) (f new : Fields) (safe : has_string f.page.sections ≡ false)
+    (vs : List Value) (lends : Some vs ≡ option_map (λ r. r.0) (arguments_on k f.stack)) (fits : list_all is_argument vs ≡ true) where
+  abbrev taken : List Value × List Value
+  taken = (lent (arguments_on k f.stack) vs lends).0
 
-  module _ (r : List Value × List Value) (there : arguments_on k f.stack ≡ Some r) where
-    pub unfit_pure : list_all is_argument r.0 ≡ false → Asked (Err BadOperands)
-    unfit_pure h = subst (λ e. Performs s (takes_arguments (arguments_on k f.stack)) e new (Err BadOperands)) (sym (unfit k f (λ arguments left. answering (answers arguments) left) r there h)) (inl refl)
+  there : arguments_on k f.stack ≡ Some taken
+  there = (lent (arguments_on k f.stack) vs lends).1
 
-    pub answered_pure : list_all is_argument r.0 ≡ true → (gave : Option Given) (t : Result Transfer Fault) → answers r.0 ≡ gave → Performs s true (answering gave (record f { stack = r.1 })) new t → Asked t
-    answered_pure fits gave t is h =
-        subst (λ e. Performs s (takes_arguments (arguments_on k f.stack)) e new t) (sym (fit k f (λ arguments left. answering (answers arguments) left) r there fits))
-        (subst (λ a. Performs s a (answering (answers r.0) (record f { stack = r.1 })) new t) (sym (fit_asks k f (λ arguments left. answering (answers arguments) left) r there fits))
-        (subst (λ g. Performs s true (answering g (record f { stack = r.1 })) new t) (sym is) h))
+  same : vs ≡ taken.0
+  same = (lent (arguments_on k f.stack) vs lends).2
+
+  pub left_by : option_map (λ r. r.1) (arguments_on k f.stack) ≡ Some taken.1
+  left_by = ap (option_map (λ r. r.1)) there
+
+  -- the call of the turn function gave something, or refused
+  pub called_once : (n : ℕ) (gave : Option Given) (es : List Event) → es ≡ event.Call name vs gave n ∷ [] → (t : Result Transfer Fault)
+      → Performs s (is_some gave) (answering gave (record f { stack = taken.1 })) new t → Turned s n name k f es new t
+  called_once n gave es is t h = made_turn s n name k f safe taken there (ap (list_all is_argument) (sym same) ∙ fits) gave es new t (is ∙ ap (λ us. event.Call name us gave n ∷ []) same) h
+
+  module _ {P T W : Type 0} (turn_log : T → List Called) (watch_log : W → List Seen) (a b : DeskView P T W) where
+    abbrev Calls_it : Result Transfer Fault → Type 0
+    Calls_it t = (es : List Event) × Grew turn_log watch_log a es b × Turned s a.next name k f es new t
+
+    pub turn_gave : (given : Given) → Grew turn_log watch_log a (event.Call name vs (Some given) a.next ∷ []) b → (t : Result Transfer Fault)
+        → Performs s true (answering (Some given) (record f { stack = taken.1 })) new t → Calls_it t
+    turn_gave given grew t h = (event.Call name vs (Some given) a.next ∷ [], grew, called_once a.next (Some given) _ refl t h)
+
+    turn_refused : Grew turn_log watch_log a (event.Call name vs None a.next ∷ []) b → Calls_it (Err HostRefused)
+    turn_refused grew = (event.Call name vs None a.next ∷ [], grew, called_once a.next None _ refl (Err HostRefused) (inl refl))
+
+    turn_short : (es : List Event) × Grew turn_log watch_log a es b × ((es ≡ []) ⊎ ((g : Given) × shares g × (es ≡ event.Call name vs (Some g) a.next ∷ []))) → Calls_it (Err OutOfMemory)
+    turn_short m = (
+      m.0,
+      m.1,
+      elim m.2 [
+        | inl none ↦ short_turn s a.next name k f safe taken there (ap (list_all is_argument) (sym same) ∙ fits) m.0 new none
+        | inr one ↦ called_once a.next (Some one.0) m.0 one.2 (Err OutOfMemory) (short s true new _ refl)
+      ],
+    )
+
+    pub turn_failed : (fault : Fault) → (fault ≡ HostRefused → Grew turn_log watch_log a (event.Call name vs None a.next ∷ []) b)
+        → (fault ≡ OutOfMemory → (es : List Event) × Grew turn_log watch_log a es b × ((es ≡ []) ⊎ ((g : Given) × shares g × (es ≡ event.Call name vs (Some g) a.next ∷ []))))
+        → (fault ≡ HostRefused) ⊎ (fault ≡ OutOfMemory) → Calls_it (Err fault)
+    turn_failed fault refused memory which = elim which [
+      | inl is ↦ subst (λ x. Calls_it (Err x)) (sym is) (turn_refused (refused is))
+      | inr is ↦ subst (λ x. Calls_it (Err x)) (sym is) (turn_short (memory is))
+    ]
+
+-- ---- knots in place of functions
+
+module _ (s t : StoryTree) (same : t ≡ s) (name : List ℕ) (f : Fields) where
+  falls_on : (r : Result Transfer Fault) → Performs t false (fall_back t name f) f r → Performs s false (fall_back s name f) f r
+  falls_on r h = subst (λ x. Performs x false (fall_back x name f) f r) same h
+
+  abbrev to_knot : List Part → Effect
+  to_knot p = Calls Function (record { place = landed t p; enters = true }) f
+
+  pub no_knot : None ≡ knot name t → Performs s false (fall_back s name f) f (Err Unbound)
+  no_knot h = falls_on (Err Unbound) (subst (λ o. Performs t false (or_else Unbound o to_knot) f (Err Unbound)) h (inl refl))
+
+  abbrev entering : List Part → Goal
+  entering p = record { place = p; enters = true }
+
+  pub knot_there : (holder : NodeId) (to : Spot) → Some (node_place t holder) ≡ knot name t → place_of t to ≡ landed t (place_of t (record { holder = holder; index = None }))
+      → Performs s false (fall_back s name f) f (Ok (transfer.Call Function (record { place = to; enters = true })))
+  knot_there holder to h lands = falls_on _ (subst (λ o. Performs t false (or_else Unbound o to_knot) f (Ok (transfer.Call Function (record { place = to; enters = true })))) h
+      (refl, ap entering (sym (lands ∙ ap (landed t) (append-nil (node_place t holder)))), refl))

@@ -32,3 +32,4 @@ pub mod Chosen
 pub mod Unasked
 pub mod Makes
 pub mod Calls
+pub mod Asking

@@ -43,11 +43,15 @@ pub(crate) fn external_in<'a>(found: Option<&'a Content>) -> Option<External<'a>
     ensures { option_map call_of result ≡ external_in (option_map (λ c. view c.now) found.entry) }
 {
     match found {
-        Some(Content::Leaf(Leaf::External {
-            name,
-            arguments,
-            conditional,
-        })) => Some(External {
+        Some(
+            Content::Leaf(
+                Leaf::External {
+                    name,
+                    arguments,
+                    conditional,
+                },
+            ),
+        ) => Some(External {
             name: name.as_str(),
             arguments: *arguments as usize,
             conditional: *conditional,

@@ -1,0 +1,183 @@
+-- Whether a call of an external function asks a turn function, by what its name is bound to.
+use Rattle.std.proofs.Common.{◌≡◌, ◌∙◌, ◌&&◌, ◌-◌, ap, sym, refl, subst, ℕ, List, [], ◌∷◌, ◌++◌, length, drop, take, Bool, true, false, if◌then◌else◌, nat_le, Option, Some, None, option_map, Result, Ok, Err}
+use Rattle.std.proofs.Math.Nat.{le_refl, sub_self}
+use Rattle.std.proofs.lemmas.Bool.{le-leb}
+use Rattle.std.specs.List.{list_all}
+use Rattle.ink_host.specs.Desk.{Rows, at, bound_by, kind_of}
+use Rattle.ink_host.specs.declared.objects.Bound.{Bound as Function}
+use Rattle.ink_host.specs.declared.objects.Bound.TheVariants as bound
+use Rattle.ink_host.specs.declared.objects.FnKind.TheVariants as kind
+use Rattle.ink_model.specs.Asks.{binding_asks, takes_arguments}
+use Rattle.ink_model.specs.Effect.{Effect, Fields, Asks, Calls, Moves, Fails, or_else, or_fault, pushing}
+use Rattle.ink_model.specs.Host.{Binding, fits_given, pure_function, turn_function, value_given}
+use Rattle.ink_model.specs.Place.{knot, landed}
+use Rattle.ink_model.specs.Stack.{popped, pushed}
+use Rattle.ink_model.specs.Step.Diverts.{where_true}
+use Rattle.ink_model.specs.Step.Host.{answering, arguments_on, call_bound, fall_back, has_string, is_argument, with_arguments}
+use Rattle.ink_model.specs.Tree.{StoryTree}
+use Rattle.ink_model.specs.Value.{is_true}
+use Rattle.ink_model.specs.declared.fault.Fault.{Fault}
+use Rattle.ink_model.specs.declared.fault.Fault.TheVariants.{BadOperands, StackEmpty, TooDeep, Unbound, UnsafeInString}
+use Rattle.ink_model.specs.declared.frame.FrameKind.TheVariants as frame
+use Rattle.ink_model.specs.declared.place.Part.{Part}
+use Rattle.ink_model.specs.declared.host.Event.{Event}
+use Rattle.ink_model.specs.declared.host.Given.{Given}
+use Rattle.ink_model.specs.declared.value.Value.{Value}
+use Rattle.ink_step.specs.External.{PerformsCall, is_asking, is_true_of}
+use Rattle.ink_step.specs.Performs.{Performs}
+use Rattle.ink_step.specs.declared.transfer.Transfer.{Transfer}
+use Rattle.ink_step.proofs.Calls.{bound_none, bound_pure, bound_turn, pure_there, uncalled}
+use Rattle.ink_step.proofs.Tops.{top_of}
+
+-- ---- conditions
+
+-- what does not ask under any condition
+pub where_unasked : (conditional : Bool) (f : Fields) (so : Fields → Effect) → ((g : Fields) → is_asking (so g) ≡ false) → is_asking (where_true conditional f so) ≡ false
+where_unasked false f so never = never f
+where_unasked true f so never = by_top (popped f.stack)
+  where
+    by_truth : (x : Result Bool Fault) (g : Fields) → is_asking (or_fault x (λ b. if b then so g else Moves g)) ≡ false
+    by_truth (Ok true) g = never g
+    by_truth (Ok false) g = refl
+    by_truth (Err e) g = refl
+
+    by_top : (t : Option (Value × List Value)) → is_asking (or_else StackEmpty t (λ r. or_fault (is_true r.0) (λ b. if b then so (record f { stack = r.1 }) else Moves (record f { stack = r.1 })))) ≡ false
+    by_top None = refl
+    by_top (Some r) = by_truth (is_true r.0) (record f { stack = r.1 })
+
+-- under a condition that is on top
+pub where_asked : (f : Fields) (so : Fields → Effect) (v : Value) (left : List Value) → popped f.stack ≡ Some (v, left)
+    → is_asking (where_true true f so) ≡ (is_true_of (is_true v) && is_asking (so (record f { stack = left })))
+where_asked f so v left top = ap (λ t. is_asking (or_else StackEmpty t (λ r. or_fault (is_true r.0) (λ b. if b then so (record f { stack = r.1 }) else Moves (record f { stack = r.1 }))))) top
+    ∙ by_truth (is_true v) (record f { stack = left })
+  where
+    by_truth : (x : Result Bool Fault) (g : Fields) → is_asking (or_fault x (λ b. if b then so g else Moves g)) ≡ (is_true_of x && is_asking (so g))
+    by_truth (Ok true) g = refl
+    by_truth (Ok false) g = refl
+    by_truth (Err e) g = refl
+
+-- ---- what is bound
+
+pushed_unasked : (r : Result (List Value) Fault) (f : Fields) → is_asking (or_fault r (λ vs. Moves (record f { stack = vs }))) ≡ false
+pushed_unasked (Ok vs) f = refl
+pushed_unasked (Err e) f = refl
+
+answering_unasked : (gave : Option Given) (f : Fields) → is_asking (answering gave f) ≡ false
+answering_unasked None f = refl
+answering_unasked (Some g) f = by (fits_given g)
+  where
+    by : (b : Bool) → is_asking (if b then pushing (value_given g) f else Fails TooDeep) ≡ false
+    by true = pushed_unasked (pushed (value_given g) f.stack) f
+    by false = refl
+
+-- arguments are taken for what does not ask
+with_unasked : (n : ℕ) (f : Fields) (so : List Value → Fields → Effect) → ((vs : List Value) (g : Fields) → is_asking (so vs g) ≡ false) → is_asking (with_arguments n f so) ≡ false
+with_unasked n f so never = by (arguments_on n f.stack)
+  where
+    by_kinds : (b : Bool) (vs : List Value) (g : Fields) → is_asking (if b then so vs g else Fails BadOperands) ≡ false
+    by_kinds true vs g = never vs g
+    by_kinds false vs g = refl
+
+    by : (t : Option (List Value × List Value)) → is_asking (or_else StackEmpty t (λ r. if list_all is_argument r.0 then so r.0 (record f { stack = r.1 }) else Fails BadOperands)) ≡ false
+    by None = refl
+    by (Some r) = by_kinds (list_all is_argument r.0) r.0 (record f { stack = r.1 })
+
+-- a call asks only where a turn function is bound
+abbrev pub is_turn : Option Binding → Bool
+is_turn None = false
+is_turn (Some turn_function) = true
+is_turn (Some (pure_function answers)) = false
+
+module _ (s : StoryTree) (name : List ℕ) (n : ℕ) where
+  fallen : (o : Option (List Part)) (f : Fields) → is_asking (or_else Unbound o (λ p. Calls frame.Function (record { place = landed s p; enters = true }) f)) ≡ false
+  fallen None f = refl
+  fallen (Some p) f = refl
+
+  bound_unasked : (o : Option Binding) (f : Fields) → is_turn o ≡ false → is_asking (call_bound s o name n f) ≡ false
+  bound_unasked None f h = fallen (knot name s) f
+  bound_unasked (Some turn_function) f h = absurd (cc)
+  bound_unasked (Some (pure_function answers)) f h = with_unasked n f _ (λ vs g. answering_unasked (answers vs) g)
+
+  pub unasked : (o : Option Binding) (conditional : Bool) (f : Fields) → is_turn o ≡ false → is_asking (where_true conditional f (call_bound s o name n)) ≡ false
+  unasked o conditional f h = where_unasked conditional f _ (λ g. bound_unasked o g h)
+
+  abbrev in_section : Bool → Fields → Effect
+  in_section b g = if b then Fails UnsafeInString else with_arguments n g (Asks name)
+
+  -- no string is open
+  module _ (f : Fields) (safe : has_string f.page.sections ≡ false) where
+    asking_with : (t : Option (List Value × List Value)) → is_asking (or_else StackEmpty t (λ r. if list_all is_argument r.0 then Asks name r.0 (record f { stack = r.1 }) else Fails BadOperands)) ≡ takes_arguments t
+    asking_with None = refl
+    asking_with (Some r) = by (list_all is_argument r.0)
+      where
+        by : (b : Bool) → is_asking (if b then Asks name r.0 (record f { stack = r.1 }) else Fails BadOperands) ≡ b
+        by true = refl
+        by false = refl
+
+    bound_asks : is_asking (call_bound s (Some turn_function) name n f) ≡ takes_arguments (arguments_on n f.stack)
+    bound_asks = ap (λ b. is_asking (in_section b f)) safe ∙ asking_with (arguments_on n f.stack)
+
+    -- the arguments decide, where no condition does
+    pub straight : (vs : List Value) (wanted : Bool) → vs ≡ f.stack → wanted ≡ takes_arguments (arguments_on n vs) → wanted ≡ is_asking (where_true false f (call_bound s (Some turn_function) name n))
+    straight vs wanted same h = h ∙ ap (λ us. takes_arguments (arguments_on n us)) same ∙ sym bound_asks
+
+  -- the condition on top and the arguments below it decide
+  module _ (f : Fields) (safe : has_string f.page.sections ≡ false) (vs : List Value) (same : vs ≡ f.stack) (v : Value) (left : List Value) (is : vs ≡ left ++ v ∷ [])
+      (truth : Bool) (wanted : truth ≡ is_true_of (is_true v)) where
+    under : is_asking (where_true true f (call_bound s (Some turn_function) name n)) ≡ (truth && takes_arguments (arguments_on n left))
+    under = where_asked f (call_bound s (Some turn_function) name n) v left (ap popped (sym same ∙ is) ∙ top_of left v)
+        ∙ ap (λ b. is_true_of (is_true v) && b) (bound_asks (record f { stack = left }) safe) ∙ ap (λ b. b && takes_arguments (arguments_on n left)) (sym wanted)
+
+    pub under_true : truth ≡ true → (taken : Bool) → taken ≡ takes_arguments (arguments_on n left) → taken ≡ is_asking (where_true true f (call_bound s (Some turn_function) name n))
+    under_true h taken fit = fit ∙ ap (λ b. b && takes_arguments (arguments_on n left)) (sym h) ∙ sym under
+
+    pub under_false : truth ≡ false → truth ≡ is_asking (where_true true f (call_bound s (Some turn_function) name n))
+    under_false h = h ∙ ap (λ b. b && takes_arguments (arguments_on n left)) (sym h) ∙ sym under
+
+-- ---- at a desk
+
+module _ {P T : Type 0} (meaning : P → List Value → Option Given) (rows : Rows (Function P T)) (s : StoryTree) (name : List ℕ) (n : ℕ) (conditional : Bool) (f : Fields) where
+  abbrev Asking : Option Binding → Bool
+  Asking o = is_asking (where_true conditional f (call_bound s o name n))
+
+  pub none_asks : None ≡ option_map kind_of (at name rows) → false ≡ Asking (bound_by meaning rows name)
+  none_asks h = sym (ap Asking (bound_none meaning name rows h) ∙ unasked s name n None conditional f refl)
+
+  pub pure_asks : Some kind.Pure ≡ option_map kind_of (at name rows) → false ≡ Asking (bound_by meaning rows name)
+  pure_asks h = let p = pure_there meaning name rows h in
+      sym (ap Asking (bound_pure meaning name rows p.0 p.1) ∙ unasked s name n (Some (pure_function (meaning p.0))) conditional f refl)
+
+  pub turn_asks : Some kind.Turn ≡ option_map kind_of (at name rows) → (wanted : Bool) → wanted ≡ Asking (Some turn_function) → wanted ≡ Asking (bound_by meaning rows name)
+  turn_asks h wanted is = is ∙ sym (ap Asking (bound_turn meaning name rows h))
+
+  -- ---- a call, by what is bound there
+
+  module _ (from : ℕ) (new : Fields) (r : Result Transfer Fault) where
+    abbrev Called_by : Option Binding → List Event → Type 0
+    Called_by o es = PerformsCall s from (binding_asks o n f) (call_bound s o name n f) es new r
+
+    pub none_called : None ≡ option_map kind_of (at name rows) → Performs s false (fall_back s name f) new r → Called_by (bound_by meaning rows name) []
+    none_called h p = subst (λ o. Called_by o []) (sym (bound_none meaning name rows h)) (uncalled s from false new (fall_back s name f) (bound_unasked s name n None f refl) r p)
+
+    pub pure_called : (q : P) → at name rows ≡ Some (bound.Pure q)
+        → Performs s (binding_asks (Some (pure_function (meaning q))) n f) (call_bound s (Some (pure_function (meaning q))) name n f) new r → Called_by (bound_by meaning rows name) []
+    pure_called q h p = subst (λ o. Called_by o []) (sym (bound_pure meaning name rows q h))
+        (uncalled s from _ new _ (bound_unasked s name n (Some (pure_function (meaning q))) f refl) r p)
+
+    pub turn_called : Some kind.Turn ≡ option_map kind_of (at name rows) → (es : List Event) → Called_by (Some turn_function) es → Called_by (bound_by meaning rows name) es
+    turn_called h es p = subst (λ o. Called_by o es) (sym (bound_turn meaning name rows h)) p
+
+-- ---- the whole stack is lent
+
+whole : (vs : List Value) → arguments_on (length vs) vs ≡ Some (vs, [])
+whole vs = by (nat_le (length vs) (length vs)) (length vs - length vs) (le-leb (length vs) (length vs) (le_refl (length vs))) (sub_self (length vs))
+  where
+    by : (b : Bool) (n : ℕ) → b ≡ true → n ≡ 0 → ◌≡◌ {A = Option (List Value × List Value)} (if b then Some (drop n vs, take n vs) else None) (Some (vs, []))
+    by true n is none = ap (λ k. Some (drop k vs, take k vs)) none
+    by false n is none = absurd (cc)
+
+pub lent_whole : (n : ℕ) (vs us : List Value) → n ≡ length vs → Some us ≡ option_map (λ r. r.0) (arguments_on n vs) → us ≡ vs
+lent_whole n vs us is h = some_same us vs (h ∙ ap (λ k. option_map (λ r. r.0) (arguments_on k vs)) is ∙ ap (option_map (λ r. r.0)) (whole vs))
+  where
+    some_same : (a b : List Value) → Some a ≡ Some b → a ≡ b
+    some_same a b e = cc
