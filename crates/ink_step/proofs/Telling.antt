@@ -1,15 +1,20 @@
 -- What is to be told of globals, one after another.
-use Rattle.std.proofs.Common.{◌≡◌, ◌≢◌, ◌∙◌, ◌++◌, ◌∷◌, ◌+◌, ◌&&◌, ◌<◌, ℕ, zero, suc, List, [], Bool, true, false, not, Option, Some, None, ap, append_assoc, arith, bytes_eq, cond, drop, if◌then◌else◌, map, refl, slice_get, sym, take}
-use Rattle.std.proofs.lemmas.List.{append-nil, take-append-drop, take_more}
+use Rattle.std.proofs.Common.{◌≡◌, ◌≢◌, ◌∙◌, ◌++◌, ◌∷◌, ◌+◌, ◌&&◌, ◌||◌, ◌<◌, ◌≤◌, ℕ, zero, suc, List, [], Bool, true, false, Option, Some, None, ap, append_assoc, arith, bytes_eq, cond, drop, get_or, if◌then◌else◌, length, map, refl, slice_get, sym, take}
+use Rattle.std.proofs.lemmas.List.{append-nil, take-append-drop, take_all, take_more}
+use Rattle.std.proofs.lemmas.List.Sorted.{IsPermutation-refl}
 use Rattle.std.proofs.lemmas.Option.{get_or_from_slice_get, slice_get_within}
-use Rattle.std.specs.List.{filter, list_all}
+use Rattle.std.specs.List.{filter}
 use Rattle.ink_model.specs.Store.{Values, stored}
 use Rattle.ink_model.specs.Told.{change_of, is_other, is_told, told}
 use Rattle.ink_model.specs.declared.host.Change.{Change}
 use Rattle.ink_model.specs.declared.value.Value.{Value}
-use Rattle.ink_host.specs.Telling.{OncePerName}
-use Rattle.ink_vars.specs.Changes.{changed_from, changed_numbers, differs}
+use Rattle.ink_host.specs.Desk.{Rows, has_rows, watches}
+use Rattle.ink_host.specs.Telling.{OncePerName, named}
+use Rattle.ink_vars.specs.Changes.{Tracks, changed_from, changed_numbers, differs}
 use Rattle.ink_vars.specs.Globals.{DifferInName}
+use Rattle.ink_vars.specs.declared.changes.Before.{Before}
+use Rattle.ink_vars.proofs.Changing.{changed_are}
+use Rattle.ink_vars.proofs.Copying.{other_way}
 
 -- ---- by numbers
 
@@ -59,11 +64,41 @@ module _ (watches : List ℕ → Bool) (now : Values) where
     pub told_changed : told_at (changed_numbers start now) ≡ told watches start now
     told_changed = told_from 0 now (λ i. (let same : 0 + i ≡ i = omega arith in ap (slice_get now) same))
 
+  -- ---- a loop's step
+
+  -- one number more
+  pub told_next : (ns : List ℕ) (i : ℕ) (so_far more : List Change) (o : Option (List ℕ × Value)) → i < length ns → slice_get now (get_or ns i 0) ≡ o → so_far ≡ told_at (take i ns)
+      → more ≡ so_far ++ told_one o → more ≡ told_at (take (i + 1) ns)
+  told_next ns i so_far more o within at h added =
+      added ∙ ap (λ cs. cs ++ told_one o) h ∙ ap (λ x. told_at (take i ns) ++ told_one x) (sym at) ∙ sym (told_more (take i ns) (get_or ns i 0))
+      ∙ ap told_at (sym (take_more ns i 0 within))
+
+  -- all numbers
+  pub all_told : (start : Values) (ns : List ℕ) (i : ℕ) (all : List Change) → length ns ≤ i → all ≡ told_at (take i ns) → ns ≡ changed_numbers start now → all ≡ told watches start now
+  all_told start ns i all past h are = h ∙ ap told_at (take_all i ns past) ∙ ap told_at are ∙ told_changed start
+
+  -- where nothing was noted nothing has changed
+  pub told_unchanged : (start : Values) (noted : List Before) → Tracks start noted now → DifferInName now → length noted ≡ 0 → [] ≡ told watches start now
+  told_unchanged start [] tracks differ none =
+      ap told_at (changed_are start now [] [] [] tracks (λ i. refl) differ (IsPermutation-refl []) (λ k d low high. absurd (omega (arith, high)))) ∙ told_changed start
+  told_unchanged start (b ∷ noted) tracks differ none = absurd (omega (arith, none))
+
   pub one_watched : (e : List ℕ × Value) → watches e.0 ≡ true → told_one (Some e) ≡ change_of e ∷ []
   one_watched e is = ap (λ b. cond b (change_of e ∷ []) []) is
 
   pub one_unwatched : (e : List ℕ × Value) → watches e.0 ≡ false → told_one (Some e) ≡ []
   one_unwatched e is = ap (λ b. cond b (change_of e ∷ []) []) is
+
+-- where nobody watches nothing is told
+pub told_nobody : {W : Type 0} (rows : Rows W) (start now : Values) → has_rows rows ≡ false → [] ≡ told (watches rows) start now
+told_nobody {W} [] start [] h = refl
+told_nobody {W} [] start (e ∷ es) h = told_nobody {W = W} [] start es h
+told_nobody {W} (r ∷ rows) start now h = absurd (cc)
+
+-- nor of no globals
+pub told_of_none : (watches : List ℕ → Bool) (start now : Values) → length now ≡ 0 → [] ≡ told watches start now
+told_of_none watches start [] h = refl
+told_of_none watches start (e ∷ es) h = absurd (omega (arith, h))
 
 -- ---- of two lists of globals
 
@@ -102,6 +137,17 @@ module _ (watches : List ℕ → Bool) (start : Values) where
   pub told_same : (now : Values) (i : ℕ) (e : List ℕ × Value) → slice_get now i ≡ Some e → is_other (stored e.0 start) e.1 ≡ false → told watches start (take (i + 1) now) ≡ told watches start (take i now)
   told_same now i e at same = told_up now i e false at (and_false (watches e.0) _ same) ∙ append-nil (told watches start (take i now))
 
+  past_end : (now : Values) (i : ℕ) → slice_get now i ≡ None → length now ≤ i
+  past_end [] i h = omega arith
+  past_end (e ∷ es) zero h = absurd (cc)
+  past_end (e ∷ es) (suc i) h = omega (arith, past_end es i h)
+
+  -- past the last one
+  pub told_past : (now : Values) (i : ℕ) → slice_get now i ≡ None → told watches start (take (i + 1) now) ≡ told watches start (take i now)
+  told_past now i none =
+      let past : length now ≤ i = past_end now i none in
+      ap (told watches start) (take_all (i + 1) now (omega (arith, past)) ∙ sym (take_all i now past))
+
   -- what is told is not nothing
   pub told_some : (now : Values) (i : ℕ) (e : List ℕ × Value) → slice_get now i ≡ Some e → watches e.0 ≡ true → is_other (stored e.0 start) e.1 ≡ true → told watches start now ≢ []
   told_some now i e at watched other none =
@@ -115,15 +161,14 @@ module _ (watches : List ℕ → Bool) (start : Values) where
 
   -- ---- no name comes twice
 
-  others_told : (name : List ℕ) (es : Values) → stored name es ≡ None → list_all (λ d. not (bytes_eq name d.name)) (told watches start es) ≡ true
+  others_told : (name : List ℕ) (es : Values) → stored name es ≡ None → named name (told watches start es) ≡ false
   others_told name [] h = refl
   others_told name (e ∷ es) h = by (is_told watches start e) (bytes_eq name e.0) refl h (others_told name es)
     where
-      by : (b same : Bool) → bytes_eq name e.0 ≡ same → (if same then Some e.1 else stored name es) ≡ None
-          → (stored name es ≡ None → list_all (λ d. not (bytes_eq name d.name)) (told watches start es) ≡ true)
-          → list_all (λ d. not (bytes_eq name d.name)) (map change_of (cond b (e ∷ filter (is_told watches start) es) (filter (is_told watches start) es))) ≡ true
+      by : (b same : Bool) → bytes_eq name e.0 ≡ same → (if same then Some e.1 else stored name es) ≡ None → (stored name es ≡ None → named name (told watches start es) ≡ false)
+          → named name (map change_of (cond b (e ∷ filter (is_told watches start) es) (filter (is_told watches start) es))) ≡ false
       by b true is h more = absurd (cc)
-      by true false is h more = ap (λ x. not x && list_all (λ d. not (bytes_eq name d.name)) (told watches start es)) is ∙ more h
+      by true false is h more = ap (λ x. x || named name (told watches start es)) (other_way name e.0 is) ∙ more h
       by false false is h more = more h
 
   pub told_once : (es : Values) → DifferInName es → OncePerName (told watches start es)

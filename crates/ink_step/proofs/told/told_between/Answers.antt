@@ -1,0 +1,57 @@
+use Rattle.std.proofs.Common.{◌≡◌, ◌≤◌, ◌∙◌, ◌++◌, ◌∷◌, [], ap, arith, length, subst, sym, true, false}
+use Rattle.std.proofs.lemmas.List.{take_all}
+use Rattle.ink_host.specs.Desk.{watches}
+use Rattle.ink_host.specs.Telling.{OncePerName}
+use Rattle.ink_model.specs.Store.{stored}
+use Rattle.ink_model.specs.Told.{change_of, is_other, told}
+use Rattle.ink_vars.proofs.Noting.{on_error}
+use Rattle.ink_step.proofs.Telling.{told_once, told_past, told_same, told_some, told_there, told_unwatched}
+use Rattle.ink_step.proofs.told.told_between.Goals.{in-Some+then-watches+then-is_other+in_ok-change+in_ok-push, in-Some+else-watches, else-watches-via-then-watches+else-is_other, else-watches-via-else-watches, in_default}
+use Rattle.ink_step.proofs.told.told_between.Goals as goal
+
+pub returns-in_err-change-clause-memory : goal.returns-in_err-change-clause-memory
+returns-in_err-change-clause-memory g c =
+    let other : is_other (stored c.in-Some.name.now c.args.old.now) c.in-Some.value.now ≡ true =
+    ap (λ o. is_other o c.in-Some.value.now) (sym c.get.ensures) ∙ sym c.is_other.ensures ∙ c.if-is_other.true in
+    on_error c.from_residual.result (told_some (watches c.args.desk.now.watchers) c.args.old.now c.args.new.now c.loop-number.number (c.in-Some.name.now, c.in-Some.value.now)
+    (sym c.in-Some.ensures) (sym c.watches.ensures ∙ c.if-watches.true) other)
+
+pub returns-in_err-push-clause-memory : goal.returns-in_err-push-clause-memory
+returns-in_err-push-clause-memory g c =
+    let other : is_other (stored c.in-Some.name.now c.args.old.now) c.in-Some.value.now ≡ true =
+    ap (λ o. is_other o c.in-Some.value.now) (sym c.get.ensures) ∙ sym c.is_other.ensures ∙ c.if-is_other.true in
+    on_error c.from_residual-in_err-push.result (told_some (watches c.args.desk.now.watchers) c.args.old.now c.args.new.now c.loop-number.number (c.in-Some.name.now, c.in-Some.value.now)
+    (sym c.in-Some.ensures) (sym c.watches.ensures ∙ c.if-watches.true) other)
+
+pub loop-number-preserved : goal.loop-number-preserved
+loop-number-preserved g c =
+    let watched = watches c.args.desk.now.watchers in
+    let old = c.args.old.now in
+    let new = c.args.new.now in
+    let i = c.loop-number.number in
+    elim c.match-pair.branch [
+      | in-Some+then-watches+then-is_other+in_ok-change+in_ok-push w ↦
+          let name = w.in-Some.name.now in
+          let value = w.in-Some.value.now in
+          let other : is_other (stored name old) value ≡ true = ap (λ o. is_other o value) (sym w.get.ensures) ∙ sym w.is_other.ensures ∙ w.if-is_other.true in
+          ap (λ v. v.items) w.told-is ∙ w.in_ok-push.ensures.items ∙ ap (λ x. c.loop-number.told.items ++ x ∷ []) w.in_ok-change.ensures
+          ∙ ap (λ cs. cs ++ change_of (name, value) ∷ []) c.loop-number.invariant
+          ∙ sym (told_there watched old new i (name, value) (sym w.in-Some.ensures) (sym w.watches.ensures ∙ w.if-watches.true) other)
+      | in-Some+else-watches w ↦
+          let name = w.in-Some.name.now in
+          let value = w.in-Some.value.now in
+          ap (λ v. v.items) w.told-is ∙ c.loop-number.invariant ∙ elim w.else-watches.branch [
+            | else-watches-via-then-watches+else-is_other v ↦
+                let same : is_other (stored name old) value ≡ false = ap (λ o. is_other o value) (sym v.get.ensures) ∙ sym v.is_other.ensures ∙ v.if-is_other.false in
+                sym (told_same watched old new i (name, value) (sym w.in-Some.ensures) same)
+            | else-watches-via-else-watches v ↦ sym (told_unwatched watched old new i (name, value) (sym w.in-Some.ensures) (sym w.watches.ensures ∙ v.if-watches.false))
+          ]
+      | in_default w ↦ ap (λ v. v.items) w.told-is ∙ c.loop-number.invariant ∙ sym (told_past watched old new i (sym w.in_default.ensures))
+    ]
+
+pub returns-clause-once : goal.returns-clause-once
+returns-clause-once g c =
+    let watched = watches c.args.desk.now.watchers in
+    let past : length c.args.new.now ≤ c.loop-number.number = omega (arith, c.loop-number-test.false, c.len-number-end.ensures.len) in
+    let all = c.from_vec.ensures ∙ c.loop-number.invariant ∙ ap (told watched c.args.old.now) (take_all c.loop-number.number c.args.new.now past) in
+    subst (λ cs. OncePerName cs) (sym all) (told_once watched c.args.old.now c.args.new.now c.len-number-end.ensures.names)
