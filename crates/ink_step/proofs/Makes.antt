@@ -1,7 +1,7 @@
 -- Steps that call turn functions.
-use Rattle.std.proofs.Common.{◌≡◌, ◌∙◌, ◌⊎◌, ◌||◌, ◌++◌, ap, sym, refl, subst, inl, inr, ℕ, List, [], ◌∷◌, Bool, true, false, if◌then◌else◌, Option, Some, None, is_some, Result, Ok, Err}
+use Rattle.std.proofs.Common.{◌≡◌, ◌∙◌, ◌||◌, ap, sym, refl, subst, inl, inr, ℕ, List, [], Bool, true, false, if◌then◌else◌, Option, Some, None, is_some, Result, Ok, Err}
 use Rattle.std.specs.List.{list_all}
-use Rattle.ink_model.specs.Asks.{content_asks, external_asks}
+use Rattle.ink_model.specs.Asks.{asks, content_asks, external_asks, going_in_asks}
 use Rattle.ink_model.specs.Choosing.{following, following_asks}
 use Rattle.ink_model.specs.Configuration.{ChoiceOf, Configuration, current_place}
 use Rattle.ink_model.specs.Effect.{Context, Fields, Effect, Moves, Stores, Offers, Lands, Calls, Returns, Forks, Done, Ends, Asks, Fails, context_of, fields_of, or_else, or_fault}
@@ -13,7 +13,6 @@ use Rattle.ink_model.specs.Place.{entered, knot}
 use Rattle.ink_model.specs.Run.{answered}
 use Rattle.ink_model.specs.Stack.{popped, pushed}
 use Rattle.ink_model.specs.Step.{effect, gone_in, step, step_at}
-use Rattle.ink_model.specs.Step.Diverts.{where_true}
 use Rattle.ink_model.specs.Step.Host.{answering, arguments_on, call_bound, call_external, has_string, is_argument, with_arguments}
 use Rattle.ink_model.specs.Store.{Values}
 use Rattle.ink_model.specs.Tree.{StoryTree, leaf, container, at}
@@ -33,6 +32,7 @@ use Rattle.ink_step.specs.declared.flow.StepEnd.{StepEnd}
 use Rattle.ink_step.specs.declared.flow.StepEnd.TheVariants as ends
 use Rattle.ink_step.specs.declared.transfer.Transfer.{Transfer}
 use Rattle.ink_step.proofs.Follows.{ends_more, ends_unperformed, or_first, or_more}
+use Rattle.ink_step.proofs.Landed.{Performing, ends_outside, ends_performed}
 use Rattle.ink_step.proofs.Stopping.{broke}
 use Rattle.ink_step.proofs.Unasked.{other_acts, wanted}
 use Rattle.ink_tree.specs.declared.spot.Spot.{Spot}
@@ -267,3 +267,49 @@ module _ (s : StoryTree) (b : Bound) (p : List Part) (c : Configuration) (at_p :
   pub wants_call : (found : Option StoryTree) (k : Call) → found ≡ at s (entered s p) → external_in found ≡ Some k
       → is_asking (call_external s b k.name k.arguments k.conditional (fields_of inside)) ≡ wants (step s b c)
   wants_call found k is here = sym (step_wants ∙ ap Wanting (sym is) ∙ ap is_asking (found_call s b (entered s p) (context_of inside) (fields_of inside) found k here).0)
+
+-- ---- a whole step
+
+module _ (s : StoryTree) (b : Bound) (n : ℕ) where
+  -- what stands there is a call
+  pub performs_call : (es : List Event) (globals : Values) (d : Configuration) (r : Result StepEnd Fault) (here : List Part) (found : Option StoryTree) (k : Call) (m : Configuration)
+      → external_in found ≡ Some k → let e = call_external s b k.name k.arguments k.conditional (fields_of m) in
+      StepMakes s b n ((external_asks (b k.name) k.arguments k.conditional (fields_of m) || move_asks s e m) || following_asks s (move s e m)) (following s (move s e m)) es globals d r
+      → Performing s b (λ asking o. StepMakes s b n asking o es globals d r) here found m
+  performs_call es globals d r here found k m is h =
+      let same = found_call s b here (context_of m) (fields_of m) found k is in
+      let Made : Bool → Effect → Type 0 = λ asks e. StepMakes s b n ((asks || move_asks s e m) || following_asks s (move s e m)) (following s (move s e m)) es globals d r in
+      subst (λ asks. Made asks (effect s b here found (context_of m) (fields_of m))) (sym same.1)
+      (subst (Made (external_asks (b k.name) k.arguments k.conditional (fields_of m))) (sym same.0) h)
+
+  -- or it is other content
+  pub performs_other : (globals : Values) (d : Configuration) (r : Result StepEnd Fault) (here : List Part) (found : Option StoryTree) (m : Configuration) → external_in found ≡ None
+      → Performing s b (λ asking o. StepEnds asking o globals d r) here found m → Performing s b (λ asking o. StepMakes s b n asking o [] globals d r) here found m
+  performs_other globals d r here found m other h =
+      let e = effect s b here found (context_of m) (fields_of m) in
+      unmade s b n ((content_asks s b here found (context_of m) (fields_of m) || move_asks s e m) || following_asks s (move s e m)) (following s (move s e m)) globals d r
+      (wanted s e m ∙ other_acts s b here found (context_of m) (fields_of m) other) h
+
+  module _ (p : List Part) (old : Configuration) (at_p : current_place old ≡ Some p) (quiet : Bool) (quietly : quiet ≡ true → wants (step s b old) ≡ false) where
+    -- a step went in, and performed
+    pub steps_in : (es : List Event) (d : Configuration) (r : Result StepEnd Fault) (here : List Part) (found : Option StoryTree) (mid : Configuration)
+        → here ≡ entered s p → found ≡ at s here → mid ≡ gone_in s p old → Performing s b (λ asking o. StepMakes s b n asking o es old.shared.globals d r) here found mid
+        → Steps quiet s b n (asks s b old) (step s b old) es old.shared.globals old d r
+    steps_in es d r here found mid is stands went h =
+        quieted s b n es old.shared.globals d old r quiet (asks s b old) (step s b old) quietly
+        (ends_performed s b p old at_p (λ asking o. StepMakes s b n asking o es old.shared.globals d r) here found mid is stands went
+        (λ asking o. makes_more s b n es old.shared.globals d r (going_in_asks s p old) asking o) h)
+
+    -- memory was refused on the way in
+    pub stays_outside : (d : Configuration) (f : Fault) → f ≡ OutOfMemory → going_in_asks s p old ≡ true → d.shared.globals ≡ old.shared.globals
+        → Steps quiet s b n (asks s b old) (step s b old) [] old.shared.globals old d (Err f)
+    stays_outside d f short adds same =
+        quieted s b n [] old.shared.globals d old (Err f) quiet (asks s b old) (step s b old) quietly
+        (short_makes s b n (asks s b old) (step s b old) old.shared.globals d f (ends_outside s b p old at_p d f short adds same))
+
+  -- only a quiet step says that a call is wanted
+  pub never_said : (es : List Event) (globals : Values) (d : Configuration) (asking : Bool) (o : Outcome) (r : Result StepEnd Fault) → StepMakes s b n asking o es globals d r → r ≡ Ok ends.WantsCall → ⊥
+  never_said es globals d asking o r h is = makes_said s b n es globals d asking o (subst (λ x. StepMakes s b n asking o es globals d x) is h)
+
+pub never_ended : (asking : Bool) (o : Outcome) (globals : Values) (d : Configuration) (r : Result StepEnd Fault) → StepEnds asking o globals d r → r ≡ Ok ends.WantsCall → ⊥
+never_ended asking o globals d r h is = ends_said asking o globals d (subst (λ x. StepEnds asking o globals d x) is h)

@@ -1,5 +1,5 @@
 -- Where flow stops it may follow a choice, and then a global is stored.
-use Rattle.std.proofs.Common.{◌≡◌, ◌≢◌, ◌∙◌, ◌||◌, ap, sym, refl, subst, inl, inr, List, Bool, true, false, true≢false, Option, Some, None, is_some, Result, Ok, Err}
+use Rattle.std.proofs.Common.{◌≡◌, ◌≢◌, ◌∙◌, ◌||◌, ap, sym, refl, subst, inl, inr, List, Bool, true, Option, Some, None, Result, Ok, Err}
 use Rattle.ink_model.specs.Choosing.{default_asks, default_choice, following, following_asks, stopped_by}
 use Rattle.ink_model.specs.Configuration.{ChoiceOf, Configuration, with_globals}
 use Rattle.ink_model.specs.Effect.{Fields, Effect, Moves, Stores, Offers, Lands, Calls, Returns, Forks, Done, Ends, Asks, Fails, with_fields, with_thread}
@@ -7,7 +7,7 @@ use Rattle.ink_model.specs.Flow.{Reached, Reaches, Halts, Breaks, moved_on}
 use Rattle.ink_model.specs.Frames.{ThreadOf}
 use Rattle.ink_model.specs.Move.{Outcome, Next, Stop, Wants, Faults, move, reached_in, written_in}
 use Rattle.ink_model.specs.Place.{next_place}
-use Rattle.ink_model.specs.Store.{Values, store, stored}
+use Rattle.ink_model.specs.Store.{Values, store}
 use Rattle.ink_model.specs.Tree.{StoryTree}
 use Rattle.ink_model.specs.declared.fault.Fault.{Fault}
 use Rattle.ink_model.specs.declared.fault.Fault.TheVariants.{OutOfMemory}

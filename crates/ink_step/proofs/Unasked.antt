@@ -1,5 +1,5 @@
 -- Which effects ask a turn function: those of external functions alone.
-use Rattle.std.proofs.Common.{◌≡◌, ◌||◌, ap, refl, ℕ, ℤ, List, Bool, true, false, if◌then◌else◌, Option, Some, None, Result, Ok, Err, reverse}
+use Rattle.std.proofs.Common.{◌≡◌, ◌||◌, refl, ℕ, ℤ, List, Bool, true, false, if◌then◌else◌, Option, Some, None, Result, Ok, Err, reverse}
 use Rattle.ink_model.specs.Acceptance.{lands, leads}
 use Rattle.ink_model.specs.Choices.{added, make}
 use Rattle.ink_model.specs.Choosing.{default_choice, following, stopped_by}
