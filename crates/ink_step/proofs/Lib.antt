@@ -31,4 +31,5 @@ pub mod Shows
 pub mod Chosen
 pub mod Unasked
 pub mod Makes
+pub mod Tracked
 pub mod Calls

@@ -33,16 +33,9 @@ use Rattle.ink_step.specs.declared.flow.StepEnd.TheVariants as ends
 use Rattle.ink_step.specs.declared.transfer.Transfer.{Transfer}
 use Rattle.ink_step.proofs.Follows.{ends_more, ends_unperformed, or_first, or_more}
 use Rattle.ink_step.proofs.Landed.{Performing, ends_outside, ends_performed}
-use Rattle.ink_step.proofs.Stopping.{broke}
+use Rattle.ink_step.proofs.Stopping.{broke, ends_said}
 use Rattle.ink_step.proofs.Unasked.{other_acts, wanted}
 use Rattle.ink_tree.specs.declared.spot.Spot.{Spot}
-
--- no content's effect is to be called
-ends_said : (asking : Bool) (o : Outcome) (globals : Values) (d : Configuration) → StepEnds asking o globals d (Ok ends.WantsCall) → ⊥
-ends_said asking (Next c) globals d h = h
-ends_said asking (Stop c) globals d h = h
-ends_said asking (Wants name arguments f c) globals d h = h
-ends_said asking (Faults f) globals d h = h
 
 module _ (s : StoryTree) (b : Bound) (n : ℕ) where
   -- an outcome that wants no call
