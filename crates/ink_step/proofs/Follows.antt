@@ -210,7 +210,7 @@ module _ (s : StoryTree) (old mid : Machine) (safely : mid.safe ≡ old.safe) (c
   goes_alike (Forks f) = ap (going (forked (next_place s))) (moving_alike f f f.wrote)
   goes_alike (Done f) = ap (finish s) (moving_alike f f f.wrote)
   goes_alike (Ends f) = ap end_all (moving_alike f f f.wrote)
-  goes_alike (Asks name arguments f) = ()
+  goes_alike (Asks name arguments f) = tt
   goes_alike (Fails g) = refl
 
   asks_alike : (e : Effect) → move_asks s e (kept e) ≡ move_asks s e (config_of s old)

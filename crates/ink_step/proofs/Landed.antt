@@ -186,23 +186,23 @@ module _ (s : StoryTree) (asking : Bool) (c d : Configuration) (r : Result StepE
 
 -- ---- a step
 
-module _ (s : StoryTree) (b : Bound) (p : List Part) (old : Configuration) (at_p : current_place old ≡ Some p) where
-  -- what is performed at a place, from a configuration
-  abbrev Performing : (Bool → Outcome → Type 0) → List Part → Option StoryTree → Configuration → Type 0
-  Performing Ends here found m =
-      let e = effect s b here found (context_of m) (fields_of m) in
-      Ends ((content_asks s b here found (context_of m) (fields_of m) || move_asks s e m) || following_asks s (move s e m)) (following s (move s e m))
+-- what is performed at a place, from a configuration
+abbrev pub Performing : StoryTree → Bound → (Bool → Outcome → Type 0) → List Part → Option StoryTree → Configuration → Type 0
+Performing s b Ending here found m =
+    let e = effect s b here found (context_of m) (fields_of m) in
+    Ending ((content_asks s b here found (context_of m) (fields_of m) || move_asks s e m) || following_asks s (move s e m)) (following s (move s e m))
 
+module _ (s : StoryTree) (b : Bound) (p : List Part) (old : Configuration) (at_p : current_place old ≡ Some p) where
   -- a step goes in, performs what stands there and moves
-  pub ends_performed : (Ends : Bool → Outcome → Type 0) (here : List Part) (found : Option StoryTree) (mid : Configuration) → here ≡ entered s p → found ≡ at s here → mid ≡ gone_in s p old
-      → ((asking : Bool) (o : Outcome) → Ends asking o → Ends (going_in_asks s p old || asking) o) → Performing Ends here found mid → Ends (asks s b old) (step s b old)
+  pub ends_performed : (Ending : Bool → Outcome → Type 0) (here : List Part) (found : Option StoryTree) (mid : Configuration) → here ≡ entered s p → found ≡ at s here → mid ≡ gone_in s p old
+      → ((asking : Bool) (o : Outcome) → Ending asking o → Ending (going_in_asks s p old || asking) o) → Performing s b Ending here found mid → Ending (asks s b old) (step s b old)
   unfolding step asks
-  ends_performed Ends here found mid is stands went more h =
-      let gone = subst (λ m. Performing Ends here found m) went h in
+  ends_performed Ending here found mid is stands went more h =
+      let gone = subst (λ m. Performing s b Ending here found m) went h in
       let m = gone_in s p old in
-      let there = subst (λ f. Performing Ends here f m) stands gone in
-      let entering = subst (λ q. Performing Ends q (at s q) m) is there in
-      subst (λ o. Ends (asks_at s b o old) (step_at s b o old)) (sym at_p) (more _ _ entering)
+      let there = subst (λ f. Performing s b Ending here f m) stands gone in
+      let entering = subst (λ q. Performing s b Ending q (at s q) m) is there in
+      subst (λ o. Ending (asks_at s b o old) (step_at s b o old)) (sym at_p) (more _ _ entering)
 
   -- memory for a container on the way was refused
   pub ends_outside : (new : Configuration) (f : Fault) → f ≡ OutOfMemory → going_in_asks s p old ≡ true → new.shared.globals ≡ old.shared.globals

@@ -1,6 +1,7 @@
 -- Steps that call turn functions.
-use Rattle.std.proofs.Common.{◌≡◌, ◌∙◌, ◌⊎◌, ◌||◌, ◌++◌, ap, sym, refl, subst, inl, inr, ℕ, List, [], ◌∷◌, Bool, true, false, if◌then◌else◌, Option, Some, None, is_some, Result, Ok, Err}
-use Rattle.ink_model.specs.Asks.{content_asks, external_asks}
+use Rattle.std.proofs.Common.{◌≡◌, ◌∙◌, ◌||◌, ap, sym, refl, subst, inl, inr, ℕ, List, [], Bool, true, false, if◌then◌else◌, Option, Some, None, is_some, Result, Ok, Err}
+use Rattle.std.specs.List.{list_all}
+use Rattle.ink_model.specs.Asks.{asks, content_asks, external_asks, going_in_asks}
 use Rattle.ink_model.specs.Choosing.{following, following_asks}
 use Rattle.ink_model.specs.Configuration.{ChoiceOf, Configuration, current_place}
 use Rattle.ink_model.specs.Effect.{Context, Fields, Effect, Moves, Stores, Offers, Lands, Calls, Returns, Forks, Done, Ends, Asks, Fails, context_of, fields_of, or_else, or_fault}
@@ -12,7 +13,6 @@ use Rattle.ink_model.specs.Place.{entered, knot}
 use Rattle.ink_model.specs.Run.{answered}
 use Rattle.ink_model.specs.Stack.{popped, pushed}
 use Rattle.ink_model.specs.Step.{effect, gone_in, step, step_at}
-use Rattle.ink_model.specs.Step.Diverts.{where_true}
 use Rattle.ink_model.specs.Step.Host.{answering, arguments_on, call_bound, call_external, has_string, is_argument, with_arguments}
 use Rattle.ink_model.specs.Store.{Values}
 use Rattle.ink_model.specs.Tree.{StoryTree, leaf, container, at}
@@ -20,7 +20,7 @@ use Rattle.ink_model.specs.Value.{is_true}
 use Rattle.ink_model.specs.declared.content.Leaf.{Leaf}
 use Rattle.ink_model.specs.declared.content.Leaf.TheVariants as leaves
 use Rattle.ink_model.specs.declared.fault.Fault.{Fault}
-use Rattle.ink_model.specs.declared.fault.Fault.TheVariants.{OutOfMemory}
+use Rattle.ink_model.specs.declared.fault.Fault.TheVariants.{BadOperands, OutOfMemory}
 use Rattle.ink_model.specs.declared.host.Event.{Event}
 use Rattle.ink_model.specs.declared.host.Given.{Given}
 use Rattle.ink_model.specs.declared.place.Part.{Part}
@@ -32,32 +32,26 @@ use Rattle.ink_step.specs.declared.flow.StepEnd.{StepEnd}
 use Rattle.ink_step.specs.declared.flow.StepEnd.TheVariants as ends
 use Rattle.ink_step.specs.declared.transfer.Transfer.{Transfer}
 use Rattle.ink_step.proofs.Follows.{ends_more, ends_unperformed, or_first, or_more}
-use Rattle.ink_step.proofs.Stopping.{broke}
+use Rattle.ink_step.proofs.Landed.{Performing, ends_outside, ends_performed}
+use Rattle.ink_step.proofs.Stopping.{broke, ends_said}
 use Rattle.ink_step.proofs.Unasked.{other_acts, wanted}
 use Rattle.ink_tree.specs.declared.spot.Spot.{Spot}
-
--- no content's effect is to be called
-ends_said : (asking : Bool) (o : Outcome) (globals : Values) (d : Configuration) → StepEnds asking o globals d (Ok ends.WantsCall) → ⊥
-ends_said asking (Next c) globals d h = h
-ends_said asking (Stop c) globals d h = h
-ends_said asking (Wants name arguments f c) globals d h = h
-ends_said asking (Faults f) globals d h = h
 
 module _ (s : StoryTree) (b : Bound) (n : ℕ) where
   -- an outcome that wants no call
   pub unmade : (asking : Bool) (o : Outcome) (globals : Values) (d : Configuration) (r : Result StepEnd Fault) → wants o ≡ false → StepEnds asking o globals d r → StepMakes s b n asking o [] globals d r
-  unmade asking (Next c) globals d r no h = (refl, h)
-  unmade asking (Stop c) globals d r no h = (refl, h)
-  unmade asking (Wants name arguments f c) globals d r no h = absurd (cc)
-  unmade asking (Faults f) globals d r no h = (refl, h)
+  unmade asking (Next c) globals d r unwanted h = (refl, h)
+  unmade asking (Stop c) globals d r unwanted h = (refl, h)
+  unmade asking (Wants name arguments f c) globals d r unwanted h = absurd (cc)
+  unmade asking (Faults f) globals d r unwanted h = (refl, h)
 
   -- where memory was refused before
   pub short_makes : (asking : Bool) (o : Outcome) (globals : Values) (d : Configuration) (f : Fault) → (f ≡ OutOfMemory) × (asking ≡ true) × (d.shared.globals ≡ globals)
       → StepMakes s b n asking o [] globals d (Err f)
-  short_makes asking (Next c) globals d f h = (refl, (h.0, h.1), h.2)
-  short_makes asking (Stop c) globals d f h = (refl, (h.0, h.1), h.2)
+  short_makes asking (Next c) globals d f h = (refl, ((h.0, h.1), h.2))
+  short_makes asking (Stop c) globals d f h = (refl, ((h.0, h.1), h.2))
   short_makes asking (Wants name arguments k c) globals d f h = inr (refl, ap Err h.0, h.1, h.2)
-  short_makes asking (Faults g) globals d f h = (refl, inr (h.0, h.1), h.2)
+  short_makes asking (Faults g) globals d f h = (refl, (inr (h.0, h.1), h.2))
 
   module _ (es : List Event) (globals : Values) (d : Configuration) where
     -- where more asks for memory
@@ -83,11 +77,11 @@ module _ (s : StoryTree) (b : Bound) (n : ℕ) where
     -- a quiet step that wants no call
     pub quieted : (old : Configuration) (r : Result StepEnd Fault) (quiet asking : Bool) (o : Outcome) → (quiet ≡ true → wants o ≡ false) → StepMakes s b n asking o es globals d r
         → Steps quiet s b n asking o es globals old d r
-    quieted old r false asking o no h = h
-    quieted old r true asking (Next c) no h = h
-    quieted old r true asking (Stop c) no h = h
-    quieted old r true asking (Faults f) no h = h
-    quieted old r true asking (Wants name arguments f c) no h = absurd (let is = no refl in cc)
+    quieted old r false asking o unwanted h = h
+    quieted old r true asking (Next c) unwanted h = h
+    quieted old r true asking (Stop c) unwanted h = h
+    quieted old r true asking (Faults f) unwanted h = h
+    quieted old r true asking (Wants name arguments f c) unwanted h = absurd (let is = unwanted refl in cc)
 
   -- and one that does
   pub said : (asking : Bool) (o : Outcome) (globals : Values) (c : Configuration) → wants o ≡ true → Steps true s b n asking o [] globals c c (Ok ends.WantsCall)
@@ -112,27 +106,27 @@ module _ (b : Bound) where
 
   call_or : {A : Type 0} (r : Result A Fault) (so : A → Effect) → ((a : A) → IsCall b (so a)) → IsCall b (or_fault r so)
   call_or (Ok a) so calls = calls a
-  call_or (Err f) so calls = ()
+  call_or (Err f) so calls = tt
 
   call_else : {A : Type 0} (f : Fault) (o : Option A) (so : A → Effect) → ((a : A) → IsCall b (so a)) → IsCall b (or_else f o so)
-  call_else f None so calls = ()
+  call_else f None so calls = tt
   call_else f (Some a) so calls = calls a
 
   pub answering_call : (gave : Option Given) (f : Fields) → IsCall b (answering gave f)
-  answering_call None f = ()
-  answering_call (Some g) f = call_if (fits_given g) _ _ (call_or (pushed (value_given g) f.stack) _ (λ vs. ())) ()
+  answering_call None f = tt
+  answering_call (Some g) f = call_if (fits_given g) _ _ (call_or (pushed (value_given g) f.stack) _ (λ vs. tt)) tt
 
   arguments_call : (n : ℕ) (f : Fields) (so : List Value → Fields → Effect) → ((vs : List Value) (g : Fields) → IsCall b (so vs g)) → IsCall b (with_arguments n f so)
-  arguments_call n f so calls = call_else _ (arguments_on n f.stack) _ (λ r. call_if _ _ _ (calls r.0 _) ())
+  arguments_call n f so calls = call_else _ (arguments_on n f.stack) _ (λ r. call_if (list_all is_argument r.0) (so r.0 (record f { stack = r.1 })) (Fails BadOperands) (calls r.0 (record f { stack = r.1 })) tt)
 
   bound_call : (s : StoryTree) (o : Option Binding) (name : List ℕ) (n : ℕ) (f : Fields) → b name ≡ o → IsCall b (call_bound s o name n f)
-  bound_call s None name n f is = call_else _ (knot name s) _ (λ p. ())
-  bound_call s (Some turn_function) name n f is = call_if (has_string f.page.sections) _ _ () (arguments_call n f _ (λ vs g. is))
-  bound_call s (Some (pure_function answers)) name n f is = arguments_call n f _ (λ vs g. answering_call (answers vs) g)
+  bound_call s None name n f is = call_else _ (knot name s) _ (λ p. tt)
+  bound_call s (Some turn_function) name n f is = call_if (has_string f.page.sections) _ _ tt (arguments_call n f (Asks name) (λ vs g. is))
+  bound_call s (Some (pure_function answers)) name n f is = arguments_call n f (λ vs g. answering (answers vs) g) (λ vs g. answering_call (answers vs) g)
 
   pub external_call : (s : StoryTree) (name : List ℕ) (n : ℕ) (conditional : Bool) (f : Fields) → IsCall b (call_external s b name n conditional f)
   external_call s name n conditional f = call_if conditional _ _
-      (call_else _ (popped f.stack) _ (λ r. call_or (is_true r.0) _ (λ x. call_if x _ _ (bound_call s (b name) name n _ refl) ()))) (bound_call s (b name) name n f refl)
+      (call_else _ (popped f.stack) _ (λ r. call_or (is_true r.0) _ (λ x. call_if x _ _ (bound_call s (b name) name n _ refl) tt))) (bound_call s (b name) name n f refl)
 
   -- which keeps threads and choices
   pub keeps_call : (s : StoryTree) (e : Effect) (ts : ThreadsOf Spot) → IsCall b e → Keeps s e ts ts
@@ -176,7 +170,7 @@ module _ (s : StoryTree) (b : Bound) (n : ℕ) (asking : Bool) (c d : Configurat
     Makes e es = StepMakes s b n ((asking || move_asks s e c) || following_asks s (move s e c)) (following s (move s e c)) es globals d r
 
     other : (e : Effect) (es : List Event) → is_asking e ≡ false → es ≡ [] → Ended asking e → Makes e es
-    other e es no none h = subst (Makes e) (sym none) (unmade s b n _ (following s (move s e c)) globals d r (wanted s e c ∙ no) h)
+    other e es unwanted none h = subst (Makes e) (sym none) (unmade s b n _ (following s (move s e c)) globals d r (wanted s e c ∙ unwanted) h)
 
     pub makes : (e : Effect) (es : List Event) → IsCall b e → PerformsCall s n asking e es new transfer → Makes e es
     makes (Asks name arguments left) es is h = elim h [
@@ -194,7 +188,7 @@ module _ (s : StoryTree) (b : Bound) (n : ℕ) (asking : Bool) (c d : Configurat
     makes (Ends f) es is h = other (Ends f) es refl h.0 (ended asking (Ends f) is h.1)
     makes (Fails g) es is h = other (Fails g) es refl h.0 (ended asking (Fails g) is h.1)
 
-err_same : (f g : Fault) → Err {A = Transfer} f ≡ Err g → f ≡ g
+err_same : (f g : Fault) → let r : Result Transfer Fault = Err f in r ≡ Err g → f ≡ g
 err_same f g e = cc
 
 module _ (s : StoryTree) (b : Bound) (n : ℕ) (asking : Bool) (c d : Configuration) (new : Fields) (globals : Values) where
@@ -266,3 +260,49 @@ module _ (s : StoryTree) (b : Bound) (p : List Part) (c : Configuration) (at_p :
   pub wants_call : (found : Option StoryTree) (k : Call) → found ≡ at s (entered s p) → external_in found ≡ Some k
       → is_asking (call_external s b k.name k.arguments k.conditional (fields_of inside)) ≡ wants (step s b c)
   wants_call found k is here = sym (step_wants ∙ ap Wanting (sym is) ∙ ap is_asking (found_call s b (entered s p) (context_of inside) (fields_of inside) found k here).0)
+
+-- ---- a whole step
+
+module _ (s : StoryTree) (b : Bound) (n : ℕ) where
+  -- what stands there is a call
+  pub performs_call : (es : List Event) (globals : Values) (d : Configuration) (r : Result StepEnd Fault) (here : List Part) (found : Option StoryTree) (k : Call) (m : Configuration)
+      → external_in found ≡ Some k → let e = call_external s b k.name k.arguments k.conditional (fields_of m) in
+      StepMakes s b n ((external_asks (b k.name) k.arguments k.conditional (fields_of m) || move_asks s e m) || following_asks s (move s e m)) (following s (move s e m)) es globals d r
+      → Performing s b (λ asking o. StepMakes s b n asking o es globals d r) here found m
+  performs_call es globals d r here found k m is h =
+      let same = found_call s b here (context_of m) (fields_of m) found k is in
+      let Made : Bool → Effect → Type 0 = λ asks e. StepMakes s b n ((asks || move_asks s e m) || following_asks s (move s e m)) (following s (move s e m)) es globals d r in
+      subst (λ asks. Made asks (effect s b here found (context_of m) (fields_of m))) (sym same.1)
+      (subst (Made (external_asks (b k.name) k.arguments k.conditional (fields_of m))) (sym same.0) h)
+
+  -- or it is other content
+  pub performs_other : (globals : Values) (d : Configuration) (r : Result StepEnd Fault) (here : List Part) (found : Option StoryTree) (m : Configuration) → external_in found ≡ None
+      → Performing s b (λ asking o. StepEnds asking o globals d r) here found m → Performing s b (λ asking o. StepMakes s b n asking o [] globals d r) here found m
+  performs_other globals d r here found m other h =
+      let e = effect s b here found (context_of m) (fields_of m) in
+      unmade s b n ((content_asks s b here found (context_of m) (fields_of m) || move_asks s e m) || following_asks s (move s e m)) (following s (move s e m)) globals d r
+      (wanted s e m ∙ other_acts s b here found (context_of m) (fields_of m) other) h
+
+  module _ (p : List Part) (old : Configuration) (at_p : current_place old ≡ Some p) (quiet : Bool) (quietly : quiet ≡ true → wants (step s b old) ≡ false) where
+    -- a step went in, and performed
+    pub steps_in : (es : List Event) (d : Configuration) (r : Result StepEnd Fault) (here : List Part) (found : Option StoryTree) (mid : Configuration)
+        → here ≡ entered s p → found ≡ at s here → mid ≡ gone_in s p old → Performing s b (λ asking o. StepMakes s b n asking o es old.shared.globals d r) here found mid
+        → Steps quiet s b n (asks s b old) (step s b old) es old.shared.globals old d r
+    steps_in es d r here found mid is stands went h =
+        quieted s b n es old.shared.globals d old r quiet (asks s b old) (step s b old) quietly
+        (ends_performed s b p old at_p (λ asking o. StepMakes s b n asking o es old.shared.globals d r) here found mid is stands went
+        (λ asking o. makes_more s b n es old.shared.globals d r (going_in_asks s p old) asking o) h)
+
+    -- memory was refused on the way in
+    pub stays_outside : (d : Configuration) (f : Fault) → f ≡ OutOfMemory → going_in_asks s p old ≡ true → d.shared.globals ≡ old.shared.globals
+        → Steps quiet s b n (asks s b old) (step s b old) [] old.shared.globals old d (Err f)
+    stays_outside d f short adds same =
+        quieted s b n [] old.shared.globals d old (Err f) quiet (asks s b old) (step s b old) quietly
+        (short_makes s b n (asks s b old) (step s b old) old.shared.globals d f (ends_outside s b p old at_p d f short adds same))
+
+  -- only a quiet step says that a call is wanted
+  pub never_said : (es : List Event) (globals : Values) (d : Configuration) (asking : Bool) (o : Outcome) (r : Result StepEnd Fault) → StepMakes s b n asking o es globals d r → r ≡ Ok ends.WantsCall → ⊥
+  never_said es globals d asking o r h is = makes_said s b n es globals d asking o (subst (λ x. StepMakes s b n asking o es globals d x) is h)
+
+pub never_ended : (asking : Bool) (o : Outcome) (globals : Values) (d : Configuration) (r : Result StepEnd Fault) → StepEnds asking o globals d r → r ≡ Ok ends.WantsCall → ⊥
+never_ended asking o globals d r h is = ends_said asking o globals d (subst (λ x. StepEnds asking o globals d x) is h)

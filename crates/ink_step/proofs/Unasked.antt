@@ -1,23 +1,26 @@
 -- Which effects ask a turn function: those of external functions alone.
-use Rattle.std.proofs.Common.{◌≡◌, ap, refl, ℕ, ℤ, List, Bool, true, false, if◌then◌else◌, Option, Some, None, Result, Ok, Err, reverse}
+use Rattle.std.proofs.Common.{◌≡◌, ◌||◌, refl, ℕ, ℤ, List, Bool, true, false, if◌then◌else◌, Option, Some, None, Result, Ok, Err, reverse}
 use Rattle.ink_model.specs.Acceptance.{lands, leads}
 use Rattle.ink_model.specs.Choices.{added, make}
 use Rattle.ink_model.specs.Choosing.{default_choice, following, stopped_by}
-use Rattle.ink_model.specs.Configuration.{ChoiceOf, Configuration}
-use Rattle.ink_model.specs.Effect.{Context, Fields, Effect, Moves, Stores, Offers, Lands, Calls, Returns, Forks, Done, Ends, Asks, Fails, or_else, or_fault, pushing, writing, writing_text}
-use Rattle.ink_model.specs.Flow.{Reached, Reaches, Halts, Breaks}
-use Rattle.ink_model.specs.Frames.{ThreadOf}
+use Rattle.ink_model.specs.Configuration.{ChoiceOf, Configuration, ended, with_choices, with_safe}
+use Rattle.ink_model.specs.Effect.{Context, Fields, Effect, Moves, Stores, Offers, Lands, Calls, Returns, Forks, Done, Ends, Asks, Fails, or_else, or_fault, pushing, with_fields, with_thread, writing, writing_text}
+use Rattle.ink_model.specs.Flow.{Reached, Reaches, Halts, Breaks, Written, called, done, forked, halt, is_last, moved_on, reach, returned}
+use Rattle.ink_model.specs.Frames.{ThreadOf, ThreadsOf, base_threads}
 use Rattle.ink_model.specs.Host.{Bound}
-use Rattle.ink_model.specs.Move.{landed_in, may_enter, move, reached_in, with_flow}
-use Rattle.ink_model.specs.Page.{Page}
+use Rattle.ink_model.specs.Move.{end_all, finish, going, landed_in, landing, may_enter, move, place_to, reached_in, with_flow, written_in}
+use Rattle.ink_model.specs.Output.{closes_string, opens}
+use Rattle.ink_model.specs.Page.{Page, tag_section}
 use Rattle.ink_model.specs.Path.{above}
-use Rattle.ink_model.specs.Stack.{popped, pushed}
+use Rattle.ink_model.specs.Place.{next_place}
+use Rattle.ink_model.specs.Stack.{applied, popped, pushed}
 use Rattle.ink_model.specs.Step.{control_effect, effect, leaf_effect}
 use Rattle.ink_model.specs.Step.Calls.{call_to, led_back}
 use Rattle.ink_model.specs.Step.Choices.{offering, was_visited}
 use Rattle.ink_model.specs.Step.Counts.{asking, pushing_count, turns_there, visits_there}
 use Rattle.ink_model.specs.Step.Diverts.{divert_to, landing_by, led_to, where_true}
 use Rattle.ink_model.specs.Step.Evaluation.{output_popped, push_value}
+use Rattle.ink_model.specs.Step.Text.{closed_tag, in_tag}
 use Rattle.ink_model.specs.Step.Variables.{assign, declare, storing}
 use Rattle.ink_model.specs.Store.{Values}
 use Rattle.ink_model.specs.Tree.{StoryTree, leaf, container}
@@ -93,9 +96,10 @@ control_acts s p seen control.Out f = output_acts (popped f.stack) f
 control_acts s p seen control.Pop f = acts_else _ (popped f.stack) _ (λ r. refl)
 control_acts s p seen control.Duplicate f = acts_else _ (popped f.stack) _ (λ r. push_acts r.0 f)
 control_acts s p seen control.BeginString f = acts_if f.evaluating _ _ (write_acts _ (record f { evaluating = false })) refl
-control_acts s p seen control.EndString f = acts_or _ _ (λ r. push_acts _ _)
-control_acts s p seen control.BeginTag f = acts_or _ _ (λ r. write_acts _ (record f { stack = r.0 }))
-control_acts s p seen control.EndTag f = acts_or _ _ (λ r. refl)
+control_acts s p seen control.EndString f = acts_or (closes_string f.page) _ (λ r. push_acts (value.Text r.0) (record f { page = r.1; evaluating = true }))
+control_acts s p seen control.BeginTag f = acts_or (if in_tag f.page.sections then closed_tag f.stack f.page else Ok (f.stack, f.page)) _
+    (λ r. write_acts (opens tag_section r.1) (record f { stack = r.0 }))
+control_acts s p seen control.EndTag f = acts_or (closed_tag f.stack f.page) _ (λ r. refl)
 control_acts s p seen control.Done f = refl
 control_acts s p seen control.End f = refl
 control_acts s p seen control.Return f = refl
@@ -133,7 +137,7 @@ leaf_acts s b p seen (leaves.Bool t) f other = value_acts _ f
 leaf_acts s b p seen leaves.Void f other = value_acts _ f
 leaf_acts s b p seen (leaves.Target text) f other = value_acts _ f
 leaf_acts s b p seen (leaves.Control o) f other = control_acts s p seen o f
-leaf_acts s b p seen (leaves.Op o) f other = acts_or _ _ (λ vs. refl)
+leaf_acts s b p seen (leaves.Op o) f other = acts_or (applied o f.stack) _ (λ vs. refl)
 leaf_acts s b p seen (leaves.Divert to conditional) f other = where_acts conditional f _ (led_acts s p seen to)
 leaf_acts s b p seen (leaves.Call to conditional) f other = where_acts conditional f _ (call_acts Function s p seen to)
 leaf_acts s b p seen (leaves.Tunnel to conditional) f other = where_acts conditional f _ (call_acts Tunnel s p seen to)
@@ -171,16 +175,28 @@ module _ (s : StoryTree) where
   landed_goes true c (Breaks f) = refl
   landed_goes false c r = reached_goes c r
 
+  going_goes : (how : ThreadsOf (List Part) → Written → Reached (List Part)) (c : Configuration) → wants (following s (going how c)) ≡ false
+  going_goes how c = reached_goes c (how c.flow.threads (written_in c))
+
+  landing_goes : (enters : Bool) (how : ThreadsOf (List Part) → Written → Reached (List Part)) (c : Configuration) → wants (following s (landing s enters how c)) ≡ false
+  landing_goes enters how c = landed_goes enters c (how c.flow.threads (written_in c))
+
+  finish_goes : (c : Configuration) → wants (following s (finish s c)) ≡ false
+  finish_goes c = going_goes (done (next_place s)) (with_safe (c.flow.safe || is_last c.flow.threads) c)
+
+  end_goes : (c : Configuration) → wants (following s (end_all c)) ≡ false
+  end_goes c = reached_goes (ended c) (halt (base_threads None) (written_in c))
+
   -- an outcome wants a call where its effect asks one
   pub wanted : (e : Effect) (c : Configuration) → wants (following s (move s e c)) ≡ is_asking e
-  wanted (Moves f) c = reached_goes _ _
-  wanted (Stores t f) c = reached_goes _ _
-  wanted (Offers cs f) c = reached_goes _ _
-  wanted (Lands to f) c = landed_goes to.enters _ _
-  wanted (Calls k to f) c = landed_goes to.enters _ _
-  wanted (Returns k to f) c = landed_goes (may_enter to) _ _
-  wanted (Forks f) c = reached_goes _ _
-  wanted (Done f) c = reached_goes _ _
-  wanted (Ends f) c = reached_goes _ _
+  wanted (Moves f) c = going_goes (moved_on (next_place s)) (with_fields f c)
+  wanted (Stores t f) c = going_goes (moved_on (next_place s)) (with_fields f (with_thread t c))
+  wanted (Offers cs f) c = going_goes (moved_on (next_place s)) (with_fields f (with_choices cs c))
+  wanted (Lands to f) c = landing_goes to.enters (reach to.place) (with_fields f c)
+  wanted (Calls k to f) c = landing_goes to.enters (called k to.place) (with_fields f c)
+  wanted (Returns k to f) c = landing_goes (may_enter to) (returned (next_place s) k (place_to to)) (with_fields f c)
+  wanted (Forks f) c = going_goes (forked (next_place s)) (with_fields f c)
+  wanted (Done f) c = finish_goes (with_fields f c)
+  wanted (Ends f) c = end_goes (with_fields f c)
   wanted (Asks name arguments f) c = refl
   wanted (Fails f) c = refl

@@ -1,4 +1,4 @@
-use Rattle.std.proofs.Common.{◌≡◌, ◌||◌, rules, sym, subst, Err}
+use Rattle.std.proofs.Common.{◌≡◌, ◌||◌, refl, rules, sym, subst, Err}
 use Rattle.ink_check.specs.Words.{story_tree}
 use Rattle.ink_host.specs.Desk.{bound_by}
 use Rattle.ink_model.specs.Asks.{external_asks}
