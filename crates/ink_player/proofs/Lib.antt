@@ -6,6 +6,6 @@ pub mod Sessions
 pub mod Refusing
 pub mod Playings
 pub mod Spelling
-pub mod Restarts
 pub mod Paths
 pub mod Numbers
+pub mod Tellings

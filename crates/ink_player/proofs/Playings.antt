@@ -46,6 +46,26 @@ early bytes bound = record { nothing = refl; bound = bound }
 pub opens_as : {P F O : Type 0} (text line : List ℕ) (r : Result (Player P F O) (PlayEnd P F O)) → text ≡ line → Opens text r → Opens line r
 opens_as text line r e p = subst (λ l. Opens l r) e p
 
+fails_early : (host : Bindings) (left : Option (List ℕ)) (bytes line input : List ℕ) (f : PlayFault) → IsStoryLine left bytes line input → length bytes ≤ MAX_STORY + 1 → OpenFails line f → PlayFails host [] left bytes [] f
+fails_early host left bytes line input (play.Story r) l bound p = (early bytes bound, refl, inl (line, input, l, p))
+fails_early host left bytes line input (play.Start f) l bound p =
+    (early bytes bound, refl, record { tree = p.0; story = record { line = line; input = input; story_line = l; reads = p.1 }; globals = p.2.0; why = p.2.1 })
+fails_early host left bytes line input (play.Run f) l bound p = absurd p
+
+-- a story that ended at its newline, or at the reader's end
+abbrev pub TakesStory : Option (List ℕ) → Option (List ℕ) → Buffered → Buffered → List ℕ → Type 0
+TakesStory a b o n line = TakesLine a b o n (MAX_STORY + 1) (line ++ 10 ∷ []) line × (length line ≤ MAX_STORY)
+
+abbrev pub TakesAll : Option (List ℕ) → Option (List ℕ) → Buffered → Buffered → List ℕ → Type 0
+TakesAll a b o n line = TakesLine a b o n (MAX_STORY + 1) line line × (length line ≤ MAX_STORY) × (n.unread ≡ []) × IsAtEnd b
+
+all_is : (a b : Option (List ℕ)) (o n : Buffered) (line : List ℕ) → TakesAll a b o n line → IsStoryLine b (line ++ n.unread) line []
+all_is a b o n line t = record {
+  plain = t.0.plain;
+  within = t.1;
+  whole = inr (ap (λ l. line ++ l) t.2 ∙ append-nil line, refl, t.3);
+}
+
 module _ {P F O : Type 0} (host : Bindings) where
   -- ---- ends before a session
 
@@ -90,36 +110,16 @@ module _ {P F O : Type 0} (host : Bindings) where
   no_story a b h o n f pf d e g k =
       subst (λ x. Plays host [] a b h h (Err (record { fault = x; desk = d }))) (sym k) (no_story_for a b h o n f d e g)
 
-  fails_early : (left : Option (List ℕ)) (bytes line input : List ℕ) (f : PlayFault) → IsStoryLine left bytes line input → length bytes ≤ MAX_STORY + 1 → OpenFails line f → PlayFails host [] left bytes [] f
-  fails_early left bytes line input (play.Story r) l bound p = (early bytes bound, refl, inl (line, input, l, p))
-  fails_early left bytes line input (play.Start f) l bound p =
-      (early bytes bound, refl, record { tree = p.0; story = record { line = line; input = input; story_line = l; reads = p.1 }; globals = p.2.0; why = p.2.1 })
-  fails_early left bytes line input (play.Run f) l bound p = absurd p
-
-  -- a story that ended at its newline, or at the reader's end
-  abbrev pub TakesStory : Option (List ℕ) → Option (List ℕ) → Buffered → Buffered → List ℕ → Type 0
-  TakesStory a b o n line = TakesLine a b o n (MAX_STORY + 1) (line ++ 10 ∷ []) line × (length line ≤ MAX_STORY)
-
-  abbrev pub TakesAll : Option (List ℕ) → Option (List ℕ) → Buffered → Buffered → List ℕ → Type 0
-  TakesAll a b o n line = TakesLine a b o n (MAX_STORY + 1) line line × (length line ≤ MAX_STORY) × (n.unread ≡ []) × IsAtEnd b
-
   pub unopened : (a b h : Option (List ℕ)) (o n : Buffered) (line : List ℕ) (x : PlayEnd P F O) → o ≡ fresh → TakesStory a b o n line → Opens line (Err x) → Plays host [] a b h h (Err x)
   unopened a b h o n line x e t p =
       let bound = story_bound a b o n (line ++ 10 ∷ []) line e t.0 in
       plays_early a b h o n (line ++ 10 ∷ []) (Err x) e t.0.takes bound
-      (fails_early b _ line n.unread x.fault (record { plain = t.0.plain; within = t.1; whole = inl (append_assoc line (10 ∷ []) n.unread) }) bound p)
-
-  all_is : (a b : Option (List ℕ)) (o n : Buffered) (line : List ℕ) → TakesAll a b o n line → IsStoryLine b (line ++ n.unread) line []
-  all_is a b o n line t = record {
-    plain = t.0.plain;
-    within = t.1;
-    whole = inr (ap (λ l. line ++ l) t.2 ∙ append-nil line, refl, t.3);
-  }
+      (fails_early host b _ line n.unread x.fault (record { plain = t.0.plain; within = t.1; whole = inl (append_assoc line (10 ∷ []) n.unread) }) bound p)
 
   pub unopened_last : (a b h : Option (List ℕ)) (o n : Buffered) (line : List ℕ) (x : PlayEnd P F O) → o ≡ fresh → TakesAll a b o n line → Opens line (Err x) → Plays host [] a b h h (Err x)
   unopened_last a b h o n line x e t p =
       let bound = story_bound a b o n line line e t.0 in
-      plays_early a b h o n line (Err x) e t.0.takes bound (fails_early b _ line [] x.fault (all_is a b o n line t) bound p)
+      plays_early a b h o n line (Err x) e t.0.takes bound (fails_early host b _ line [] x.fault (all_is a b o n line t) bound p)
 
   -- ---- a session after the story
 

@@ -1,5 +1,5 @@
 -- What a story is refused for, by the steps of reading it.
-use Rattle.std.proofs.Common.{◌≡◌, ◌∙◌, ◌⊎◌, ap, refl, inl, inr, ℕ, List, [], ◌∷◌, length, nat_lt, Bool, true, false, not, ◌&&◌, cond, Some, None, Ok, Err}
+use Rattle.std.proofs.Common.{◌≡◌, ◌∙◌, ◌⊎◌, ap, refl, inl, inr, ℕ, List, [], ◌∷◌, length, nat_lt, Bool, true, false, not, ◌&&◌, cond, Some, None, Result, Ok, Err, IfOk, IfErr}
 use Rattle.std.specs.Str.{is_utf8}
 use Rattle.serde_json.proofs.OnLiterals.{serde_json_on_literals}
 use Rattle.serde_json.specs.Read.{read}
@@ -43,3 +43,12 @@ module _ (line : List ℕ) where
     pub all_accepted : (s : StoryTree) → accepted t ≡ Ok s → accepted_story line ≡ Ok s
     unfolding accepted_story
     all_accepted s h = ap (λ o. and_then accepted o) reads ∙ h
+
+    -- the same of what checking gave
+    pub all_accepted_as : {S : Type 0} (tree_of : S → StoryTree) (r : Result S ReadRefusal) → IfOk r (λ s. accepted t ≡ Ok (tree_of s)) → IfOk r (λ s. accepted_story line ≡ Ok (tree_of s))
+    all_accepted_as tree_of (Ok s) h = all_accepted (tree_of s) h
+    all_accepted_as tree_of (Err r) h = tt
+
+    pub unaccepted_as : {S : Type 0} (r : Result S ReadRefusal) → IfErr r (λ f. (f ≡ here OutOfMemory) ⊎ (accepted t ≡ Err f)) → IfErr r (IsRefused line)
+    unaccepted_as (Ok s) h = tt
+    unaccepted_as (Err r) h = unaccepted r h

@@ -118,10 +118,11 @@ module _ (s : StoryTree) (host : Bindings) (first : List Event) (line input : Li
       next = elim p.next [ inl q ↦ inl (room_more most all line input p.served.rest e q.0, q.1, q.2) | inr q ↦ inr q ];
     }
 
-pub runs_more : (s t : StoryTree) (host : Bindings) (first made : List Event) (a b c h i j : Option (List ℕ)) (o m : Buffered) (old mid new : State) (r : Result (Unit {0}) RunFault)
-    → ServesLine s host first a b h i o m old mid → t ≡ s → Runs t host made m.spare m.unread b c i j mid new r → Runs s host (first ++ made) o.spare o.unread a c h j old new r
-runs_more s t host first made a b c h i j o m old mid new r l e p =
-    let q = subst (λ x. Runs x host made m.spare m.unread b c i j mid new r) e p in
+pub runs_more : (s t : StoryTree) (host same : Bindings) (first made : List Event) (a b c h i j : Option (List ℕ)) (o m : Buffered) (old mid new : State) (r : Result (Unit {0}) RunFault)
+    → ServesLine s host first a b h i o m old mid → t ≡ s → same ≡ host → Runs t same made m.spare m.unread b c i j mid new r
+    → Runs s host (first ++ made) o.spare o.unread a c h j old new r
+runs_more s t host same first made a b c h i j o m old mid new r l e k p =
+    let q = subst (λ x. Runs s x made m.spare m.unread b c i j mid new r) k (subst (λ x. Runs x same made m.spare m.unread b c i j mid new r) e p) in
     let bytes : o.unread ++ (l.takes.got ++ q.bytes) ≡ l.line ++ 10 ∷ (m.unread ++ q.bytes) =
     sym (append_assoc o.unread l.takes.got q.bytes) ∙ ap (λ x. x ++ q.bytes) l.takes.bytes ∙ append_assoc (l.line ++ 10 ∷ []) m.unread q.bytes ∙ append_assoc l.line (10 ∷ []) (m.unread ++ q.bytes) in
     let count : m.spare + (length l.line + 1) ≡ o.spare = omega (arith, l.takes.count, length-append l.line (10 ∷ [])) in
@@ -296,3 +297,8 @@ answered_by s host es line h i old new (Err fault.Read) reply text p e w = absur
 answered_by s host es line h i old new (Err fault.Write) reply text p e w = record { reply = reply; serves = p; falls = subst (Falls h i) e w }
 answered_by s host es line h i old new (Err fault.TooLong) reply text p e w = absurd w
 answered_by s host es line h i old new (Err fault.OutOfMemory) reply text p e w = absurd w
+
+-- what happened, joined otherwise
+pub runs_as : (s : StoryTree) (host : Bindings) (made es : List Event) (most : ℕ) (unread : List ℕ) (a b h i : Option (List ℕ)) (old new : State) (r : Result (Unit {0}) RunFault)
+    → made ≡ es → Runs s host made most unread a b h i old new r → Runs s host es most unread a b h i old new r
+runs_as s host made es most unread a b h i old new r e p = subst (λ l. Runs s host l most unread a b h i old new r) e p

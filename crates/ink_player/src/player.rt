@@ -1,16 +1,19 @@
 //! The player.
 
-ghost use Rattle.std.specs.Prelude.{◌≡◌, List, [], Ok, Err, IfOk, IfErr, IfSome, OnOk, OnErr};
+ghost use Rattle.std.specs.Prelude.{◌≡◌, List, [], ◌∷◌, true, is_some, Ok, Err, IfOk, IfErr, IfSome, OnOk, OnErr};
 ghost use Rattle.ink_host.specs.Desk.{Resting, at, put, without};
 ghost use Rattle.ink_model.specs.Answer.{Breaks, reply_of, reply_of_events, reply_of_halt, reply_of_landing, reply_of_value, reply_of_visits};
-ghost use Rattle.ink_model.specs.Configuration.{Configuration};
+ghost use Rattle.ink_model.specs.Configuration.{Configuration, with_globals};
 ghost use Rattle.ink_model.specs.Host as host;
 ghost use Rattle.ink_model.specs.Opening.{opening, opened};
-ghost use Rattle.ink_model.specs.Session.{Through, Set, Get, Restart, settable};
-ghost use Rattle.ink_model.specs.State.{is_running, fault_in};
+ghost use Rattle.ink_model.specs.Session.{Through, Set, Get, Restart, TellsOrKeeps, settable};
+ghost use Rattle.ink_model.specs.State.{Ready, globals_of, is_running, fault_in};
+ghost use Rattle.ink_model.specs.Store.{store, stored};
+ghost use Rattle.ink_model.specs.Told.{change_of, told};
 ghost use Rattle.ink_model.specs.Turns.{Choose, ShowsChoices};
 ghost use Rattle.ink_model.specs.declared.host.Event.{Event as Happening};
 ghost use Rattle.ink_player.specs.Words.{Dealt, Idle, anew, bindings, desk_of, state_of, story_of};
+ghost use Rattle.ink_step.specs.Words.{config_of};
 
 use crate::path::landing_by;
 use crate::visits::visits_by;
@@ -106,22 +109,20 @@ impl<P: PureFn, F: TurnFn, O: Watcher> Player<P, F, O> {
             Ok(passage) => passage,
             Err(fault) => return Err(self.break_by(fault)),
         };
-        match self.tell() {
+        let Ok(changes) = self.machine.told(&self.desk) else {
+            return Err(self.break_by(Fault::OutOfMemory));
+        };
+        match self.desk.tell(changes.as_slice()) {
             Ok(()) => Ok(self.with_events(passage)),
             Err(_) => Err(self.break_by(Fault::OutOfMemory)),
         }
     }
 
-    /// Tells the watchers what has changed since the running command began.
-    fn tell(&mut self) -> Result<(), TellFault> {
-        let Ok(changes) = self.machine.told(&self.desk) else {
-            return Err(TellFault::NoRoom);
-        };
-        self.desk.tell(changes.as_slice())
-    }
-
     /// A passage with what happened on the way to it.
-    fn with_events(&mut self, passage: Passage) -> Passage {
+    fn with_events(&mut self, passage: Passage) -> Passage
+        ensures passage { result ≡ record passage { events = (desk_of self.old).events } }
+        ensures player { self.new ≡ record self.old { desk = record (desk_of self.old) { events = [] } } }
+    {
         let Passage {
             text,
             tags,
@@ -190,7 +191,15 @@ impl<P: PureFn, F: TurnFn, O: Watcher> Player<P, F, O> {
     }
 
     /// Gives a global that is there a value, and hands out the events so far.
-    fn store(&mut self, name: &str, value: Value) -> Seq<Event> {
+    fn store(&mut self, name: &str, value: Value) -> Seq<Event>
+        requires { is_some (stored name.now self.old.machine.globals) ≡ true }
+        ensures events { result ≡ (desk_of self.old).events }
+        ensures desk { desk_of self.new ≡ record (desk_of self.old) { events = [] } }
+        ensures broken { self.new.broken ≡ self.old.broken }
+        ensures story { self.new.story ≡ self.old.story }
+        ensures stored { let s = story_of self.old in
+            config_of s self.new.machine ≡ with_globals (store name.now value self.old.machine.globals) (config_of s self.old.machine) }
+    {
         let _stored = self.machine.set(name, value);
         self.desk.take_events()
     }
@@ -298,7 +307,14 @@ impl<P: PureFn, F: TurnFn, O: Watcher> Player<P, F, O> {
     }
 
     /// Begins anew with a machine that was opened.
-    fn begin_anew(&mut self, machine: Machine) -> Result<Seq<Event>, Halt> {
+    fn begin_anew(&mut self, machine: Machine) -> Result<Seq<Event>, Halt>
+        requires idle { Idle O.at_rest (desk_of self.old) }
+        ensures does { let c = config_of (story_of self.old) machine in let h = bindings P.meaning (desk_of self.old) in
+            (es : List Happening) × TellsOrKeeps (told h.watches (globals_of (state_of self.old).condition) c.shared.globals) (Ready c) es (state_of self.old) (reply_of_events result) (state_of self.new)
+            × Dealt F.log O.log (desk_of self.old) es (desk_of self.new) }
+        ensures idle { Idle O.at_rest (desk_of self.new) }
+        ensures story { story_of self.new ≡ story_of self.old }
+    {
         let Ok(changes) = told_between(
             self.alloc,
             self.machine.globals(),
@@ -431,7 +447,9 @@ fn value_given(value: Given) -> Value
 }
 
 /// One change, to be told. The one error is a refused request for memory.
-fn one_change(alloc: Global, name: &str, value: &Value) -> Result<Seq<Change>, AllocError> {
+fn one_change(alloc: Global, name: &str, value: &Value) -> Result<Seq<Change>, AllocError>
+    ensures { IfOk result (λ changes. changes ≡ change_of (name.now, value.now) ∷ []) }
+{
     let change = Change {
         name: Text::from_str(alloc, name)?,
         value: value.clone_in(alloc)?,

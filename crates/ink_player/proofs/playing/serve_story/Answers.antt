@@ -26,7 +26,7 @@ returns-in-Whole-clause-plays g c =
 pub returns-in-Ok-open_story-2-clause-plays : goal.returns-in-Ok-open_story-2-clause-plays
 returns-in-Ok-open_story-2-clause-plays g c =
     ([], plays_last _ _ _ _ _ _ c.in-Last.line.items c.in-Ok-open_story-2.player _ c.new-ahead.ensures (rw c.in-Last.is at c.in-Ok.ensures.gives)
-    (opens_as _ _ (Ok c.in-Ok-open_story-2.player) c.deref-in-Last.ensures.value c.in-Ok-open_story-2.ensures.opens), inr {!!})
+    (opens_as _ _ (Ok c.in-Ok-open_story-2.player) c.deref-in-Last.ensures.value c.in-Ok-open_story-2.ensures.opens), inr ?)
 
 pub returns-clause-plays : goal.returns-clause-plays
 returns-clause-plays g c =

@@ -1,8 +1,12 @@
+use Rattle.std.proofs.Common.{[]}
 use Rattle.ink_player.proofs.Sessions.{serves_command, serves_unread}
+use Rattle.ink_player.proofs.Tellings.{dealt-none}
 use Rattle.ink_player.proofs.session.outcome_of.Goals as goal
 
 pub returns-in-Ok-clause-serves : goal.returns-in-Ok-clause-serves
-returns-in-Ok-clause-serves c = serves_command _ _ _ _ _ _ _ c.in-Ok.ensures.command c.perform.ensures.does
+returns-in-Ok-clause-serves g c =
+    let does = c.perform.ensures.does in
+    (does.0, serves_command _ _ _ _ _ _ _ c.in-Ok.ensures.command does.0 does.1, does.2)
 
 pub returns-in-Err-clause-serves : goal.returns-in-Err-clause-serves
-returns-in-Err-clause-serves c = serves_unread _ _ _ _ c.in-Err.ensures.memory
+returns-in-Err-clause-serves g c = ([], serves_unread _ _ _ _ c.in-Err.ensures.memory, dealt-none g.F.TurnFn.log g.O.Watcher.log _)
