@@ -15,6 +15,7 @@ mod session;
 mod visits;
 mod watched;
 
+pub use answer::print_values;
 pub use end::{PlayEnd, PlayFault, RunFault};
 pub use ink_check::{Story, check};
 pub use ink_host::{
