@@ -23,13 +23,6 @@ use Rattle.ink_step.proofs.Follows.{ends_more, ends_short, or_first}
 use Rattle.ink_vars.specs.Words.{name_of}
 use Rattle.ink_vars.specs.declared.places.Name.{Name}
 
--- no content's effect is to be called
-pub ends_said : (asking : Bool) (o : Outcome) (globals : Values) (d : Configuration) → StepEnds asking o globals d (Ok ends.WantsCall) → ⊥
-ends_said asking (Next c) globals d h = h
-ends_said asking (Stop c) globals d h = h
-ends_said asking (Wants name arguments f c) globals d h = h
-ends_said asking (Faults f) globals d h = h
-
 module _ (s : StoryTree) where
   -- ---- a choice is followed
 
@@ -68,14 +61,6 @@ module _ (s : StoryTree) where
   broke a (Stop x) globals d f h = ends_short _ (stopped_by s (default_choice x.flow.choices) x) globals d f (h.0.0, or_first a _ h.0.1) h.1
   broke a (Wants name arguments after x) globals d f h = ((h.0.0, or_first a _ h.0.1), h.1)
   broke a (Faults g) globals d f h = (elim h.0 [ inl is ↦ inl is | inr short ↦ inr (short.0, or_first a _ short.1) ], h.1)
-
-  -- which is all that comes but for a stop
-  pub ends_as : (a : Bool) (o : Outcome) (globals : Values) (d : Configuration) (r : Result StepEnd Fault) → r ≢ Ok ends.Stopped → StepEnds a o globals d r
-      → StepEnds (a || following_asks s o) (following s o) globals d r
-  ends_as a o globals d (Ok ends.Went) other h = went_on a o globals d h
-  ends_as a o globals d (Ok ends.Stopped) other h = absurd (other refl)
-  ends_as a o globals d (Ok ends.WantsCall) other h = absurd (ends_said a o globals d h)
-  ends_as a o globals d (Err f) other h = broke a o globals d f h
 
   -- ---- a global is stored after that
 
