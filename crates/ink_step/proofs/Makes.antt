@@ -250,6 +250,9 @@ module _ (s : StoryTree) (b : Bound) (p : List Part) (seen : Context) (f : Field
 
 -- ---- whether a step wants a call
 
+pub stands_in : (s : StoryTree) (here inside : List Part) (found : Option StoryTree) → found ≡ at s here → here ≡ inside → found ≡ at s inside
+stands_in s here inside found stands is = stands ∙ ap (at s) is
+
 module _ (s : StoryTree) (b : Bound) (p : List Part) (c : Configuration) (at_p : current_place c ≡ Some p) where
   abbrev inside : Configuration
   inside = gone_in s p c
@@ -264,9 +267,10 @@ module _ (s : StoryTree) (b : Bound) (p : List Part) (c : Configuration) (at_p :
   pub wants_none : (found : Option StoryTree) → found ≡ at s (entered s p) → external_in found ≡ None → false ≡ wants (step s b c)
   wants_none found is other = sym (step_wants ∙ ap Wanting (sym is) ∙ other_acts s b (entered s p) found (context_of inside) (fields_of inside) other)
 
-  pub wants_call : (found : Option StoryTree) (k : Call) → found ≡ at s (entered s p) → external_in found ≡ Some k
-      → is_asking (call_external s b k.name k.arguments k.conditional (fields_of inside)) ≡ wants (step s b c)
-  wants_call found k is here = sym (step_wants ∙ ap Wanting (sym is) ∙ ap is_asking (found_call s b (entered s p) (context_of inside) (fields_of inside) found k here).0)
+  pub wants_call : (found : Option StoryTree) (k : Call) (answer : Bool) → found ≡ at s (entered s p) → external_in found ≡ Some k
+      → answer ≡ is_asking (call_external s b k.name k.arguments k.conditional (fields_of inside)) → answer ≡ wants (step s b c)
+  wants_call found k answer is here asking =
+      asking ∙ sym (step_wants ∙ ap Wanting (sym is) ∙ ap is_asking (found_call s b (entered s p) (context_of inside) (fields_of inside) found k here).0)
 
 -- ---- a whole step
 
