@@ -33,9 +33,16 @@ use Rattle.ink_step.specs.declared.flow.StepEnd.TheVariants as ends
 use Rattle.ink_step.specs.declared.transfer.Transfer.{Transfer}
 use Rattle.ink_step.proofs.Follows.{ends_more, ends_unperformed, or_first, or_more}
 use Rattle.ink_step.proofs.Landed.{Performing, ends_outside, ends_performed}
-use Rattle.ink_step.proofs.Stopping.{broke, ends_said}
+use Rattle.ink_step.proofs.Stopping.{broke}
 use Rattle.ink_step.proofs.Unasked.{other_acts, wanted}
 use Rattle.ink_tree.specs.declared.spot.Spot.{Spot}
+
+-- no content's effect is to be called
+ends_said : (asking : Bool) (o : Outcome) (globals : Values) (d : Configuration) → StepEnds asking o globals d (Ok ends.WantsCall) → ⊥
+ends_said asking (Next c) globals d h = h
+ends_said asking (Stop c) globals d h = h
+ends_said asking (Wants name arguments f c) globals d h = h
+ends_said asking (Faults f) globals d h = h
 
 module _ (s : StoryTree) (b : Bound) (n : ℕ) where
   -- an outcome that wants no call
@@ -243,6 +250,9 @@ module _ (s : StoryTree) (b : Bound) (p : List Part) (seen : Context) (f : Field
 
 -- ---- whether a step wants a call
 
+pub stands_in : (s : StoryTree) (here inside : List Part) (found : Option StoryTree) → found ≡ at s here → here ≡ inside → found ≡ at s inside
+stands_in s here inside found stands is = stands ∙ ap (at s) is
+
 module _ (s : StoryTree) (b : Bound) (p : List Part) (c : Configuration) (at_p : current_place c ≡ Some p) where
   abbrev inside : Configuration
   inside = gone_in s p c
@@ -257,9 +267,10 @@ module _ (s : StoryTree) (b : Bound) (p : List Part) (c : Configuration) (at_p :
   pub wants_none : (found : Option StoryTree) → found ≡ at s (entered s p) → external_in found ≡ None → false ≡ wants (step s b c)
   wants_none found is other = sym (step_wants ∙ ap Wanting (sym is) ∙ other_acts s b (entered s p) found (context_of inside) (fields_of inside) other)
 
-  pub wants_call : (found : Option StoryTree) (k : Call) → found ≡ at s (entered s p) → external_in found ≡ Some k
-      → is_asking (call_external s b k.name k.arguments k.conditional (fields_of inside)) ≡ wants (step s b c)
-  wants_call found k is here = sym (step_wants ∙ ap Wanting (sym is) ∙ ap is_asking (found_call s b (entered s p) (context_of inside) (fields_of inside) found k here).0)
+  pub wants_call : (found : Option StoryTree) (k : Call) (answer : Bool) → found ≡ at s (entered s p) → external_in found ≡ Some k
+      → answer ≡ is_asking (call_external s b k.name k.arguments k.conditional (fields_of inside)) → answer ≡ wants (step s b c)
+  wants_call found k answer is here asking =
+      asking ∙ sym (step_wants ∙ ap Wanting (sym is) ∙ ap is_asking (found_call s b (entered s p) (context_of inside) (fields_of inside) found k here).0)
 
 -- ---- a whole step
 
@@ -285,13 +296,14 @@ module _ (s : StoryTree) (b : Bound) (n : ℕ) where
 
   module _ (p : List Part) (old : Configuration) (at_p : current_place old ≡ Some p) (quiet : Bool) (quietly : quiet ≡ true → wants (step s b old) ≡ false) where
     -- a step went in, and performed
-    pub steps_in : (es : List Event) (d : Configuration) (r : Result StepEnd Fault) (here : List Part) (found : Option StoryTree) (mid : Configuration)
-        → here ≡ entered s p → found ≡ at s here → mid ≡ gone_in s p old → Performing s b (λ asking o. StepMakes s b n asking o es old.shared.globals d r) here found mid
+    pub steps_in : (es : List Event) (globals : Values) (d : Configuration) (r : Result StepEnd Fault) (here : List Part) (found : Option StoryTree) (mid : Configuration) → globals ≡ old.shared.globals
+        → here ≡ entered s p → found ≡ at s here → mid ≡ gone_in s p old → Performing s b (λ asking o. StepMakes s b n asking o es globals d r) here found mid
         → Steps quiet s b n (asks s b old) (step s b old) es old.shared.globals old d r
-    steps_in es d r here found mid is stands went h =
+    steps_in es globals d r here found mid same is stands went h =
+        let made = subst (λ vs. Performing s b (λ asking o. StepMakes s b n asking o es vs d r) here found mid) same h in
         quieted s b n es old.shared.globals d old r quiet (asks s b old) (step s b old) quietly
         (ends_performed s b p old at_p (λ asking o. StepMakes s b n asking o es old.shared.globals d r) here found mid is stands went
-        (λ asking o. makes_more s b n es old.shared.globals d r (going_in_asks s p old) asking o) h)
+        (λ asking o. makes_more s b n es old.shared.globals d r (going_in_asks s p old) asking o) made)
 
     -- memory was refused on the way in
     pub stays_outside : (d : Configuration) (f : Fault) → f ≡ OutOfMemory → going_in_asks s p old ≡ true → d.shared.globals ≡ old.shared.globals
@@ -300,9 +312,10 @@ module _ (s : StoryTree) (b : Bound) (n : ℕ) where
         quieted s b n [] old.shared.globals d old (Err f) quiet (asks s b old) (step s b old) quietly
         (short_makes s b n (asks s b old) (step s b old) old.shared.globals d f (ends_outside s b p old at_p d f short adds same))
 
-  -- only a quiet step says that a call is wanted
-  pub never_said : (es : List Event) (globals : Values) (d : Configuration) (asking : Bool) (o : Outcome) (r : Result StepEnd Fault) → StepMakes s b n asking o es globals d r → r ≡ Ok ends.WantsCall → ⊥
-  never_said es globals d asking o r h is = makes_said s b n es globals d asking o (subst (λ x. StepMakes s b n asking o es globals d x) is h)
-
-pub never_ended : (asking : Bool) (o : Outcome) (globals : Values) (d : Configuration) (r : Result StepEnd Fault) → StepEnds asking o globals d r → r ≡ Ok ends.WantsCall → ⊥
-never_ended asking o globals d r h is = ends_said asking o globals d (subst (λ x. StepEnds asking o globals d x) is h)
+  -- what was performed never says that a call is wanted
+  pub never_said : (es : List Event) (globals : Values) (d : Configuration) (r : Result StepEnd Fault) (here : List Part) (found : Option StoryTree) (m : Configuration)
+      → Performing s b (λ asking o. StepMakes s b n asking o es globals d r) here found m → r ≡ Ok ends.WantsCall → ⊥
+  never_said es globals d r here found m h is =
+      let e = effect s b here found (context_of m) (fields_of m) in
+      makes_said s b n es globals d ((content_asks s b here found (context_of m) (fields_of m) || move_asks s e m) || following_asks s (move s e m)) (following s (move s e m))
+      (subst (λ x. Performing s b (λ asking o. StepMakes s b n asking o es globals d x) here found m) is h)

@@ -19,63 +19,17 @@ use Rattle.ink_step.specs.declared.flow.StepEnd.{StepEnd}
 use Rattle.ink_step.specs.declared.flow.StepEnd.TheVariants as ends
 use Rattle.ink_step.specs.declared.transfer.Transfer.{Transfer}
 use Rattle.ink_step.specs.declared.transfer.Transfer.TheVariants as transfer
-use Rattle.ink_step.proofs.Follows.{ends_more, ends_short, or_first}
+use Rattle.ink_step.proofs.Follows.{ends_short, or_first}
 use Rattle.ink_vars.specs.Words.{name_of}
 use Rattle.ink_vars.specs.declared.places.Name.{Name}
 
--- no content's effect is to be called
-pub ends_said : (asking : Bool) (o : Outcome) (globals : Values) (d : Configuration) → StepEnds asking o globals d (Ok ends.WantsCall) → ⊥
-ends_said asking (Next c) globals d h = h
-ends_said asking (Stop c) globals d h = h
-ends_said asking (Wants name arguments f c) globals d h = h
-ends_said asking (Faults f) globals d h = h
-
 module _ (s : StoryTree) where
-  -- ---- a choice is followed
-
-  -- which keeps the globals
-  pub default_keeps : (asks : Bool) (choice : Option (ChoiceOf (List Part))) (c d : Configuration) (globals : Values) (end : StepEnd)
-      → StepEnds asks (stopped_by s choice c) globals d (Ok end) → d.shared.globals ≡ c.shared.globals
-  default_keeps asks None c d globals ends.Stopped h = ap (λ x. x.shared.globals) h
-  default_keeps asks None c d globals ends.WantsCall h = absurd h
-  default_keeps asks None c d globals ends.Went h = absurd h
-  default_keeps asks (Some choice) c d globals ends.Went h = ap (λ x. x.shared.globals) h
-  default_keeps asks (Some choice) c d globals ends.Stopped h = absurd h
-  default_keeps asks (Some choice) c d globals ends.WantsCall h = absurd h
-
-  -- flow stopped
-  pub stops : (a : Bool) (o : Outcome) (globals : Values) (c d : Configuration) (r : Result StepEnd Fault) → StepEnds a o globals c (Ok ends.Stopped) → c.shared.globals ≡ globals
-      → StepEnds (default_asks s (default_choice c.flow.choices) c) (stopped_by s (default_choice c.flow.choices) c) c.shared.globals d r
-      → StepEnds (a || following_asks s o) (following s o) globals d r
-  stops a (Stop x) globals c d r h same next =
-      let there = subst (λ y. StepEnds (default_asks s (default_choice y.flow.choices) y) (stopped_by s (default_choice y.flow.choices) y) c.shared.globals d r) h next in
-      subst (λ vs. StepEnds (a || default_asks s (default_choice x.flow.choices) x) (stopped_by s (default_choice x.flow.choices) x) vs d r) same
-      (ends_more a _ (stopped_by s (default_choice x.flow.choices) x) _ d r there)
-  stops a (Next x) globals c d r h same next = absurd h
-  stops a (Wants name arguments after x) globals c d r h same next = absurd h
-  stops a (Faults g) globals c d r h same next = absurd h
-
-  -- it went on
-  pub went_on : (a : Bool) (o : Outcome) (globals : Values) (d : Configuration) → StepEnds a o globals d (Ok ends.Went) → StepEnds (a || following_asks s o) (following s o) globals d (Ok ends.Went)
-  went_on a (Next x) globals d h = h
-  went_on a (Stop x) globals d h = absurd h
-  went_on a (Wants name arguments after x) globals d h = absurd h
-  went_on a (Faults g) globals d h = absurd h
-
-  -- or a fault came
+  -- a fault that came before a choice is followed
   pub broke : (a : Bool) (o : Outcome) (globals : Values) (d : Configuration) (f : Fault) → StepEnds a o globals d (Err f) → StepEnds (a || following_asks s o) (following s o) globals d (Err f)
   broke a (Next x) globals d f h = ((h.0.0, or_first a _ h.0.1), h.1)
   broke a (Stop x) globals d f h = ends_short _ (stopped_by s (default_choice x.flow.choices) x) globals d f (h.0.0, or_first a _ h.0.1) h.1
   broke a (Wants name arguments after x) globals d f h = ((h.0.0, or_first a _ h.0.1), h.1)
   broke a (Faults g) globals d f h = (elim h.0 [ inl is ↦ inl is | inr short ↦ inr (short.0, or_first a _ short.1) ], h.1)
-
-  -- which is all that comes but for a stop
-  pub ends_as : (a : Bool) (o : Outcome) (globals : Values) (d : Configuration) (r : Result StepEnd Fault) → r ≢ Ok ends.Stopped → StepEnds a o globals d r
-      → StepEnds (a || following_asks s o) (following s o) globals d r
-  ends_as a o globals d (Ok ends.Went) other h = went_on a o globals d h
-  ends_as a o globals d (Ok ends.Stopped) other h = absurd (other refl)
-  ends_as a o globals d (Ok ends.WantsCall) other h = absurd (ends_said a o globals d h)
-  ends_as a o globals d (Err f) other h = broke a o globals d f h
 
   -- ---- a global is stored after that
 

@@ -31,10 +31,8 @@ ghost use Rattle.ink_tree.specs.Nodes.{place_of};
 ghost use Rattle.ink_vars.specs.Changes.{Tracks};
 
 use crate::diverting::divert;
-use crate::external;
-use crate::external::{External, external_in, would_call};
 use crate::evaluating::{begin_eval, duplicate, end_eval, operate, pop, push_target, push_value};
-use crate::flow;
+use crate::external::{External, external_in, would_call};
 use crate::flow::{StepEnd, done, end, fork, give_back, land, move_on};
 use crate::frames::{call, return_tunnel};
 use crate::machine::Machine;
@@ -44,6 +42,7 @@ use crate::sections::{begin_string, begin_tag, end_string, end_tag};
 use crate::storing::{assign, declare, push_pointer, push_variable};
 use crate::transfer::{Landing, Transfer, after_text, moving};
 use crate::writing::{output_top, write_glue, write_newline, write_text};
+use crate::{external, flow};
 use ink_check::Story;
 use ink_host::{Desk, PureFn, TurnFn, Watcher};
 use ink_model::{Content, Control, Fault, FrameKind, Leaf, Scope, Value};
@@ -112,13 +111,7 @@ impl Machine {
         ensures watchers { desk.new.watchers ≡ desk.old.watchers }
         ensures tracks { (start : Values) → Tracks start self.old.changes self.old.globals → Tracks start self.new.changes self.new.globals }
     {
-        let transfer = external::call_external(
-            story,
-            call,
-            &mut self.stack,
-            &self.output,
-            desk,
-        )?;
+        let transfer = external::call_external(story, call, &mut self.stack, &self.output, desk)?;
         self.finish(story, transfer)
     }
 

@@ -25,9 +25,12 @@ returns-in_err-transfer-clause-step g c =
     let asking = external_asks (b k.name) k.arguments k.conditional f in
     let called = c.in_err-transfer.ensures.call f.evaluating f.fresh f.globals in
     let d = config_of s (record c.args.self.now { stack = c.call_external.new.stack }) in
-    let is : c.from_residual.result ≡ Err c.in_err-transfer.field-0.0 = search rules in
-    (called.0, called.1, subst (λ r. StepMakes s b desk.next ((asking || move_asks s e before) || following_asks s (move s e before)) (following s (move s e before)) called.0 before.shared.globals d r) (sym is)
-    (makes_broken s b desk.next asking before d _ before.shared.globals _ refl e called.0 (external_call b s k.name k.arguments k.conditional f) called.2))
+    let is : c.from_residual.result ≡ Err c.in_err-transfer.field-0.0 = search rules in (
+      called.0,
+      called.1,
+      subst (λ r. StepMakes s b desk.next ((asking || move_asks s e before) || following_asks s (move s e before)) (following s (move s e before)) called.0 before.shared.globals d r) (sym is)
+          (makes_broken s b desk.next asking before d _ before.shared.globals _ refl e called.0 (external_call b s k.name k.arguments k.conditional f) called.2),
+    )
 
 pub returns-clause-step : goal.returns-clause-step
 returns-clause-step g c =
@@ -40,7 +43,10 @@ returns-clause-step g c =
     let k = call_of c.args.call.now in
     let e = call_external s b k.name k.arguments k.conditional f in
     let asking = external_asks (b k.name) k.arguments k.conditional f in
-    let called = c.in_ok-transfer.ensures.call f.evaluating f.fresh f.globals in
-    (called.0, called.1, makes_ended s b desk.next asking before (config_of s c.finish.new.self) _ before.shared.globals _ c.finish.result
-    (λ asks e call performs. c.finish.ensures.ends old asks e performs (keeps_call b s e old.threads call) (offers_call b s e old.choices call) refl refl refl refl)
-    e called.0 (external_call b s k.name k.arguments k.conditional f) called.2)
+    let called = c.in_ok-transfer.ensures.call f.evaluating f.fresh f.globals in (
+      called.0,
+      called.1,
+      makes_ended s b desk.next asking before (config_of s c.finish.new.self) _ before.shared.globals _ c.finish.result
+          (λ asks e call performs. c.finish.ensures.ends old asks e performs (keeps_call b s e old.threads call) (offers_call b s e old.choices call) refl refl refl refl)
+          e called.0 (external_call b s k.name k.arguments k.conditional f) called.2,
+    )
