@@ -388,7 +388,7 @@ arguments_act n f so acts = acts_else StackEmpty (arguments_on n f.stack) _ (λ 
 
 bound_acts : (s : StoryTree) (b : Option Binding) (name : List ℕ) (n : ℕ) (f : Fields) → Acts (call_bound s b name n f)
 bound_acts s None name n f = acts_else Unbound (knot name s) _ (λ h. absurd (cc)) (λ p. λ h. absurd (cc))
-bound_acts s (Some turn_function) name n f = effect_if (has_string f.page.sections) _ _ (fails_act UnsafeInString (λ h. absurd (cc))) (arguments_act n f _ (λ vs g. λ h. absurd (cc)))
+bound_acts s (Some turn_function) name n f = effect_if (has_string f.page.sections) _ _ (fails_act UnsafeInString (λ h. absurd (cc))) (arguments_act n f (Asks name) (λ vs g. λ h. absurd (cc)))
 bound_acts s (Some (pure_function answers)) name n f = arguments_act n f _ (λ vs g. answering_acts (answers vs) g)
 
 leaf_acts : (s : StoryTree) (b : Bound) (p : List Part) (seen : Context) (l : Leaf) (f : Fields) → Acts (leaf_effect s b p seen l f)
