@@ -95,10 +95,13 @@ module _ (s : StoryTree) (b : Bound) (made : List Made) (n : ℕ) (es : List Eve
     ends_plainly (Ok ends.Went) h = λ left. came_so left (At new left) (went left made (asks s b old) old new o h)
     ends_plainly (Ok ends.Stopped) h = λ left. came_so left (Stopped new left) (stopped left made (asks s b old) old new o h)
     ends_plainly (Ok ends.WantsCall) h = never_wants (asks s b old) old.shared.globals new o h
-    ends_plainly (Err f) h = (kept_globals (asks s b old) old.shared.globals new f o h, elim (faulted made (asks s b old) old new f o h) [
-      | inl faults ↦ inl (λ left. came_so left (Faulted f old left) (faults left))
-      | inr short ↦ inr (short.0, inl (refl, short.1))
-    ])
+    ends_plainly (Err f) h = (
+      kept_globals (asks s b old) old.shared.globals new f o h,
+      elim (faulted made (asks s b old) old new f o h) [
+        | inl faults ↦ inl (λ left. came_so left (Faulted f old left) (faults left))
+        | inr short ↦ inr (short.0, inl (refl, short.1))
+      ],
+    )
 
     did_plainly : (result : Result StepEnd Fault) → (es ≡ []) × StepEnds (asks s b old) o old.shared.globals new result → Did s b made n es old new result
     did_plainly result h = record { more = []; events = h.0; bound = tt; ends = ends_plainly result h.1 }
@@ -118,11 +121,13 @@ module _ (s : StoryTree) (b : Bound) (made : List Made) (n : ℕ) (es : List Eve
       ends_calling (Ok ends.Went) h = λ left. came_calling left _ (went left (made ++ call gave ∷ []) (is_some gave) old new (answered s f d gave) h)
       ends_calling (Ok ends.Stopped) h = λ left. came_calling left _ (stopped left (made ++ call gave ∷ []) (is_some gave) old new (answered s f d gave) h)
       ends_calling (Ok ends.WantsCall) h = never_wants (is_some gave) old.shared.globals new (answered s f d gave) h
-      ends_calling (Err g) h =
-          (kept_globals (is_some gave) old.shared.globals new g (answered s f d gave) h, elim (faulted (made ++ call gave ∷ []) (is_some gave) old new g (answered s f d gave) h) [
-            | inl faults ↦ inl (λ left. came_calling left _ (faults left))
-            | inr short ↦ inr (short.0, inr (by gave refl short.1))
-          ])
+      ends_calling (Err g) h = (
+        kept_globals (is_some gave) old.shared.globals new g (answered s f d gave) h,
+        elim (faulted (made ++ call gave ∷ []) (is_some gave) old new g (answered s f d gave) h) [
+          | inl faults ↦ inl (λ left. came_calling left _ (faults left))
+          | inr short ↦ inr (short.0, inr (by gave refl short.1))
+        ],
+      )
         where
           by : (o : Option Given) → gave ≡ o → is_some o ≡ true
               → (nm : List ℕ) × (ar : List Value) × (given : Given) × (k : Fields) × (c : Configuration) × (step s b old ≡ Wants nm ar k c)
@@ -208,10 +213,12 @@ module _ (s : StoryTree) (b : Bound) (start : Configuration) where
       | inl faults ↦
           inl (ap cut_off (alone (made ++ more) MAX_STEPS ∙ stays_to (answers_of (made ++ more) ++ []) (n + 1) MAX_STEPS (Faulted f old [] (made ++ more)) refl (omega arith)
           (one_more n old made more [] (Faulted f old [] (made ++ more)) h (faults []))))
-      | inr short ↦ inr (short.0, elim short.1 [
-        | inl before ↦ inl (subst (λ all. GetsTo s b start all old) (ap (λ more. made ++ more) (sym before.0))
-            (subst (λ all. GetsTo s b start all old) (sym (append-nil made)) (record { steps = n; within = below; got_there = alone made n ∙ h []; asking = before.1 })))
-        | inr after ↦ inr (record {
+      | inr short ↦ inr (
+        short.0,
+        elim short.1 [
+          | inl before ↦ inl (subst (λ all. GetsTo s b start all old) (ap (λ more. made ++ more) (sym before.0))
+              (subst (λ all. GetsTo s b start all old) (sym (append-nil made)) (record { steps = n; within = below; got_there = alone made n ∙ h []; asking = before.1 })))
+          | inr after ↦ inr (record {
             steps = n;
             within = below;
             before = made;
@@ -224,7 +231,8 @@ module _ (s : StoryTree) (b : Bound) (start : Configuration) where
             wants = after.5;
             calls = ap (λ more. made ++ more) after.6;
           })
-      ])
+        ],
+      )
     ];
   }
 

@@ -77,9 +77,10 @@ impl TurnFn for Script {
         self.next = turn.saturating_add(1);
         match self.deeds.get(turn) {
             Some(Deed::Gives(given)) => {
-                let (Ok(answer), Ok(gave)) =
-                    (given.clone_in(self.alloc), given.clone_in(self.alloc))
-                else {
+                let (Ok(answer), Ok(gave)) = (
+                    given.clone_in(self.alloc),
+                    given.clone_in(self.alloc),
+                ) else {
                     return Err(HostFault::OutOfMemory);
                 };
                 self.calls.push_reserved(Called {

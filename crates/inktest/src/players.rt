@@ -100,12 +100,7 @@ fn call_none(
     }
 }
 
-fn unopened(
-    alloc: Global,
-    story: &str,
-    why: NoAnswer,
-    line: &str,
-) -> Result<Verdict, AllocError> {
+fn unopened(alloc: Global, story: &str, why: NoAnswer, line: &str) -> Result<Verdict, AllocError> {
     let line = expanded(alloc, line)?;
     let (call, wanted) = question_and_answer(&line);
     match call {
@@ -162,11 +157,13 @@ fn opened(alloc: Global, story: &str) -> Answer {
             let _objects = player.close().close();
             text(alloc, "opened")
         }
-        Err(OpenFault {
-            fault,
-            story: _,
-            desk,
-        }) => {
+        Err(
+            OpenFault {
+                fault,
+                story: _,
+                desk,
+            },
+        ) => {
             let _objects = desk.close();
             Err(NoAnswer::from(fault))
         }
@@ -261,7 +258,6 @@ fn show_text(said: &mut String, text: &Text, tags: &[Shared<Text>]) -> Result<()
     Ok(())
 }
 
-
 fn got(alloc: Global, player: &TestPlayer, name: &str) -> Answer {
     let value = player.get(name)?;
     shown_value(alloc, &value)
@@ -286,7 +282,6 @@ fn choices(alloc: Global, player: &Player) -> Answer {
     }
     Ok(said)
 }
-
 
 fn choose(alloc: Global, player: &mut TestPlayer, number: &str) -> Answer
     ensures { desk_of player.new ≡ desk_of player.old }
@@ -377,7 +372,12 @@ fn shown_function(alloc: Global, function: Option<Bound<Constant, Script>>) -> A
 
 fn show_called(alloc: Global, said: &mut String, called: &Called) -> Result<(), AllocError> {
     said.push(' ')?;
-    show_call(alloc, said, called.arguments.as_slice(), called.gave.as_ref())?;
+    show_call(
+        alloc,
+        said,
+        called.arguments.as_slice(),
+        called.gave.as_ref(),
+    )?;
     write!(said, "@{}", called.stamp)
 }
 
@@ -388,7 +388,13 @@ fn shown_watcher(alloc: Global, watcher: Option<Observer>) -> Answer {
             let mut said = String::from_str(alloc, "watcher")?;
             for seen in &observer.seen {
                 said.push(' ')?;
-                show_sight(alloc, &mut said, seen.name.as_str(), &seen.value, seen.stamp)?;
+                show_sight(
+                    alloc,
+                    &mut said,
+                    seen.name.as_str(),
+                    &seen.value,
+                    seen.stamp,
+                )?;
             }
             Ok(said)
         }

@@ -20,8 +20,8 @@ use crate::reading::refused;
 use crate::streams::{Page, Pieces};
 use crate::table::Table;
 use crate::tally::{Tally, Verdict};
-use ink_model::Fault;
 use ink_host::{Desk, Nobody};
+use ink_model::Fault;
 use ink_player::{PlayEnd, PlayFault, RunFault, open_story, play, run};
 use std::alloc::{AllocError, Global};
 

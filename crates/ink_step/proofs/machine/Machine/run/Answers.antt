@@ -14,7 +14,7 @@ loop-step-preserved g c =
     let s = story_tree c.args.story.now in
     record {
       ran = ran_on g.T.TurnFn.log g.W.Watcher.log g.P.PureFn.meaning s c.args.desk.now (config_of s c.args.self.now) c.loop-step._step c.loop-step.desk c.step.new.desk
-        (config_of s c.loop-step.self) (config_of s c.step.new.self) c.loop-step.invariant.ran _ c.in-Went.is c.in_ok-step.ensures.step;
+          (config_of s c.loop-step.self) (config_of s c.step.new.self) c.loop-step.invariant.ran _ c.in-Went.is c.in_ok-step.ensures.step;
       watchers = c.in_ok-step.ensures.watchers ∙ c.loop-step.invariant.watchers;
       tracks = λ start h. c.in_ok-step.ensures.tracks start (c.loop-step.invariant.tracks start h);
     }

@@ -32,9 +32,12 @@ pub returns-clause-runs : goal.returns-clause-runs
 returns-clause-runs g c =
     let s = story_tree c.args.story.now in
     let b = bound_by g.P.PureFn.meaning c.args.desk.now.functions in
-    let ran = c.in_ok-run.ensures.runs in
-    (ran.0, ran.1, comes_to s b ran.0 (config_of s c.args.self.now) (config_of s c.begin.new.self) (c.begin.ensures.begun s) (config_of s c.run.new.self) (config_of s c.settle.new.self) _
-    ran.2 (c.in_ok-passage.ensures s) (c.settle.ensures.settled s))
+    let ran = c.in_ok-run.ensures.runs in (
+      ran.0,
+      ran.1,
+      comes_to s b ran.0 (config_of s c.args.self.now) (config_of s c.begin.new.self) (c.begin.ensures.begun s) (config_of s c.run.new.self) (config_of s c.settle.new.self) _
+          ran.2 (c.in_ok-passage.ensures s) (c.settle.ensures.settled s),
+    )
 
 -- the changes are those since the beginning
 pub returns-in_err-run-clause-tracks : goal.returns-in_err-run-clause-tracks
