@@ -34,11 +34,18 @@ use std::alloc::{AllocError, Global};
 /// A player with the objects of tables.
 type TestPlayer = Player<Constant, Script, Observer>;
 
+/// A story, and the calls of its player.
+#[derive(Clone, Copy)]
+struct Case<'t> {
+    story: &'t str,
+    calls: &'t str,
+}
+
 /// Makes the calls of a table.
 pub(crate) fn run_players(rt: &impl Print, alloc: Global, table: Table<'_>, tally: &mut Tally) {
     for part in table.text.split("\n= ").skip(1) {
         let (story, calls) = first_line(part);
-        run_player(rt, alloc, table, (story, calls), tally);
+        run_player(rt, alloc, table, Case { story, calls }, tally);
     }
 }
 
@@ -47,15 +54,15 @@ fn run_player(
     rt: &impl Print,
     alloc: Global,
     table: Table<'_>,
-    (story, calls): (&str, &str),
+    case: Case<'_>,
     tally: &mut Tally,
 ) {
-    match player_of(alloc, story) {
+    match player_of(alloc, case.story) {
         Ok(mut player) => {
-            call_player(rt, alloc, table, (story, calls), &mut player, tally);
+            call_player(rt, alloc, table, case, &mut player, tally);
             let _objects = player.close().close();
         }
-        Err(why) => call_none(rt, alloc, table, (story, calls), why, tally),
+        Err(why) => call_none(rt, alloc, table, case, why, tally),
     }
 }
 
@@ -64,7 +71,7 @@ fn call_player(
     rt: &impl Print,
     alloc: Global,
     table: Table<'_>,
-    (story, calls): (&str, &str),
+    case: Case<'_>,
     player: &mut TestPlayer,
     tally: &mut Tally,
 )
@@ -72,11 +79,11 @@ fn call_player(
     ensures { Idle rests (desk_of player.new) }
 {
     let mut is_out_of_memory = false;
-    for line in calls.lines() {
+    for line in case.calls.lines() {
         if is_out_of_memory && !is_comment(line) {
             tally.refuse();
         } else if !is_comment(line) {
-            let verdict = verdict(alloc, story, player, line);
+            let verdict = verdict(alloc, case.story, player, line);
             is_out_of_memory = verdict.is_err();
             tally.count(rt, table.file, line, &verdict);
         }
@@ -88,13 +95,13 @@ fn call_none(
     rt: &impl Print,
     alloc: Global,
     table: Table<'_>,
-    (story, calls): (&str, &str),
+    case: Case<'_>,
     why: NoAnswer,
     tally: &mut Tally,
 ) {
-    for line in calls.lines() {
+    for line in case.calls.lines() {
         if !is_comment(line) {
-            let verdict = unopened(alloc, story, why, line);
+            let verdict = unopened(alloc, case.story, why, line);
             tally.count(rt, table.file, line, &verdict);
         }
     }
@@ -268,7 +275,7 @@ fn visits(alloc: Global, player: &TestPlayer, path: &str) -> Answer {
     Ok(format!(in alloc; "{visits}")?)
 }
 
-fn choices(alloc: Global, player: &Player) -> Answer {
+fn choices(alloc: Global, player: &TestPlayer) -> Answer {
     let choices = player.choices()?;
     let mut said = String::new(alloc);
     for choice in choices.as_slice() {
