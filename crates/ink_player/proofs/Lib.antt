@@ -9,3 +9,4 @@ pub mod Spelling
 pub mod Paths
 pub mod Numbers
 pub mod Tellings
+pub mod Restarts

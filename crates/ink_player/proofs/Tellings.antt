@@ -1,5 +1,6 @@
 -- What a command comes to that may call or tell the objects of a host.
-use Rattle.std.proofs.Common.{◌≡◌, ◌≢◌, ◌∙◌, ◌⊎◌, ap, sym, refl, subst, inl, inr, cond, ℕ, List, [], ◌∷◌, ◌++◌, map, filter, length, append_assoc, append-nil, Bool, true, false, ◌&&◌, not, Option, Some, None, is_some, Result, Ok, Err, is_ok, MatchBool, arith}
+use Rattle.std.proofs.Common.{◌≡◌, ◌≢◌, ◌∙◌, ◌⊎◌, ap, sym, refl, subst, inl, inr, cond, ℕ, List, [], ◌∷◌, ◌++◌, map, filter, length, append_assoc, append-nil, Bool, true, false, ◌&&◌, not, Option, Some, None, is_some, Result, Ok, Err, OnOk, is_ok, MatchBool, arith}
+use Rattle.ink_check.specs.Words.{story_tree}
 use Rattle.ink_host.specs.Desk.{DeskView, Grew, IsNumbered, Resting, bound_by, watches}
 use Rattle.ink_host.specs.Telling.{OncePerName}
 use Rattle.ink_host.specs.declared.objects.Called.{Called}
@@ -29,9 +30,9 @@ use Rattle.ink_model.specs.declared.host.Given.{Given}
 use Rattle.ink_model.specs.declared.limits.TheConstants.{MAX_STEPS}
 use Rattle.ink_model.specs.declared.passage.Passage.{Passage}
 use Rattle.ink_model.specs.declared.value.Value.{Value}
-use Rattle.ink_player.specs.Words.{Dealt, Told, bindings, condition_by, desk_of, state_of}
+use Rattle.ink_player.specs.Words.{Dealt, Told, bindings, condition_by, desk_of, state_of, story_of}
 use Rattle.ink_player.specs.declared.player.Player.{Player}
-use Rattle.ink_step.specs.Runs as steps
+use Rattle.ink_step.specs.Words.{config_of}
 use Rattle.ink_step.specs.Runs.{ComesTo, ComesToFault}
 
 -- ---- what is told
@@ -66,7 +67,7 @@ globals-by (Some f) c = refl
 
 -- ---- commands over a state
 
-abbrev at_stamp : Condition → ℕ → State
+abbrev pub at_stamp : Condition → ℕ → State
 at_stamp c n = record { condition = c; stamp = n }
 
 -- a passage with what happened
@@ -155,6 +156,13 @@ module _ {P F O : Type 0} (turn_log : F → List Called) (watch_log : O → List
   told-by old new shown cs (Err NoRoom) e no_room told = no_room refl
   told-by old new shown cs (Err Watcher) e no_room told =
       subst (λ l. (es : List Event) × ToldAs old.next l false es × Grew turn_log watch_log old es new) e (told (λ q. cc))
+
+  pub told-by-as : (old new : DeskView P F O) (shown cs : List Change) (r r' : Result (Unit {0}) TellFault) → r ≡ r' → shown ≡ cs
+      → (r ≡ Err NoRoom → new ≡ old)
+      → (r ≢ Err NoRoom → (es : List Event) × ToldAs old.next shown (is_ok r) es × Grew turn_log watch_log old es new)
+      → Told turn_log watch_log old cs new r'
+  told-by-as old new shown cs r r' same e no_room told =
+      subst (λ x. Told turn_log watch_log old cs new x) same (told-by old new shown cs r e no_room told)
 
   -- the events were taken
   pub dealt-taken : (a b : DeskView P F O) (es : List Event) → Grew turn_log watch_log a es b → Dealt turn_log watch_log a es (record b { events = [] })
@@ -337,12 +345,96 @@ module _ (h : Bindings) (name : List ℕ) (g : Given) (b : Option Fault) (c : Co
       let Q : Condition → Type 0 = λ x. rules.SetsFrom h name (Some g) x es (at_stamp (condition_by b c) n) reply new in
       subst Q (sym (ap (λ x. condition_by x c) free)) (sets-in fits there p)
 
+  set-bad-in : settable g ≡ false → es ≡ [] → reply ≡ Refuses refusal.BadValue → new ≡ at_stamp (condition_by b c) n → SetsIn h name g c es (at_stamp (condition_by b c) n) reply new
+  set-bad-in unfit e r k =
+      subst (λ x. MatchBool x (MatchBool (is_some (stored name c.shared.globals)) Sets ((es ≡ []) × Keeps (Refuses refusal.NoSuchVariable) (at_stamp (condition_by b c) n) reply new))
+      ((es ≡ []) × Keeps (Refuses refusal.BadValue) (at_stamp (condition_by b c) n) reply new)) (sym unfit) (e, (r, k))
+
+  set-absent-in : settable g ≡ true → is_some (stored name c.shared.globals) ≡ false → es ≡ [] → reply ≡ Refuses refusal.NoSuchVariable → new ≡ at_stamp (condition_by b c) n
+      → SetsIn h name g c es (at_stamp (condition_by b c) n) reply new
+  set-absent-in fits absent e r k =
+      subst (λ x. MatchBool x (MatchBool (is_some (stored name c.shared.globals)) Sets ((es ≡ []) × Keeps (Refuses refusal.NoSuchVariable) (at_stamp (condition_by b c) n) reply new))
+      ((es ≡ []) × Keeps (Refuses refusal.BadValue) (at_stamp (condition_by b c) n) reply new)) (sym fits)
+      (subst (λ x. MatchBool x Sets ((es ≡ []) × Keeps (Refuses refusal.NoSuchVariable) (at_stamp (condition_by b c) n) reply new)) (sym absent) (e, (r, k)))
+
+-- a refusal
+module _ (h : Bindings) (name : List ℕ) (c : Configuration) (n : ℕ) where
+  pub set-broken : (v : Option Given) (b : Option Fault) (f : Fault) → b ≡ Some f
+      → Set h [] name v (at_stamp (condition_by b c) n) (Refuses (refusal.Broken f)) (at_stamp (condition_by b c) n)
+  set-broken v None f e = absurd (cc)
+  set-broken v (Some g) f e = (refl, (cc, refl))
+
+  pub set-bad : (g : Given) (b : Option Fault) → b ≡ None → settable g ≡ false
+      → Set h [] name (Some g) (at_stamp (condition_by b c) n) (Refuses refusal.BadValue) (at_stamp (condition_by b c) n)
+  set-bad g None e unfit = set-bad-in h name g None c n [] _ _ unfit refl refl refl
+  set-bad g (Some f) e unfit = absurd (cc)
+
+  pub set-absent : (g : Given) (b : Option Fault) → b ≡ None → settable g ≡ true → stored name c.shared.globals ≡ None
+      → Set h [] name (Some g) (at_stamp (condition_by b c) n) (Refuses refusal.NoSuchVariable) (at_stamp (condition_by b c) n)
+  set-absent g None e fits absent = set-absent-in h name g None c n [] _ _ fits (ap (λ o. is_some o) absent) refl refl refl
+  set-absent g (Some f) e fits absent = absurd (cc)
+
+-- one global is told of, or not
+module _ (w : List ℕ → Bool) (start : Values) (name : List ℕ) (before v : Value) (was : stored name start ≡ Some before) where
+  pub untold-if : w name ≡ false → told w start ((name, v) ∷ []) ≡ []
+  untold-if h = told-nothing w start name v (ap (λ b. b && is_other (stored name start) v) h)
+
+  pub untold-same : same_value before v ≡ true → told w start ((name, v) ∷ []) ≡ []
+  untold-same h = told-nothing w start name v (ap (λ o. w name && is_other o v) was ∙ ap (λ b. w name && not b) h ∙ never (w name))
+    where
+      never : (b : Bool) → (b && false) ≡ false
+      never true = refl
+      never false = refl
+
+  pub told-if : w name ≡ true → same_value before v ≡ false → told w start ((name, v) ∷ []) ≡ change_of (name, v) ∷ []
+  told-if h k = told-one w start name v (ap (λ b. b && is_other (stored name start) v) h ∙ ap (λ o. is_other o v) was ∙ ap not k)
+
+pub some-told : (cs : List Change) (c : Change) → cs ≡ c ∷ [] → cs ≢ []
+some-told cs c e none = absurd (cc)
+
 -- ---- what is known of a player
 
+pub on-ok : {A E : Type 0} (r : Result A E) (X : Type 0) → is_ok r ≡ true → OnOk r X → X
+on-ok (Ok a) X h x = x
+on-ok (Err e) X h x = absurd (cc)
+
+module _ {P F O : Type 0} where
+  -- a player that is not broken
+  pub state-ready : (q : Player P F O) (s : StoryTree) (c : Configuration) (d : DeskView P F O) → q.broken ≡ None → story_of q ≡ s → config_of s q.machine ≡ c → desk_of q ≡ d
+      → state_of q ≡ at_stamp (Ready c) d.next
+  state-ready q s c d free story config desk =
+      ap (λ b. at_stamp (condition_by b (config_of (story_of q) q.machine)) q.desk.next) free
+      ∙ ap (λ t. at_stamp (Ready (config_of t q.machine)) q.desk.next) story ∙ ap (λ k. at_stamp (Ready k) q.desk.next) config ∙ ap (λ e. at_stamp (Ready c) e.next) desk
+
+  -- a player whose global was set, and whose events were taken
+  pub state-stored : (p q : Player P F O) (name : List ℕ) (value v : Value) → value ≡ v → p.broken ≡ None
+      → desk_of q ≡ record (desk_of p) { events = [] } → q.broken ≡ p.broken → q.story ≡ p.story
+      → config_of (story_of p) q.machine ≡ with_globals (store name value p.machine.globals) (config_of (story_of p) p.machine)
+      → state_of q ≡ at_stamp (Ready (with_globals (store name v p.machine.globals) (config_of (story_of p) p.machine))) (desk_of p).next
+  state-stored p q name value v same free desk broken story config =
+      state-ready q (story_of p) (with_globals (store name v p.machine.globals) (config_of (story_of p) p.machine)) (record (desk_of p) { events = [] }) (broken ∙ free)
+      (ap (λ x. story_tree x) story) (config ∙ ap (λ x. with_globals (store name x p.machine.globals) (config_of (story_of p) p.machine)) same) desk
+
+  pub state-stored-of : (p q0 q : Player P F O) (name : List ℕ) (value v : Value) → q0 ≡ p → value ≡ v → p.broken ≡ None
+      → desk_of q ≡ record (desk_of q0) { events = [] } → q.broken ≡ q0.broken → q.story ≡ q0.story
+      → config_of (story_of q0) q.machine ≡ with_globals (store name value q0.machine.globals) (config_of (story_of q0) q0.machine)
+      → state_of q ≡ at_stamp (Ready (with_globals (store name v p.machine.globals) (config_of (story_of p) p.machine))) (desk_of p).next
+  state-stored-of p q0 q name value v is same free desk broken story config =
+      state-stored p q name value v same free (desk ∙ ap (λ x. record (desk_of x) { events = [] }) is) (broken ∙ ap (λ x. x.broken) is) (story ∙ ap (λ x. x.story) is)
+      (subst (λ x. config_of (story_of x) q.machine ≡ with_globals (store name value x.machine.globals) (config_of (story_of x) x.machine)) is config)
+
 module _ {P F O : Type 0} (turn_log : F → List Called) (watch_log : O → List Seen) (a : DeskView P F O) (X : List Event → Reply → State → Type 0) where
-  -- a command comes to this of a player
+  -- a command comes to this
+  abbrev pub Comes_to : Reply → State → DeskView P F O → Type 0
+  Comes_to reply st d = (es : List Event) × X es reply st × Dealt turn_log watch_log a es d
+
+  pub comes-at : (reply reply' : Reply) (st st' : State) (d d' : DeskView P F O) → reply' ≡ reply → st' ≡ st → d' ≡ d → Comes_to reply st d → Comes_to reply' st' d'
+  comes-at reply reply' st st' d d' e k l w =
+      subst (λ r. Comes_to r st' d') (sym e) (subst (λ x. Comes_to reply x d') (sym k) (subst (λ y. Comes_to reply st y) (sym l) w))
+
+  -- the same of a player
   abbrev pub Comes : Reply → Player P F O → Type 0
-  Comes reply p = (es : List Event) × X es reply (state_of p) × Dealt turn_log watch_log a es (desk_of p)
+  Comes reply p = Comes_to reply (state_of p) (desk_of p)
 
   pub comes-as : (reply reply' : Reply) (p q : Player P F O) → reply' ≡ reply → q ≡ p → Comes reply p → Comes reply' q
   comes-as reply reply' p q e k w = subst (λ r. Comes r q) (sym e) (subst (λ x. Comes reply x) (sym k) w)
