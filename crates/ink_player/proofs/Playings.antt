@@ -22,6 +22,7 @@ use Rattle.ink_player.specs.declared.end.RunFault.{RunFault}
 use Rattle.ink_player.specs.declared.end.RunFault.TheVariants as fault
 use Rattle.ink_player.specs.declared.player.Player.{Player}
 use Rattle.ink_player.proofs.Reading.{has_room}
+use Rattle.ink_player.proofs.Sessions.{none_left}
 
 abbrev fresh : Buffered
 fresh = record { unread = []; spare = MAX_INPUT }
@@ -35,10 +36,6 @@ count_is a b o n taken e t = t.count ∙ ap (λ z. z.spare) e
 -- no more was read than tells that the story is over its limit
 story_bound : (a b : Option (List ℕ)) (o n : Buffered) (taken line : List ℕ) → o ≡ fresh → TakesLine a b o n (MAX_STORY + 1) taken line → length (taken ++ n.unread) ≤ MAX_STORY + 1
 story_bound a b o n taken line e t = omega (arith, t.room, ap (λ z. length z.unread) e, length-append taken n.unread)
-
-none_left : (l : List ℕ) → length l ≡ 0 → l ≡ []
-none_left [] e = refl
-none_left (x ∷ xs) e = let no : ⊥ = omega (arith, e) in absurd no
 
 early : (bytes : List ℕ) → length bytes ≤ MAX_STORY + 1 → EndsEarly bytes []
 early bytes bound = record { nothing = refl; bound = bound }

@@ -1,6 +1,7 @@
 -- How a session goes on by a line, and how it ends.
 use Rattle.std.proofs.Common.{◌≡◌, ◌⊎◌, ℕ, ◌+◌, ◌<◌, ◌≤◌, List, [], ◌∷◌, ◌++◌, length, false, cond, ◌==◌, Option, Some, None, Result, Ok, Err, ap, ◌∙◌, sym, refl, subst, inl, inr, arith, append_assoc, append-nil, length-append}
 use Rattle.std.specs.List.{AllByRecursion}
+use Rattle.std.specs.Option.{option_map}
 use Rattle.std.specs.Io.KnownBytes.{Appends, IsAtEnd}
 use Rattle.std.proofs.KnownBytes.{Appends-nil, Appends-trans, Consumes-trans}
 use Rattle.ink_model.specs.Answer.{Reply, Refuses, answer}
@@ -15,6 +16,8 @@ use Rattle.ink_model.specs.declared.command.Command.TheVariants as command
 use Rattle.ink_model.specs.declared.host.Event.{Event}
 use Rattle.ink_model.specs.declared.fault.Refusal.TheVariants as refusal
 use Rattle.ink_player.specs.Buffered.{Buffered}
+use Rattle.ink_player.specs.Commands.{command_by}
+use Rattle.ink_player.specs.declared.command.LineCommand.{LineCommand}
 use Rattle.ink_player.specs.Ends.{Falls}
 use Rattle.ink_player.specs.Input.{Takes}
 use Rattle.ink_player.specs.Lines.{TakesLine, GivesLine}
@@ -302,3 +305,19 @@ answered_by s host es line h i old new (Err fault.OutOfMemory) reply text p e w 
 pub runs_as : (s : StoryTree) (host : Bindings) (made es : List Event) (most : ℕ) (unread : List ℕ) (a b h i : Option (List ℕ)) (old new : State) (r : Result (Unit {0}) RunFault)
     → made ≡ es → Runs s host made most unread a b h i old new r → Runs s host es most unread a b h i old new r
 runs_as s host made es most unread a b h i old new r e p = subst (λ l. Runs s host l most unread a b h i old new r) e p
+
+-- with what is bound otherwise spelled
+pub runs_for : (s : StoryTree) (host same : Bindings) (es : List Event) (most : ℕ) (unread : List ℕ) (a b h i : Option (List ℕ)) (old new : State) (r : Result (Unit {0}) RunFault)
+    → same ≡ host → Runs s same es most unread a b h i old new r → Runs s host es most unread a b h i old new r
+runs_for s host same es most unread a b h i old new r e p = subst (λ x. Runs s x es most unread a b h i old new r) e p
+
+-- a command in which no event happens, by the line's command
+pub command_does : (s : StoryTree) (host : Bindings) (old : State) (reply : Reply) (new : State) (k j : Option LineCommand) → k ≡ j
+    → Does s host [] (option_map command_by j) old reply new ⊎ PathFails (option_map command_by j) old reply new
+    → Does s host [] (option_map command_by k) old reply new ⊎ ((◌≡◌ {A = List Event} [] []) × PathFails (option_map command_by k) old reply new)
+command_does s host old reply new k j e (inl p) = inl (subst (λ x. Does s host [] (option_map command_by x) old reply new) (sym e) p)
+command_does s host old reply new k j e (inr p) = inr (refl, subst (λ x. PathFails (option_map command_by x) old reply new) (sym e) p)
+
+pub none_left : (l : List ℕ) → length l ≡ 0 → l ≡ []
+none_left [] e = refl
+none_left (x ∷ xs) e = let no : ⊥ = omega (arith, e) in absurd no

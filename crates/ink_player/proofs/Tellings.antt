@@ -188,6 +188,13 @@ module _ {P F O : Type 0} (turn_log : F → List Called) (watch_log : O → List
       let w = grew-grew turn_log watch_log a mid last es fs g k in
       record { events = refl; numbered = w.numbered; next = w.next; functions = w.functions; watchers = w.watchers }
 
+  pub dealt-kept : (a b : DeskView P F O) → b ≡ a → Dealt turn_log watch_log a [] b
+  dealt-kept a b e = subst (λ x. Dealt turn_log watch_log a [] x) (sym e) (dealt-none a)
+
+  -- between desks that are the same
+  pub dealt-as : (a a' b b' : DeskView P F O) (es : List Event) → a' ≡ a → b' ≡ b → Dealt turn_log watch_log a' es b' → Dealt turn_log watch_log a es b
+  dealt-as a a' b b' es e k g = subst (λ x. Dealt turn_log watch_log x es b) e (subst (λ x. Dealt turn_log watch_log a' es x) k g)
+
   -- names stay bound as they are, and the same are watched
   pub bindings-same : (meaning : P → List Value → Option Given) (a b : DeskView P F O) (es : List Event)
       → Dealt turn_log watch_log a es b → bindings meaning b ≡ bindings meaning a

@@ -1,6 +1,6 @@
-use Rattle.std.proofs.Common.{[], ◌<◌, length, Ok, Err, sym, vec_len, arith}
-use Rattle.std.proofs.lemmas.Bool.{eqb-false}
-use Rattle.ink_player.proofs.Sessions.{no_line, whole_unserved, last_unserved, last_served, answers_as}
+use Rattle.std.proofs.Common.{[], ◌<◌, ◌≡◌, length, Ok, Err, sym, vec_len, arith}
+use Rattle.std.proofs.lemmas.Bool.{eqb-false, eqb-true}
+use Rattle.ink_player.proofs.Sessions.{no_last, no_line, none_left, whole_unserved, last_unserved, last_served, answers_as}
 use Rattle.ink_player.proofs.Tellings.{dealt-none}
 use Rattle.ink_player.proofs.session.serve_line.Goals as goal
 
@@ -33,3 +33,9 @@ returns-in_default-answer_line-clause-next g c =
     last_served _ _ _ _ _ _ _ c.in-Ok.ensures.bound _ answers.0 _ c.in-Last.line.items _ (rw c.in-Last.is at c.in-Ok.ensures.gives) some
     (answers_as _ _ _ _ _ _ _ _ _ (Ok tt) c.deref-in-Last.ensures.value answers.1),
     answers.2)
+
+pub returns-then-is_empty-clause-next : goal.returns-then-is_empty-clause-next
+returns-then-is_empty-clause-next g c =
+    let none : length c.in-Last.line.items ≡ 0 = omega (arith, eqb-true (vec_len c.in-Last.line) 0 (sym c.if-is_empty.ensures), c.in-Last.line.ok.0) in
+    ([], no_last _ _ _ _ _ _ _ c.in-Ok.ensures.bound _ c.in-Last.line.items (rw c.in-Last.is at c.in-Ok.ensures.gives) (none_left c.in-Last.line.items none),
+    dealt-none g.F.TurnFn.log g.O.Watcher.log _)

@@ -1,4 +1,4 @@
-use Rattle.std.proofs.Common.{List, [], ◌++◌, ◌∙◌, append_assoc, refl, sym}
+use Rattle.std.proofs.Common.{List, [], ◌++◌, ◌∙◌, append_assoc, refl, sym, Ok, Err}
 use Rattle.ink_player.proofs.Sessions.{runs_as, runs_more}
 use Rattle.ink_player.specs.Words.{desk_of}
 use Rattle.ink_player.proofs.Tellings.{bindings-same, dealt-dealt, dealt-none}
@@ -35,3 +35,17 @@ lines-preserved g c =
       source_name = after.source.1 ∙ before.1.source_name;
       sink_name = after.sink.1 ∙ before.1.sink_name;
     })
+
+pub returns-in-Ok-Done-clause-runs : goal.returns-in-Ok-Done-clause-runs
+returns-in-Ok-Done-clause-runs g c =
+    let served = rw c.in-Ok-Done.field-0-is at c.in-Ok-Done.ensures.next in
+    let before = c.lines.invariant in
+    (before.0 ++ served.0, before.1.ends _ _ _ served.0 (Ok tt) served.1,
+    dealt-dealt g.F.TurnFn.log g.O.Watcher.log (desk_of c.args.player.now) (desk_of c.lines.player) (desk_of c.serve_line.new.player) before.0 served.0 before.1.dealt served.2)
+
+pub returns-in-Err-clause-runs : goal.returns-in-Err-clause-runs
+returns-in-Err-clause-runs g c =
+    let served = c.in-Err.ensures.next in
+    let before = c.lines.invariant in
+    (before.0 ++ served.0, before.1.ends _ _ _ served.0 (Err c.in-Err.fault) served.1,
+    dealt-dealt g.F.TurnFn.log g.O.Watcher.log (desk_of c.args.player.now) (desk_of c.lines.player) (desk_of c.serve_line.new.player) before.0 served.0 before.1.dealt served.2)
