@@ -171,4 +171,3 @@ module _ {P F O : Type 0} (host : Bindings) where
       → o ≡ fresh → TakesStory a b o n line → Opens line (Ok p) → Runs (story_of p) host es n.spare n.unread b c h j (state_of p) new (Err f) → Plays host es a c h j (Err (record { fault = play.Run f; desk = d }))
   plays_short a b c h j o n line p es new f d e t opens q =
       plays_from a b c h j o n line p es new (Err f) (Err (record { fault = play.Run f; desk = d })) e t opens q (λ bytes written y. inr y)
-

@@ -3,6 +3,7 @@ use Rattle.std.proofs.Common.{◌≡◌, ◌≢◌, ◌∙◌, ap, refl, subst, 
 use Rattle.ink_model.specs.Answer.{Reply, Breaks, Refuses}
 use Rattle.ink_model.specs.Configuration.{Configuration}
 use Rattle.ink_model.specs.Host.{Bindings}
+use Rattle.ink_model.specs.Opening.{opening, Unopened}  -- LOCAL
 use Rattle.ink_model.specs.Opening.{opening}
 use Rattle.ink_model.specs.Session.{Restart, RestartsAs, TellsOrKeeps}
 use Rattle.ink_model.specs.State.{State, Condition, Broken, Ready, globals_of}

@@ -220,12 +220,16 @@ module _ {P F O : Type 0} (turn_log : F → List Called) (watch_log : O → List
     ended-telling stop all saw there t g =
         let es = calls d0.next made ++ saw in
         let both = grew-grew turn_log watch_log d0 d1 d2 (calls d0.next made) saw called g in
-        let old = at_stamp (condition_by b c0) d0.next in
-        (es,
-        goes-through s host b c0 d0.next es _ _ free goes (made, ended s host c0 stop made es old _ _ there
-        (done-telling _ (Ready (settled stop)) (telling stop) (calls d0.next made) saw all old d2.next
-        (subst (λ n. ToldAs n (told host.watches c0.shared.globals stop.shared.globals) all saw) called.next t) both.next)),
-        dealt-taken d0 d2 es both)
+        let old = at_stamp (condition_by b c0) d0.next in (
+          es,
+          goes-through s host b c0 d0.next es _ _ free goes (
+            made,
+            ended s host c0 stop made es old _ _ there
+                (done-telling _ (Ready (settled stop)) (telling stop) (calls d0.next made) saw all old d2.next
+                (subst (λ n. ToldAs n (told host.watches c0.shared.globals stop.shared.globals) all saw) called.next t) both.next),
+          ),
+          dealt-taken d0 d2 es both,
+        )
 
     abbrev old : State
     old = at_stamp (condition_by b c0) d0.next
@@ -242,10 +246,10 @@ module _ {P F O : Type 0} (turn_log : F → List Called) (watch_log : O → List
     through-told passed none watching run t =
         let d : DeskView P F O = record d2 { events = [] } in
         let w = ended-telling run.stop true t.0 run.got_there
-            (subst (λ m. ToldAs d1.next (told (watches m) c0.shared.globals run.stop.shared.globals) true t.0) watching
-            (subst (λ c. ToldAs d1.next (told (watches d1.watchers) c0.shared.globals c.shared.globals) true t.0) run.leaves t.1)) t.2 in
+        (subst (λ m. ToldAs d1.next (told (watches m) c0.shared.globals run.stop.shared.globals) true t.0) watching
+        (subst (λ c. ToldAs d1.next (told (watches d1.watchers) c0.shared.globals c.shared.globals) true t.0) run.leaves t.1)) t.2 in
         let reply : Tells (record (passage run.stop) { events = calls d0.next made ++ t.0 }) ≡ Tells (record passed { events = d2.events }) =
-            ap (λ p. telling_of p (calls d0.next made ++ t.0)) (sym run.tells) ∙ ap (telling_of passed) (told-events t.0 none t.2) in
+        ap (λ p. telling_of p (calls d0.next made ++ t.0)) (sym run.tells) ∙ ap (telling_of passed) (told-events t.0 none t.2) in
         let condition : Ready (settled run.stop) ≡ condition_by b c1 = ap (λ c. Ready c) (sym run.leaves) ∙ sym (ap (λ x. condition_by x c1) free) in
         subst (λ x. ThroughTo (Tells (record passed { events = d2.events })) x d) condition
         (subst (λ r. ThroughTo r (Ready (settled run.stop)) d) reply w)
@@ -258,8 +262,8 @@ module _ {P F O : Type 0} (turn_log : F → List Called) (watch_log : O → List
     through-told-short passed none watching run t =
         let d : DeskView P F O = record d2 { events = [] } in
         let w = ended-telling run.stop false t.0 run.got_there
-            (subst (λ m. ToldAs d1.next (told (watches m) c0.shared.globals run.stop.shared.globals) false t.0) watching
-            (subst (λ c. ToldAs d1.next (told (watches d1.watchers) c0.shared.globals c.shared.globals) false t.0) run.leaves t.1)) t.2 in
+        (subst (λ m. ToldAs d1.next (told (watches m) c0.shared.globals run.stop.shared.globals) false t.0) watching
+        (subst (λ c. ToldAs d1.next (told (watches d1.watchers) c0.shared.globals c.shared.globals) false t.0) run.leaves t.1)) t.2 in
         subst (λ c. ThroughTo (Breaks OutOfMemory d2.events) (Broken OutOfMemory c.shared.globals) d) (sym run.leaves)
         (subst (λ l. ThroughTo (Breaks OutOfMemory l) (Broken OutOfMemory (settled run.stop).shared.globals) d) (told-events t.0 none t.2) w)
 
@@ -268,12 +272,13 @@ module _ {P F O : Type 0} (turn_log : F → List Called) (watch_log : O → List
     broken-by f globals none runs =
         let es = calls d0.next made in
         let d : DeskView P F O = record d1 { events = [] } in
-        let events : es ≡ d1.events = sym (called.events ∙ ap (λ l. l ++ es) none) in
-        (es,
-        subst (λ l. Through s host es old (Breaks f l) (at_stamp (Broken f globals) d1.next)) events
-        (subst (λ m. Through s host es old (Breaks f es) (at_stamp (Broken f globals) m)) (sym called.next)
-        (goes-through s host b c0 d0.next es _ _ free goes (made, runs))),
-        dealt-taken d0 d1 es called)
+        let events : es ≡ d1.events = sym (called.events ∙ ap (λ l. l ++ es) none) in (
+          es,
+          subst (λ l. Through s host es old (Breaks f l) (at_stamp (Broken f globals) d1.next)) events
+              (subst (λ m. Through s host es old (Breaks f es) (at_stamp (Broken f globals) m)) (sym called.next)
+              (goes-through s host b c0 d0.next es _ _ free goes (made, runs))),
+          dealt-taken d0 d1 es called,
+        )
 
     -- there was no room for telling
     pub through-untold : (passed : Passage) → d0.events ≡ [] → ComesTo s host.functions c0 made passed c1
@@ -311,11 +316,12 @@ module _ {P F O : Type 0} (turn_log : F → List Called) (watch_log : O → List
       × Dealt turn_log watch_log d0 es (record d1 { events = [] })
   tells cs c0 done d0 d1 all saw none t g =
       let events : saw ≡ d1.events = sym (g.events ∙ ap (λ l. l ++ saw) none) in
-      let old = at_stamp c0 d0.next in
-      (saw,
-      inl (subst (λ l. TellsDone cs done Acts [] saw old (reply_told all (Acts l) l) (at_stamp (condition_told all done) d1.next)) events
-      (done-telling cs done Acts [] saw all old d1.next t g.next)),
-      dealt-taken d0 d1 saw g)
+      let old = at_stamp c0 d0.next in (
+        saw,
+        inl (subst (λ l. TellsDone cs done Acts [] saw old (reply_told all (Acts l) l) (at_stamp (condition_told all done) d1.next)) events
+            (done-telling cs done Acts [] saw all old d1.next t g.next)),
+        dealt-taken d0 d1 saw g,
+      )
 
   pub tells-all : (cs : List Change) (c0 done : Condition) (d0 d1 : DeskView P F O) → d0.events ≡ [] → Told turn_log watch_log d0 cs d1 (Ok tt)
       → (es : List Event) × TellsOrKeeps cs done es (at_stamp c0 d0.next) (Acts d1.events) (at_stamp done d1.next) × Dealt turn_log watch_log d0 es (record d1 { events = [] })

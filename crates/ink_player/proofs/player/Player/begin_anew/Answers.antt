@@ -24,7 +24,7 @@ returns-in_default-clause-does g c =
     let after = config_of (story_of p) c.args.machine in
     let cs : List Change = told w (globals_of (condition_by p.broken before)) c.args.machine.globals in
     let same : cs ≡ told w c.globals.result.now c.globals-2.result.now =
-        ap (λ x. told w x c.args.machine.globals) (globals-by p.broken before ∙ sym c.globals.ensures) ∙ ap (told w c.globals.result.now) (sym c.globals-2.ensures) in
+    ap (λ x. told w x c.args.machine.globals) (globals-by p.broken before ∙ sym c.globals.ensures) ∙ ap (told w c.globals.result.now) (sym c.globals-2.ensures) in
     tells-kept turn watch cs (Ready after) (state_of p) desk (λ h. c.in_default.ensures.memory (sym same ∙ h))
 
 pub returns-in-Ok-tell-clause-does : goal.returns-in-Ok-tell-clause-does
@@ -38,10 +38,10 @@ returns-in-Ok-tell-clause-does g c =
     let after = config_of (story_of p) c.args.machine in
     let cs : List Change = told w (globals_of (condition_by p.broken before)) c.args.machine.globals in
     let same : cs ≡ told w c.globals.result.now c.globals-2.result.now =
-        ap (λ x. told w x c.args.machine.globals) (globals-by p.broken before ∙ sym c.globals.ensures) ∙ ap (told w c.globals.result.now) (sym c.globals-2.ensures) in
+    ap (λ x. told w x c.args.machine.globals) (globals-by p.broken before ∙ sym c.globals.ensures) ∙ ap (told w c.globals.result.now) (sym c.globals-2.ensures) in
     let all : filter (λ x. w x.name) c.as_slice.result.now ≡ cs =
-        ap (λ (l : List Change). filter (λ x. w x.name) l) (c.as_slice.ensures ∙ c.in-Ok.ensures.told ∙ sym same)
-        ∙ told-watched w (globals_of (condition_by p.broken before)) c.args.machine.globals in
+    ap (λ (l : List Change). filter (λ x. w x.name) l) (c.as_slice.ensures ∙ c.in-Ok.ensures.told ∙ sym same)
+    ∙ told-watched w (globals_of (condition_by p.broken before)) c.args.machine.globals in
     comes-at turn watch desk (λ es reply new. TellsOrKeeps cs (Ready after) es (state_of p) reply new) (Acts c.tell.new.self.events) (Acts c.take_events.result)
     (at_stamp (Ready after) c.tell.new.self.next) _ (record c.tell.new.self { events = [] }) c.take_events.new.self
     (ap (λ l. Acts l) c.take_events.ensures.events) (ap (λ d. at_stamp (Ready after) d.next) c.take_events.ensures.rest) c.take_events.ensures.rest
@@ -59,10 +59,10 @@ returns-in-Err-NoRoom-clause-does g c =
     let after = config_of (story_of p) c.args.machine in
     let cs : List Change = told w (globals_of (condition_by p.broken before)) c.args.machine.globals in
     let same : cs ≡ told w c.globals.result.now c.globals-2.result.now =
-        ap (λ x. told w x c.args.machine.globals) (globals-by p.broken before ∙ sym c.globals.ensures) ∙ ap (told w c.globals.result.now) (sym c.globals-2.ensures) in
+    ap (λ x. told w x c.args.machine.globals) (globals-by p.broken before ∙ sym c.globals.ensures) ∙ ap (told w c.globals.result.now) (sym c.globals-2.ensures) in
     let all : filter (λ x. w x.name) c.as_slice.result.now ≡ cs =
-        ap (λ (l : List Change). filter (λ x. w x.name) l) (c.as_slice.ensures ∙ c.in-Ok.ensures.told ∙ sym same)
-        ∙ told-watched w (globals_of (condition_by p.broken before)) c.args.machine.globals in
+    ap (λ (l : List Change). filter (λ x. w x.name) l) (c.as_slice.ensures ∙ c.in-Ok.ensures.told ∙ sym same)
+    ∙ told-watched w (globals_of (condition_by p.broken before)) c.args.machine.globals in
     let result : c.tell.result ≡ Err NoRoom = c.in-Err-NoRoom.is ∙ ap (λ f. Err f) c.in-Err-NoRoom.field-0-is in
     let unchanged = c.tell.ensures.no_room result in
     comes-at turn watch desk (λ es reply new. TellsOrKeeps cs (Ready after) es (state_of p) reply new) (Refuses refusal.OutOfMemory) (Refuses refusal.OutOfMemory)
@@ -80,10 +80,10 @@ returns-in-Err-Watcher-clause-does g c =
     let after = config_of (story_of p) c.args.machine in
     let cs : List Change = told w (globals_of (condition_by p.broken before)) c.args.machine.globals in
     let same : cs ≡ told w c.globals.result.now c.globals-2.result.now =
-        ap (λ x. told w x c.args.machine.globals) (globals-by p.broken before ∙ sym c.globals.ensures) ∙ ap (told w c.globals.result.now) (sym c.globals-2.ensures) in
+    ap (λ x. told w x c.args.machine.globals) (globals-by p.broken before ∙ sym c.globals.ensures) ∙ ap (told w c.globals.result.now) (sym c.globals-2.ensures) in
     let all : filter (λ x. w x.name) c.as_slice.result.now ≡ cs =
-        ap (λ (l : List Change). filter (λ x. w x.name) l) (c.as_slice.ensures ∙ c.in-Ok.ensures.told ∙ sym same)
-        ∙ told-watched w (globals_of (condition_by p.broken before)) c.args.machine.globals in
+    ap (λ (l : List Change). filter (λ x. w x.name) l) (c.as_slice.ensures ∙ c.in-Ok.ensures.told ∙ sym same)
+    ∙ told-watched w (globals_of (condition_by p.broken before)) c.args.machine.globals in
     let result : c.tell.result ≡ Err Watcher = c.in-Err-Watcher.is ∙ ap (λ f. Err f) c.in-Err-Watcher.field-0-is in
     comes-as turn watch desk (λ es reply new. TellsOrKeeps cs (Ready after) es (state_of p) reply new) (Breaks OutOfMemory c.tell.new.self.events) (reply_of_halt c.break_by.result) _ c.break_by.new.self
     c.break_by.ensures.reply c.break_by.ensures.player

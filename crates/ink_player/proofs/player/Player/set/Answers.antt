@@ -1,4 +1,4 @@
-use Rattle.std.proofs.Common.{◌≡◌, ◌∙◌, [], ◌∷◌, List, true, false, Some, None, Ok, Err, ap, filter, is_some, refl, sym}
+use Rattle.std.proofs.Common.{◌≡◌, ◌∙◌, [], ◌∷◌, List, true, false, Some, Ok, Err, ap, filter, is_some, refl, sym}
 use Rattle.ink_host.specs.Desk.{watches}
 use Rattle.ink_host.specs.declared.telling.TellFault.TheVariants.{NoRoom, Watcher}
 use Rattle.ink_model.specs.Answer.{Acts, Breaks, Refuses, reply_of_halt}
@@ -22,26 +22,32 @@ pub returns-in-Some-clause-does : goal.returns-in-Some-clause-does
 returns-in-Some-clause-does g c =
     let p = c.args.self.now in
     let before = config_of (story_of p) p.machine in
-    let h = bindings g.P.PureFn.meaning (desk_of p) in
-    ([], set-broken h c.args.name.now before (desk_of p).next (Some c.args.value) p.broken c.in-Some.cause c.in-Some.is,
-    dealt-none g.F.TurnFn.log g.O.Watcher.log (desk_of p))
+    let h = bindings g.P.PureFn.meaning (desk_of p) in (
+      [],
+      set-broken h c.args.name.now before (desk_of p).next (Some c.args.value) p.broken c.in-Some.cause c.in-Some.is,
+      dealt-none g.F.TurnFn.log g.O.Watcher.log (desk_of p),
+    )
 
 pub returns-then-not-is_settable-clause-does : goal.returns-then-not-is_settable-clause-does
 returns-then-not-is_settable-clause-does g c =
     let p = c.args.self.now in
     let before = config_of (story_of p) p.machine in
-    let h = bindings g.P.PureFn.meaning (desk_of p) in
-    ([], set-bad h c.args.name.now before (desk_of p).next c.args.value p.broken c.in_default.is (sym c.is_settable.ensures ∙ c.if-not-is_settable.true),
-    dealt-none g.F.TurnFn.log g.O.Watcher.log (desk_of p))
+    let h = bindings g.P.PureFn.meaning (desk_of p) in (
+      [],
+      set-bad h c.args.name.now before (desk_of p).next c.args.value p.broken c.in_default.is (sym c.is_settable.ensures ∙ c.if-not-is_settable.true),
+      dealt-none g.F.TurnFn.log g.O.Watcher.log (desk_of p),
+    )
 
 pub returns-in_default-get-clause-does : goal.returns-in_default-get-clause-does
 returns-in_default-get-clause-does g c =
     let p = c.args.self.now in
     let before = config_of (story_of p) p.machine in
-    let h = bindings g.P.PureFn.meaning (desk_of p) in
-    ([], set-absent h c.args.name.now before (desk_of p).next c.args.value p.broken c.in_default.is
-    (sym c.is_settable.ensures ∙ c.if-not-is_settable.false) (ap (stored c.args.name.now) (sym c.globals.ensures) ∙ sym c.in_default-get.ensures),
-    dealt-none g.F.TurnFn.log g.O.Watcher.log (desk_of p))
+    let h = bindings g.P.PureFn.meaning (desk_of p) in (
+      [],
+      set-absent h c.args.name.now before (desk_of p).next c.args.value p.broken c.in_default.is
+          (sym c.is_settable.ensures ∙ c.if-not-is_settable.false) (ap (stored c.args.name.now) (sym c.globals.ensures) ∙ sym c.in_default-get.ensures),
+      dealt-none g.F.TurnFn.log g.O.Watcher.log (desk_of p),
+    )
 
 pub returns-then-not-watches-clause-does : goal.returns-then-not-watches-clause-does
 returns-then-not-watches-clause-does g c =
@@ -60,9 +66,11 @@ returns-then-not-watches-clause-does g c =
     let both : (c.then-not-watches.self ≡ p) × (cs ≡ []) = elim c.then-not-watches.branch [
       | then-not-watches-via-then-not-watches w ↦
           (w.self-is, untold-if h.watches p.machine.globals name c.in-Some-get.before.now v was (sym c.watches.ensures ∙ w.if-not-watches.true))
-      | then-not-watches-via-else-not-watches+then-same_value w ↦
-          (w.self-is, untold-same h.watches p.machine.globals name c.in-Some-get.before.now v was
-          (ap (same_value c.in-Some-get.before.now) (sym c.value_given-value.ensures) ∙ sym w.same_value.ensures.value ∙ w.if-same_value.true))
+      | then-not-watches-via-else-not-watches+then-same_value w ↦ (
+        w.self-is,
+        untold-same h.watches p.machine.globals name c.in-Some-get.before.now v was
+            (ap (same_value c.in-Some-get.before.now) (sym c.value_given-value.ensures) ∙ sym w.same_value.ensures.value ∙ w.if-same_value.true),
+      )
     ] in
     let w = tells-nobody turn watch cs (condition_by p.broken before) (Ready after) desk c.requires.idle.taken both.1 in
     comes-at turn watch desk (λ es reply new. Set h es name (Some c.args.value) (state_of p) reply new) (Acts desk.events) (Acts c.store.result)
@@ -88,9 +96,9 @@ returns-in_default-one_change-clause-does g c =
     let cs : List Change = told h.watches p.machine.globals ((name, v) ∷ []) in
     let fits : settable c.args.value ≡ true = sym c.is_settable.ensures ∙ c.if-not-is_settable.false in
     let other : same_value c.in-Some-get.before.now v ≡ false =
-        ap (same_value c.in-Some-get.before.now) (sym c.value_given-value.ensures) ∙ sym c.same_value.ensures.value ∙ c.if-same_value.false in
+    ap (same_value c.in-Some-get.before.now) (sym c.value_given-value.ensures) ∙ sym c.same_value.ensures.value ∙ c.if-same_value.false in
     let one : cs ≡ change_of (name, v) ∷ [] =
-        told-if h.watches p.machine.globals name c.in-Some-get.before.now v was (sym c.watches.ensures ∙ c.if-not-watches.false) other in
+    told-if h.watches p.machine.globals name c.in-Some-get.before.now v was (sym c.watches.ensures ∙ c.if-not-watches.false) other in
     let w = tells-kept turn watch cs (Ready after) (state_of p) desk (some-told cs (change_of (name, v)) one) in
     (w.0, sets h name c.args.value p.broken before desk.next w.0 _ _ c.in_default.is fits (ap (λ o. is_some o) was) w.1, w.2)
 
@@ -109,15 +117,15 @@ returns-in-Ok-tell-clause-does g c =
     let cs : List Change = told h.watches p.machine.globals ((name, v) ∷ []) in
     let fits : settable c.args.value ≡ true = sym c.is_settable.ensures ∙ c.if-not-is_settable.false in
     let other : same_value c.in-Some-get.before.now v ≡ false =
-        ap (same_value c.in-Some-get.before.now) (sym c.value_given-value.ensures) ∙ sym c.same_value.ensures.value ∙ c.if-same_value.false in
+    ap (same_value c.in-Some-get.before.now) (sym c.value_given-value.ensures) ∙ sym c.same_value.ensures.value ∙ c.if-same_value.false in
     let one : cs ≡ change_of (name, v) ∷ [] =
-        told-if h.watches p.machine.globals name c.in-Some-get.before.now v was (sym c.watches.ensures ∙ c.if-not-watches.false) other in
+    told-if h.watches p.machine.globals name c.in-Some-get.before.now v was (sym c.watches.ensures ∙ c.if-not-watches.false) other in
     let all : filter (λ x. watches desk.watchers x.name) c.as_slice.result.now ≡ cs =
-        ap (λ (l : List Change). filter (λ x. watches desk.watchers x.name) l)
-        (c.as_slice.ensures ∙ c.in-Ok.ensures ∙ ap (λ x. change_of (name, x) ∷ []) c.value_given-value.ensures ∙ sym one)
-        ∙ told-watched (watches desk.watchers) p.machine.globals ((name, v) ∷ []) in
+    ap (λ (l : List Change). filter (λ x. watches desk.watchers x.name) l)
+    (c.as_slice.ensures ∙ c.in-Ok.ensures ∙ ap (λ x. change_of (name, x) ∷ []) c.value_given-value.ensures ∙ sym one)
+    ∙ told-watched (watches desk.watchers) p.machine.globals ((name, v) ∷ []) in
     let w = tells-all turn watch cs (condition_by p.broken before) (Ready after) desk c.tell.new.self c.requires.idle.taken
-        (told-by-as turn watch desk c.tell.new.self _ cs c.tell.result (Ok tt) c.in-Ok-tell.is all c.tell.ensures.no_room c.tell.ensures.told) in
+    (told-by-as turn watch desk c.tell.new.self _ cs c.tell.result (Ok tt) c.in-Ok-tell.is all c.tell.ensures.no_room c.tell.ensures.told) in
     comes-at turn watch desk (λ es reply new. Set h es name (Some c.args.value) (state_of p) reply new) (Acts c.tell.new.self.events) (Acts c.store-in-Ok-tell.result)
     (at_stamp (Ready after) c.tell.new.self.next) _ (record c.tell.new.self { events = [] }) (desk_of c.store-in-Ok-tell.new.self)
     (ap (λ l. Acts l) c.store-in-Ok-tell.ensures.events)
@@ -141,9 +149,9 @@ returns-in-Err-NoRoom-clause-does g c =
     let cs : List Change = told h.watches p.machine.globals ((name, v) ∷ []) in
     let fits : settable c.args.value ≡ true = sym c.is_settable.ensures ∙ c.if-not-is_settable.false in
     let other : same_value c.in-Some-get.before.now v ≡ false =
-        ap (same_value c.in-Some-get.before.now) (sym c.value_given-value.ensures) ∙ sym c.same_value.ensures.value ∙ c.if-same_value.false in
+    ap (same_value c.in-Some-get.before.now) (sym c.value_given-value.ensures) ∙ sym c.same_value.ensures.value ∙ c.if-same_value.false in
     let one : cs ≡ change_of (name, v) ∷ [] =
-        told-if h.watches p.machine.globals name c.in-Some-get.before.now v was (sym c.watches.ensures ∙ c.if-not-watches.false) other in
+    told-if h.watches p.machine.globals name c.in-Some-get.before.now v was (sym c.watches.ensures ∙ c.if-not-watches.false) other in
     let result : c.tell.result ≡ Err NoRoom = c.in-Err-NoRoom.is ∙ ap (λ f. Err f) c.in-Err-NoRoom.field-0-is in
     let unchanged = c.tell.ensures.no_room result in
     let w = tells-kept turn watch cs (Ready after) (state_of p) desk (some-told cs (change_of (name, v)) one) in
@@ -166,18 +174,18 @@ returns-in-Err-Watcher-clause-does g c =
     let cs : List Change = told h.watches p.machine.globals ((name, v) ∷ []) in
     let fits : settable c.args.value ≡ true = sym c.is_settable.ensures ∙ c.if-not-is_settable.false in
     let other : same_value c.in-Some-get.before.now v ≡ false =
-        ap (same_value c.in-Some-get.before.now) (sym c.value_given-value.ensures) ∙ sym c.same_value.ensures.value ∙ c.if-same_value.false in
+    ap (same_value c.in-Some-get.before.now) (sym c.value_given-value.ensures) ∙ sym c.same_value.ensures.value ∙ c.if-same_value.false in
     let one : cs ≡ change_of (name, v) ∷ [] =
-        told-if h.watches p.machine.globals name c.in-Some-get.before.now v was (sym c.watches.ensures ∙ c.if-not-watches.false) other in
+    told-if h.watches p.machine.globals name c.in-Some-get.before.now v was (sym c.watches.ensures ∙ c.if-not-watches.false) other in
     let all : filter (λ x. watches desk.watchers x.name) c.as_slice.result.now ≡ cs =
-        ap (λ (l : List Change). filter (λ x. watches desk.watchers x.name) l)
-        (c.as_slice.ensures ∙ c.in-Ok.ensures ∙ ap (λ x. change_of (name, x) ∷ []) c.value_given-value.ensures ∙ sym one)
-        ∙ told-watched (watches desk.watchers) p.machine.globals ((name, v) ∷ []) in
+    ap (λ (l : List Change). filter (λ x. watches desk.watchers x.name) l)
+    (c.as_slice.ensures ∙ c.in-Ok.ensures ∙ ap (λ x. change_of (name, x) ∷ []) c.value_given-value.ensures ∙ sym one)
+    ∙ told-watched (watches desk.watchers) p.machine.globals ((name, v) ∷ []) in
     let result : c.tell.result ≡ Err Watcher = c.in-Err-Watcher.is ∙ ap (λ f. Err f) c.in-Err-Watcher.field-0-is in
     let w = tells-short turn watch cs (condition_by p.broken before) (Ready after) desk c.tell.new.self c.requires.idle.taken
-        (told-by-as turn watch desk c.tell.new.self _ cs c.tell.result (Err Watcher) result all c.tell.ensures.no_room c.tell.ensures.told) in
+    (told-by-as turn watch desk c.tell.new.self _ cs c.tell.result (Err Watcher) result all c.tell.ensures.no_room c.tell.ensures.told) in
     let stored : config_of (story_of p) c.set-stored.new.self ≡ with_globals (store name c.value_given-value.result p.machine.globals) before =
-        on-ok c.set-stored.result _ (c.set-stored.ensures.found ∙ ap (λ o. is_some o) was) (c.set-stored.ensures.ok (story_of p)) in
+    on-ok c.set-stored.result _ (c.set-stored.ensures.found ∙ ap (λ o. is_some o) was) (c.set-stored.ensures.ok (story_of p)) in
     comes-at turn watch desk (λ es reply new. Set h es name (Some c.args.value) (state_of p) reply new) (Breaks OutOfMemory c.tell.new.self.events) (reply_of_halt c.break_by.result)
     (at_stamp (Broken OutOfMemory after.shared.globals) c.tell.new.self.next) (state_of c.break_by.new.self) (record c.tell.new.self { events = [] }) (desk_of c.break_by.new.self)
     c.break_by.ensures.reply

@@ -1,10 +1,8 @@
-use Rattle.std.proofs.Common.{◌≡◌, ◌∙◌, [], List, Option, None, Ok, Err, ap, filter, sym}
-use Rattle.ink_host.specs.Desk.{DeskView, watches}
+use Rattle.std.proofs.Common.{◌≡◌, ◌∙◌, [], List, Ok, Err, ap, filter, sym}
+use Rattle.ink_host.specs.Desk.{watches}
 use Rattle.ink_model.specs.Answer.{Breaks, Tells, reply_of_halt}
-use Rattle.ink_model.specs.Configuration.{Configuration}
 use Rattle.ink_model.specs.Session.{Through}
 use Rattle.ink_model.specs.Told.{told}
-use Rattle.ink_model.specs.declared.fault.Fault.{Fault}
 use Rattle.ink_model.specs.declared.fault.Fault.TheVariants.{OutOfMemory}
 use Rattle.ink_model.specs.declared.host.Change.{Change}
 use Rattle.ink_player.specs.Words.{bindings, desk_of, state_of, story_of}
@@ -45,7 +43,7 @@ returns-in-Ok-tell-clause-does g c =
     let mid = c.through.new.desk in
     let runs = c.in-Ok.ensures.runs in
     let changes : c.as_slice.result.now ≡ told (watches mid.watchers) p.machine.globals c.through.new.self.globals =
-        c.as_slice.ensures ∙ c.in-Ok-told.ensures.told p.machine.globals c.in-Ok.ensures.tracks in
+    c.as_slice.ensures ∙ c.in-Ok-told.ensures.told p.machine.globals c.in-Ok.ensures.tracks in
     let all = ap (λ (cs : List Change). filter (λ x. watches mid.watchers x.name) cs) changes ∙ told-watched (watches mid.watchers) p.machine.globals c.through.new.self.globals in
     comes-as turn watch (desk_of p) (λ es reply new. Through s (bindings meaning (desk_of p)) es (state_of p) reply new)
     (Tells (record c.in-Ok.passage { events = c.tell.new.self.events })) (Tells c.with_events.result) _ c.with_events.new.self
@@ -64,7 +62,7 @@ returns-in-Err-tell-clause-does g c =
     let mid = c.through.new.desk in
     let runs = c.in-Ok.ensures.runs in
     let changes : c.as_slice.result.now ≡ told (watches mid.watchers) p.machine.globals c.through.new.self.globals =
-        c.as_slice.ensures ∙ c.in-Ok-told.ensures.told p.machine.globals c.in-Ok.ensures.tracks in
+    c.as_slice.ensures ∙ c.in-Ok-told.ensures.told p.machine.globals c.in-Ok.ensures.tracks in
     let all = ap (λ (cs : List Change). filter (λ x. watches mid.watchers x.name) cs) changes ∙ told-watched (watches mid.watchers) p.machine.globals c.through.new.self.globals in
     comes-as turn watch (desk_of p) (λ es reply new. Through s (bindings meaning (desk_of p)) es (state_of p) reply new)
     (Breaks OutOfMemory c.tell.new.self.events) (reply_of_halt c.break_by-in-Err-tell.result) _ c.break_by-in-Err-tell.new.self
