@@ -3,4 +3,4 @@ use Rattle.inktest.specs.Deeds.{rests}
 use Rattle.inktest.proofs.players.call_player.Given as goal
 
 abbrev pub invariant-loop-line : goal.invariant-loop-line
-invariant-loop-line l = Idle rests (desk_of l.player)
+invariant-loop-line g l = Idle rests (desk_of l.player)
