@@ -1,8 +1,7 @@
 -- What a command comes to that may call or tell the objects of a host.
-use Rattle.std.proofs.Common.{◌≡◌, ◌≢◌, ◌∙◌, ◌⊎◌, ap, sym, refl, subst, inl, inr, cond, ℕ, List, [], ◌∷◌, ◌++◌, map, filter, length, append_assoc, append-nil, Bool, true, false, ◌&&◌, not, Option, Some, None, is_some, Result, Ok, Err, OnOk, is_ok, MatchBool, arith}
+use Rattle.std.proofs.Common.{◌≡◌, ◌≢◌, ◌∙◌, ◌⊎◌, ap, sym, refl, subst, inl, inr, cond, ℕ, List, [], ◌∷◌, ◌++◌, map, filter, Bool, true, false, ◌&&◌, not, Option, Some, None, is_some, Result, Ok, Err, OnOk, is_ok, MatchBool, arith}
 use Rattle.ink_check.specs.Words.{story_tree}
-use Rattle.ink_host.specs.Desk.{DeskView, Grew, IsNumbered, Resting, bound_by, watches}
-use Rattle.ink_host.specs.Telling.{OncePerName}
+use Rattle.ink_host.specs.Desk.{DeskView, Grew, bound_by, watches}
 use Rattle.ink_host.specs.declared.objects.Called.{Called}
 use Rattle.ink_host.specs.declared.objects.Seen.{Seen}
 use Rattle.ink_host.specs.declared.telling.TellFault.{TellFault}
@@ -12,7 +11,7 @@ use Rattle.ink_model.specs.Answer.{Reply, Acts, Breaks, Refuses, Tells}
 use Rattle.ink_model.specs.Configuration.{Configuration, can_go_on, settled, with_globals}
 use Rattle.ink_model.specs.Events.{Made, answers_of, calls, later}
 use Rattle.ink_model.specs.Host.{Bindings, value_given}
-use Rattle.ink_model.specs.Memory.{FallsShort, StopsAt}
+use Rattle.ink_model.specs.Memory.{FallsShort}
 use Rattle.ink_model.specs.Run as run
 use Rattle.ink_model.specs.Same.{same_value}
 use Rattle.ink_model.specs.Session as rules
