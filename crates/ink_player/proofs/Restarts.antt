@@ -1,12 +1,11 @@
 -- A restart, by what opening comes to.
-use Rattle.std.proofs.Common.{◌≡◌, ◌≢◌, ◌∙◌, ap, refl, subst, sym, inl, inr, ℕ, List, [], Ok, Err}
+use Rattle.std.proofs.Common.{◌≡◌, ◌≢◌, ap, refl, subst, sym, inl, inr, List, [], Ok, Err}
 use Rattle.ink_model.specs.Answer.{Reply, Breaks, Refuses}
 use Rattle.ink_model.specs.Configuration.{Configuration}
 use Rattle.ink_model.specs.Host.{Bindings}
-use Rattle.ink_model.specs.Opening.{opening, Unopened}  -- LOCAL
 use Rattle.ink_model.specs.Opening.{opening}
 use Rattle.ink_model.specs.Session.{Restart, RestartsAs, TellsOrKeeps}
-use Rattle.ink_model.specs.State.{State, Condition, Broken, Ready, globals_of}
+use Rattle.ink_model.specs.State.{State, Broken, Ready, globals_of}
 use Rattle.ink_model.specs.Store.{Values}
 use Rattle.ink_model.specs.Told.{told}
 use Rattle.ink_model.specs.Tree.{StoryTree}

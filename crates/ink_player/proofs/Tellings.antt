@@ -1,8 +1,7 @@
 -- What a command comes to that may call or tell the objects of a host.
-use Rattle.std.proofs.Common.{◌≡◌, ◌≢◌, ◌∙◌, ◌⊎◌, ap, sym, refl, subst, inl, inr, cond, ℕ, List, [], ◌∷◌, ◌++◌, map, filter, length, append_assoc, append-nil, Bool, true, false, ◌&&◌, not, Option, Some, None, is_some, Result, Ok, Err, OnOk, is_ok, MatchBool, arith}
+use Rattle.std.proofs.Common.{◌≡◌, ◌≢◌, ◌∙◌, ◌⊎◌, ap, sym, refl, subst, inl, inr, cond, ℕ, List, [], ◌∷◌, ◌++◌, map, filter, Bool, true, false, ◌&&◌, not, Option, Some, None, is_some, Result, Ok, Err, OnOk, is_ok, MatchBool, arith}
 use Rattle.ink_check.specs.Words.{story_tree}
-use Rattle.ink_host.specs.Desk.{DeskView, Grew, IsNumbered, Resting, bound_by, watches}
-use Rattle.ink_host.specs.Telling.{OncePerName}
+use Rattle.ink_host.specs.Desk.{DeskView, Grew, bound_by, watches}
 use Rattle.ink_host.specs.declared.objects.Called.{Called}
 use Rattle.ink_host.specs.declared.objects.Seen.{Seen}
 use Rattle.ink_host.specs.declared.telling.TellFault.{TellFault}
@@ -12,7 +11,7 @@ use Rattle.ink_model.specs.Answer.{Reply, Acts, Breaks, Refuses, Tells}
 use Rattle.ink_model.specs.Configuration.{Configuration, can_go_on, settled, with_globals}
 use Rattle.ink_model.specs.Events.{Made, answers_of, calls, later}
 use Rattle.ink_model.specs.Host.{Bindings, value_given}
-use Rattle.ink_model.specs.Memory.{FallsShort, StopsAt}
+use Rattle.ink_model.specs.Memory.{FallsShort}
 use Rattle.ink_model.specs.Run as run
 use Rattle.ink_model.specs.Same.{same_value}
 use Rattle.ink_model.specs.Session as rules
@@ -30,7 +29,7 @@ use Rattle.ink_model.specs.declared.host.Given.{Given}
 use Rattle.ink_model.specs.declared.limits.TheConstants.{MAX_STEPS}
 use Rattle.ink_model.specs.declared.passage.Passage.{Passage}
 use Rattle.ink_model.specs.declared.value.Value.{Value}
-use Rattle.ink_player.specs.Words.{Dealt, Told, bindings, condition_by, desk_of, state_of, story_of}
+use Rattle.ink_player.specs.Words.{Dealt, bindings, condition_by, desk_of, state_of, story_of}
 use Rattle.ink_player.specs.declared.player.Player.{Player}
 use Rattle.ink_step.specs.Words.{config_of}
 use Rattle.ink_step.specs.Runs.{ComesTo, ComesToFault}
@@ -146,11 +145,18 @@ done-telling cs done answers before saw all old n t e = record {
 -- ---- between a player and its host
 
 module _ {P F O : Type 0} (turn_log : F → List Called) (watch_log : O → List Seen) where
+  -- The watchers were told these changes, or all but those for which one of them found no memory; or there was no room for
+  -- telling, and nothing has changed.
+  abbrev pub Told : DeskView P F O → List Change → DeskView P F O → Result (Unit {0}) TellFault → Type 0
+  Told old cs new (Ok u) = (es : List Event) × ToldAs old.next cs true es × Grew turn_log watch_log old es new
+  Told old cs new (Err NoRoom) = new ≡ old
+  Told old cs new (Err Watcher) = (es : List Event) × ToldAs old.next cs false es × Grew turn_log watch_log old es new
+
   -- what came of telling, by the answer
   pub told-by : (old new : DeskView P F O) (shown cs : List Change) (r : Result (Unit {0}) TellFault) → shown ≡ cs
       → (r ≡ Err NoRoom → new ≡ old)
       → (r ≢ Err NoRoom → (es : List Event) × ToldAs old.next shown (is_ok r) es × Grew turn_log watch_log old es new)
-      → Told turn_log watch_log old cs new r
+      → Told old cs new r
   told-by old new shown cs (Ok u) e no_room told =
       subst (λ l. (es : List Event) × ToldAs old.next l true es × Grew turn_log watch_log old es new) e (told (λ (q : Ok u ≡ Err NoRoom). cc))
   told-by old new shown cs (Err NoRoom) e no_room told = no_room refl
@@ -160,9 +166,9 @@ module _ {P F O : Type 0} (turn_log : F → List Called) (watch_log : O → List
   pub told-by-as : (old new : DeskView P F O) (shown cs : List Change) (r r' : Result (Unit {0}) TellFault) → r ≡ r' → shown ≡ cs
       → (r ≡ Err NoRoom → new ≡ old)
       → (r ≢ Err NoRoom → (es : List Event) × ToldAs old.next shown (is_ok r) es × Grew turn_log watch_log old es new)
-      → Told turn_log watch_log old cs new r'
+      → Told old cs new r'
   told-by-as old new shown cs r r' same e no_room told =
-      subst (λ x. Told turn_log watch_log old cs new x) same (told-by old new shown cs r e no_room told)
+      subst (λ x. Told old cs new x) same (told-by old new shown cs r e no_room told)
 
   -- the events were taken
   pub dealt-taken : (a b : DeskView P F O) (es : List Event) → Grew turn_log watch_log a es b → Dealt turn_log watch_log a es (record b { events = [] })
@@ -240,7 +246,7 @@ module _ {P F O : Type 0} (turn_log : F → List Called) (watch_log : O → List
 
     -- all were told
     pub through-told : (passed : Passage) → d0.events ≡ [] → d1.watchers ≡ d0.watchers → ComesTo s host.functions c0 made passed c1
-        → Told turn_log watch_log d1 (told (watches d1.watchers) c0.shared.globals c1.shared.globals) d2 (Ok tt)
+        → Told d1 (told (watches d1.watchers) c0.shared.globals c1.shared.globals) d2 (Ok tt)
         → ThroughTo (Tells (record passed { events = d2.events })) (condition_by b c1) (record d2 { events = [] })
     unfolding settled
     through-told passed none watching run t =
@@ -256,7 +262,7 @@ module _ {P F O : Type 0} (turn_log : F → List Called) (watch_log : O → List
 
     -- a watcher was without memory
     pub through-told-short : (passed : Passage) → d0.events ≡ [] → d1.watchers ≡ d0.watchers → ComesTo s host.functions c0 made passed c1
-        → Told turn_log watch_log d1 (told (watches d1.watchers) c0.shared.globals c1.shared.globals) d2 (Err Watcher)
+        → Told d1 (told (watches d1.watchers) c0.shared.globals c1.shared.globals) d2 (Err Watcher)
         → ThroughTo (Breaks OutOfMemory d2.events) (Broken OutOfMemory c1.shared.globals) (record d2 { events = [] })
     unfolding settled
     through-told-short passed none watching run t =
@@ -292,7 +298,7 @@ module _ {P F O : Type 0} (turn_log : F → List Called) (watch_log : O → List
 
     -- telling failed
     pub through-not-told : (passed : Passage) (f : TellFault) → d0.events ≡ [] → d1.watchers ≡ d0.watchers → ComesTo s host.functions c0 made passed c1
-        → Told turn_log watch_log d1 (told (watches d1.watchers) c0.shared.globals c1.shared.globals) d2 (Err f)
+        → Told d1 (told (watches d1.watchers) c0.shared.globals c1.shared.globals) d2 (Err f)
         → ThroughTo (Breaks OutOfMemory d2.events) (Broken OutOfMemory c1.shared.globals) (record d2 { events = [] })
     through-not-told passed NoRoom none watching run t =
         subst (λ d. ThroughTo (Breaks OutOfMemory d.events) (Broken OutOfMemory c1.shared.globals) (record d { events = [] })) (sym t) (through-untold passed none run)
@@ -323,11 +329,11 @@ module _ {P F O : Type 0} (turn_log : F → List Called) (watch_log : O → List
         dealt-taken d0 d1 saw g,
       )
 
-  pub tells-all : (cs : List Change) (c0 done : Condition) (d0 d1 : DeskView P F O) → d0.events ≡ [] → Told turn_log watch_log d0 cs d1 (Ok tt)
+  pub tells-all : (cs : List Change) (c0 done : Condition) (d0 d1 : DeskView P F O) → d0.events ≡ [] → Told d0 cs d1 (Ok tt)
       → (es : List Event) × TellsOrKeeps cs done es (at_stamp c0 d0.next) (Acts d1.events) (at_stamp done d1.next) × Dealt turn_log watch_log d0 es (record d1 { events = [] })
   tells-all cs c0 done d0 d1 none t = tells cs c0 done d0 d1 true t.0 none t.1 t.2
 
-  pub tells-short : (cs : List Change) (c0 done : Condition) (d0 d1 : DeskView P F O) → d0.events ≡ [] → Told turn_log watch_log d0 cs d1 (Err Watcher)
+  pub tells-short : (cs : List Change) (c0 done : Condition) (d0 d1 : DeskView P F O) → d0.events ≡ [] → Told d0 cs d1 (Err Watcher)
       → (es : List Event) × TellsOrKeeps cs done es (at_stamp c0 d0.next) (Breaks OutOfMemory d1.events) (at_stamp (condition_told false done) d1.next) × Dealt turn_log watch_log d0 es (record d1 { events = [] })
   tells-short cs c0 done d0 d1 none t = tells cs c0 done d0 d1 false t.0 none t.1 t.2
 

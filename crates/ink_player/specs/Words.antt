@@ -1,17 +1,13 @@
 -- What a player stands for, and what happens between it and the objects of its host.
-use Rattle.std.specs.Prelude.{◌≡◌, ◌⊎◌, List, [], ◌++◌, Bool, true, false, Option, None, Some, Result, Ok, Err}
+use Rattle.std.specs.Prelude.{◌≡◌, ◌⊎◌, List, [], ◌++◌, Bool, Option, None, Some}
 use Rattle.ink_check.specs.Words.{story_tree}
 use Rattle.ink_host.specs.Desk.{DeskView, Grew, Resting, bound_by, watches}
 use Rattle.ink_host.specs.declared.objects.Called.{Called}
 use Rattle.ink_host.specs.declared.objects.Seen.{Seen}
-use Rattle.ink_host.specs.declared.telling.TellFault.{TellFault}
-use Rattle.ink_host.specs.declared.telling.TellFault.TheVariants as tell
 use Rattle.ink_model.specs.Configuration.{Configuration}
 use Rattle.ink_model.specs.Host.{Bindings}
 use Rattle.ink_model.specs.State.{State, Condition, Ready, Broken}
-use Rattle.ink_model.specs.Told.{ToldAs}
 use Rattle.ink_model.specs.Tree.{StoryTree}
-use Rattle.ink_model.specs.declared.host.Change.{Change}
 use Rattle.ink_model.specs.declared.fault.Fault.{Fault}
 use Rattle.ink_model.specs.declared.host.Event.{Event}
 use Rattle.ink_model.specs.declared.host.Given.{Given}
@@ -49,13 +45,6 @@ module _ {P F O : Type 0} where
   -- The objects on a desk were called and told just these events, and those were taken.
   abbrev pub Dealt : (F → List Called) → (O → List Seen) → DeskView P F O → List Event → DeskView P F O → Type 0
   Dealt turn_log watch_log old es new = Grew turn_log watch_log old es (record new { events = old.events ++ es })
-
-  -- The watchers were told these changes, or all but those for which one of them found no memory; or there was no room for
-  -- telling, and nothing has changed.
-  abbrev pub Told : (F → List Called) → (O → List Seen) → DeskView P F O → List Change → DeskView P F O → Result (Unit {0}) TellFault → Type 0
-  Told turn_log watch_log old cs new (Ok u) = (es : List Event) × ToldAs old.next cs true es × Grew turn_log watch_log old es new
-  Told turn_log watch_log old cs new (Err tell.NoRoom) = new ≡ old
-  Told turn_log watch_log old cs new (Err tell.Watcher) = (es : List Event) × ToldAs old.next cs false es × Grew turn_log watch_log old es new
 
   -- The same of the desk with which a player was opened; or none was opened, and it is as it was.
   abbrev pub DealtAnew : (F → List Called) → (O → List Seen) → DeskView P F O → List Event → DeskView P F O → Type 0

@@ -7,7 +7,7 @@ use Rattle.ink_model.specs.declared.fault.Fault.TheVariants.{OutOfMemory}
 use Rattle.ink_model.specs.declared.host.Change.{Change}
 use Rattle.ink_player.specs.Words.{bindings, desk_of, state_of, story_of}
 use Rattle.ink_step.specs.Words.{config_of}
-use Rattle.ink_player.proofs.Tellings.{comes-as, dealt-none, through-broken, through-not-told, through-stopped, through-told, through-untold, told-by, told-watched}
+use Rattle.ink_player.proofs.Tellings.{comes-as, dealt-none, through-broken, through-fault, through-not-told, through-stopped, through-told, through-untold, told-by, told-watched}
 use Rattle.ink_player.proofs.player.Player.through.Goals as goal
 
 pub returns-in-Some-clause-does : goal.returns-in-Some-clause-does
@@ -70,3 +70,17 @@ returns-in-Err-tell-clause-does g c =
     (through-not-told turn watch meaning s (desk_of p) mid c.tell.new.self p.broken (config_of s p.machine) (config_of s c.through.new.self) runs.0 c.in_default.is (sym (c.can_go_on.ensures s) ∙ c.if-not-can_go_on.false) runs.1
     c.in-Ok.passage c.in-Err-tell.field-0 c.requires.idle.taken c.in-Ok.ensures.watchers runs.2
     (told-by turn watch mid c.tell.new.self _ _ (Err c.in-Err-tell.field-0) all c.in-Err-tell.ensures.no_room c.in-Err-tell.ensures.told))
+
+pub returns-in-Err-clause-does : goal.returns-in-Err-clause-does
+returns-in-Err-clause-does g c =
+    let turn = g.F.TurnFn.log in
+    let watch = g.O.Watcher.log in
+    let meaning = g.P.PureFn.meaning in
+    let p = c.args.self.now in
+    let s = story_of p in
+    let mid = c.through.new.desk in
+    let runs = c.in-Err.ensures.runs in
+    comes-as turn watch (desk_of p) (λ es reply new. Through s (bindings meaning (desk_of p)) es (state_of p) reply new) (Breaks c.in-Err.fault mid.events) (reply_of_halt c.break_by.result)
+    _ c.break_by.new.self c.break_by.ensures.reply c.break_by.ensures.player
+    (through-fault turn watch meaning s (desk_of p) mid mid p.broken (config_of s p.machine) (config_of s c.through.new.self) runs.0 c.in_default.is
+    (sym (c.can_go_on.ensures s) ∙ c.if-not-can_go_on.false) runs.1 c.in-Err.fault c.requires.idle.taken runs.2)
