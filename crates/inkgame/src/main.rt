@@ -8,7 +8,7 @@ ghost use Rattle.inkgame.specs.Rests.{rests};
 mod objects;
 mod story;
 
-use ink_player::{Desk, Halt, Passage, Player, PlayEnd, open_story};
+use ink_player::{Desk, Halt, Passage, PlayEnd, Player, open_story};
 use objects::{Die, Inn, Purse};
 use std::alloc::Global;
 use std::io;
@@ -50,7 +50,7 @@ fn bind<R: Print + Drop>(alloc: Global, rt: R, game: &mut Game<R>) -> bool
     let Ok(inn) = Inn::new(alloc, "Blue Heron") else {
         return false;
     };
-    game.bind_turn("throw", Die::new(alloc, 2026)).is_ok()
+    game.bind_turn("throw", Die::new(alloc, 40)).is_ok()
         && game.bind_pure("inn", inn).is_ok()
         && game.watch("gold", Purse::new(alloc, rt)).is_ok()
 }

@@ -50,13 +50,7 @@ pub(crate) fn run_players(rt: &impl Print, alloc: Global, table: Table<'_>, tall
 }
 
 /// Opens a player, and makes the calls of it.
-fn run_player(
-    rt: &impl Print,
-    alloc: Global,
-    table: Table<'_>,
-    case: Case<'_>,
-    tally: &mut Tally,
-) {
+fn run_player(rt: &impl Print, alloc: Global, table: Table<'_>, case: Case<'_>, tally: &mut Tally) {
     match player_of(alloc, case.story) {
         Ok(mut player) => {
             call_player(rt, alloc, table, case, &mut player, tally);
