@@ -1,6 +1,6 @@
 //! The objects of a host: functions that a story calls, and watchers of its globals.
 
-ghost use Rattle.std.specs.Prelude.{◌≡◌, ◌++◌, ◌∷◌, [], Bool, false, true, List, Option, None, Some, Ok, Err, OnOk, OnErr};
+ghost use Rattle.std.specs.Prelude.{◌≡◌, ◌++◌, ◌∷◌, [], Bool, false, true, List, Option, None, Some, Ok, Err, OnOk, OnErr, not};
 ghost use Rattle.ink_model.specs.declared.host.Given.{Given as Answer};
 ghost use Rattle.ink_model.specs.declared.host.HostFault.TheVariants as fault;
 ghost use Rattle.ink_model.specs.declared.value.Value.{Value as Data};
@@ -93,15 +93,18 @@ pub enum FnKind {
     Turn,
 }
 
-/// No object at all: the desk of `Nobody` has nothing bound and nobody who watches.
+/// Stands for an object where a host has none: nothing makes one, so that the desk of `Nobody` has nothing bound and nobody
+/// who watches. It would find no memory at any call.
 #[derive(Drop)]
-pub enum Nobody {}
+pub struct Nobody {
+    is_told: bool,
+}
 
 impl PureFn for Nobody {
     ghost meaning = { λ nobody arguments. None };
 
     fn ask(&self, _arguments: &[Value]) -> Result<Given, HostFault> {
-        match *self {}
+        Err(HostFault::OutOfMemory)
     }
 }
 
@@ -109,24 +112,24 @@ impl TurnFn for Nobody {
     ghost log = { λ nobody. [] };
 
     fn call(&mut self, _stamp: u64, _arguments: &[Value]) -> Result<Given, HostFault> {
-        match *self {}
+        Err(HostFault::OutOfMemory)
     }
 }
 
 impl Watcher for Nobody {
     ghost log = { λ nobody. [] };
 
-    ghost at_rest = { λ nobody. true };
+    ghost at_rest = { λ nobody. not nobody.is_told };
 
     fn begin(&mut self) {
-        match *self {}
+        self.is_told = true;
     }
 
     fn changed(&mut self, _stamp: u64, _name: &str, _value: &Value) -> Result<(), AllocError> {
-        match *self {}
+        Err(AllocError)
     }
 
     fn end(&mut self) {
-        match *self {}
+        self.is_told = false;
     }
 }
