@@ -223,16 +223,32 @@ def broken_from(words, story, before, command, after, used, stamp):
 
 
 def restarted(words, story, before, broken, after, used, stamp):
-    """What is answered from a restart on. A player that has told nobody anything is as one that has just been opened; where
-    functions have given answers or events were told, only what tells no event is looked at."""
+    """What is answered from a restart on. A player that has called and watches nothing is as one that has just been opened. Where
+    functions have given answers nothing is known of what they give next; and a watcher is told of what the command before has
+    left, so that of its answers all but the events is looked at."""
     fresh = answers(words, story, after)
-    if not used and not stamp:
-        return [(line,) for line in fresh]
-    return [(line,) if not events_of(line) and not has_functions(words) else Any() for line in fresh]
+    if has_functions(words):
+        return [Any() if used or stamp else (line,) for line in fresh]
+    return [Apart(line) for line in fresh] if "--watch" in words else [(line,) for line in fresh]
 
 
 def has_functions(words):
     return "--answer" in words
+
+
+class Apart:
+    """Allows each line that is this one apart from its events."""
+
+    def __init__(self, line):
+        self.line = line
+
+    def __contains__(self, line):
+        return without_events(line) == without_events(self.line)
+
+
+def without_events(line):
+    """An answer as JSON, without its events."""
+    return {key: value for key, value in (parsed(line) or {}).items() if key != "events"}
 
 
 class Any:
