@@ -15,7 +15,7 @@ use Rattle.ink_model.specs.Tree.{StoryTree, container, Trees, no_trees, tree, Ke
 use Rattle.ink_model.specs.View.{view, trees_of, trees_view, keyed_view}
 use Rattle.ink_model.specs.declared.limits.TheConstants.{MAX_NESTING}
 use Rattle.ink_model.specs.Grammar.{under, first, own, own_after, is_empty, is_last, are_flags, member_of, flags_key, flags_of, name_in, name_of, is_misnamed, is_taken, with_name, is_own, content, faults, faults_inside, faults_keyed, faults_by, tree_of, content_of, keyed_in, keyed_last, keyed_by}
-use Rattle.ink_model.specs.declared.content.Content.{Content, Container, the_lemmas}
+use Rattle.ink_model.specs.declared.content.Content.{Content}
 use Rattle.ink_model.specs.declared.fault.Failure.{Failure}
 use Rattle.ink_model.specs.declared.fault.Failure.TheVariants.{OutOfMemory, Refused}
 use Rattle.ink_model.specs.declared.fault.ReadRefusal.{ReadRefusal}
@@ -27,9 +27,6 @@ use Rattle.ink_json.proofs.Conditions.{both, not_above}
 
 abbrev pub Entry : Type 0
 Entry = String Global × Value
-
-pub view-Container : (name : Option (List ℕ)) (flags : ℕ) (inside : Vec Content Global) (keyed : BTreeMap (String Global) Content) → view (Container name flags inside keyed) ≡ container name flags (trees_view inside.items) (keyed_view keyed.entries)
-view-Container name flags inside keyed = search (rules, the_lemmas)
 
 -- ---- sizes
 

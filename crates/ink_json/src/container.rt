@@ -4,6 +4,7 @@ ghost use Rattle.std.specs.Prelude.{◌≡◌, ◌+◌, ◌≤◌, ◌<◌, ◌^
 ghost use Rattle.serde_json.specs.Data.{array};
 ghost use Rattle.serde_json.specs.View.{view as json_view, items_view, members_view};
 ghost use Rattle.ink_model.specs.Grammar.{content, content_of, tree_of, keyed_last, keyed_by, faults, faults_inside, faults_keyed, faults_by, first, under, own};
+ghost use Rattle.ink_model.specs.Tree.{container};
 ghost use Rattle.ink_model.specs.View.{view, trees_view, keyed_view};
 ghost use Rattle.ink_model.specs.declared.place.Part.TheVariants.{Index, Name};
 ghost use Rattle.ink_json.specs.Reading.{Reads, IsFirst, Holds, faults_last, faults_named, put_key};
@@ -13,7 +14,7 @@ use crate::error::{ReadFailure, at_index, at_name, refused};
 use crate::leaf::{read_number, read_object, read_string};
 use crate::names::{give, is_misnamed};
 use crate::own::{copy_name, is_own, name_of, read_own};
-use ink_model::{Cause, Content, Leaf, MAX_NESTING};
+use ink_model::{Cause, Container, Content, Leaf, MAX_NESTING, Text};
 use serde_json::{Map, Value};
 use std::alloc::{AllocError, Global};
 use std::collections::{BTreeMap, BTreeSet};
@@ -70,12 +71,28 @@ pub(crate) fn read_container(
     }
     let Inside { content, names } = read_elements(alloc, items, nesting)?;
     let named = read_last(alloc, &items[items.len() - 1], nesting, &names)?;
-    Ok(Content::Container {
-        name: copy_name(alloc, own.name)?,
-        flags: own.flags,
+    let name = copy_name(alloc, own.name)?;
+    let container = containing(alloc, name, own.flags, content, named)?;
+    Ok(container)
+}
+
+/// A container of what was read.
+fn containing(
+    alloc: Global,
+    name: Option<Text>,
+    flags: u8,
+    content: Vec<Content>,
+    named: BTreeMap<String, Content>,
+) -> Result<Content, AllocError>
+    ensures { IfOk result (λ c. view c ≡ container name flags (trees_view content.items) (keyed_view named.entries)) }
+{
+    let inside = Container {
+        name,
+        flags,
         content,
         named,
-    })
+    };
+    Ok(Content::Container(Box::new(alloc, inside)?))
 }
 
 /// The content that stands in a list, which is all elements but the last.
@@ -93,7 +110,7 @@ fn read_elements(
         × (faults_inside 21 nesting 0 [] (items_view items.now.items) ≡ faults_last 21 nesting taken (own (items_view items.now.items)))) }
     ensures err { IfErr result (λ e. IsFirst e (faults_inside 21 nesting 0 [] (items_view items.now.items))) }
 {
-    let mut content = Vec::new(alloc);
+    let mut content = Vec::with_capacity(alloc, items.len() - 1)?;
     let mut names = BTreeSet::new(alloc);
     for i in 0..items.len() - 1 {
         let item = &items[i];

@@ -13,9 +13,9 @@ pub(crate) fn step<'c>(here: &'c Content, part: &Part) -> Option<&'c Content>
 {
     match here {
         Content::Leaf(_) => None,
-        Content::Container { content, named, .. } => match part {
-            Part::Index(index) => by_index(content, *index),
-            Part::Name(name) => by_name(named, name.as_str()),
+        Content::Container(container) => match part {
+            Part::Index(index) => by_index(&container.content, *index),
+            Part::Name(name) => by_name(&container.named, name.as_str()),
         },
     }
 }

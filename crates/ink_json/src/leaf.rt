@@ -14,8 +14,9 @@ ghost use Rattle.ink_json.specs.Reading.{Reads, placed};
 use crate::error::{ReadFailure, refused};
 use crate::limits::{LEAST, MOST};
 use crate::object::read_object_leaf;
+use crate::readings::shared_text;
 use crate::word::word_leaf;
-use ink_model::{Cause, Content, Leaf, MAX_TEXT, Shared, Text};
+use ink_model::{Cause, Content, Leaf, MAX_TEXT};
 use serde_json::{Number, Value};
 use std::alloc::Global;
 
@@ -63,7 +64,7 @@ fn read_written(alloc: Global, written: &str) -> Result<Leaf, ReadFailure>
     if written.len() > MAX_TEXT {
         return Err(refused(alloc, Cause::Limit));
     }
-    Ok(Leaf::Text(Shared::new(alloc, Text::from_str(alloc, written)?)?))
+    Ok(Leaf::Text(shared_text(alloc, written)?))
 }
 
 fn read_word(alloc: Global, text: &str) -> Result<Leaf, ReadFailure>

@@ -1,6 +1,6 @@
 //! The leaf that an object is by a head, with the options of that.
 
-ghost use Rattle.std.specs.Prelude.{◌≡◌, List, ℕ, if◌then◌else◌};
+ghost use Rattle.std.specs.Prelude.{◌≡◌, List, ℕ, if◌then◌else◌, IfOk};
 ghost use Rattle.serde_json.specs.Find.{as_str};
 ghost use Rattle.serde_json.specs.View.{view as json_view};
 ghost use Rattle.ink_model.specs.Leaves.{read_jump, read_external, read_choice, plain_leaf, read_pointer, read_store, pointer_to, pointer_frame};
@@ -13,7 +13,7 @@ use crate::limits::MOST;
 use crate::options::{frame, is_on, whole_or};
 use ink_model::{Cause, Destination, Leaf, Shared, Text};
 use serde_json::Value;
-use std::alloc::Global;
+use std::alloc::{AllocError, Global};
 
 /// The flags of a choice that gives none.
 const DEFAULT_FLAGS: u64 = 16;
@@ -49,7 +49,7 @@ pub(crate) fn read_jump(
     ) else {
         return Err(refused(alloc, Cause::Shape));
     };
-    let target = Text::from_str(alloc, target)?;
+    let target = shared_text(alloc, target)?;
     let to = if by_variable {
         Destination::Variable(target)
     } else {
@@ -87,7 +87,7 @@ pub(crate) fn read_external(
         return Err(refused(alloc, Cause::Limit));
     }
     Ok(Leaf::External {
-        name: Text::from_str(alloc, name)?,
+        name: shared_text(alloc, name)?,
         arguments: arguments as u32,
         conditional,
     })
@@ -98,7 +98,7 @@ pub(crate) fn read_choice(alloc: Global, object: &Value, head: &Value) -> Result
 {
     match (head.as_str(), whole_or(DEFAULT_FLAGS, object.get("flg"))) {
         (Some(target), Some(flags)) if flags < 32 => Ok(Leaf::Choice {
-            target: Text::from_str(alloc, target)?,
+            target: shared_text(alloc, target)?,
             flags: flags as u8,
         }),
         _ => Err(refused(alloc, Cause::Shape)),
@@ -124,7 +124,7 @@ fn point(alloc: Global, name: &str, frame: i128) -> Result<Leaf, ReadFailure>
     if frame > MOST {
         return Err(refused(alloc, Cause::Limit));
     }
-    let name = Shared::new(alloc, Text::from_str(alloc, name)?)?;
+    let name = shared_text(alloc, name)?;
     Ok(Leaf::Pointer(name, frame as i32))
 }
 
@@ -140,10 +140,10 @@ pub(crate) fn read_store(
     let (Some(name), Some(again)) = (head.as_str(), is_on(object.get("re"))) else {
         return Err(refused(alloc, Cause::Shape));
     };
-    Ok(store_leaf(scope, again, Text::from_str(alloc, name)?))
+    Ok(store_leaf(scope, again, shared_text(alloc, name)?))
 }
 
-fn store_leaf(scope: Scope, again: bool, name: Text) -> Leaf
+fn store_leaf(scope: Scope, again: bool, name: Shared<Text>) -> Leaf
     ensures { result ≡ (if again then assigns scope name else declares scope name) }
 {
     match (scope, again) {
@@ -172,12 +172,19 @@ pub(crate) fn read_count(alloc: Global, head: &Value) -> Result<Leaf, ReadFailur
     Ok(Leaf::Count(read_name(alloc, head)?))
 }
 
+/// A text, to be shared.
+pub(crate) fn shared_text(alloc: Global, text: &str) -> Result<Shared<Text>, AllocError>
+    ensures { IfOk result (λ shared. shared ≡ text.now) }
+{
+    Shared::new(alloc, Text::from_str(alloc, text)?)
+}
+
 /// The name or the path that a head has for its value.
-fn read_name(alloc: Global, head: &Value) -> Result<Text, ReadFailure>
+fn read_name(alloc: Global, head: &Value) -> Result<Shared<Text>, ReadFailure>
     ensures { (make : List ℕ → Leaf) → Reads make result (placed (plain_leaf make (as_str (json_view head.now)))) }
 {
     match head.as_str() {
-        Some(name) => Ok(Text::from_str(alloc, name)?),
+        Some(name) => Ok(shared_text(alloc, name)?),
         None => Err(refused(alloc, Cause::Shape)),
     }
 }

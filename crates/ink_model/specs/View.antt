@@ -3,7 +3,7 @@ use Rattle.std.specs.Prelude.{List, [], ◌∷◌, map, String, string_bytes}
 use Rattle.std.specs.declared.alloc.Global.{Global}
 use Rattle.ink_model.specs.Tree.{StoryTree, leaf, container, Trees, no_trees, tree, Keyed, no_keys, key}
 use Rattle.ink_model.specs.declared.content.Content.{Content, fold-Content}
-use Rattle.ink_model.specs.declared.content.Content.TheOpen.{Content-F}
+use Rattle.ink_model.specs.declared.content.Content.TheOpen.{Content-F, Container-F}
 
 abbrev pub trees_of : List StoryTree → Trees
 trees_of [] = no_trees
@@ -14,12 +14,15 @@ keyed_of [] = no_keys
 keyed_of (e ∷ es) = key (string_bytes e.0) e.1 (keyed_of es)
 
 -- one level, with each content inside already seen as its tree
-abbrev pub view_step : Content-F StoryTree → StoryTree
+abbrev pub view_step : Content-F StoryTree StoryTree → StoryTree
 view_step (Content-F.Leaf l) = leaf l
-view_step (Content-F.Container name flags content named) = container name flags (trees_of content.items) (keyed_of named.entries)
+view_step (Content-F.Container c) = c.value
+
+abbrev pub inside_step : Container-F StoryTree StoryTree → StoryTree
+inside_step c = container c.name c.flags (trees_of c.content.items) (keyed_of c.named.entries)
 
 abbrev pub view : Content → StoryTree
-view = fold-Content StoryTree view_step
+view = fold-Content StoryTree StoryTree view_step inside_step
 
 abbrev pub trees_view : List Content → Trees
 trees_view cs = trees_of (map view cs)

@@ -34,8 +34,8 @@ pub enum Control {
 /// Where a divert, a call or a tunnel leads: by a path as it is spelled, or to what a variable holds.
 #[derive(Drop)]
 pub enum Destination {
-    Path(Text),
-    Variable(Text),
+    Path(Shared<Text>),
+    Variable(Shared<Text>),
 }
 
 /// Content that holds no other, one variant for each form (docs/STORY_FORMAT.md, "Content"). Paths are kept as they are
@@ -49,7 +49,7 @@ pub enum Leaf {
     Int(i32),
     Bool(bool),
     Void,
-    Target(Text),
+    Target(Shared<Text>),
     Pointer(Shared<Text>, i32),
     Control(Control),
     Op(Op),
@@ -66,32 +66,38 @@ pub enum Leaf {
         conditional: bool,
     },
     External {
-        name: Text,
+        name: Shared<Text>,
         arguments: u32,
         conditional: bool,
     },
-    Declare(Text),
-    Assign(Text),
-    DeclareTemp(Text),
-    AssignTemp(Text),
-    Variable(Text),
-    Count(Text),
+    Declare(Shared<Text>),
+    Assign(Shared<Text>),
+    DeclareTemp(Shared<Text>),
+    AssignTemp(Shared<Text>),
+    Variable(Shared<Text>),
+    Count(Shared<Text>),
     Choice {
-        target: Text,
+        target: Shared<Text>,
         flags: u8,
     },
 }
 
-/// Content: a leaf, or a container with the content in it by index and the containers given by key. `name` is the
-/// name that a container in list position has beside its index; flags 1, 2 and 4 say that visits are counted, that turns
-/// are noted, and that only entry at the start counts.
+/// Content: a leaf, or a container with what is in it.
 #[derive(Drop)]
+#[cycle(content)]
 pub enum Content {
     Leaf(Leaf),
-    Container {
-        name: Option<Text>,
-        flags: u8,
-        content: Vec<Content>,
-        named: BTreeMap<String, Content>,
-    },
+    Container(Box<Container>),
+}
+
+/// A container: the content in it by index, and the containers given by key. `name` is the name that a container in list
+/// position has beside its index; flags 1, 2 and 4 say that visits are counted, that turns are noted, and that only entry at the
+/// start counts.
+#[derive(Drop)]
+#[cycle(content)]
+pub struct Container {
+    pub name: Option<Text>,
+    pub flags: u8,
+    pub content: Vec<Content>,
+    pub named: BTreeMap<String, Content>,
 }

@@ -20,7 +20,7 @@ mod text;
 mod value;
 
 pub use command::Command;
-pub use content::{Content, Control, Destination, Leaf};
+pub use content::{Container, Content, Control, Destination, Leaf};
 pub use fault::{Cause, Failure, Fault, Halt, ReadRefusal, Refusal};
 pub use frame::FrameKind;
 pub use host::{Change, Event, Given, HostFault};

@@ -1,9 +1,10 @@
 -- Content that holds no other.
-use Rattle.std.proofs.Common.{◌≡◌, ◌∙◌, ap, sym, ℕ, List, Option, Some, None, option_map, String, Global, Vec, BTreeMap, rules}
+use Rattle.std.proofs.Common.{Box, ◌≡◌, refl, ◌∙◌, ap, sym, ℕ, List, Option, Some, None, option_map, String, Global, Vec, BTreeMap, rules}
 use Rattle.std.proofs.lemmas.Option.{none-some}
 use Rattle.ink_model.specs.Tree.{StoryTree, leaf, container}
 use Rattle.ink_model.specs.View.{view}
 use Rattle.ink_model.specs.declared.content.Content as contents
+use Rattle.ink_model.specs.declared.content.Container.{Container as Held}
 use Rattle.ink_model.specs.declared.content.Content.{Content, Container, the_lemmas}
 use Rattle.ink_model.specs.declared.content.Leaf.{Leaf}
 use Rattle.ink_tree.specs.Kept.{leaf_in}
@@ -16,9 +17,8 @@ leaf_seen l = search (rules, the_lemmas)
 pub leaf_found : (o : Option StoryTree) (c : Content) (l : Leaf) → o ≡ Some (view c) → c ≡ contents.Leaf l → leaf_in o ≡ Some l
 leaf_found o c l is a_leaf = ap leaf_in (is ∙ ap (λ d. Some (view d)) a_leaf ∙ ap (λ t. Some t) (leaf_seen l))
 
-pub container_found : (o : Option StoryTree) (c : Content) (name : Option (List ℕ)) (flags : ℕ) (within : Vec Content Global) (keyed : BTreeMap (String Global) Content)
-    → o ≡ Some (view c) → c ≡ Container name flags within keyed → leaf_in o ≡ None
-container_found o c name flags within keyed is a_container = ap leaf_in (is ∙ ap (λ t. Some t) (seen c name flags within keyed a_container))
+pub container_found : (o : Option StoryTree) (c : Content) (b : Box Held Global) → o ≡ Some (view c) → c ≡ Container b → leaf_in o ≡ None
+container_found o c b is a_container = ap leaf_in (is ∙ ap (λ t. Some t) (seen c b b.value a_container refl))
 
 -- content that was kept is what was found
 pub is_kept : (o : Option StoryTree) (t : StoryTree) → Some t ≡ option_map leaf (leaf_in o) → Some t ≡ o

@@ -1,5 +1,5 @@
 -- Listing the places of content one element and one key at a time.
-use Rattle.std.proofs.Common.{◌≡◌, ℕ, zero, suc, ◌+◌, ◌^◌, ◌<◌, ◌≤◌, List, [], ◌∷◌, ◌++◌, length, get_or, drop, slice_set, true, ◌&&◌, Option, Some, String, Global, Vec, BTreeMap, nat_lt, Less, string_bytes, string_cmp, refl, sym, ap, ◌∙◌, append_assoc, arith, rules}
+use Rattle.std.proofs.Common.{Box, ◌≡◌, ℕ, zero, suc, ◌+◌, ◌^◌, ◌<◌, ◌≤◌, List, [], ◌∷◌, ◌++◌, length, get_or, drop, slice_set, true, ◌&&◌, Option, Some, String, Global, Vec, BTreeMap, nat_lt, Less, string_bytes, string_cmp, refl, sym, ap, ◌∙◌, append_assoc, arith, rules}
 use Rattle.std.proofs.lemmas.Bool.Decides.{nat_tests}
 use Rattle.std.proofs.lemmas.List.{drop_more, drop_all, append-nil, length-append, length-map}
 use Rattle.std.specs.List.{AllByRecursion}
@@ -9,6 +9,7 @@ use Rattle.ink_model.specs.Narrow.{is_narrow, are_narrow, are_keyed_narrow}
 use Rattle.ink_model.specs.Places.{places, places_from, places_by_key}
 use Rattle.ink_model.specs.Tree.{StoryTree, container, Trees, Keyed, count}
 use Rattle.ink_model.specs.View.{view, trees_view, keyed_view}
+use Rattle.ink_model.specs.declared.content.Container.{Container as Held}
 use Rattle.ink_model.specs.declared.content.Content.{Content, Container, the_lemmas}
 use Rattle.ink_model.specs.declared.place.Part.TheVariants.{Index, Name}
 use Rattle.ink_tree.specs.Kept.{nodes_of, nodes_from, nodes_by_key}
@@ -61,11 +62,10 @@ closed ns before inside own x i b is number at_it long =
 
 -- ---- containers
 
-pub seen : (c : Content) (name : Option (List ℕ)) (flags : ℕ) (inside : Vec Content Global) (keyed : BTreeMap (String Global) Content) → c ≡ Container name flags inside keyed
-    → view c ≡ container name flags (trees_view inside.items) (keyed_view keyed.entries)
-seen c name flags inside keyed is =
-    let made : view (Container name flags inside keyed) ≡ container name flags (trees_view inside.items) (keyed_view keyed.entries) = search (rules, the_lemmas) in
-    ap view is ∙ made
+pub seen : (c : Content) (b : Box Held Global) (k : Held) → c ≡ Container b → k ≡ b.value → view c ≡ container k.name k.flags (trees_view k.content.items) (keyed_view k.named.entries)
+seen c b k is held =
+    let made : view (Container b) ≡ container b.value.name b.value.flags (trees_view b.value.content.items) (keyed_view b.value.named.entries) = search (rules, the_lemmas) in
+    ap view is ∙ made ∙ ap (λ (h : Held). container h.name h.flags (trees_view h.content.items) (keyed_view h.named.entries)) (sym held)
 
 module _ (s : StoryTree) (name : Option (List ℕ)) (flags : ℕ) (elements : Trees) (named : Keyed) (is : s ≡ container name flags elements named) where
   pub places_are : places s ≡ [] ∷ (places_from 0 elements ++ places_by_key named)
@@ -88,17 +88,13 @@ pub record Inside (c : Content) (inside : Vec Content Global) (keyed : BTreeMap 
   pub elements : are_narrow (trees_view inside.items) ≡ true
   pub named : are_keyed_narrow (keyed_view keyed.entries) ≡ true
 
-pub inside_narrow : (c : Content) (name : Option (List ℕ)) (flags : ℕ) (inside : Vec Content Global) (keyed : BTreeMap (String Global) Content) → c ≡ Container name flags inside keyed
-    → is_narrow (view c) ≡ true → Inside c inside keyed
-inside_narrow c name flags inside keyed is h =
-    let s = seen c name flags inside keyed is in
-    let narrow = narrow_inside (view c) name flags (trees_view inside.items) (keyed_view keyed.entries) s h in
-    record {
-      fewer = places_count (view c) name flags (trees_view inside.items) (keyed_view keyed.entries) s;
-      width = narrow.0;
-      elements = narrow.1;
-      named = narrow.2;
-    }
+pub inside_narrow : (c : Content) (b : Box Held Global) (k : Held) → c ≡ Container b → k ≡ b.value → is_narrow (view c) ≡ true → Inside c k.content k.named
+inside_narrow c b k is held h =
+    let s = seen c b k is held in
+    let elements = trees_view k.content.items in
+    let named = keyed_view k.named.entries in
+    let narrow = narrow_inside (view c) k.name k.flags elements named s h in
+    record { fewer = places_count (view c) k.name k.flags elements named s; width = narrow.0; elements = narrow.1; named = narrow.2 }
 
 -- ---- elements
 

@@ -3,10 +3,10 @@
 ghost use Rattle.std.specs.Prelude.{◌≡◌, IfOk};
 
 use ink_model::{Destination, Leaf};
-use std::alloc::{AllocError, Global};
+use std::alloc::AllocError;
 
-/// A copy. The one error is a refused request for memory.
-pub(crate) fn copy_leaf(alloc: Global, leaf: &Leaf) -> Result<Leaf, AllocError>
+/// A copy, which shares all texts. The one error is a count of owners that is full.
+pub(crate) fn copy_leaf(leaf: &Leaf) -> Result<Leaf, AllocError>
     ensures { IfOk result (λ copy. copy ≡ leaf.now) }
 {
     let copy = match leaf {
@@ -16,20 +16,20 @@ pub(crate) fn copy_leaf(alloc: Global, leaf: &Leaf) -> Result<Leaf, AllocError>
         Leaf::Int(number) => Leaf::Int(*number),
         Leaf::Bool(truth) => Leaf::Bool(*truth),
         Leaf::Void => Leaf::Void,
-        Leaf::Target(path) => Leaf::Target(path.clone_in(alloc)?),
+        Leaf::Target(path) => Leaf::Target(path.share()?),
         Leaf::Pointer(name, depth) => Leaf::Pointer(name.share()?, *depth),
         Leaf::Control(control) => Leaf::Control(*control),
         Leaf::Op(operator) => Leaf::Op(*operator),
         Leaf::Divert { to, conditional } => Leaf::Divert {
-            to: copy_destination(alloc, to)?,
+            to: copy_destination(to)?,
             conditional: *conditional,
         },
         Leaf::Call { to, conditional } => Leaf::Call {
-            to: copy_destination(alloc, to)?,
+            to: copy_destination(to)?,
             conditional: *conditional,
         },
         Leaf::Tunnel { to, conditional } => Leaf::Tunnel {
-            to: copy_destination(alloc, to)?,
+            to: copy_destination(to)?,
             conditional: *conditional,
         },
         Leaf::External {
@@ -37,34 +37,34 @@ pub(crate) fn copy_leaf(alloc: Global, leaf: &Leaf) -> Result<Leaf, AllocError>
             arguments,
             conditional,
         } => Leaf::External {
-            name: name.clone_in(alloc)?,
+            name: name.share()?,
             arguments: *arguments,
             conditional: *conditional,
         },
-        Leaf::Declare(name) => Leaf::Declare(name.clone_in(alloc)?),
-        Leaf::Assign(name) => Leaf::Assign(name.clone_in(alloc)?),
-        Leaf::DeclareTemp(name) => Leaf::DeclareTemp(name.clone_in(alloc)?),
-        Leaf::AssignTemp(name) => Leaf::AssignTemp(name.clone_in(alloc)?),
-        Leaf::Variable(name) => Leaf::Variable(name.clone_in(alloc)?),
-        Leaf::Count(path) => Leaf::Count(path.clone_in(alloc)?),
+        Leaf::Declare(name) => Leaf::Declare(name.share()?),
+        Leaf::Assign(name) => Leaf::Assign(name.share()?),
+        Leaf::DeclareTemp(name) => Leaf::DeclareTemp(name.share()?),
+        Leaf::AssignTemp(name) => Leaf::AssignTemp(name.share()?),
+        Leaf::Variable(name) => Leaf::Variable(name.share()?),
+        Leaf::Count(path) => Leaf::Count(path.share()?),
         Leaf::Choice { target, flags } => Leaf::Choice {
-            target: target.clone_in(alloc)?,
+            target: target.share()?,
             flags: *flags,
         },
     };
     Ok(copy)
 }
 
-fn copy_destination(alloc: Global, to: &Destination) -> Result<Destination, AllocError>
+fn copy_destination(to: &Destination) -> Result<Destination, AllocError>
     ensures { IfOk result (λ copy. copy ≡ to.now) }
 {
     match to {
         Destination::Path(path) => {
-            let copy = path.clone_in(alloc)?;
+            let copy = path.share()?;
             Ok(Destination::Path(copy))
         }
         Destination::Variable(name) => {
-            let copy = name.clone_in(alloc)?;
+            let copy = name.share()?;
             Ok(Destination::Variable(copy))
         }
     }

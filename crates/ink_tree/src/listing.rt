@@ -14,7 +14,7 @@ use crate::copying::copy_leaf;
 use crate::node::Node;
 use crate::spot::NodeId;
 use ink_json::RawStory;
-use ink_model::{Content, Part, Text};
+use ink_model::{Container, Content, Part, Text};
 use std::alloc::{AllocError, Global};
 use std::collections::BTreeMap;
 
@@ -51,7 +51,7 @@ fn list_content(
     };
     match content {
         Content::Leaf(leaf) => {
-            let leaf = copy_leaf(alloc, leaf)?;
+            let leaf = copy_leaf(leaf)?;
             nodes.push(Node {
                 leaf: Some(Content::Leaf(leaf)),
                 holder,
@@ -63,12 +63,13 @@ fn list_content(
             close(nodes, own);
             Ok(())
         }
-        Content::Container {
-            flags,
-            content,
-            named,
-            ..
-        } => {
+        Content::Container(container) => {
+            let Container {
+                flags,
+                content,
+                named,
+                ..
+            } = &**container;
             nodes.push(Node {
                 leaf: None,
                 holder,

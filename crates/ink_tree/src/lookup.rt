@@ -214,7 +214,7 @@ fn by_name<'c>(content: &'c Content, name: &str) -> Option<&'c Content>
 {
     match content {
         Content::Leaf(_) => None,
-        Content::Container { named, .. } => by_key(named, name),
+        Content::Container(container) => by_key(&container.named, name),
     }
 }
 

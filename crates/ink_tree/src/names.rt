@@ -41,7 +41,7 @@ impl Names {
     {
         match container {
             Content::Leaf(_) => Ok(Names::none(alloc)),
-            Content::Container { content, .. } => Names::of(alloc, content),
+            Content::Container(container) => Names::of(alloc, &container.content),
         }
     }
 
@@ -61,12 +61,12 @@ impl Names {
     fn add(&mut self, alloc: Global, content: &Content, index: u32) -> Result<(), AllocError>
         ensures { OnOk result ((name : List ℕ) → named_at name self.new ≡ first_of (named_at name self.old) (given name index (view content.now))) }
     {
-        match content {
-            Content::Container {
-                name: Some(own),
-                ..
-            } => self.put(alloc, own.as_str(), index),
-            _ => Ok(()),
+        let Content::Container(container) = content else {
+            return Ok(());
+        };
+        match &container.name {
+            Some(own) => self.put(alloc, own.as_str(), index),
+            None => Ok(()),
         }
     }
 

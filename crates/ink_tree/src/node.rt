@@ -39,7 +39,7 @@ impl Node {
         match &self.leaf {
             Some(content) => match content {
                 Content::Leaf(_) => Some(content),
-                Content::Container { .. } => None,
+                Content::Container(_) => None,
             },
             None => None,
         }

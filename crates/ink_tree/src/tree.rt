@@ -249,7 +249,7 @@ pub(crate) fn by_index(content: &Content, index: u32) -> Option<&Content>
 {
     match content {
         Content::Leaf(_) => None,
-        Content::Container { content, .. } => nth(content, index as usize),
+        Content::Container(container) => nth(&container.content, index as usize),
     }
 }
 
@@ -271,7 +271,7 @@ pub(crate) fn index_in(container: &Content, name: &str) -> Option<u32>
 {
     match container {
         Content::Leaf(_) => None,
-        Content::Container { content, .. } => index_of(content, name),
+        Content::Container(container) => index_of(&container.content, name),
     }
 }
 
@@ -292,11 +292,11 @@ fn index_of(contents: &Vec<Content>, name: &str) -> Option<u32>
 fn has_name(content: &Content, name: &str) -> bool
     ensures { result ≡ has_name name.now (view content.now) }
 {
-    match content {
-        Content::Container {
-            name: Some(own),
-            ..
-        } => name == own.as_str(),
-        _ => false,
+    let Content::Container(container) = content else {
+        return false;
+    };
+    match &container.name {
+        Some(own) => name == own.as_str(),
+        None => false,
     }
 }

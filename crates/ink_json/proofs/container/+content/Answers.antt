@@ -3,7 +3,7 @@ use Rattle.std.proofs.lemmas.Result.{err_from_is_err_and}
 use Rattle.serde_json.specs.View.{view as json_view, items_view, members_view}
 use Rattle.ink_model.specs.Grammar.{with_name, name_of, faults_by, keyed_by}
 use Rattle.ink_model.specs.View.{view, trees_view, keyed_view}
-use Rattle.ink_json.proofs.Containers.{by_takes, container_takes, container_stops, container_stops_late, container_read, own_is, keyed_is, whole_has, length_size, item_within, entry_within, element_goes, element_stops, elements_end, trees_front, pushed_front, view-Container, Entry, next_key, after_key, own_key, own_key_faults, key_stops, key_goes, key_put}
+use Rattle.ink_json.proofs.Containers.{by_takes, container_takes, container_stops, container_stops_late, container_read, own_is, keyed_is, whole_has, length_size, item_within, entry_within, element_goes, element_stops, elements_end, trees_front, pushed_front, Entry, next_key, after_key, own_key, own_key_faults, key_stops, key_goes, key_put}
 use Rattle.ink_json.proofs.container.+content.Goals as goal
 
 pub read_container-returns-in_err-content : goal.read_container-returns-in_err-content
@@ -28,9 +28,14 @@ read_container-returns-in_err-named t c =
     rw (p.1, p.2) (container_stops_late 21 c.args.nesting c.args.misnamed c.args.listed (items_view items) (json_view c.index.result.now) names.0 c.in_err-named.field-0.0
     c.if-nesting-gt-MAX_NESTING.false c.in-Some.ensures.0 c.if-misnamed.false (own_is items (c.len.result - 1) c.index.result.now c.index.ensures some (omega arith)) names.2 (c.in_err-named.ensures names.0 names.1))
 
-pub read_container-returns-in_err-copy_name : goal.read_container-returns-in_err-copy_name
-read_container-returns-in_err-copy_name t c =
-    let p = err_from_is_err_and c.from_residual-in_err-copy_name.result c.from_residual-in_err-copy_name.ensures.1 in
+pub read_container-returns-in_err-name : goal.read_container-returns-in_err-name
+read_container-returns-in_err-name t c =
+    let p = err_from_is_err_and c.from_residual-in_err-name.result c.from_residual-in_err-name.ensures.1 in
+    rw (p.1, p.2) (container_takes 21 c.args.nesting c.args.misnamed c.args.listed (items_view c.args.items.now.items) c.if-nesting-gt-MAX_NESTING.false c.in-Some.ensures.0 c.if-misnamed.false)
+
+pub read_container-returns-in_err-container : goal.read_container-returns-in_err-container
+read_container-returns-in_err-container t c =
+    let p = err_from_is_err_and c.from_residual-in_err-container.result c.from_residual-in_err-container.ensures.1 in
     rw (p.1, p.2) (container_takes 21 c.args.nesting c.args.misnamed c.args.listed (items_view c.args.items.now.items) c.if-nesting-gt-MAX_NESTING.false c.in-Some.ensures.0 c.if-misnamed.false)
 
 pub read_container-returns : goal.read_container-returns
@@ -38,10 +43,10 @@ read_container-returns t c =
     let items = c.args.items.now.items in
     let some = whole_has items c.in-Some.ensures.0 in
     let names = c.in_ok-content.ensures.names in
-    container_read 21 c.args.nesting c.args.misnamed c.args.listed (items_view items) (json_view c.index.result.now) names.0 c.in_ok-copy_name.field-0 c.in-Some.own.flags (trees_view c.in_ok-content.field-0.content.items) (keyed_view c.in_ok-named.named.entries)
+    container_read 21 c.args.nesting c.args.misnamed c.args.listed (items_view items) (json_view c.index.result.now) names.0 c.in_ok-name.name c.in-Some.own.flags (trees_view c.in_ok-content.field-0.content.items) (keyed_view c.in_ok-named.named.entries)
     c.if-nesting-gt-MAX_NESTING.false c.in-Some.ensures.0 c.if-misnamed.false (own_is items (c.len.result - 1) c.index.result.now c.index.ensures some (omega arith)) (keyed_is 21 items (c.len.result - 1) c.index.result.now c.index.ensures some (omega arith))
-    names.2 (c.in_ok-named.ensures names.0 names.1) (c.in_ok-copy_name.ensures ∙ c.in-Some.ensures.2) c.in-Some.ensures.1 c.in_ok-content.ensures.content
-    ∙ ap Ok (sym (view-Container c.in_ok-copy_name.field-0 c.in-Some.own.flags c.in_ok-content.field-0.content c.in_ok-named.named))
+    names.2 (c.in_ok-named.ensures names.0 names.1) (c.in_ok-name.ensures ∙ c.in-Some.ensures.2) c.in-Some.ensures.1 c.in_ok-content.ensures.content
+    ∙ ap Ok (sym c.in_ok-container.ensures)
 
 pub read_elements-read_element-requires : goal.read_elements-read_element-requires
 read_elements-read_element-requires t c =
@@ -67,7 +72,7 @@ read_elements-loop-i-preserved t c =
 pub read_elements-returns-in_err-read_element-clause-err : goal.read_elements-returns-in_err-read_element-clause-err
 read_elements-returns-in_err-read_element-clause-err t c =
     let names = c.loop-i.invariant.names in
-    let p = err_from_is_err_and c.from_residual.result c.from_residual.ensures.1 in
+    let p = err_from_is_err_and c.from_residual-in_err-read_element.result c.from_residual-in_err-read_element.ensures.1 in
     let fails = rw (c.is_misnamed-misnamed.ensures names.0 names.1) at c.in_err-read_element.ensures in
     rw (p.1, p.2) (element_stops 21 c.args.nesting c.args.items.now.items c.loop-i.i c.index-item.result.now c.index-item.ensures names.0 c.in_err-read_element.field-0.0 _ (omega arith) names.2 fails)
 

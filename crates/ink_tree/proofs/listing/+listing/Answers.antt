@@ -15,11 +15,11 @@ use Rattle.ink_tree.proofs.listing.+listing.Goals as goal
 
 pub list_content-list_elements-requires : goal.list_content-list_elements-requires
 list_content-list_elements-requires t c =
-    let held = inside_narrow c.args.content.now _ _ _ _ c.in-Container.is c.requires.narrow in (omega arith, (held.width, held.elements))
+    let held = inside_narrow c.args.content.now _ _ c.in-Container.is c.deref.ensures c.requires.narrow in (omega arith, (held.width, held.elements))
 
 pub list_content-list_named-requires : goal.list_content-list_named-requires
 list_content-list_named-requires t c =
-    let held = inside_narrow c.args.content.now _ _ _ _ c.in-Container.is c.requires.narrow in (omega arith, held.named)
+    let held = inside_narrow c.args.content.now _ _ c.in-Container.is c.deref.ensures c.requires.narrow in (omega arith, held.named)
 
 pub list_elements-list_content-requires : goal.list_elements-list_content-requires
 list_elements-list_content-requires t c =
@@ -69,9 +69,9 @@ list_named-loop-name-preserved t c =
 
 pub list_content-overflow_cast-len : goal.list_content-overflow_cast-len
 list_content-overflow_cast-len t c =
-    let held = inside_narrow c.args.content.now _ _ _ _ c.in-Container.is c.requires.narrow in
-    let small = index_small c.in-Container.content.items _ held.width in
-    omega (arith, c.len-in-Container.ensures, c.in-Container.content.ok.0)
+    let held = inside_narrow c.args.content.now _ _ c.in-Container.is c.deref.ensures c.requires.narrow in
+    let small = index_small c.deref.result.now.content.items _ held.width in
+    omega (arith, c.len-in-Container.ensures, c.deref.result.now.content.ok.0)
 
 pub list_elements-overflow_cast-last : goal.list_elements-overflow_cast-last
 list_elements-overflow_cast-last t c = let small = index_small c.args.elements.now.items _ c.requires.width in omega arith
@@ -79,12 +79,12 @@ list_elements-overflow_cast-last t c = let small = index_small c.args.elements.n
 pub list_content-returns-in_ok-list_named-in-Container-clause-lists :
     goal.list_content-returns-in_ok-list_named-in-Container-clause-lists
 list_content-returns-in_ok-list_named-in-Container-clause-lists t c =
-    let k = c.in-Container in
-    let s = seen c.args.content.now k.name k.flags k.content k.named k.is in
+    let k = c.deref.result.now in
+    let s = seen c.args.content.now _ k c.in-Container.is c.deref.ensures in
     let ns = c.args.nodes.now.items in
     let own : NodeId = record { number = length ns } in
     let w = count (trees_view k.content.items) in
-    let wide : c.len-in-Container.result ≡ w = omega (arith, c.len-in-Container.ensures, c.in-Container.content.ok.0, count_is k.content.items) in
+    let wide : c.len-in-Container.result ≡ w = omega (arith, c.len-in-Container.ensures, k.content.ok.0, count_is k.content.items) in
     let node : ℕ → ℕ → Node = λ w b. record { leaf = None; holder = c.args.holder; last = c.args.last; width = w; flags = k.flags; behind = b } in
     let number : c.len.result ≡ length ns = omega (arith, c.len.ensures, c.args.nodes.now.ok.0) in
     let elements : ℕ → List Node = λ n. nodes_from n own 0 (trees_view k.content.items) in

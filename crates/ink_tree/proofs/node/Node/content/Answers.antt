@@ -14,7 +14,7 @@ returns-in-Leaf c =
 pub returns-in-Container : goal.returns-in-Container
 returns-in-Container c =
     let k = c.in-Container in
-    sym (ap (option_map leaf) (container_found (option_map view c.args.self.now.leaf) c.in-Some.content k.name k.flags k.content k.named (ap (option_map view) c.in-Some.is) k.is))
+    sym (ap (option_map leaf) (container_found (option_map view c.args.self.now.leaf) c.in-Some.content k.field-0 (ap (option_map view) c.in-Some.is) k.is))
 
 pub returns-in-None : goal.returns-in-None
 returns-in-None c = sym (ap (λ o. option_map leaf (leaf_in (option_map view o))) c.in-None.is)
