@@ -2,6 +2,7 @@
 
 ghost use Rattle.std.specs.Prelude.{◌≡◌, IfOk};
 
+use crate::text::Text;
 use std::alloc::{AllocError, Global};
 use std::marker::Model;
 use std::rc::Rc;
@@ -42,5 +43,14 @@ impl<T: Drop> Shared<T> {
     {
         let value = self.value.clone()?;
         Ok(Shared { value })
+    }
+}
+
+impl Shared<Text> {
+    /// The text.
+    pub fn as_str(&self) -> &str
+        ensures { result.now ≡ self.now }
+    {
+        self.get().as_str()
     }
 }

@@ -90,7 +90,7 @@ fn is_container(found: Option<&Content>) -> bool
     ensures { result ≡ is_container (option_map (λ c. view c.now) found.entry) }
 {
     match found {
-        Some(Content::Container { .. }) => true,
+        Some(Content::Container(_)) => true,
         Some(Content::Leaf(_)) => false,
         None => false,
     }

@@ -41,7 +41,7 @@ pub(crate) fn push_target(
     here: Spot,
     stack: &mut EvalStack,
     evaluating: bool,
-    text: &Text,
+    text: &Shared<Text>,
 ) -> Result<(), Fault>
     requires { let s = story_tree story.now in at s (place_of s here) ≡ Some (leaf (Target text.now)) }
     ensures { (fresh : Option ℕ) (page : Page) (globals : Values)
@@ -56,7 +56,7 @@ pub(crate) fn push_target(
 
 /// The path that a content spells, which the story keeps read: an accepted one has it for each. The one error is a count of its
 /// owners that is full.
-fn path_at(story: &Story, here: Spot, text: &Text) -> Result<Shared<Path>, AllocError>
+fn path_at(story: &Story, here: Spot, text: &Shared<Text>) -> Result<Shared<Path>, AllocError>
     requires { let s = story_tree story.now in at s (place_of s here) ≡ Some (leaf (Target text.now)) }
     ensures { IfOk result (λ path. path ≡ rules.path_of text.now) }
 {

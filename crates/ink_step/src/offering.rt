@@ -21,7 +21,7 @@ use crate::operands::push;
 use crate::questions::{counted, visits_in};
 use ink_check::Story;
 use ink_choice::{Choices, make};
-use ink_model::{Fault, Text, Value};
+use ink_model::{Fault, Shared, Text, Value};
 use ink_stack::Threads;
 use ink_tree::Spot;
 use ink_value::EvalStack;
@@ -40,7 +40,7 @@ pub(crate) fn offer(
     counts: &Counts,
     threads: &Threads<Spot>,
     choices: &mut Choices<Spot>,
-    text: &Text,
+    text: &Shared<Text>,
 ) -> Result<(), Fault>
     requires { let s = story_tree story.now in at s (place_of s here) ≡ Some (leaf (Point text.now flags)) }
     ensures effect { let s = story_tree story.now in let p = place_of s here in (rest : Rest) (evaluating : Bool) (fresh : Option ℕ) (page : Page) (globals : Values)

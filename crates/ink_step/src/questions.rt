@@ -23,7 +23,7 @@ use crate::counting::{turns_since, visits_of};
 use crate::diverting::landing_by;
 use crate::operands::push;
 use ink_check::Story;
-use ink_model::{Content, Fault, Text, Value};
+use ink_model::{Content, Fault, Shared, Text, Value};
 use ink_tree::{NodeId, Spot};
 use ink_value::EvalStack;
 use ink_vars::{Counts, Turn};
@@ -34,7 +34,7 @@ pub(crate) fn push_count(
     here: Spot,
     counts: &Counts,
     stack: &mut EvalStack,
-    path: &Text,
+    path: &Shared<Text>,
 ) -> Result<(), Fault>
     requires { let s = story_tree story.now in at s (place_of s here) ≡ Some (leaf (Count path.now)) }
     ensures { let s = story_tree story.now in (threads : ThreadsOf Place) (rest : Rest) (evaluating : Bool) (fresh : Option ℕ) (page : Page) (globals : Values)
@@ -178,7 +178,7 @@ fn container(story: &Story, place: Spot) -> Option<NodeId>
     ensures { let s = story_tree story.now in IsContainer s (place_of s place) result }
 {
     match story.tree().content(place) {
-        Some(Content::Container { .. }) => story.tree().node(place),
+        Some(Content::Container(_)) => story.tree().node(place),
         _ => None,
     }
 }

@@ -193,7 +193,7 @@ impl Machine {
     {
         match found {
             None => Ok(Transfer::Next),
-            Some(Content::Container { .. }) => Ok(Transfer::Next),
+            Some(Content::Container(_)) => Ok(Transfer::Next),
             Some(Content::Leaf(content)) => self.perform_leaf(story, here, content),
         }
     }

@@ -31,7 +31,7 @@ pub(crate) fn push_variable(
     stack: &mut EvalStack,
     globals: &Globals,
     threads: &Threads<Spot>,
-    name: &Text,
+    name: &Shared<Text>,
 ) -> Result<(), Fault>
     ensures { (s : StoryTree) (rest : Rest) (evaluating : Bool) (fresh : Option ℕ) (page : Page)
         → let seen = seen_by s threads.now rest in Changes (is_ok (rules.read globals.now seen.thread name.now))
@@ -72,7 +72,7 @@ pub(crate) fn declare<'a>(
     globals: &Globals,
     threads: &mut Threads<Spot>,
     scope: Scope,
-    name: &'a Text,
+    name: &'a Shared<Text>,
 ) -> Result<Transfer<'a>, Fault>
     ensures effect { (s : StoryTree) (rest : Rest) (evaluating : Bool) (fresh : Option ℕ) (page : Page)
         → let seen = seen_by s threads.old rest in Performs s (on_popped (popped stack.old.items) (declare_asks globals.now seen.thread scope name.now))
@@ -99,7 +99,7 @@ pub(crate) fn assign<'a>(
     stack: &mut EvalStack,
     globals: &Globals,
     threads: &mut Threads<Spot>,
-    name: &'a Text,
+    name: &'a Shared<Text>,
 ) -> Result<Transfer<'a>, Fault>
     ensures effect { (s : StoryTree) (rest : Rest) (evaluating : Bool) (fresh : Option ℕ) (page : Page)
         → let seen = seen_by s threads.old rest in Performs s (on_popped (popped stack.old.items) (assign_asks globals.now seen.thread name.now))

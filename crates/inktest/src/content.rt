@@ -1,7 +1,7 @@
 //! Content as tables have it.
 
 use crate::answer::{Answer, text};
-use ink_model::{Content, Destination, Leaf, Text};
+use ink_model::{Content, Destination, Leaf, Shared, Text};
 use std::alloc::{AllocError, Global};
 use std::collections::BTreeMap;
 
@@ -34,15 +34,11 @@ pub(crate) fn shown_leaf(alloc: Global, leaf: Option<&Leaf>) -> Answer {
 pub(crate) fn show_content(text: &mut String, content: &Content) -> Result<(), AllocError> {
     match content {
         Content::Leaf(leaf) => show_leaf(text, leaf),
-        Content::Container {
-            name,
-            flags,
-            content,
-            named,
-        } => {
-            let name = name.as_ref().map_or("-", Text::as_str);
-            write!(text, "container {name} {flags} {}", content.len())?;
-            show_keys(text, named)
+        Content::Container(container) => {
+            let name = container.name.as_ref().map_or("-", Text::as_str);
+            let width = container.content.len();
+            write!(text, "container {name} {} {width}", container.flags)?;
+            show_keys(text, &container.named)
         }
     }
 }
@@ -85,7 +81,7 @@ fn show_leaf(text: &mut String, leaf: &Leaf) -> Result<(), AllocError> {
     }
 }
 
-fn show_name(text: &mut String, form: &str, name: &Text) -> Result<(), AllocError> {
+fn show_name(text: &mut String, form: &str, name: &Shared<Text>) -> Result<(), AllocError> {
     write!(text, "{form} {}", name.as_str())
 }
 
