@@ -1,9 +1,8 @@
-use Rattle.std.proofs.Common.{◌≡◌, ◌∙◌, OnOk, Some, ap, option_map, subst, sym}
+use Rattle.std.proofs.Common.{◌∙◌, OnOk, Some, ap, option_map, subst, sym}
 use Rattle.ink_check.specs.Words.{story_tree}
 use Rattle.ink_model.specs.Effect.{context_of, fields_of}
 use Rattle.ink_model.specs.Memory.{content_asks}
 use Rattle.ink_model.specs.Step.{effect}
-use Rattle.ink_model.specs.Tree.{leaf}
 use Rattle.ink_model.specs.View.{view}
 use Rattle.ink_step.specs.Performs.{Keeps, KeepsChoices, Performs}
 use Rattle.ink_step.specs.Words.{config_of}
