@@ -10,7 +10,7 @@ use Rattle.ink_host.specs.declared.objects.Called.{Called}
 use Rattle.ink_host.specs.declared.objects.FnKind.TheVariants as kind
 use Rattle.ink_host.specs.declared.objects.Seen.{Seen}
 use Rattle.ink_model.specs.Asks.{binding_asks, external_asks, so_where, takes_arguments, where_popped}
-use Rattle.ink_model.specs.Effect.{Effect, Fields, Landing as Goal, Asks, Calls, Done, Ends, Fails, Forks, Lands, Moves, Offers, Returns, Stores, or_else, or_fault}
+use Rattle.ink_model.specs.Effect.{Effect, Fields, Landing as Goal, Asks, Calls, Fails, Moves, or_else, or_fault}
 use Rattle.ink_model.specs.Events.{calls}
 use Rattle.ink_model.specs.Host.{Binding, pure_function, shares, turn_function}
 use Rattle.ink_model.specs.Place.{knot, landed}
@@ -133,17 +133,8 @@ module _ (s : StoryTree) (n : ℕ) (asks : Bool) (new : Fields) where
 
   -- what asks no turn function
   pub uncalled : (e : Effect) → is_asking e ≡ false → (r : Result Transfer Fault) → Performs s asks e new r → PerformsCall s n asks e [] new r
-  uncalled (Moves f) other r h = (refl, h)
-  uncalled (Stores t f) other r h = (refl, h)
-  uncalled (Offers choices f) other r h = (refl, h)
-  uncalled (Lands to f) other r h = (refl, h)
-  uncalled (Calls k to f) other r h = (refl, h)
-  uncalled (Returns k to f) other r h = (refl, h)
-  uncalled (Forks f) other r h = (refl, h)
-  uncalled (Done f) other r h = (refl, h)
-  uncalled (Ends f) other r h = (refl, h)
   uncalled (Asks name arguments f) other r h = absurd (cc)
-  uncalled (Fails g) other r h = (refl, h)
+  uncalled e other r h = (refl, h)
 
   -- a call once no condition keeps from it
   pub as_wanted : (so : Fields → Effect) (e : Effect) (wanted : Bool) (es : List Event) (last : Fields) (r : Result Transfer Fault) → e ≡ so new → wanted ≡ asks

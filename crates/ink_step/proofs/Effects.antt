@@ -1,6 +1,6 @@
 -- What performing does where a call of it fails.
 use Rattle.std.proofs.Common.{◌≡◌, ap, sym, refl, subst, inl, inr, List, Result, Ok, Err, Bool, true}
-use Rattle.ink_model.specs.Effect.{Fields, Effect, Moves, Stores, Offers, Lands, Calls, Returns, Forks, Done, Ends, Asks, Fails, or_fault}
+use Rattle.ink_model.specs.Effect.{Fields, Effect, Moves, Fails, or_fault}
 use Rattle.ink_model.specs.Memory.{Gives, Leaves, asks_for}
 use Rattle.ink_model.specs.Tree.{StoryTree}
 use Rattle.ink_model.specs.declared.fault.Fault.{Fault}
@@ -12,17 +12,8 @@ use Rattle.ink_step.specs.declared.transfer.Transfer.TheVariants as transfer
 module _ (s : StoryTree) (asks : Bool) (new : Fields) where
   -- where memory was refused
   pub short : (e : Effect) → asks ≡ true → Performs s asks e new (Err OutOfMemory)
-  short (Moves f) a = (refl, a)
-  short (Stores t f) a = (refl, a)
-  short (Offers cs f) a = (refl, a)
-  short (Lands p f) a = (refl, a)
-  short (Calls k p f) a = (refl, a)
-  short (Returns k to f) a = (refl, a)
-  short (Forks f) a = (refl, a)
-  short (Done f) a = (refl, a)
-  short (Ends f) a = (refl, a)
-  short (Asks name arguments f) a = (refl, a)
   short (Fails f) a = inr (refl, a)
+  short e a = (refl, a)
 
   -- the fault of a call whose result goes into the effect
   pub refused : {A : Type 0} (rule : Result A Fault) (so : A → Effect) (f : Fault) → Gives {A = A} (Err f) rule → (asks_for rule ≡ true → asks ≡ true)

@@ -7,7 +7,7 @@ use Rattle.ink_model.specs.Effect.{Fields, Effect, Moves, Stores, Offers, Lands,
 use Rattle.ink_model.specs.Flow.{Written, Reached, Reaches, Halts, Breaks, called, depth_of, forked, halt, moved_on, reach, returned}
 use Rattle.ink_model.specs.Frames.{ThreadOf, ThreadsOf, base_threads, map_threads, mode_in, on_top}
 use Rattle.ink_model.specs.Memory.{asks}
-use Rattle.ink_model.specs.Move.{Outcome, Next, Stop, Wants, Faults, end_all, finish, going, landing, may_enter, move, place_to, reached_in, with_flow, written_in}
+use Rattle.ink_model.specs.Move.{Outcome, Next, Stop, Faults, end_all, finish, going, landing, may_enter, move, place_to, reached_in, with_flow, written_in}
 use Rattle.ink_model.specs.MoveMemory.{flow_asks, move_asks, moved_asks}
 use Rattle.ink_model.specs.Place.{next_place}
 use Rattle.ink_model.specs.Host.{Bound}
@@ -42,52 +42,32 @@ or_first a b h = subst (λ x. x || b ≡ true) (sym h) refl
 -- where memory was refused
 pub ends_short : (asking : Bool) (o : Outcome) (globals : Values) (d : Configuration) (f : Fault) → (f ≡ OutOfMemory) × (asking ≡ true) → d.shared.globals ≡ globals
     → StepEnds asking o globals d (Err f)
-ends_short asking (Next c) globals d f short same = (short, same)
-ends_short asking (Stop c) globals d f short same = (short, same)
-ends_short asking (Wants name arguments after c) globals d f short same = (short, same)
 ends_short asking (Faults g) globals d f short same = (inr short, same)
+ends_short asking o globals d f short same = (short, same)
 
 -- the same where more asks for memory
 module _ (asking more : Bool) where
   pub ends_more : (o : Outcome) (globals : Values) (d : Configuration) (r : Result StepEnd Fault) → StepEnds more o globals d r → StepEnds (asking || more) o globals d r
   ends_more (Next c) globals d (Ok ends.Went) h = h
-  ends_more (Next c) globals d (Ok ends.Stopped) h = absurd h
-  ends_more (Next c) globals d (Ok ends.WantsCall) h = absurd h
-  ends_more (Next c) globals d (Err f) h = ((h.0.0, or_more asking more h.0.1), h.1)
-  ends_more (Stop c) globals d (Ok ends.Went) h = absurd h
   ends_more (Stop c) globals d (Ok ends.Stopped) h = h
-  ends_more (Stop c) globals d (Ok ends.WantsCall) h = absurd h
-  ends_more (Stop c) globals d (Err f) h = ((h.0.0, or_more asking more h.0.1), h.1)
-  ends_more (Wants name arguments after c) globals d (Ok ends.Went) h = absurd h
-  ends_more (Wants name arguments after c) globals d (Ok ends.Stopped) h = absurd h
-  ends_more (Wants name arguments after c) globals d (Ok ends.WantsCall) h = absurd h
-  ends_more (Wants name arguments after c) globals d (Err f) h = ((h.0.0, or_more asking more h.0.1), h.1)
-  ends_more (Faults g) globals d (Ok ends.Went) h = absurd h
-  ends_more (Faults g) globals d (Ok ends.Stopped) h = absurd h
-  ends_more (Faults g) globals d (Ok ends.WantsCall) h = absurd h
   ends_more (Faults g) globals d (Err f) h = (elim h.0 [ inl is ↦ inl is | inr short ↦ inr (short.0, or_more asking more short.1) ], h.1)
+  ends_more o globals d (Err f) h = ((h.0.0, or_more asking more h.0.1), h.1)
+  ends_more o globals d (Ok end) h = absurd h
 
 -- ---- where flow went
 
 -- a fault on the way
 pub ends_broken : (asking : Bool) (c d : Configuration) (globals : Values) (reached : Reached (List Part)) (ts : ThreadsOf (List Part)) (w : Written) (f : Fault)
     → ReachesAs asking reached ts w (Err f) → d.shared.globals ≡ globals → StepEnds asking (reached_in c reached) globals d (Err f)
-ends_broken asking c d globals (Reaches us v) ts w f h same = (h, same)
-ends_broken asking c d globals (Halts us v) ts w f h same = (h, same)
 ends_broken asking c d globals (Breaks g) ts w f h same = (h, same)
+ends_broken asking c d globals reached ts w f h same = (h, same)
 
 -- none, and so what was stored before is of no matter
 pub ends_there : (asking : Bool) (c : Configuration) (globals : Values) (reached : Reached (List Part)) (ts : ThreadsOf (List Part)) (w : Written) (end : StepEnd)
     → ReachesAs asking reached ts w (Ok end) → StepEnds asking (reached_in c reached) globals (with_flow ts w c) (Ok end)
 ends_there asking c globals (Reaches us v) ts w ends.Went h = ap (λ t. with_flow t w c) h.0 ∙ ap (λ x. with_flow us x c) h.1
-ends_there asking c globals (Reaches us v) ts w ends.Stopped h = absurd h
-ends_there asking c globals (Reaches us v) ts w ends.WantsCall h = absurd h
-ends_there asking c globals (Halts us v) ts w ends.Went h = absurd h
 ends_there asking c globals (Halts us v) ts w ends.Stopped h = ap (λ t. with_flow t w c) h.0 ∙ ap (λ x. with_flow us x c) h.1
-ends_there asking c globals (Halts us v) ts w ends.WantsCall h = absurd h
-ends_there asking c globals (Breaks g) ts w ends.Went h = absurd h
-ends_there asking c globals (Breaks g) ts w ends.Stopped h = absurd h
-ends_there asking c globals (Breaks g) ts w ends.WantsCall h = absurd h
+ends_there asking c globals reached ts w end h = absurd h
 
 pub ends_reached : (asking : Bool) (c : Configuration) (reached : Reached (List Part)) (ts : ThreadsOf (List Part)) (w : Written) (r : Result StepEnd Fault)
     → ReachesAs asking reached ts w r → StepEnds asking (reached_in c reached) c.shared.globals (with_flow ts w c) r
@@ -106,30 +86,12 @@ module _ (s : StoryTree) (asking : Bool) (c d : Configuration) (r : Result StepE
   pub goes_after_text : (e : Effect) → Performs s asking e (fields_of c) (Ok transfer.Wrote)
       → StepEnds (moved_asks (next_place s) stale_now.flow.threads (written_in c)) (going (moved_on (next_place s)) stale_now) c.shared.globals d r → Follows e
   goes_after_text (Moves f) h go = subst (λ g. Follows (Moves g)) (sym h) (ends_more asking _ _ _ _ r go)
-  goes_after_text (Stores t f) h go = absurd h
-  goes_after_text (Offers cs f) h go = absurd h
-  goes_after_text (Lands p f) h go = absurd h
-  goes_after_text (Calls k p f) h go = absurd h
-  goes_after_text (Returns k to f) h go = absurd h
-  goes_after_text (Forks f) h go = absurd h
-  goes_after_text (Done f) h go = absurd h
-  goes_after_text (Ends f) h go = absurd h
-  goes_after_text (Asks name arguments f) h go = absurd h
-  goes_after_text (Fails f) h go = absurd h
+  goes_after_text e h go = absurd h
 
   pub goes_nowhere : (e : Effect) → Performs s asking e (fields_of c) (Ok transfer.End)
       → StepEnds false (reached_in (ended c) (halt (base_threads None) (written_in c))) c.shared.globals d r → Follows e
-  goes_nowhere (Moves f) h go = absurd h
-  goes_nowhere (Stores t f) h go = absurd h
-  goes_nowhere (Offers cs f) h go = absurd h
-  goes_nowhere (Lands p f) h go = absurd h
-  goes_nowhere (Calls k p f) h go = absurd h
-  goes_nowhere (Returns k to f) h go = absurd h
-  goes_nowhere (Forks f) h go = absurd h
-  goes_nowhere (Done f) h go = absurd h
   goes_nowhere (Ends f) h go = subst (λ g. Follows (Ends g)) h (ends_more asking _ _ _ _ r go)
-  goes_nowhere (Asks name arguments f) h go = absurd h
-  goes_nowhere (Fails f) h go = absurd h
+  goes_nowhere e h go = absurd h
 
 -- ---- a step
 
@@ -142,17 +104,8 @@ ends_unperformed s asking more e new c d globals f h same = by e h
     short o k = ends_short (asking || more) o globals d f (k.0, or_first asking more k.1) same
 
     by : (e : Effect) → Performs s asking e new (Err f) → StepEnds (asking || more) (move s e c) globals d (Err f)
-    by (Moves g) k = short (move s (Moves g) c) k
-    by (Stores t g) k = short (move s (Stores t g) c) k
-    by (Offers cs g) k = short (move s (Offers cs g) c) k
-    by (Lands p g) k = short (move s (Lands p g) c) k
-    by (Calls kind p g) k = short (move s (Calls kind p g) c) k
-    by (Returns kind to g) k = short (move s (Returns kind to g) c) k
-    by (Forks g) k = short (move s (Forks g) c) k
-    by (Done g) k = short (move s (Done g) c) k
-    by (Ends g) k = short (move s (Ends g) c) k
-    by (Asks name arguments g) k = short (move s (Asks name arguments g) c) k
     by (Fails g) k = (elim k [ inl is ↦ inl is | inr refused ↦ inr (refused.0, or_first asking more refused.1) ], same)
+    by e k = short (move s e c) k
 
 -- performing changes the fields, temporaries and choices alone, which a move takes from the effect
 module _ (s : StoryTree) (old mid : Machine) (safely : mid.safe ≡ old.safe) (counted : mid.counts ≡ old.counts) (turned : mid.turn ≡ old.turn) where
@@ -213,18 +166,19 @@ module _ (s : StoryTree) (old mid : Machine) (safely : mid.safe ≡ old.safe) (c
   goes_alike (Asks name arguments f) = tt
   goes_alike (Fails g) = refl
 
+  abbrev asks_in : Effect → Configuration → Bool
+  asks_in e c = flow_asks s e (counts_in s old.counts) c.flow.threads (written_in c)
+
   asks_alike : (e : Effect) → move_asks s e (kept e) ≡ move_asks s e (config_of s old)
-  asks_alike (Moves f) = ap (λ c. flow_asks s (Moves f) (counts_in s old.counts) c.flow.threads (written_in c)) (moving_alike f f f.wrote)
-  asks_alike (Stores t f) = ap (λ c. flow_asks s (Stores t f) (counts_in s old.counts) c.flow.threads (written_in c)) (storing_alike t f f f.wrote)
-  asks_alike (Offers cs f) = ap (λ c. flow_asks s (Offers cs f) (counts_in s old.counts) c.flow.threads (written_in c)) (offering_alike cs f f f.wrote)
-  asks_alike (Lands to f) = ap (λ c. flow_asks s (Lands to f) (counts_in s old.counts) c.flow.threads (written_in c)) (moving_alike f f f.wrote)
-  asks_alike (Calls k to f) = ap (λ c. flow_asks s (Calls k to f) (counts_in s old.counts) c.flow.threads (written_in c)) (moving_alike f f f.wrote)
-  asks_alike (Returns k to f) = ap (λ c. flow_asks s (Returns k to f) (counts_in s old.counts) c.flow.threads (written_in c)) (moving_alike f f f.wrote)
-  asks_alike (Forks f) = ap (λ c. flow_asks s (Forks f) (counts_in s old.counts) c.flow.threads (written_in c)) (moving_alike f f f.wrote)
-  asks_alike (Done f) = ap (λ c. flow_asks s (Done f) (counts_in s old.counts) c.flow.threads (written_in c)) (moving_alike f f f.wrote)
-  asks_alike (Ends f) = refl
-  asks_alike (Asks name arguments f) = refl
-  asks_alike (Fails g) = refl
+  asks_alike (Moves f) = ap (asks_in (Moves f)) (moving_alike f f f.wrote)
+  asks_alike (Stores t f) = ap (asks_in (Stores t f)) (storing_alike t f f f.wrote)
+  asks_alike (Offers cs f) = ap (asks_in (Offers cs f)) (offering_alike cs f f f.wrote)
+  asks_alike (Lands to f) = ap (asks_in (Lands to f)) (moving_alike f f f.wrote)
+  asks_alike (Calls k to f) = ap (asks_in (Calls k to f)) (moving_alike f f f.wrote)
+  asks_alike (Returns k to f) = ap (asks_in (Returns k to f)) (moving_alike f f f.wrote)
+  asks_alike (Forks f) = ap (asks_in (Forks f)) (moving_alike f f f.wrote)
+  asks_alike (Done f) = ap (asks_in (Done f)) (moving_alike f f f.wrote)
+  asks_alike e = refl
 
   -- of a whole step
   abbrev Steps : Bool → Effect → Configuration → Values → Configuration → Result StepEnd Fault → Type 0
@@ -247,50 +201,17 @@ module _ (s : StoryTree) (old mid : Machine) (safely : mid.safe ≡ old.safe) (c
 
       by : (e : Effect) → move_asks s e (kept e) ≡ move_asks s e (config_of s old) → Alike e → Steps asking e (kept e) globals d r → Steps asking e (config_of s old) globals d r
       by (Asks name arguments f) asks goes alike = waits name arguments f r alike
-      by (Moves f) asks goes alike = moves (Moves f) asks goes alike
-      by (Stores t f) asks goes alike = moves (Stores t f) asks goes alike
-      by (Offers cs f) asks goes alike = moves (Offers cs f) asks goes alike
-      by (Lands to f) asks goes alike = moves (Lands to f) asks goes alike
-      by (Calls k to f) asks goes alike = moves (Calls k to f) asks goes alike
-      by (Returns k to f) asks goes alike = moves (Returns k to f) asks goes alike
-      by (Forks f) asks goes alike = moves (Forks f) asks goes alike
-      by (Done f) asks goes alike = moves (Done f) asks goes alike
-      by (Ends f) asks goes alike = moves (Ends f) asks goes alike
-      by (Fails g) asks goes alike = moves (Fails g) asks goes alike
+      by e asks goes alike = moves e asks goes alike
 
 -- after performing, the thread has the temporaries that the effect stores
 pub kept_stays : (s : StoryTree) (e : Effect) (old new : ThreadsOf Spot) → Keeps s e old new → Keeps s e new new
-kept_stays s e old new keeps = by e keeps
-  where
-    by : (e : Effect) → Keeps s e old new → Keeps s e new new
-    by (Moves f) k = refl
-    by (Stores t f) k = k ∙ ap (λ u. record { thread = mode_in new.thread.frame.evaluating t; below = u.below }) (sym k)
-    by (Offers cs f) k = refl
-    by (Lands to f) k = refl
-    by (Calls kind to f) k = refl
-    by (Returns kind to f) k = refl
-    by (Forks f) k = refl
-    by (Done f) k = refl
-    by (Ends f) k = refl
-    by (Asks name arguments f) k = refl
-    by (Fails g) k = refl
+kept_stays s (Stores t f) old new keeps = keeps ∙ ap (λ u. record { thread = mode_in new.thread.frame.evaluating t; below = u.below }) (sym keeps)
+kept_stays s e old new keeps = refl
 
 -- and the choices are those that it offers
 pub offered_stay : (s : StoryTree) (e : Effect) (old new : List (ChoiceOf Spot)) → KeepsChoices s e old new → KeepsChoices s e new new
-offered_stay s e old new keeps = by e keeps
-  where
-    by : (e : Effect) → KeepsChoices s e old new → KeepsChoices s e new new
-    by (Moves f) k = refl
-    by (Stores t f) k = refl
-    by (Offers cs f) k = k
-    by (Lands to f) k = refl
-    by (Calls kind to f) k = refl
-    by (Returns kind to f) k = refl
-    by (Forks f) k = refl
-    by (Done f) k = refl
-    by (Ends f) k = refl
-    by (Asks name arguments f) k = refl
-    by (Fails g) k = refl
+offered_stay s (Offers cs f) old new keeps = keeps
+offered_stay s e old new keeps = refl
 
 -- where flow has stopped it stays stopped
 pub stands_still : (s : StoryTree) (b : Bound) (c : Configuration) → current_place c ≡ None → step s b c ≡ Stop c

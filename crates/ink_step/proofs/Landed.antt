@@ -3,7 +3,7 @@ use Rattle.std.proofs.Common.{◌≡◌, ◌∙◌, ◌||◌, ◌&&◌, ap, sym,
 use Rattle.ink_model.specs.Asks.{going_in_asks}
 use Rattle.ink_model.specs.Choosing.{following, following_asks}
 use Rattle.ink_model.specs.Configuration.{Configuration, current_place, with_choices, with_threads}
-use Rattle.ink_model.specs.Effect.{Effect, Moves, Stores, Offers, Lands, Calls, Returns, Forks, Done, Ends, Asks, Fails, context_of, fields_of}
+use Rattle.ink_model.specs.Effect.{Effect, Moves, Stores, Offers, Lands, Calls, Returns, context_of, fields_of}
 use Rattle.ink_model.specs.Flow.{Written, moved_on, Reached, Reaches, Halts, Breaks, called, reach, returned}
 use Rattle.ink_model.specs.Frames.{ThreadsOf, mode_in, on_top}
 use Rattle.ink_model.specs.Memory.{asks, asks_at, content_asks}
@@ -48,21 +48,10 @@ module _ (s : StoryTree) (asking : Bool) (c d : Configuration) (globals : Values
   pub lands : (enters : Bool) (reached : Reached (List Part)) (end : StepEnd) → (enters ≡ true → IsGoing reached) → ReachesAs asking reached ts w (Ok end)
       → d ≡ cond enters (entering_around s (with_flow ts w c)) (with_flow ts w c) → Lands_as enters reached (Ok end)
   lands true (Reaches us v) ends.Went goes h is = is ∙ ap (λ t. entering_around s (with_flow t w c)) h.0 ∙ ap (λ x. entering_around s (with_flow us x c)) h.1
-  lands true (Reaches us v) ends.Stopped goes h is = absurd h
-  lands true (Reaches us v) ends.WantsCall goes h is = absurd h
   lands true (Halts us v) end goes h is = absurd (goes refl)
-  lands true (Breaks g) ends.Went goes h is = absurd h
-  lands true (Breaks g) ends.Stopped goes h is = absurd h
-  lands true (Breaks g) ends.WantsCall goes h is = absurd h
   lands false (Reaches us v) ends.Went goes h is = is ∙ ap (λ t. with_flow t w c) h.0 ∙ ap (λ x. with_flow us x c) h.1
-  lands false (Reaches us v) ends.Stopped goes h is = absurd h
-  lands false (Reaches us v) ends.WantsCall goes h is = absurd h
-  lands false (Halts us v) ends.Went goes h is = absurd h
   lands false (Halts us v) ends.Stopped goes h is = is ∙ ap (λ t. with_flow t w c) h.0 ∙ ap (λ x. with_flow us x c) h.1
-  lands false (Halts us v) ends.WantsCall goes h is = absurd h
-  lands false (Breaks g) ends.Went goes h is = absurd h
-  lands false (Breaks g) ends.Stopped goes h is = absurd h
-  lands false (Breaks g) ends.WantsCall goes h is = absurd h
+  lands enters reached end goes h is = absurd h
 
   module _ (f : Fault) (same : d.shared.globals ≡ globals) where
     -- memory for a row was refused
@@ -70,22 +59,15 @@ module _ (s : StoryTree) (asking : Bool) (c d : Configuration) (globals : Values
         → f ≡ OutOfMemory → (enters && adds_rows s (around s ts) c.shared.counts) ≡ true → Lands_as enters reached (Err f)
     lands_short true (Reaches us v) ends.Went goes h short adds =
         ((short, or_more asking _ (ap (λ t. adds_rows s (around s t) c.shared.counts) (sym h.0) ∙ adds)), same)
-    lands_short true (Reaches us v) ends.Stopped goes h short adds = absurd h
-    lands_short true (Reaches us v) ends.WantsCall goes h short adds = absurd h
     lands_short true (Halts us v) end goes h short adds = absurd (goes refl)
-    lands_short true (Breaks g) ends.Went goes h short adds = absurd h
-    lands_short true (Breaks g) ends.Stopped goes h short adds = absurd h
-    lands_short true (Breaks g) ends.WantsCall goes h short adds = absurd h
+    lands_short true reached end goes h short adds = absurd h
     lands_short false reached end goes h short adds = absurd (true≢false (sym adds))
 
     -- a fault before
     pub lands_broken : (enters : Bool) (reached : Reached (List Part)) → ReachesAs asking reached ts w (Err f) → Lands_as enters reached (Err f)
-    lands_broken true (Reaches us v) h = ((h.0, or_first asking _ h.1), same)
-    lands_broken true (Halts us v) h = ((h.0, or_first asking _ h.1), same)
     lands_broken true (Breaks g) h = (elim h [ inl is ↦ inl is | inr short ↦ inr (short.0, or_first asking _ short.1) ], same)
-    lands_broken false (Reaches us v) h = ((h.0, or_first asking _ h.1), same)
-    lands_broken false (Halts us v) h = ((h.0, or_first asking _ h.1), same)
     lands_broken false (Breaks g) h = (elim h [ inl is ↦ inl is | inr short ↦ inr (short.0, or_first asking _ short.1) ], same)
+    lands_broken enters reached h = ((h.0, or_first asking _ h.1), same)
 
 -- ---- flow goes where a content sends it
 
@@ -108,81 +90,38 @@ module _ (s : StoryTree) (asking : Bool) (c d : Configuration) (r : Result StepE
   goes_on (Moves f) h has offers go = subst (λ g. Follows (Moves g)) h go
   goes_on (Stores t f) h has offers go = subst (λ g. Follows (Stores t g)) h (subst (λ ts. GoesOn asking (with_threads ts c)) has go)
   goes_on (Offers cs f) h has offers go = subst (λ g. Follows (Offers cs g)) h (subst (λ ds. GoesOn asking (with_choices ds c)) offers go)
-  goes_on (Lands l f) h has offers go = absurd h
-  goes_on (Calls k l f) h has offers go = absurd h
-  goes_on (Returns k l f) h has offers go = absurd h
-  goes_on (Forks f) h has offers go = absurd h
-  goes_on (Done f) h has offers go = absurd h
-  goes_on (Ends f) h has offers go = absurd h
-  goes_on (Asks name arguments f) h has offers go = absurd h
-  goes_on (Fails f) h has offers go = absurd h
+  goes_on e h has offers go = absurd h
 
   module _ (name : Name) (v : Value) where
     pub goes_storing : (e : Effect) → Performs s asking e (fields_of c) (Ok (transfer.Store name v)) → HasStored e
         → GoesOn asking c → Follows e
-    goes_storing (Moves f) h has go = absurd h
     goes_storing (Stores t f) h has go = subst (λ g. Follows (Stores t g)) (sym h.0) (subst (λ ts. GoesOn asking (with_threads ts c)) has go)
-    goes_storing (Offers cs f) h has go = absurd h
-    goes_storing (Lands l f) h has go = absurd h
-    goes_storing (Calls k l f) h has go = absurd h
-    goes_storing (Returns k l f) h has go = absurd h
-    goes_storing (Forks f) h has go = absurd h
-    goes_storing (Done f) h has go = absurd h
-    goes_storing (Ends f) h has go = absurd h
-    goes_storing (Asks name arguments f) h has go = absurd h
-    goes_storing (Fails f) h has go = absurd h
+    goes_storing e h has go = absurd h
 
   pub goes_there : (to : Landing) (e : Effect) → Performs s asking e (fields_of c) (Ok (transfer.Land to))
       → StepEnds (landed_asks s to.enters c.shared.counts (reach (place_of s to.place) c.flow.threads (written_in c))) (landing s to.enters (reach (place_of s to.place)) c) c.shared.globals d r
       → Follows e
-  goes_there to (Moves f) h go = absurd h
-  goes_there to (Stores t f) h go = absurd h
-  goes_there to (Offers cs f) h go = absurd h
   goes_there to (Lands l f) h go = subst (λ q. Follows (Lands q f)) (sym h.0) (subst (λ g. Follows (Lands (landing_of s to) g)) h.1
       (ends_more asking _ (landing s to.enters (reach (place_of s to.place)) c) _ d r go))
-  goes_there to (Calls k l f) h go = absurd h
-  goes_there to (Returns k l f) h go = absurd h
-  goes_there to (Forks f) h go = absurd h
-  goes_there to (Done f) h go = absurd h
-  goes_there to (Ends f) h go = absurd h
-  goes_there to (Asks name arguments f) h go = absurd h
-  goes_there to (Fails f) h go = absurd h
+  goes_there to e h go = absurd h
 
   pub goes_into : (kind : FrameKind) (to : Landing) (e : Effect) → Performs s asking e (fields_of c) (Ok (transfer.Call kind to))
       → StepEnds (nat_lt (frame_count c.flow.threads.thread) MAX_FRAMES || landed_asks s to.enters c.shared.counts (called kind (place_of s to.place) c.flow.threads (written_in c)))
       (landing s to.enters (called kind (place_of s to.place)) c) c.shared.globals d r
       → Follows e
-  goes_into kind to (Moves f) h go = absurd h
-  goes_into kind to (Stores t f) h go = absurd h
-  goes_into kind to (Offers cs f) h go = absurd h
-  goes_into kind to (Lands l f) h go = absurd h
   goes_into kind to (Calls k l f) h go = subst (λ x. Follows (Calls x l f)) (sym h.0) (subst (λ q. Follows (Calls kind q f)) (sym h.1)
       (subst (λ g. Follows (Calls kind (landing_of s to) g)) h.2 (ends_more asking _ (landing s to.enters (called kind (place_of s to.place)) c) _ d r go)))
-  goes_into kind to (Returns k l f) h go = absurd h
-  goes_into kind to (Forks f) h go = absurd h
-  goes_into kind to (Done f) h go = absurd h
-  goes_into kind to (Ends f) h go = absurd h
-  goes_into kind to (Asks name arguments f) h go = absurd h
-  goes_into kind to (Fails f) h go = absurd h
+  goes_into kind to e h go = absurd h
 
   pub goes_back : (kind : FrameKind) (back : Option Landing) (e : Effect) → Performs s asking e (fields_of c) (Ok (transfer.Return kind back))
       → StepEnds (returned_asks (next_place s) kind (place_to (option_map (landing_of s) back)) c.flow.threads (written_in c)
       || landed_asks s (may_enter (option_map (landing_of s) back)) c.shared.counts (returned (next_place s) kind (place_to (option_map (landing_of s) back)) c.flow.threads (written_in c)))
       (landing s (may_enter (option_map (landing_of s) back)) (returned (next_place s) kind (place_to (option_map (landing_of s) back))) c) c.shared.globals d r
       → Follows e
-  goes_back kind back (Moves f) h go = absurd h
-  goes_back kind back (Stores t f) h go = absurd h
-  goes_back kind back (Offers cs f) h go = absurd h
-  goes_back kind back (Lands l f) h go = absurd h
-  goes_back kind back (Calls k l f) h go = absurd h
   goes_back kind back (Returns k l f) h go = subst (λ x. Follows (Returns x l f)) (sym h.0) (subst (λ o. Follows (Returns kind o f)) (sym h.1)
       (subst (λ g. Follows (Returns kind (option_map (landing_of s) back) g)) h.2
       (ends_more asking _ (landing s (may_enter (option_map (landing_of s) back)) (returned (next_place s) kind (place_to (option_map (landing_of s) back))) c) _ d r go)))
-  goes_back kind back (Forks f) h go = absurd h
-  goes_back kind back (Done f) h go = absurd h
-  goes_back kind back (Ends f) h go = absurd h
-  goes_back kind back (Asks name arguments f) h go = absurd h
-  goes_back kind back (Fails f) h go = absurd h
+  goes_back kind back e h go = absurd h
 
 -- ---- a step
 

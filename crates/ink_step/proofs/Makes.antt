@@ -4,10 +4,10 @@ use Rattle.std.specs.List.{list_all}
 use Rattle.ink_model.specs.Asks.{asks, content_asks, external_asks, going_in_asks}
 use Rattle.ink_model.specs.Choosing.{following, following_asks}
 use Rattle.ink_model.specs.Configuration.{ChoiceOf, Configuration, current_place}
-use Rattle.ink_model.specs.Effect.{Context, Fields, Effect, Moves, Stores, Offers, Lands, Calls, Returns, Forks, Done, Ends, Asks, Fails, context_of, fields_of, or_else, or_fault}
+use Rattle.ink_model.specs.Effect.{Context, Fields, Effect, Stores, Offers, Asks, Fails, context_of, fields_of, or_else, or_fault}
 use Rattle.ink_model.specs.Frames.{ThreadsOf}
 use Rattle.ink_model.specs.Host.{Binding, Bound, fits_given, pure_function, turn_function, value_given}
-use Rattle.ink_model.specs.Move.{Outcome, Next, Stop, Wants, Faults, move}
+use Rattle.ink_model.specs.Move.{Outcome, Next, Wants, Faults, move}
 use Rattle.ink_model.specs.MoveMemory.{move_asks}
 use Rattle.ink_model.specs.Place.{entered, knot}
 use Rattle.ink_model.specs.Run.{answered}
@@ -15,7 +15,7 @@ use Rattle.ink_model.specs.Stack.{popped, pushed}
 use Rattle.ink_model.specs.Step.{effect, gone_in, step, step_at}
 use Rattle.ink_model.specs.Step.Host.{answering, arguments_on, call_bound, call_external, has_string, is_argument, with_arguments}
 use Rattle.ink_model.specs.Store.{Values}
-use Rattle.ink_model.specs.Tree.{StoryTree, leaf, container, at}
+use Rattle.ink_model.specs.Tree.{StoryTree, leaf, at}
 use Rattle.ink_model.specs.Value.{is_true}
 use Rattle.ink_model.specs.declared.content.Leaf.{Leaf}
 use Rattle.ink_model.specs.declared.content.Leaf.TheVariants as leaves
@@ -40,62 +40,48 @@ use Rattle.ink_tree.specs.declared.spot.Spot.{Spot}
 -- no content's effect is to be called
 ends_said : (asking : Bool) (o : Outcome) (globals : Values) (d : Configuration) → StepEnds asking o globals d (Ok ends.WantsCall) → ⊥
 ends_said asking (Next c) globals d h = h
-ends_said asking (Stop c) globals d h = h
-ends_said asking (Wants name arguments f c) globals d h = h
-ends_said asking (Faults f) globals d h = h
+ends_said asking o globals d h = h
 
 module _ (s : StoryTree) (b : Bound) (n : ℕ) where
   -- an outcome that wants no call
   pub unmade : (asking : Bool) (o : Outcome) (globals : Values) (d : Configuration) (r : Result StepEnd Fault) → wants o ≡ false → StepEnds asking o globals d r → StepMakes s b n asking o [] globals d r
-  unmade asking (Next c) globals d r unwanted h = (refl, h)
-  unmade asking (Stop c) globals d r unwanted h = (refl, h)
   unmade asking (Wants name arguments f c) globals d r unwanted h = absurd (cc)
-  unmade asking (Faults f) globals d r unwanted h = (refl, h)
+  unmade asking o globals d r unwanted h = (refl, h)
 
   -- where memory was refused before
   pub short_makes : (asking : Bool) (o : Outcome) (globals : Values) (d : Configuration) (f : Fault) → (f ≡ OutOfMemory) × (asking ≡ true) × (d.shared.globals ≡ globals)
       → StepMakes s b n asking o [] globals d (Err f)
-  short_makes asking (Next c) globals d f h = (refl, ((h.0, h.1), h.2))
-  short_makes asking (Stop c) globals d f h = (refl, ((h.0, h.1), h.2))
   short_makes asking (Wants name arguments k c) globals d f h = inr (refl, ap Err h.0, h.1, h.2)
   short_makes asking (Faults g) globals d f h = (refl, (inr (h.0, h.1), h.2))
+  short_makes asking o globals d f h = (refl, ((h.0, h.1), h.2))
 
   module _ (es : List Event) (globals : Values) (d : Configuration) where
     -- where more asks for memory
     pub makes_more : (r : Result StepEnd Fault) (more asking : Bool) (o : Outcome) → StepMakes s b n asking o es globals d r → StepMakes s b n (more || asking) o es globals d r
-    makes_more r more asking (Next c) h = (h.0, ends_more more asking (Next c) globals d r h.1)
-    makes_more r more asking (Stop c) h = (h.0, ends_more more asking (Stop c) globals d r h.1)
-    makes_more r more asking (Faults f) h = (h.0, ends_more more asking (Faults f) globals d r h.1)
     makes_more r more asking (Wants name arguments f c) h = elim h [
       | inl made ↦ inl made
       | inr short ↦ inr (short.0, short.1, or_more more asking short.2, short.3)
     ]
+    makes_more r more asking o h = (h.0, ends_more more asking o globals d r h.1)
 
     -- only a quiet step says that a call is wanted
     pub makes_said : (asking : Bool) (o : Outcome) → StepMakes s b n asking o es globals d (Ok ends.WantsCall) → ⊥
-    makes_said asking (Next c) h = h.1
-    makes_said asking (Stop c) h = h.1
-    makes_said asking (Faults f) h = h.1
     makes_said asking (Wants name arguments f c) h = elim h [
       | inl made ↦ ends_said _ (answered s f c made.0) globals d made.3
       | inr short ↦ absurd (cc)
     ]
+    makes_said asking o h = h.1
 
     -- a quiet step that wants no call
     pub quieted : (old : Configuration) (r : Result StepEnd Fault) (quiet asking : Bool) (o : Outcome) → (quiet ≡ true → wants o ≡ false) → StepMakes s b n asking o es globals d r
         → Steps quiet s b n asking o es globals old d r
-    quieted old r false asking o unwanted h = h
-    quieted old r true asking (Next c) unwanted h = h
-    quieted old r true asking (Stop c) unwanted h = h
-    quieted old r true asking (Faults f) unwanted h = h
     quieted old r true asking (Wants name arguments f c) unwanted h = absurd (let is = unwanted refl in cc)
+    quieted old r quiet asking o unwanted h = h
 
   -- and one that does
   pub said : (asking : Bool) (o : Outcome) (globals : Values) (c : Configuration) → wants o ≡ true → Steps true s b n asking o [] globals c c (Ok ends.WantsCall)
   said asking (Wants name arguments f d) globals c is = (refl, refl, refl)
-  said asking (Next d) globals c is = absurd (cc)
-  said asking (Stop d) globals c is = absurd (cc)
-  said asking (Faults f) globals c is = absurd (cc)
+  said asking o globals c is = absurd (cc)
 
 -- ---- effects of calls
 
@@ -138,29 +124,11 @@ module _ (b : Bound) where
   -- which keeps threads and choices
   pub keeps_call : (s : StoryTree) (e : Effect) (ts : ThreadsOf Spot) → IsCall b e → Keeps s e ts ts
   keeps_call s (Stores t f) ts is = absurd is
-  keeps_call s (Offers cs f) ts is = absurd is
-  keeps_call s (Asks name arguments f) ts is = refl
-  keeps_call s (Moves f) ts is = refl
-  keeps_call s (Lands to f) ts is = refl
-  keeps_call s (Calls k to f) ts is = refl
-  keeps_call s (Returns k to f) ts is = refl
-  keeps_call s (Forks f) ts is = refl
-  keeps_call s (Done f) ts is = refl
-  keeps_call s (Ends f) ts is = refl
-  keeps_call s (Fails g) ts is = refl
+  keeps_call s e ts is = refl
 
   pub offers_call : (s : StoryTree) (e : Effect) (choices : List (ChoiceOf Spot)) → IsCall b e → KeepsChoices s e choices choices
-  offers_call s (Stores t f) choices is = absurd is
   offers_call s (Offers cs f) choices is = absurd is
-  offers_call s (Asks name arguments f) choices is = refl
-  offers_call s (Moves f) choices is = refl
-  offers_call s (Lands to f) choices is = refl
-  offers_call s (Calls k to f) choices is = refl
-  offers_call s (Returns k to f) choices is = refl
-  offers_call s (Forks f) choices is = refl
-  offers_call s (Done f) choices is = refl
-  offers_call s (Ends f) choices is = refl
-  offers_call s (Fails g) choices is = refl
+  offers_call s e choices is = refl
 
 -- ---- a call that was performed
 
@@ -186,14 +154,7 @@ module _ (s : StoryTree) (b : Bound) (n : ℕ) (asking : Bool) (c d : Configurat
     ]
     makes (Stores t f) es is h = absurd is
     makes (Offers cs f) es is h = absurd is
-    makes (Moves f) es is h = other (Moves f) es refl h.0 (ended asking (Moves f) is h.1)
-    makes (Lands to f) es is h = other (Lands to f) es refl h.0 (ended asking (Lands to f) is h.1)
-    makes (Calls k to f) es is h = other (Calls k to f) es refl h.0 (ended asking (Calls k to f) is h.1)
-    makes (Returns k to f) es is h = other (Returns k to f) es refl h.0 (ended asking (Returns k to f) is h.1)
-    makes (Forks f) es is h = other (Forks f) es refl h.0 (ended asking (Forks f) is h.1)
-    makes (Done f) es is h = other (Done f) es refl h.0 (ended asking (Done f) is h.1)
-    makes (Ends f) es is h = other (Ends f) es refl h.0 (ended asking (Ends f) is h.1)
-    makes (Fails g) es is h = other (Fails g) es refl h.0 (ended asking (Fails g) is h.1)
+    makes e es is h = other e es refl h.0 (ended asking e is h.1)
 
 err_same : (f g : Fault) → let r : Result Transfer Fault = Err f in r ≡ Err g → f ≡ g
 err_same f g e = cc
@@ -222,31 +183,11 @@ module _ (s : StoryTree) (b : Bound) (p : List Part) (seen : Context) (f : Field
     where
       same : (j k : Call) → Some j ≡ Some k → j ≡ k
       same j k e = cc
-  found_leaf (leaves.Text t) k is = absurd (cc)
-  found_leaf leaves.Newline k is = absurd (cc)
-  found_leaf leaves.Glue k is = absurd (cc)
-  found_leaf (leaves.Int z) k is = absurd (cc)
-  found_leaf (leaves.Bool t) k is = absurd (cc)
-  found_leaf leaves.Void k is = absurd (cc)
-  found_leaf (leaves.Target t) k is = absurd (cc)
-  found_leaf (leaves.Control o) k is = absurd (cc)
-  found_leaf (leaves.Op o) k is = absurd (cc)
-  found_leaf (leaves.Divert to c) k is = absurd (cc)
-  found_leaf (leaves.Declare x) k is = absurd (cc)
-  found_leaf (leaves.Assign x) k is = absurd (cc)
-  found_leaf (leaves.Variable x) k is = absurd (cc)
-  found_leaf (leaves.Pointer x y) k is = absurd (cc)
-  found_leaf (leaves.Call to c) k is = absurd (cc)
-  found_leaf (leaves.Tunnel to c) k is = absurd (cc)
-  found_leaf (leaves.DeclareTemp x) k is = absurd (cc)
-  found_leaf (leaves.AssignTemp x) k is = absurd (cc)
-  found_leaf (leaves.Count t) k is = absurd (cc)
-  found_leaf (leaves.Choice t x) k is = absurd (cc)
+  found_leaf l k is = absurd (cc)
 
   pub found_call : (found : Option StoryTree) (k : Call) → external_in found ≡ Some k → Found found k
-  found_call None k is = absurd (cc)
-  found_call (Some (container name flags content named)) k is = absurd (cc)
   found_call (Some (leaf l)) k is = found_leaf l k is
+  found_call found k is = absurd (cc)
 
 -- ---- whether a step wants a call
 

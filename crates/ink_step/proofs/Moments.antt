@@ -1,14 +1,13 @@
 -- Runs, moment by moment.
-use Rattle.std.proofs.Common.{◌≡◌, ◌∙◌, ◌⊎◌, ◌++◌, ◌∷◌, ℕ, zero, suc, Bool, true, false, List, Option, Some, None, is_some, map, Result, ◌+◌, ◌-◌, ◌≤◌, ◌<◌, ap, sym, refl, subst, inl, inr, [], Ok, Err, arith, append_assoc}
+use Rattle.std.proofs.Common.{◌≡◌, ◌∙◌, ◌⊎◌, ◌++◌, ◌∷◌, ℕ, zero, suc, Bool, true, false, List, Option, Some, None, is_some, Result, ◌+◌, ◌-◌, ◌≤◌, ◌<◌, ap, sym, refl, subst, inl, inr, [], Ok, Err, arith, append_assoc}
 use Rattle.std.proofs.lemmas.List.{append-nil, map-append}
-use Rattle.std.specs.List.{AllByRecursion}
 use Rattle.ink_model.specs.Configuration.{Configuration}
 use Rattle.ink_model.specs.Effect.{Fields}
 use Rattle.ink_model.specs.Events.{calls}
 use Rattle.ink_model.specs.Host.{Bound, turn_function}
-use Rattle.ink_model.specs.Memory.{CallsAt, GetsTo, asks}
+use Rattle.ink_model.specs.Memory.{GetsTo, asks}
 use Rattle.ink_model.specs.Move.{Outcome, Next, Stop, Wants, Faults}
-use Rattle.ink_model.specs.Run.{Made, Moment, At, Stopped, Faulted, Waits, answered, answers_of, came, cut_off, moment, moment_after, next, run}
+use Rattle.ink_model.specs.Run.{Made, Moment, At, Stopped, Faulted, answered, answers_of, came, cut_off, moment, moment_after, next, run}
 use Rattle.ink_model.specs.Step.{step}
 use Rattle.ink_model.specs.Store.{Values}
 use Rattle.ink_model.specs.Tree.{StoryTree}

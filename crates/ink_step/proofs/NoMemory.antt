@@ -189,14 +189,8 @@ opened_sound false vs page = λ h. absurd (cc)
 
 pointer_sound : {A : Type 0} (v : Option Value) (so : ℤ → List ℕ → Result A Fault) (otherwise : Result A Fault) → ((i : ℤ) (m : List ℕ) → Sound (so i m)) → Sound otherwise
     → Sound (on_pointer v so otherwise)
-pointer_sound None so otherwise h k = k
-pointer_sound (Some (value.Int z)) so otherwise h k = k
-pointer_sound (Some (value.Bool b)) so otherwise h k = k
-pointer_sound (Some (value.Text t)) so otherwise h k = k
-pointer_sound (Some (value.Target p)) so otherwise h k = k
 pointer_sound (Some (value.Pointer i m)) so otherwise h k = h i m
-pointer_sound (Some value.Void) so otherwise h k = k
-pointer_sound (Some (value.Tag t)) so otherwise h k = k
+pointer_sound o so otherwise h k = k
 
 module _ (globals : Values) (t : ThreadOf (List Part)) where
   value_at_sound : (o : Option (ℤ × List ℕ)) → Sound (value_at globals t o)

@@ -15,14 +15,8 @@ use Rattle.ink_model.specs.declared.value.Value.TheVariants as value
 
 on_pointer_same : {X : Type 0} (v : Option Value) (so also : ℤ → List ℕ → X) (otherwise : X) → ((i : ℤ) (m : List ℕ) → so i m ≡ also i m)
     → on_pointer v so otherwise ≡ on_pointer v also otherwise
-on_pointer_same None so also otherwise same = refl
-on_pointer_same (Some (value.Int z)) so also otherwise same = refl
-on_pointer_same (Some (value.Bool b)) so also otherwise same = refl
-on_pointer_same (Some (value.Text t)) so also otherwise same = refl
-on_pointer_same (Some (value.Target p)) so also otherwise same = refl
 on_pointer_same (Some (value.Pointer i m)) so also otherwise same = same i m
-on_pointer_same (Some value.Void) so also otherwise same = refl
-on_pointer_same (Some (value.Tag t)) so also otherwise same = refl
+on_pointer_same o so also otherwise same = refl
 
 module _ {P Q : Type 0} (f : P → Q) where
   pub count_renamed : (t : ThreadOf P) → frame_count (map_thread f t) ≡ frame_count t
@@ -142,14 +136,8 @@ module _ {P Q : Type 0} (f : P → Q) where
 
     left_on_pointer : (o : Option Value) (so : ℤ → List ℕ → Result (Values × ThreadOf P) Fault) (otherwise : Result (Values × ThreadOf P) Fault)
         → on_pointer o (λ i m. left_as (so i m)) (left_as otherwise) ≡ left_as (on_pointer o so otherwise)
-    left_on_pointer None so otherwise = refl
-    left_on_pointer (Some (value.Int z)) so otherwise = refl
-    left_on_pointer (Some (value.Bool b)) so otherwise = refl
-    left_on_pointer (Some (value.Text s)) so otherwise = refl
-    left_on_pointer (Some (value.Target p)) so otherwise = refl
     left_on_pointer (Some (value.Pointer i m)) so otherwise = refl
-    left_on_pointer (Some value.Void) so otherwise = refl
-    left_on_pointer (Some (value.Tag s)) so otherwise = refl
+    left_on_pointer o so otherwise = refl
 
     pub assign_renamed : (name : List ℕ) (v : Value) → assign globals (map_thread f t) name v ≡ left_as (assign globals t name v)
     assign_renamed name v =

@@ -1,11 +1,10 @@
 -- A run with its desk, step by step.
-use Rattle.std.proofs.Common.{◌≡◌, ◌∙◌, ◌++◌, ◌∷◌, ◌+◌, ◌<◌, ℕ, List, [], Option, Result, Ok, Err, ap, refl, subst, sym, false}
-use Rattle.std.specs.List.{AllByRecursion}
+use Rattle.std.proofs.Common.{◌≡◌, ◌∙◌, ◌++◌, ◌∷◌, ◌+◌, ◌<◌, ℕ, List, [], Option, Result, Ok, Err, ap, subst, false}
 use Rattle.ink_model.specs.Configuration.{Configuration}
-use Rattle.ink_model.specs.Events.{Made, answers_of, calls}
-use Rattle.ink_model.specs.Host.{Bound as Binds, nothing_bound, turn_function}
+use Rattle.ink_model.specs.Events.{Made, calls}
+use Rattle.ink_model.specs.Host.{Bound as Binds, nothing_bound}
 use Rattle.ink_model.specs.Memory.{asks}
-use Rattle.ink_model.specs.Run.{Stopped, moment}
+use Rattle.ink_model.specs.Run.{Stopped}
 use Rattle.ink_model.specs.Step.{step}
 use Rattle.ink_model.specs.Tree.{StoryTree}
 use Rattle.ink_model.specs.declared.fault.Fault.{Fault}

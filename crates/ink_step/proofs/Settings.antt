@@ -8,7 +8,7 @@ use Rattle.ink_model.specs.Rows.{name_order, row}
 use Rattle.ink_model.specs.Store.{Values, store, stored}
 use Rattle.ink_model.specs.Threads.{frame_count, with_temp}
 use Rattle.ink_model.specs.VariableMemory.{is_pointer, is_there, setting_asks}
-use Rattle.ink_model.specs.Variables.{assign, assign_at, chain_end, named, on_pointer, with_declared, with_held}
+use Rattle.ink_model.specs.Variables.{assign, assign_at, chain_end, named, on_pointer, with_held}
 use Rattle.ink_model.specs.declared.fault.Fault.{Fault}
 use Rattle.ink_model.specs.declared.fault.Fault.TheVariants.{NoTemp}
 use Rattle.ink_model.specs.declared.scope.Scope.{Scope}

@@ -2,10 +2,10 @@
 use Rattle.std.proofs.Common.{◌≡◌, ◌≢◌, ◌∙◌, ◌||◌, ap, sym, refl, subst, inl, inr, List, Bool, true, Option, Some, None, Result, Ok, Err}
 use Rattle.ink_model.specs.Choosing.{default_asks, default_choice, following, following_asks, stopped_by}
 use Rattle.ink_model.specs.Configuration.{ChoiceOf, Configuration, with_globals}
-use Rattle.ink_model.specs.Effect.{Fields, Effect, Moves, Stores, Offers, Lands, Calls, Returns, Forks, Done, Ends, Asks, Fails, with_fields, with_thread}
+use Rattle.ink_model.specs.Effect.{Fields, Effect, Stores, with_fields, with_thread}
 use Rattle.ink_model.specs.Flow.{Reached, Reaches, Halts, Breaks, moved_on}
 use Rattle.ink_model.specs.Frames.{ThreadOf}
-use Rattle.ink_model.specs.Move.{Outcome, Next, Stop, Wants, Faults, move, reached_in, written_in}
+use Rattle.ink_model.specs.Move.{Outcome, Next, Stop, Faults, move, reached_in, written_in}
 use Rattle.ink_model.specs.Place.{next_place}
 use Rattle.ink_model.specs.Store.{Values, store}
 use Rattle.ink_model.specs.Tree.{StoryTree}
@@ -26,52 +26,27 @@ use Rattle.ink_vars.specs.declared.places.Name.{Name}
 module _ (s : StoryTree) where
   -- a fault that came before a choice is followed
   pub broke : (a : Bool) (o : Outcome) (globals : Values) (d : Configuration) (f : Fault) → StepEnds a o globals d (Err f) → StepEnds (a || following_asks s o) (following s o) globals d (Err f)
-  broke a (Next x) globals d f h = ((h.0.0, or_first a _ h.0.1), h.1)
   broke a (Stop x) globals d f h = ends_short _ (stopped_by s (default_choice x.flow.choices) x) globals d f (h.0.0, or_first a _ h.0.1) h.1
-  broke a (Wants name arguments after x) globals d f h = ((h.0.0, or_first a _ h.0.1), h.1)
   broke a (Faults g) globals d f h = (elim h.0 [ inl is ↦ inl is | inr short ↦ inr (short.0, or_first a _ short.1) ], h.1)
+  broke a o globals d f h = ((h.0.0, or_first a _ h.0.1), h.1)
 
   -- ---- a global is stored after that
 
   following_storing : (e : Effect) (o : Outcome) → following s (storing_in e o) ≡ storing_in e (following s o)
-  following_storing (Stores t f) (Next c) = refl
   following_storing (Stores t f) (Stop c) = by (default_choice c.flow.choices)
     where
       by : (choice : Option (ChoiceOf (List Part))) → stopped_by s choice (with_globals f.globals c) ≡ storing_in (Stores t f) (stopped_by s choice c)
       by None = refl
       by (Some choice) = refl
-  following_storing (Stores t f) (Wants name arguments after c) = refl
-  following_storing (Stores t f) (Faults g) = refl
-  following_storing (Moves f) o = refl
-  following_storing (Offers cs f) o = refl
-  following_storing (Lands to f) o = refl
-  following_storing (Calls k to f) o = refl
-  following_storing (Returns k to f) o = refl
-  following_storing (Forks f) o = refl
-  following_storing (Done f) o = refl
-  following_storing (Ends f) o = refl
-  following_storing (Asks name arguments f) o = refl
-  following_storing (Fails g) o = refl
+  following_storing e o = refl
 
   asks_storing : (e : Effect) (o : Outcome) → following_asks s (storing_in e o) ≡ following_asks s o
-  asks_storing (Stores t f) (Next c) = refl
   asks_storing (Stores t f) (Stop c) = by (default_choice c.flow.choices)
     where
       by : (choice : Option (ChoiceOf (List Part))) → default_asks s choice (with_globals f.globals c) ≡ default_asks s choice c
       by None = refl
       by (Some choice) = refl
-  asks_storing (Stores t f) (Wants name arguments after c) = refl
-  asks_storing (Stores t f) (Faults g) = refl
-  asks_storing (Moves f) o = refl
-  asks_storing (Offers cs f) o = refl
-  asks_storing (Lands to f) o = refl
-  asks_storing (Calls k to f) o = refl
-  asks_storing (Returns k to f) o = refl
-  asks_storing (Forks f) o = refl
-  asks_storing (Done f) o = refl
-  asks_storing (Ends f) o = refl
-  asks_storing (Asks name arguments f) o = refl
-  asks_storing (Fails g) o = refl
+  asks_storing e o = refl
 
   module _ (globals : Values) (c : Configuration) where
     moves_storing : (e : Effect) → move s e c ≡ storing_in e (move s (unstored globals e) c)
@@ -81,16 +56,7 @@ module _ (s : StoryTree) where
         by (Reaches ts w) = refl
         by (Halts ts w) = refl
         by (Breaks g) = refl
-    moves_storing (Moves f) = refl
-    moves_storing (Offers cs f) = refl
-    moves_storing (Lands to f) = refl
-    moves_storing (Calls k to f) = refl
-    moves_storing (Returns k to f) = refl
-    moves_storing (Forks f) = refl
-    moves_storing (Done f) = refl
-    moves_storing (Ends f) = refl
-    moves_storing (Asks name arguments f) = refl
-    moves_storing (Fails g) = refl
+    moves_storing e = refl
 
     -- of a whole step
     pub ends_stored : (a : Bool) (e : Effect) (vs : Values) (d : Configuration) (r : Result StepEnd Fault)
@@ -105,85 +71,30 @@ module _ (s : StoryTree) where
   -- a fault is the same
   pub broke_storing : (whole : Bool) (e : Effect) (o : Outcome) (globals : Values) (d : Configuration) (f : Fault) → StepEnds whole o globals d (Err f) → StepEnds whole (storing_in e o) globals d (Err f)
   broke_storing whole (Stores t k) (Next c) globals d f h = h
-  broke_storing whole (Stores t k) (Stop c) globals d f h = h
-  broke_storing whole (Stores t k) (Wants name arguments after c) globals d f h = h
-  broke_storing whole (Stores t k) (Faults g) globals d f h = h
-  broke_storing whole (Moves k) o globals d f h = h
-  broke_storing whole (Offers cs k) o globals d f h = h
-  broke_storing whole (Lands to k) o globals d f h = h
-  broke_storing whole (Calls kind to k) o globals d f h = h
-  broke_storing whole (Returns kind to k) o globals d f h = h
-  broke_storing whole (Forks k) o globals d f h = h
-  broke_storing whole (Done k) o globals d f h = h
-  broke_storing whole (Ends k) o globals d f h = h
-  broke_storing whole (Asks name arguments k) o globals d f h = h
-  broke_storing whole (Fails g) o globals d f h = h
+  broke_storing whole e o globals d f h = h
 
   module _ (asks whole : Bool) (f : Fields) (c : Configuration) (same : f.globals ≡ c.shared.globals) where
     with_stored : (t : ThreadOf (List Part)) (k : Fields) (o : Outcome) (end : StepEnd) (new : Values) → new ≡ k.globals → StepEnds whole o c.shared.globals c (Ok end)
         → StepEnds whole (storing_in (Stores t k) o) c.shared.globals (with_globals new c) (Ok end)
     with_stored t k (Next x) ends.Went new is h = ap (with_globals new) h ∙ ap (λ vs. with_globals vs x) is
-    with_stored t k (Next x) ends.Stopped new is h = absurd h
-    with_stored t k (Next x) ends.WantsCall new is h = absurd h
-    with_stored t k (Stop x) ends.Went new is h = absurd h
     with_stored t k (Stop x) ends.Stopped new is h = ap (with_globals new) h ∙ ap (λ vs. with_globals vs x) is
-    with_stored t k (Stop x) ends.WantsCall new is h = absurd h
-    with_stored t k (Wants name arguments after x) ends.Went new is h = absurd h
-    with_stored t k (Wants name arguments after x) ends.Stopped new is h = absurd h
-    with_stored t k (Wants name arguments after x) ends.WantsCall new is h = absurd h
-    with_stored t k (Faults g) ends.Went new is h = absurd h
-    with_stored t k (Faults g) ends.Stopped new is h = absurd h
-    with_stored t k (Faults g) ends.WantsCall new is h = absurd h
+    with_stored t k o end new is h = absurd h
 
     module _ (name : Name) (v : Value) where
       pub stores_it : (e : Effect) (o : Outcome) (end : StepEnd) (new : Values) → new ≡ store (name_of name) v c.shared.globals → Performs s asks e f (Ok (transfer.Store name v))
           → StepEnds whole o c.shared.globals c (Ok end) → StepEnds whole (storing_in e o) c.shared.globals (with_globals new c) (Ok end)
-      stores_it (Stores t k) o end new is p h =
-          with_stored t k o end new (is ∙ ap (store (name_of name) v) (sym same) ∙ sym (ap (λ x. x.globals) p.0)) h
-      stores_it (Moves k) o end new is p h = absurd p
-      stores_it (Offers cs k) o end new is p h = absurd p
-      stores_it (Lands to k) o end new is p h = absurd p
-      stores_it (Calls kind to k) o end new is p h = absurd p
-      stores_it (Returns kind to k) o end new is p h = absurd p
-      stores_it (Forks k) o end new is p h = absurd p
-      stores_it (Done k) o end new is p h = absurd p
-      stores_it (Ends k) o end new is p h = absurd p
-      stores_it (Asks name arguments k) o end new is p h = absurd p
-      stores_it (Fails g) o end new is p h = absurd p
+      stores_it (Stores t k) o end new is p h = with_stored t k o end new (is ∙ ap (store (name_of name) v) (sym same) ∙ sym (ap (λ x. x.globals) p.0)) h
+      stores_it e o end new is p h = absurd p
 
       pub stores_short : (allows : asks ≡ true → whole ≡ true) (e : Effect) (o : Outcome) (d : Configuration) → d.shared.globals ≡ c.shared.globals
           → Performs s asks e f (Ok (transfer.Store name v)) → StepEnds whole (storing_in e o) c.shared.globals d (Err OutOfMemory)
       stores_short allows (Stores t k) o d kept p = ends_short whole (storing_in (Stores t k) o) c.shared.globals d OutOfMemory (refl, allows p.1) kept
-      stores_short allows (Moves k) o d kept p = absurd p
-      stores_short allows (Offers cs k) o d kept p = absurd p
-      stores_short allows (Lands to k) o d kept p = absurd p
-      stores_short allows (Calls kind to k) o d kept p = absurd p
-      stores_short allows (Returns kind to k) o d kept p = absurd p
-      stores_short allows (Forks k) o d kept p = absurd p
-      stores_short allows (Done k) o d kept p = absurd p
-      stores_short allows (Ends k) o d kept p = absurd p
-      stores_short allows (Asks name arguments k) o d kept p = absurd p
-      stores_short allows (Fails g) o d kept p = absurd p
+      stores_short allows e o d kept p = absurd p
 
     -- no global is stored
     pub stores_none : (e : Effect) (o : Outcome) (end : StepEnd) (t : Transfer) → ((name : Name) (v : Value) → t ≢ transfer.Store name v) → Performs s asks e f (Ok t)
         → StepEnds whole o c.shared.globals c (Ok end) → StepEnds whole (storing_in e o) c.shared.globals c (Ok end)
     stores_none (Stores t k) o end transfer.Next other p h = with_stored t k o end c.shared.globals (sym same ∙ ap (λ x. x.globals) p) h
     stores_none (Stores t k) o end (transfer.Store name v) other p h = absurd (other name v refl)
-    stores_none (Stores t k) o end transfer.Wrote other p h = absurd p
-    stores_none (Stores t k) o end (transfer.Land to) other p h = absurd p
-    stores_none (Stores t k) o end (transfer.Call kind to) other p h = absurd p
-    stores_none (Stores t k) o end (transfer.Return kind to) other p h = absurd p
-    stores_none (Stores t k) o end transfer.Fork other p h = absurd p
-    stores_none (Stores t k) o end transfer.Done other p h = absurd p
-    stores_none (Stores t k) o end transfer.End other p h = absurd p
-    stores_none (Moves k) o end t other p h = h
-    stores_none (Offers cs k) o end t other p h = h
-    stores_none (Lands to k) o end t other p h = h
-    stores_none (Calls kind to k) o end t other p h = h
-    stores_none (Returns kind to k) o end t other p h = h
-    stores_none (Forks k) o end t other p h = h
-    stores_none (Done k) o end t other p h = h
-    stores_none (Ends k) o end t other p h = h
-    stores_none (Asks name arguments k) o end t other p h = h
-    stores_none (Fails g) o end t other p h = h
+    stores_none (Stores t k) o end u other p h = absurd p
+    stores_none e o end t other p h = h

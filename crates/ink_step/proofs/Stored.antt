@@ -1,5 +1,5 @@
 -- What reading, declaring and assigning do, by the variable that is read or written.
-use Rattle.std.proofs.Common.{◌≡◌, ◌∙◌, ℕ, List, Bool, true, false, not, ◌||◌, Some, Result, Ok, Err, OnOk, ap, inl, inr, is_ok, is_some, refl, subst, sym}
+use Rattle.std.proofs.Common.{◌≡◌, ◌∙◌, ℕ, List, Bool, true, false, ◌||◌, Some, Result, Ok, Err, OnOk, ap, inl, inr, is_ok, refl, subst, sym}
 use Rattle.ink_model.specs.Effect.{Fields, Effect, Stores, or_fault, pushing}
 use Rattle.ink_model.specs.Frames.{ThreadOf, ThreadsOf, fresh_depth, map_thread}
 use Rattle.ink_model.specs.Memory.{Leaves}

@@ -4,7 +4,7 @@ use Rattle.ink_model.specs.Acceptance.{lands, leads}
 use Rattle.ink_model.specs.Choices.{added, make}
 use Rattle.ink_model.specs.Choosing.{default_choice, following, stopped_by}
 use Rattle.ink_model.specs.Configuration.{ChoiceOf, Configuration, ended, with_choices, with_safe}
-use Rattle.ink_model.specs.Effect.{Context, Fields, Effect, Moves, Stores, Offers, Lands, Calls, Returns, Forks, Done, Ends, Asks, Fails, or_else, or_fault, pushing, with_fields, with_thread, writing, writing_text}
+use Rattle.ink_model.specs.Effect.{Context, Fields, Effect, Moves, Stores, Offers, Lands, Calls, Returns, Forks, Done, Ends, or_else, or_fault, pushing, with_fields, with_thread, writing, writing_text}
 use Rattle.ink_model.specs.Flow.{Reached, Reaches, Halts, Breaks, Written, called, done, forked, halt, is_last, moved_on, reach, returned}
 use Rattle.ink_model.specs.Frames.{ThreadOf, ThreadsOf, base_threads}
 use Rattle.ink_model.specs.Host.{Bound}
@@ -23,7 +23,7 @@ use Rattle.ink_model.specs.Step.Evaluation.{output_popped, push_value}
 use Rattle.ink_model.specs.Step.Text.{closed_tag, in_tag}
 use Rattle.ink_model.specs.Step.Variables.{assign, declare, storing}
 use Rattle.ink_model.specs.Store.{Values}
-use Rattle.ink_model.specs.Tree.{StoryTree, leaf, container}
+use Rattle.ink_model.specs.Tree.{StoryTree, leaf}
 use Rattle.ink_model.specs.Value.{is_true}
 use Rattle.ink_model.specs.Variables.{read}
 use Rattle.ink_model.specs.declared.content.Control.{Control}
@@ -100,11 +100,7 @@ control_acts s p seen control.EndString f = acts_or (closes_string f.page) _ (λ
 control_acts s p seen control.BeginTag f = acts_or (if in_tag f.page.sections then closed_tag f.stack f.page else Ok (f.stack, f.page)) _
     (λ r. write_acts (opens tag_section r.1) (record f { stack = r.0 }))
 control_acts s p seen control.EndTag f = acts_or (closed_tag f.stack f.page) _ (λ r. refl)
-control_acts s p seen control.Done f = refl
-control_acts s p seen control.End f = refl
-control_acts s p seen control.Return f = refl
 control_acts s p seen control.ReturnTunnel f = acts_else _ (popped f.stack) _ (λ r. acts_or (led_back s r.0) _ (λ to. refl))
-control_acts s p seen control.Thread f = refl
 control_acts s p seen control.ChoiceCount f = push_acts _ f
 control_acts s p seen control.Turn f = push_acts _ f
 control_acts s p seen control.Turns f = asking_acts s seen (turns_there s seen) f
@@ -153,9 +149,8 @@ leaf_acts s b p seen (leaves.Choice text flags) f other = acts_else _ (lands s p
 leaf_acts s b p seen (leaves.External name n conditional) f other = absurd (cc)
 
 pub other_acts : (s : StoryTree) (b : Bound) (p : List Part) (found : Option StoryTree) (seen : Context) (f : Fields) → external_in found ≡ None → is_asking (effect s b p found seen f) ≡ false
-other_acts s b p None seen f other = refl
-other_acts s b p (Some (container name flags content named)) seen f other = refl
 other_acts s b p (Some (leaf l)) seen f other = leaf_acts s b p seen l f other
+other_acts s b p found seen f other = refl
 
 -- ---- outcomes
 
@@ -198,5 +193,4 @@ module _ (s : StoryTree) where
   wanted (Forks f) c = going_goes (forked (next_place s)) (with_fields f c)
   wanted (Done f) c = finish_goes (with_fields f c)
   wanted (Ends f) c = end_goes (with_fields f c)
-  wanted (Asks name arguments f) c = refl
-  wanted (Fails f) c = refl
+  wanted e c = refl

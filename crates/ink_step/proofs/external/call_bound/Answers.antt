@@ -8,13 +8,12 @@ use Rattle.ink_step.proofs.external.call_bound.Goals as goal
 
 pub returns-in-None-clause-call : goal.returns-in-None-clause-call
 returns-in-None-clause-call g c evaluating fresh globals =
-    let s = story_tree c.args.story.now in
     let call = c.args.call.now in
     let desk = c.args.desk.now in
     let f = fields evaluating fresh c.args.stack.now.items c.args.output.now.page globals in (
       [],
       grew-none g.T.TurnFn.log g.W.Watcher.log desk,
-      none_called g.P.PureFn.meaning desk.functions s call.name.now call.arguments false f desk.next f c.fall_back.result c.in-None.ensures (c.fall_back.ensures f),
+      none_called g.P.PureFn.meaning desk.functions (story_tree c.args.story.now) call.name.now call.arguments false f desk.next _ _ c.in-None.ensures (c.fall_back.ensures f),
     )
 
 pub returns-in-Some-Turn-clause-call : goal.returns-in-Some-Turn-clause-call
@@ -22,14 +21,10 @@ returns-in-Some-Turn-clause-call g c evaluating fresh globals =
     let s = story_tree c.args.story.now in
     let call = c.args.call.now in
     let desk = c.args.desk.now in
-    let page = c.args.output.now.page in
-    let f = fields evaluating fresh c.args.stack.now.items page globals in
-    let new = fields evaluating fresh c.call_turn.new.stack.items page globals in
     let made = c.call_turn.ensures.call s evaluating fresh globals in (
       made.0,
       made.1,
-      turn_called g.P.PureFn.meaning desk.functions s call.name.now call.arguments false f desk.next new c.call_turn.result
-          (ap (λ k. Some k) (sym c.in-Some-Turn.field-0-is) ∙ c.in-Some-Turn.ensures) made.0 made.2,
+      turn_called g.P.PureFn.meaning desk.functions s call.name.now call.arguments false _ desk.next _ _ (ap (λ k. Some k) (sym c.in-Some-Turn.field-0-is) ∙ c.in-Some-Turn.ensures) made.0 made.2,
     )
 
 pub returns-in-Some-Pure-clause-call : goal.returns-in-Some-Pure-clause-call
@@ -37,11 +32,8 @@ returns-in-Some-Pure-clause-call g c evaluating fresh globals =
     let s = story_tree c.args.story.now in
     let call = c.args.call.now in
     let desk = c.args.desk.now in
-    let page = c.args.output.now.page in
-    let f = fields evaluating fresh c.args.stack.now.items page globals in
-    let new = fields evaluating fresh c.ask_pure.new.stack.items page globals in
     let p = pure_there g.P.PureFn.meaning call.name.now desk.functions (ap (λ k. Some k) (sym c.in-Some-Pure.field-0-is) ∙ c.in-Some-Pure.ensures) in (
       [],
       grew-none g.T.TurnFn.log g.W.Watcher.log desk,
-      pure_called g.P.PureFn.meaning desk.functions s call.name.now call.arguments false f desk.next new c.ask_pure.result p.0 p.1 (c.ask_pure.ensures p.0 p.1 s evaluating fresh page globals),
+      pure_called g.P.PureFn.meaning desk.functions s call.name.now call.arguments false _ desk.next _ _ p.0 p.1 (c.ask_pure.ensures p.0 p.1 s evaluating fresh c.args.output.now.page globals),
     )

@@ -1,4 +1,4 @@
-use Rattle.std.proofs.Common.{◌≡◌, ◌≤◌, ◌∙◌, ◌++◌, ◌∷◌, [], ap, arith, length, subst, sym, true, false}
+use Rattle.std.proofs.Common.{◌≡◌, ◌≢◌, ◌≤◌, ◌∙◌, ◌++◌, ◌∷◌, [], ap, arith, length, subst, sym, true, false}
 use Rattle.std.proofs.lemmas.List.{take_all}
 use Rattle.ink_host.specs.Desk.{watches}
 use Rattle.ink_host.specs.Telling.{OncePerName}
@@ -7,21 +7,23 @@ use Rattle.ink_model.specs.Told.{change_of, is_other, told}
 use Rattle.ink_vars.proofs.Noting.{on_error}
 use Rattle.ink_step.proofs.Telling.{told_once, told_past, told_same, told_some, told_there, told_unwatched}
 use Rattle.ink_step.proofs.told.told_between.Goals.{in-Some+then-watches+then-is_other+in_ok-change+in_ok-push, in-Some+else-watches, else-watches-via-then-watches+else-is_other, else-watches-via-else-watches, in_default}
+use Rattle.ink_step.proofs.told.told_between.Given as given
 use Rattle.ink_step.proofs.told.told_between.Goals as goal
+use Rattle.ink_step.proofs.told.told_between.Goals.{Then-is_other}
+
+-- there is something to be told
+is_there : (g : given.Over) (c : Then-is_other g) → told (watches c.args.desk.now.watchers) c.args.old.now c.args.new.now ≢ []
+is_there g c =
+    let other : is_other (stored c.in-Some.name.now c.args.old.now) c.in-Some.value.now ≡ true =
+    ap (λ o. is_other o c.in-Some.value.now) (sym c.get.ensures) ∙ sym c.is_other.ensures ∙ c.if-is_other.true in
+    told_some (watches c.args.desk.now.watchers) c.args.old.now c.args.new.now c.loop-number.number (c.in-Some.name.now, c.in-Some.value.now)
+    (sym c.in-Some.ensures) (sym c.watches.ensures ∙ c.if-watches.true) other
 
 pub returns-in_err-change-clause-memory : goal.returns-in_err-change-clause-memory
-returns-in_err-change-clause-memory g c =
-    let other : is_other (stored c.in-Some.name.now c.args.old.now) c.in-Some.value.now ≡ true =
-    ap (λ o. is_other o c.in-Some.value.now) (sym c.get.ensures) ∙ sym c.is_other.ensures ∙ c.if-is_other.true in
-    on_error c.from_residual.result (told_some (watches c.args.desk.now.watchers) c.args.old.now c.args.new.now c.loop-number.number (c.in-Some.name.now, c.in-Some.value.now)
-    (sym c.in-Some.ensures) (sym c.watches.ensures ∙ c.if-watches.true) other)
+returns-in_err-change-clause-memory g c = on_error c.from_residual.result (is_there g (goal.at.returns-in_err-change-clause-memory g c).Then-is_other)
 
 pub returns-in_err-push-clause-memory : goal.returns-in_err-push-clause-memory
-returns-in_err-push-clause-memory g c =
-    let other : is_other (stored c.in-Some.name.now c.args.old.now) c.in-Some.value.now ≡ true =
-    ap (λ o. is_other o c.in-Some.value.now) (sym c.get.ensures) ∙ sym c.is_other.ensures ∙ c.if-is_other.true in
-    on_error c.from_residual-in_err-push.result (told_some (watches c.args.desk.now.watchers) c.args.old.now c.args.new.now c.loop-number.number (c.in-Some.name.now, c.in-Some.value.now)
-    (sym c.in-Some.ensures) (sym c.watches.ensures ∙ c.if-watches.true) other)
+returns-in_err-push-clause-memory g c = on_error c.from_residual-in_err-push.result (is_there g (goal.at.returns-in_err-push-clause-memory g c).Then-is_other)
 
 pub loop-number-preserved : goal.loop-number-preserved
 loop-number-preserved g c =

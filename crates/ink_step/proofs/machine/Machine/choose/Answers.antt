@@ -1,52 +1,62 @@
-use Rattle.std.proofs.Common.{◌≡◌, ◌∙◌, ap, refl, subst, sym, true, false, option_map, Some, None, unwrap_or}
+use Rattle.std.proofs.Common.{◌≡◌, ◌∙◌, List, ap, refl, subst, sym, true, false, option_map, Some, None, unwrap_or}
 use Rattle.ink_check.specs.Words.{story_tree}
 use Rattle.ink_model.specs.Configuration.{can_go_on, map_choice}
 use Rattle.ink_model.specs.Entered.{entered_places}
+use Rattle.ink_model.specs.Tree.{StoryTree}
 use Rattle.ink_model.specs.Visits.{adds_rows, all_visited}
+use Rattle.ink_model.specs.declared.place.Part.{Part}
 use Rattle.ink_step.specs.Words.{config_of, counts_in}
 use Rattle.ink_step.proofs.Chosen.{chooses_none, chooses_one, chooses_short, chosen_lands, open_alike, takes_any, takes_visible}
 use Rattle.ink_step.proofs.machine.Machine.choose.Goals as goal
+use Rattle.ink_step.proofs.machine.Machine.choose.Goals.{After-enter_landed, Else-can_go_on}
 use Rattle.ink_tree.specs.Nodes as Nodes
 use Rattle.ink_tree.specs.Nodes.{place_of}
+
+-- flow has stopped
+stopped : (c : Else-can_go_on) → can_go_on (config_of (story_tree c.args.story.now) c.args.self.now) ≡ false
+stopped c = sym (c.can_go_on.ensures (story_tree c.args.story.now)) ∙ c.if-can_go_on.false
+
+-- what is entered is what the choice leads to
+entered_as : (c : After-enter_landed) (A : StoryTree → List (List Part) → Type 0)
+    → (let t = Nodes.story_tree c.tree.result.now in A t (entered_places t (option_map (place_of t) c.previous.result) (place_of t c.choice.inside.target)))
+    → let s = story_tree c.args.story.now in let x = c.in-Some.choice.now in A s (entered_places s (option_map (place_of s) x.thread.previous) (place_of s x.target))
+entered_as c A h =
+    let t = Nodes.story_tree c.tree.result.now in
+    subst (λ u. A u (entered_places u (option_map (place_of u) c.in-Some.choice.now.thread.previous) (place_of u c.in-Some.choice.now.target))) c.tree.ensures.tree
+    (subst (λ v. A t (entered_places t (option_map (place_of t) v.thread.previous) (place_of t v.target))) c.choice.view_is
+    (subst (λ o. A t (entered_places t (option_map (place_of t) o) (place_of t c.choice.inside.target))) c.previous.ensures h))
 
 pub returns-in_default : goal.returns-in_default
 returns-in_default c =
     let s = story_tree c.args.story.now in
     let machine = c.args.self.now in
     let old = config_of s machine in
-    let stopped : can_go_on old ≡ false = sym (c.can_go_on.ensures s) ∙ c.if-can_go_on.false in
-    chooses_none s c.args.number old old stopped (open_alike (place_of s) machine.choices c.args.number None c.in_default.ensures) refl
+    chooses_none s c.args.number old old (stopped (goal.at.returns-in_default c).Else-can_go_on) (open_alike (place_of s) machine.choices c.args.number None c.in_default.ensures) refl
 
 pub returns-in-Err : goal.returns-in-Err
 returns-in-Err c =
     let s = story_tree c.args.story.now in
     let machine = c.args.self.now in
-    let old = config_of s machine in
-    let stopped : can_go_on old ≡ false = sym (c.can_go_on.ensures s) ∙ c.if-can_go_on.false in
-    let t = Nodes.story_tree c.tree.result.now in
+    let at = goal.at.returns-in-Err c in
     let x = c.in-Some.choice.now in
     let some = open_alike (place_of s) machine.choices c.args.number (Some x) c.in-Some.ensures in
-    let adds = subst (λ t. adds_rows t (entered_places t (option_map (place_of t) x.thread.previous) (place_of t x.target)) (counts_in t machine.counts) ≡ true) c.tree.ensures.tree
-    (subst (λ v. adds_rows t (entered_places t (option_map (place_of t) v.thread.previous) (place_of t v.target)) (counts_in t machine.counts) ≡ true) c.choice.view_is
-    (subst (λ o. adds_rows t (entered_places t (option_map (place_of t) o) (place_of t c.choice.inside.target)) (counts_in t machine.counts) ≡ true) c.previous.ensures c.in-Err.ensures.memory)) in
-    chooses_short s c.args.number old _ stopped (map_choice (place_of s) x) some adds (ap (λ counts. config_of s (record machine { counts = counts })) c.in-Err.ensures.kept)
+    let adds = entered_as at.After-enter_landed (λ t ps. adds_rows t ps (counts_in t machine.counts) ≡ true) c.in-Err.ensures.memory in
+    chooses_short s c.args.number (config_of s machine) _ (stopped at.Else-can_go_on) (map_choice (place_of s) x) some adds
+    (ap (λ counts. config_of s (record machine { counts = counts })) c.in-Err.ensures.kept)
 
 pub returns-in-Some-take : goal.returns-in-Some-take
 returns-in-Some-take c =
     let s = story_tree c.args.story.now in
     let machine = c.args.self.now in
-    let old = config_of s machine in
-    let stopped : can_go_on old ≡ false = sym (c.can_go_on.ensures s) ∙ c.if-can_go_on.false in
-    let t = Nodes.story_tree c.tree.result.now in
+    let at = goal.at.returns-in-Some-take c in
     let x = c.in-Some.choice.now in
     let y = c.in-Some-take.choice in
     let taken = takes_visible c.args.number machine.choices c.take.new.self x y c.in-Some.ensures c.in-Some-take.ensures in
     let some = open_alike (place_of s) machine.choices c.args.number (Some y) taken in
     let same : x ≡ y = ap (λ o. unwrap_or o x) (c.in-Some.ensures ∙ sym taken) in
-    let entering = subst (λ t. counts_in t c.enter_landed.new.counts ≡ all_visited t c.next-turn.result (entered_places t (option_map (place_of t) y.thread.previous) (place_of t y.target)) (counts_in t machine.counts)) c.tree.ensures.tree
-    (subst (λ v. counts_in t c.enter_landed.new.counts ≡ all_visited t c.next-turn.result (entered_places t (option_map (place_of t) v.thread.previous) (place_of t v.target)) (counts_in t machine.counts)) (c.choice.view_is ∙ same)
-    (subst (λ o. counts_in t c.enter_landed.new.counts ≡ all_visited t c.next-turn.result (entered_places t (option_map (place_of t) o) (place_of t c.choice.inside.target)) (counts_in t machine.counts)) c.previous.ensures c.in-Ok.ensures.ok)) in
-    chooses_one s c.args.number old (config_of s c.take_up.new.self) stopped (map_choice (place_of s) y) some
+    let entering = subst (λ v. counts_in s c.enter_landed.new.counts ≡ all_visited s c.next-turn.result (entered_places s (option_map (place_of s) v.thread.previous) (place_of s v.target)) (counts_in s machine.counts)) same
+    (entered_as at.After-enter_landed (λ t ps. counts_in t c.enter_landed.new.counts ≡ all_visited t c.next-turn.result ps (counts_in t machine.counts)) c.in-Ok.ensures.ok) in
+    chooses_one s c.args.number (config_of s machine) (config_of s c.take_up.new.self) (stopped at.Else-can_go_on) (map_choice (place_of s) y) some
     (chosen_lands s machine y c.take.new.self c.enter_landed.new.counts c.next-turn.result c.take_up.new.self (c.take_up.ensures.taken s) c.next-turn.ensures entering)
 
 pub returns-in-None : goal.returns-in-None

@@ -1,11 +1,18 @@
-use Rattle.std.proofs.Common.{◌≡◌, ◌∙◌, ap, refl, subst, sym, true}
+use Rattle.std.proofs.Common.{◌≡◌, ◌∙◌, Some, ap, map, refl, subst, sym, true}
 use Rattle.ink_check.specs.Words.{story_tree}
+use Rattle.ink_model.specs.Choosing.{default_choice}
 use Rattle.ink_model.specs.Configuration.{map_choice}
 use Rattle.ink_model.specs.Visits.{entering_around, entering_asks}
 use Rattle.ink_step.specs.Words.{config_of}
 use Rattle.ink_step.proofs.Chosen.{follows_default, is_default, no_default, short_of_default, stays_stopped}
 use Rattle.ink_step.proofs.machine.Machine.follow_default.Goals as goal
+use Rattle.ink_step.proofs.machine.Machine.follow_default.Goals.{In-Some}
 use Rattle.ink_tree.specs.Nodes.{place_of}
+
+-- the choice that was taken is followed
+is_first : (c : In-Some) → let s = story_tree c.args.story.now in default_choice (map (map_choice (place_of s)) c.args.self.now.choices) ≡ Some (map_choice (place_of s) c.in-Some.choice)
+is_first c =
+    is_default (place_of (story_tree c.args.story.now)) c.args.self.now.choices c.take.new.self c.in-Some.choice (sym c.only_invisible.ensures ∙ c.if-not-only_invisible.false) c.in-Some.ensures
 
 pub returns-then-not-only_invisible-clause-ends : goal.returns-then-not-only_invisible-clause-ends
 returns-then-not-only_invisible-clause-ends c =
@@ -18,16 +25,14 @@ returns-in-Ok-clause-ends c =
     let s = story_tree c.args.story.now in
     let machine = c.args.self.now in
     let x = map_choice (place_of s) c.in-Some.choice in
-    let some = is_default (place_of s) machine.choices c.take.new.self c.in-Some.choice (sym c.only_invisible.ensures ∙ c.if-not-only_invisible.false) c.in-Some.ensures in
     let entered = subst (λ t. config_of t c.enter_around.new.self ≡ entering_around t (config_of t c.take_up.new.self)) c.tree.ensures.tree c.in-Ok.ensures.ok in
-    follows_default s (config_of s machine) (config_of s c.enter_around.new.self) _ x some (entered ∙ ap (entering_around s) (c.take_up.ensures.taken s))
+    follows_default s (config_of s machine) (config_of s c.enter_around.new.self) _ x (is_first (goal.at.returns-in-Ok-clause-ends c).In-Some) (entered ∙ ap (entering_around s) (c.take_up.ensures.taken s))
 
 pub returns-in-Err-clause-ends : goal.returns-in-Err-clause-ends
 returns-in-Err-clause-ends c =
     let s = story_tree c.args.story.now in
     let machine = c.args.self.now in
     let x = map_choice (place_of s) c.in-Some.choice in
-    let some = is_default (place_of s) machine.choices c.take.new.self c.in-Some.choice (sym c.only_invisible.ensures ∙ c.if-not-only_invisible.false) c.in-Some.ensures in
     let adds = subst (λ t. entering_asks t (config_of t c.take_up.new.self) ≡ true) c.tree.ensures.tree c.in-Err.ensures.memory in
-    short_of_default s (config_of s machine) (config_of s c.enter_around.new.self) _ x some c.in-Err.fault c.in-Err.ensures.fault (sym (ap (entering_asks s) (c.take_up.ensures.taken s)) ∙ adds)
+    short_of_default s (config_of s machine) (config_of s c.enter_around.new.self) _ x (is_first (goal.at.returns-in-Err-clause-ends c).In-Some) c.in-Err.fault c.in-Err.ensures.fault (sym (ap (entering_asks s) (c.take_up.ensures.taken s)) ∙ adds)
     (c.in-Err.ensures.globals ∙ ap (λ d. d.shared.globals) (c.take_up.ensures.taken s))

@@ -1,7 +1,7 @@
 use Rattle.std.proofs.Common.{◌≡◌, ◌∙◌, arith, refl, rules, subst, sym, Err}
 use Rattle.ink_check.specs.Words.{story_tree}
 use Rattle.ink_step.specs.Words.{config_of}
-use Rattle.ink_step.proofs.Runnings.{EndsRun, never_waits, ran_none, ran_on, ran_out, ran_to_fault, ran_to_stop}
+use Rattle.ink_step.proofs.Runnings.{EndsRun, ran_none, ran_on, ran_out, ran_to_fault, ran_to_stop}
 use Rattle.ink_step.proofs.machine.Machine.run.Goals as goal
 
 pub loop-step-init : goal.loop-step-init

@@ -1,6 +1,4 @@
-use Rattle.std.proofs.Common.{◌∙◌, ap, subst, sym}
 use Rattle.ink_check.specs.Words.{story_tree}
-use Rattle.ink_host.specs.Desk.{Resting}
 use Rattle.ink_step.specs.Words.{config_of}
 use Rattle.ink_step.proofs.Runnings.{runs_alone_at}
 use Rattle.ink_step.proofs.machine.Machine.run_alone.Goals as goal

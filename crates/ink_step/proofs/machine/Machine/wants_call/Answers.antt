@@ -9,19 +9,26 @@ use Rattle.ink_model.specs.View.{view}
 use Rattle.ink_step.specs.External.{call_of}
 use Rattle.ink_step.specs.Words.{config_of}
 use Rattle.ink_step.proofs.Makes.{stands_in, wants_call, wants_none}
+use Rattle.ink_step.proofs.machine.Machine.wants_call.Given as given
 use Rattle.ink_step.proofs.machine.Machine.wants_call.Goals as goal
+use Rattle.ink_step.proofs.machine.Machine.wants_call.Goals.{After-first_content}
 use Rattle.ink_tree.specs.Nodes as nodes
 use Rattle.ink_tree.specs.Nodes.{place_of}
+
+-- what was found stands where flow goes in
+stands : (g : given.Over) (c : After-first_content g) → let s = story_tree c.args.story.now in option_map (λ x. view x.now) c.first_content.result.1 ≡ at s (entered s (place_of s c.args.place))
+stands g c =
+    let there = nodes.story_tree c.tree.result.now in
+    let found = option_map (λ x. view x.now) c.first_content.result.1 in
+    subst (λ t. found ≡ at t (entered t (place_of t c.args.place))) c.tree.ensures.tree
+    (stands_in there (place_of there c.first_content.result.0) (entered there (place_of there c.args.place)) found c.first_content.ensures.content c.first_content.ensures.spot)
 
 pub returns-in-None : goal.returns-in-None
 returns-in-None g c =
     let s = story_tree c.args.story.now in
     let b = bound_by g.P.PureFn.meaning c.args.desk.now.functions in
-    let there = nodes.story_tree c.tree.result.now in
     let found = option_map (λ x. view x.now) c.first_content.result.1 in
-    let stands = subst (λ t. found ≡ at t (entered t (place_of t c.args.place))) c.tree.ensures.tree
-    (stands_in there (place_of there c.first_content.result.0) (entered there (place_of there c.args.place)) found c.first_content.ensures.content c.first_content.ensures.spot) in
-    wants_none s b (place_of s c.args.place) (config_of s c.args.self.now) (ap (option_map (place_of s)) c.requires) found stands (sym c.external_in.ensures ∙ ap (option_map call_of) c.in-None.is)
+    wants_none s b (place_of s c.args.place) (config_of s c.args.self.now) (ap (option_map (place_of s)) c.requires) found (stands g (goal.at.returns-in-None g c).After-first_content) (sym c.external_in.ensures ∙ ap (option_map call_of) c.in-None.is)
 
 pub returns-in-Some : goal.returns-in-Some
 returns-in-Some g c =
@@ -30,9 +37,6 @@ returns-in-Some g c =
     let p = place_of s c.args.place in
     let before = config_of s c.args.self.now in
     let f = fields_of (gone_in s p before) in
-    let there = nodes.story_tree c.tree.result.now in
     let found = option_map (λ x. view x.now) c.first_content.result.1 in
-    let stands = subst (λ t. found ≡ at t (entered t (place_of t c.args.place))) c.tree.ensures.tree
-    (stands_in there (place_of there c.first_content.result.0) (entered there (place_of there c.args.place)) found c.first_content.ensures.content c.first_content.ensures.spot) in
-    wants_call s b p before (ap (option_map (place_of s)) c.requires) found (call_of c.in-Some.call) c.would_call.result stands (sym c.external_in.ensures ∙ ap (option_map call_of) c.in-Some.is)
+    wants_call s b p before (ap (option_map (place_of s)) c.requires) found (call_of c.in-Some.call) c.would_call.result (stands g (goal.at.returns-in-Some g c).After-first_content) (sym c.external_in.ensures ∙ ap (option_map call_of) c.in-Some.is)
     (c.would_call.ensures s f.evaluating f.fresh f.globals)
