@@ -102,6 +102,11 @@ module _ {W : Type 0} (at_rest : W → Bool) where
   rest-keeps (Ok was) name w old new h rest ok err = rest-kept (Ok was) name w (rows_of old) (rows_of new) h rest ok tt
   rest-keeps (Err back) name w old new h rest ok err = rest-kept (Err back) name w (rows_of old) (rows_of new) h rest tt (ap rows_of err)
 
+  -- all but the last, and the last
+  pub rest_last : (es : List (String Global × W)) (e : String Global × W) → Resting at_rest (rows_of (es ++ e ∷ [])) → (at_rest e.1 ≡ true) × Resting at_rest (rows_of es)
+  rest_last [] e rest = (rest.0, tt)
+  rest_last (f ∷ es) e rest = let more = rest_last es e rest.1 in (more.0, (rest.0, more.1))
+
 -- ---- calls
 
 module _ {P T : Type 0} where

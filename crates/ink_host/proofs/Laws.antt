@@ -25,31 +25,21 @@ pub later-append : (n : ℕ) (es fs : List Event) → later n (es ++ fs) ≡ lat
 later-append n [] fs = refl
 later-append n (e ∷ es) fs = later-append (after n) es fs
 
+cons-if : {X : Type 0} (b : Bool) (x : X) (xs ys zs : List X) → zs ≡ xs ++ ys → (if b then x ∷ zs else zs) ≡ (if b then x ∷ xs else xs) ++ ys
+cons-if true x xs ys zs h = ap (λ l. x ∷ l) h
+cons-if false x xs ys zs h = h
+
 pub called_by-append : (name : List ℕ) (es fs : List Event) → called_by name (es ++ fs) ≡ called_by name es ++ called_by name fs
 called_by-append name [] fs = refl
-called_by-append name (Call to arguments gave n ∷ es) fs = by (bytes_eq name to) (called_by-append name es fs)
-  where
-    by : (b : Bool) → called_by name (es ++ fs) ≡ called_by name es ++ called_by name fs
-        → ◌≡◌ {A = List Called} (if b then (record { stamp = n; arguments = arguments; gave = gave }) ∷ called_by name (es ++ fs) else called_by name (es ++ fs))
-        ((if b then (record { stamp = n; arguments = arguments; gave = gave }) ∷ called_by name es else called_by name es) ++ called_by name fs)
-    by true h = let one : Called = record { stamp = n; arguments = arguments; gave = gave } in ap (λ l. one ∷ l) h
-    by false h = h
+called_by-append name (Call to arguments gave n ∷ es) fs =
+    cons-if (bytes_eq name to) (record { stamp = n; arguments = arguments; gave = gave }) (called_by name es) (called_by name fs) (called_by name (es ++ fs)) (called_by-append name es fs)
 called_by-append name (Saw of n v ∷ es) fs = called_by-append name es fs
 
 pub seen_by-append : (name : List ℕ) (es fs : List Event) → seen_by name (es ++ fs) ≡ seen_by name es ++ seen_by name fs
 seen_by-append name [] fs = refl
 seen_by-append name (Call to arguments gave n ∷ es) fs = seen_by-append name es fs
-seen_by-append name (Saw of n v ∷ es) fs = by (bytes_eq name of) (seen_by-append name es fs)
-  where
-    by : (b : Bool) → seen_by name (es ++ fs) ≡ seen_by name es ++ seen_by name fs
-        → ◌≡◌ {A = List Seen} (if b then (record { stamp = n; name = of; value = v }) ∷ seen_by name (es ++ fs) else seen_by name (es ++ fs))
-        ((if b then (record { stamp = n; name = of; value = v }) ∷ seen_by name es else seen_by name es) ++ seen_by name fs)
-    by true h = let one : Seen = record { stamp = n; name = of; value = v } in ap (λ l. one ∷ l) h
-    by false h = h
-
-pub pushed : (b : Bool) (new xs ys : List Event) (e : Event) → new ≡ (if b then xs ++ e ∷ [] else xs) → b ≡ true → xs ≡ ys → new ≡ ys ++ e ∷ []
-pushed true new xs ys e h is same = h ∙ ap (λ zs. zs ++ e ∷ []) same
-pushed false new xs ys e h is same = absurd (cc)
+seen_by-append name (Saw of n v ∷ es) fs =
+    cons-if (bytes_eq name of) (record { stamp = n; name = of; value = v }) (seen_by name es) (seen_by name fs) (seen_by name (es ++ fs)) (seen_by-append name es fs)
 
 -- ---- rows
 
@@ -174,29 +164,34 @@ module _ {P T W : Type 0} (turn_log : T → List Called) (watch_log : W → List
       ∙ names-each (told_of es) (each (λ n w. watch_log w) a.watchers) ∙ names-each (λ n w. watch_log w) a.watchers)
 
   -- one call, of which the functions know
-  pub grew-call : (a : DeskView P T W) (fs : Rows (Bound P T)) (items : List Event) (next : ℕ)
+  pub grew-call : (a d : DeskView P T W) (fs : Rows (Bound P T)) (before items : List Event) (next : ℕ)
       (noted name : List ℕ) (copies arguments : List Value) (gave : Option Given)
-      → noted ≡ name → copies ≡ arguments → items ≡ a.events ++ Call noted copies gave a.next ∷ [] → next ≡ after a.next
+      → a ≡ d → noted ≡ name → copies ≡ arguments → before ≡ a.events → items ≡ before ++ Call noted copies gave a.next ∷ [] → next ≡ after a.next
       → logs turn_log fs ≡ each (called (Call name arguments gave a.next ∷ [])) (logs turn_log a.functions)
-      → Grew turn_log watch_log a (Call name arguments gave a.next ∷ []) (desk_of fs a.watchers items next)
-  grew-call a fs items next noted name copies arguments gave same copied kept counted functions = record {
-    events = kept ∙ ap (λ n. a.events ++ Call n copies gave a.next ∷ []) same ∙ ap (λ l. a.events ++ Call name l gave a.next ∷ []) copied;
-    numbered = (refl, tt);
-    next = counted;
-    functions = functions;
-    watchers = untold (each (λ n w. watch_log w) a.watchers);
-  }
+      → Grew turn_log watch_log d (Call name arguments gave d.next ∷ []) (desk_of fs a.watchers items next)
+  grew-call a d fs before items next noted name copies arguments gave is same copied kept more counted functions =
+      let From : DeskView P T W → Type 0 = λ v. Grew turn_log watch_log v (Call name arguments gave v.next ∷ []) (desk_of fs a.watchers items next) in
+      subst From is record {
+        events = more ∙ ap (λ es. es ++ Call noted copies gave a.next ∷ []) kept
+            ∙ ap (λ n. a.events ++ Call n copies gave a.next ∷ []) same ∙ ap (λ l. a.events ++ Call name l gave a.next ∷ []) copied;
+        numbered = (refl, tt);
+        next = counted;
+        functions = functions;
+        watchers = untold (each (λ n w. watch_log w) a.watchers);
+      }
 
   -- nothing but the functions is another, and they know of nothing new
-  pub grew-quiet : (a : DeskView P T W) (fs : Rows (Bound P T)) (items : List Event) → items ≡ a.events
-      → logs turn_log fs ≡ logs turn_log a.functions → Grew turn_log watch_log a [] (desk_of fs a.watchers items a.next)
-  grew-quiet a fs items kept functions = record {
-    events = kept ∙ sym (append-nil a.events);
-    numbered = tt;
-    next = refl;
-    functions = functions ∙ uncalled (logs turn_log a.functions);
-    watchers = untold (each (λ n w. watch_log w) a.watchers);
-  }
+  pub grew-quiet : (a d : DeskView P T W) (fs : Rows (Bound P T)) (items : List Event) → a ≡ d → items ≡ a.events
+      → logs turn_log fs ≡ logs turn_log a.functions → Grew turn_log watch_log d [] (desk_of fs a.watchers items a.next)
+  grew-quiet a d fs items is kept functions =
+      let From : DeskView P T W → Type 0 = λ v. Grew turn_log watch_log v [] (desk_of fs a.watchers items a.next) in
+      subst From is record {
+        events = kept ∙ sym (append-nil a.events);
+        numbered = tt;
+        next = refl;
+        functions = functions ∙ uncalled (logs turn_log a.functions);
+        watchers = untold (each (λ n w. watch_log w) a.watchers);
+      }
 
   -- A call that happened was made: no function can be left as it was.
   pub not-uncalled : (a b : DeskView P T W) (name : List ℕ) (t : T) (arguments : List Value) (gave : Option Given) (n : ℕ)

@@ -238,7 +238,7 @@ pub filter-next : (test : Change → Bool) (cs : List Change) (i : ℕ) (c : Cha
 filter-next test cs i c h is =
     sym (filter-append test (take i cs) (c ∷ [])) ∙ ap (filter test) (ap (λ x. take i cs ++ x ∷ []) is ∙ sym (take_more cs i c h))
 
-pub filter-some : (test : Change → Bool) (cs : List Change) (i : ℕ) (c : Change) → i < length cs → c ≡ get_or cs i c → test c ≡ true → filter test cs ≢ []
+filter-some : (test : Change → Bool) (cs : List Change) (i : ℕ) (c : Change) → i < length cs → c ≡ get_or cs i c → test c ≡ true → filter test cs ≢ []
 filter-some test [] i c h is t = absurd (omega arith)
 filter-some test (d ∷ cs) zero c h is t = by (test d) (ap test (sym is) ∙ t)
   where
@@ -250,3 +250,10 @@ filter-some test (d ∷ cs) (suc i) c h is t = by (test d) (filter-some test cs 
     by : (b : Bool) → filter test cs ≢ [] → cond b (d ∷ filter test cs) (filter test cs) ≢ []
     by true more = λ k. cc
     by false more = more
+
+-- a change whose name has a watcher passes
+pub watched-some : {W : Type 0} (es : List (String Global × W)) (name : List ℕ) (cs : List Change) (i : ℕ) (c : Change) → i < length cs → c ≡ get_or cs i c
+    → name ≡ c.name → is_some (lookup (λ k. bytes_eq name (string_bytes k)) es) ≡ true → filter (λ d. watches (shown string_bytes (λ w. w) es) d.name) cs ≢ []
+watched-some es name cs i c h is same found =
+    filter-some (λ d. watches (shown string_bytes (λ w. w) es) d.name) cs i c h is
+    (ap (watches (shown string_bytes (λ w. w) es)) (sym same) ∙ sym (found-watched name es) ∙ found)

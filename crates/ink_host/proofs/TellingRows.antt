@@ -6,10 +6,11 @@ use Rattle.std.specs.List.{IsDistinct, AllByRecursion}
 use Rattle.std.proofs.lemmas.Slice.Eq.{bytes_eq-Decides}
 use Rattle.std.proofs.lemmas.List.{append-nil}
 use Rattle.ink_model.specs.declared.host.Event.{Event}
-use Rattle.ink_model.specs.declared.host.Event.TheVariants.{Call, Saw}
+use Rattle.ink_model.specs.declared.host.Event.TheVariants.{Saw}
 use Rattle.ink_model.specs.declared.value.Value.{Value}
 use Rattle.ink_host.specs.declared.objects.Seen.{Seen}
 use Rattle.ink_host.specs.Desk.{Rows, Resting, each, seen_by, shown}
+use Rattle.ink_host.proofs.Laws.{seen_by-append}
 use Rattle.ink_host.specs.Telling.{Watching, Stand, change, heard, standing}
 
 -- ---- names
@@ -116,17 +117,6 @@ stand-fewer test over b [] h a = tt
 stand-fewer test over b (r ∷ rows) h a = (λ t. a.0 (h r.0 t), stand-fewer test over b rows h a.1)
 
 -- ---- events
-
-pub seen_by-append : (m : List ℕ) (es fs : List Event) → seen_by m (es ++ fs) ≡ seen_by m es ++ seen_by m fs
-seen_by-append m [] fs = refl
-seen_by-append m (Call to arguments gave n ∷ es) fs = seen_by-append m es fs
-seen_by-append m (Saw of n v ∷ es) fs = by (bytes_eq m of) (seen_by-append m es fs)
-  where
-    by : (b : Bool) → seen_by m (es ++ fs) ≡ seen_by m es ++ seen_by m fs
-        → (if b then (record { stamp = n; name = of; value = v }) ∷ seen_by m (es ++ fs) else seen_by m (es ++ fs))
-        ≡ (if b then (record { stamp = n; name = of; value = v }) ∷ seen_by m es else seen_by m es) ++ seen_by m fs
-    by true more = ap (λ xs. (record { stamp = n; name = of; value = v }) ∷ xs) more
-    by false more = more
 
 -- the watcher of one name hears one event
 abbrev pub hears : ℕ → List ℕ → Value → Watching → Watching

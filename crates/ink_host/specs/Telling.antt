@@ -33,11 +33,15 @@ abbrev pub Stand : (List ℕ → Bool) → Bool → Rows Watching → Type 0
 Stand test resting [] = Unit {0}
 Stand test resting (r ∷ rows) = (test r.0 ≡ true → r.1.resting ≡ resting) × Stand test resting rows
 
+-- a watcher is brought back to rest, or out of it
+abbrev pub with_resting : Bool → Watching → Watching
+with_resting resting s = record { log = s.log; resting = resting }
+
 abbrev pub begun : Watching → Watching
-begun s = record { log = s.log; resting = false }
+begun = with_resting false
 
 abbrev pub ended : Watching → Watching
-ended s = record { log = s.log; resting = true }
+ended = with_resting true
 
 -- the watcher of one name changes
 abbrev pub change : List ℕ → (Watching → Watching) → Rows Watching → Rows Watching

@@ -10,8 +10,8 @@ ghost use Rattle.ink_host.specs.Desk.{DeskView, Grew, Resting, answer_of, at, em
 ghost use Rattle.ink_host.specs.Desk as view;
 ghost use Rattle.ink_host.specs.declared.objects.Bound.TheVariants as bound;
 
-use crate::objects::{Bound, FnKind, PureFn, TurnFn, Watcher};
-use crate::rows::{after, ask_at, call_at, copied, keep};
+use crate::objects::{Bound, FnKind, PureFn, TurnFn, Watcher, copied_values};
+use crate::rows::{ask_at, call_at, keep, note};
 use indexmap::IndexMap;
 use ink_model::{Event, Fault, Given, HostFault, Seq, Text, Value};
 use std::alloc::Global;
@@ -170,36 +170,32 @@ impl<P, T: TurnFn, W: Watcher> Desk<P, T, W> {
         ensures watchers { self.new.watchers ≡ self.old.watchers }
     {
         let noted = Text::from_str(self.alloc, name)?;
-        let noted_arguments = copied(self.alloc, arguments)?;
+        let noted_arguments = copied_values(self.alloc, arguments)?;
         self.events.reserve(1)?;
         let stamp = self.next;
         match call_at(&mut self.functions, name, stamp, arguments) {
             Ok(given) => {
                 let copy = given.clone_in(self.alloc);
-                self.events
-                    .push(Event::Call {
-                        name: noted,
-                        arguments: noted_arguments,
-                        gave: Some(given),
-                        stamp,
-                    })
-                    .unwrap();
-                self.next = after(stamp);
+                let event = Event::Call {
+                    name: noted,
+                    arguments: noted_arguments,
+                    gave: Some(given),
+                    stamp,
+                };
+                note(&mut self.events, &mut self.next, event);
                 match copy {
                     Ok(copy) => return Ok(copy),
                     Err(_) => return Err(Fault::OutOfMemory),
                 }
             }
             Err(HostFault::Refused) => {
-                self.events
-                    .push(Event::Call {
-                        name: noted,
-                        arguments: noted_arguments,
-                        gave: None,
-                        stamp,
-                    })
-                    .unwrap();
-                self.next = after(stamp);
+                let event = Event::Call {
+                    name: noted,
+                    arguments: noted_arguments,
+                    gave: None,
+                    stamp,
+                };
+                note(&mut self.events, &mut self.next, event);
                 return Err(Fault::HostRefused);
             }
             Err(HostFault::OutOfMemory) => return Err(Fault::OutOfMemory),

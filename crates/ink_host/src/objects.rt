@@ -1,6 +1,6 @@
 //! The objects of a host: functions that a story calls, and watchers of its globals.
 
-ghost use Rattle.std.specs.Prelude.{◌≡◌, ◌++◌, ◌∷◌, [], Bool, false, true, List, Option, None, Some, Ok, Err, OnOk, OnErr, not};
+ghost use Rattle.std.specs.Prelude.{◌≡◌, ◌≢◌, ◌++◌, ◌∷◌, [], Bool, false, true, List, Option, None, Some, Ok, Err, IfOk, OnOk, OnErr, not};
 ghost use Rattle.ink_model.specs.declared.host.Given.{Given as Answer};
 ghost use Rattle.ink_model.specs.declared.host.HostFault.TheVariants as fault;
 ghost use Rattle.ink_model.specs.declared.value.Value.{Value as Data};
@@ -8,7 +8,7 @@ ghost use Rattle.ink_host.specs.declared.objects.Called.{Called as Call};
 ghost use Rattle.ink_host.specs.declared.objects.Seen.{Seen as Sight};
 
 use ink_model::{Given, HostFault, Seq, Text, Value};
-use std::alloc::AllocError;
+use std::alloc::{AllocError, Global};
 
 /// A call of a turn function, as the function itself notes it: which event it is, with what, and what it gave, nothing where
 /// it refused.
@@ -17,6 +17,19 @@ pub struct Called {
     pub stamp: u64,
     pub arguments: Seq<Value>,
     pub gave: Option<Given>,
+}
+
+/// Copies of values, as a function notes its arguments. The one error is a refused request for memory, or a count of owners
+/// that is full, and comes only where there are values.
+pub fn copied_values(alloc: Global, values: &[Value]) -> Result<Seq<Value>, AllocError>
+    ensures copies { IfOk result (λ copies. copies ≡ values.now) }
+    ensures memory { OnErr result (values.now ≢ []) }
+{
+    let mut copies = Vec::new(alloc);
+    for value in values {
+        copies.push(value.clone_in(alloc)?)?;
+    }
+    Ok(Seq::from_vec(copies))
 }
 
 /// A new value of a global, as a watcher notes it: which event it is, the name of the global, and its value.

@@ -1,7 +1,7 @@
-//! Maps by name, as the desk has them.
+//! What the desk does to its parts: maps by name, and the events.
 
-ghost use Rattle.std.specs.Prelude.{◌≡◌, [], ◌∷◌, Option, None, Some, Ok, Err, string_bytes, IfOk, IfErr, OnOk, OnErr};
-ghost use Rattle.ink_model.specs.Events as events;
+ghost use Rattle.std.specs.Prelude.{◌≡◌, ◌+◌, ◌≤◌, ◌++◌, [], ◌∷◌, Option, None, Some, Ok, Err, string_bytes, vec_capacity, vec_len, IfOk, IfErr, OnOk, OnErr};
+ghost use Rattle.ink_model.specs.Events.{after};
 ghost use Rattle.ink_model.specs.declared.host.Event.TheVariants as event;
 ghost use Rattle.ink_model.specs.declared.host.Given.{Given as Answer};
 ghost use Rattle.ink_model.specs.declared.host.HostFault.TheVariants as fault;
@@ -10,8 +10,8 @@ ghost use Rattle.ink_host.specs.declared.objects.Bound.TheVariants as bound;
 
 use crate::objects::{Bound, PureFn, TurnFn};
 use indexmap::IndexMap;
-use ink_model::{Given, HostFault, Seq, Value};
-use std::alloc::{AllocError, Global};
+use ink_model::{Event, Given, HostFault, Value};
+use std::alloc::Global;
 
 /// Puts an object at a name, and hands back what was there. The one error is a refused request for memory, which hands back
 /// the object.
@@ -90,20 +90,21 @@ fn call_bound<P, T: TurnFn>(
     }
 }
 
-/// The stamp after one.
-pub(crate) fn after(stamp: u64) -> u64
-    ensures { result ≡ events.after stamp }
+/// Notes an event, in room that is there, and counts on.
+pub(crate) fn note(events: &mut Vec<Event>, next: &mut u64, event: Event)
+    requires room { vec_len events.old + 1 ≤ vec_capacity events.old }
+    ensures items { events.new.items ≡ events.old.items ++ event ∷ [] }
+    ensures next { next.new ≡ after next.old }
+    ensures len { vec_len events.new ≡ vec_len events.old + 1 }
+    ensures room { vec_capacity events.old ≤ vec_capacity events.new }
 {
-    if stamp < u64::MAX { stamp + 1 } else { stamp }
+    events.push(event).unwrap();
+    *next = stamp_after(*next);
 }
 
-/// Copies of values. The one error is a refused request for memory, or a count of owners that is full.
-pub(crate) fn copied(alloc: Global, values: &[Value]) -> Result<Seq<Value>, AllocError>
-    ensures { IfOk result (λ copies. copies ≡ values.now) }
+// The stamp after one; the last stays.
+fn stamp_after(stamp: u64) -> u64
+    ensures { result ≡ after stamp }
 {
-    let mut copies = Vec::new(alloc);
-    for value in values {
-        copies.push(value.clone_in(alloc)?)?;
-    }
-    Ok(Seq::from_vec(copies))
+    if stamp < u64::MAX { stamp + 1 } else { stamp }
 }

@@ -1,4 +1,4 @@
-use Rattle.std.proofs.Common.{◌≡◌, ◌∙◌, List, [], ◌∷◌, ◌++◌, ℕ, append_assoc, ap, arith, bytes_eq, false, length, refl, string_bytes, subst, sym}
+use Rattle.std.proofs.Common.{◌≡◌, ◌∙◌, List, [], ◌∷◌, ◌++◌, ℕ, append_assoc, ap, arith, bytes_eq, false, is_ok, length, refl, string_bytes, subst, sym}
 use Rattle.std.proofs.lemmas.Iterator.Adapters.{YieldsList-from_vec}
 use Rattle.std.proofs.lemmas.Iterator.Consumers.{YieldsList-end, YieldsList-turn}
 use Rattle.std.proofs.lemmas.List.{append-nil, length_push}
@@ -15,6 +15,7 @@ use Rattle.ink_host.proofs.telling.change_all.Goals as goal
 pub loop-change-init : goal.loop-change-init
 loop-change-init g c = (
   omega (arith, c.requires.room, c.args.changes.ok.0),
+  λ h. cc,
   [],
   tells-none c.args.next.now,
   sym (append-nil c.args.events.now.items),
@@ -36,18 +37,19 @@ changed_at-requires g c =
     let In : Rows Watching → Type 0 = λ rs. Stand (bytes_eq n) false rs in
     record {
       begun = subst Of (sym c.as_str.ensures)
-          (subst In (sym inv.5) (stand-heard (bytes_eq n) false inv.1 first (stand-told false cs (length c.loop-change.yielded) c.in-Some.change first turn.0 turn.1 c.requires.begun)));
+          (subst In (sym inv.6) (stand-heard (bytes_eq n) false inv.2 first (stand-told false cs (length c.loop-change.yielded) c.in-Some.change first turn.0 turn.1 c.requires.begun)));
     }
 
 pub loop-change-preserved : goal.loop-change-preserved
 loop-change-preserved g c =
     let inv = c.loop-change.invariant in (
       omega (arith, inv.0, length_push c.loop-change.yielded c.in-Some.change),
-      inv.1,
-      tells-not c.args.next.now c.loop-change.yielded c.loop-change.all inv.1 c.in-Some.change inv.2,
-      inv.3,
+      λ h. cc,
+      inv.2,
+      tells-not c.args.next.now c.loop-change.yielded (is_ok c.loop-change.outcome) inv.2 c.in-Some.change inv.3,
       inv.4,
-      c.in-Err.ensures.untold ∙ inv.5,
+      inv.5,
+      c.in-Err.ensures.untold ∙ inv.6,
     )
 
 pub note-requires : goal.note-requires
@@ -67,23 +69,24 @@ loop-change-preserved-in-Ok g c =
     let next = c.loop-change.next in
     let e = Saw change.name next change.value in (
       omega (arith, inv.0, c.note.ensures.len, c.note.ensures.room, length_push c.loop-change.yielded change),
-      inv.1 ++ e ∷ [],
-      tells-next c.args.next.now next c.loop-change.yielded c.loop-change.all inv.1 change inv.4 inv.2,
-      c.note.ensures.items ∙ ap (λ xs. xs ++ e ∷ []) inv.3 ∙ append_assoc c.args.events.now.items inv.1 (e ∷ []),
-      c.stamp_after.ensures ∙ ap after inv.4 ∙ sym (later-more c.args.next.now inv.1 e),
+      inv.1,
+      inv.2 ++ e ∷ [],
+      tells-next c.args.next.now next c.loop-change.yielded (is_ok c.loop-change.outcome) inv.2 change inv.5 inv.3,
+      c.note.ensures.items ∙ ap (λ xs. xs ++ e ∷ []) inv.4 ∙ append_assoc c.args.events.now.items inv.2 (e ∷ []),
+      c.note.ensures.next ∙ ap after inv.5 ∙ sym (later-more c.args.next.now inv.2 e),
       c.in-Ok.ensures.told
           ∙ ap (λ n. heard (Saw n next change.value ∷ []) rows) c.as_str.ensures
-          ∙ ap (heard (e ∷ [])) inv.5
-          ∙ heard-more inv.1 e first,
+          ∙ ap (heard (e ∷ [])) inv.6
+          ∙ heard-more inv.2 e first,
     )
 
-pub returns : goal.returns
-returns g c =
+pub returns-clause-told : goal.returns-clause-told
+returns-clause-told g c =
     let cs = c.args.changes.items in
     let given = c.into_iter-change-iterator.ensures.into_iter_gives in
     let all = YieldsList-from_vec {s = c.into_iter-change-iterator.result} cs given.0 (given.1 ∙ c.args.changes.ok.0) in
     let end = YieldsList-end all c.loop-change.yielded c.loop-change.change-iterator c.loop-change.yielded_by c.next.result c.next.new.self c.in-None.is c.next.ensures.steps in
     let inv = c.loop-change.invariant in
     let whole : c.loop-change.yielded ≡ cs = sym (map-same c.loop-change.yielded) ∙ end.0 in
-    let P : List Change → Type 0 = λ ys. ToldAs c.args.next.now ys c.loop-change.all inv.1 in
-    (inv.1, subst P whole inv.2, inv.3, inv.4, inv.5)
+    let P : List Change → Type 0 = λ ys. ToldAs c.args.next.now ys (is_ok c.loop-change.outcome) inv.2 in
+    (inv.2, subst P whole inv.3, inv.4, inv.5, inv.6)

@@ -1,6 +1,6 @@
-use Rattle.std.proofs.Common.{◌≡◌, ◌∙◌, ◌<◌, ◌++◌, ◌∷◌, [], ap, arith, cond, filter, length, string_bytes, sym, take, true}
+use Rattle.std.proofs.Common.{◌≡◌, ◌∙◌, ◌<◌, ◌++◌, ◌∷◌, [], ap, arith, cond, filter, length, string_bytes, sym, take}
 use Rattle.std.proofs.lemmas.List.{append-nil}
-use Rattle.ink_host.proofs.TellingLoops.{filter-next, filter-some, found-watched}
+use Rattle.ink_host.proofs.TellingLoops.{filter-next, found-watched, watched-some}
 use Rattle.ink_host.proofs.TellingRows.{if_err}
 use Rattle.ink_model.specs.declared.host.Change.{Change}
 use Rattle.ink_host.specs.Desk.{shown, watches}
@@ -9,25 +9,15 @@ use Rattle.ink_host.proofs.telling.watched_among.Goals as goal
 
 pub returns-in_err-copied-clause-err : goal.returns-in_err-copied-clause-err
 returns-in_err-copied-clause-err g c =
-    let es = c.args.watchers.now.entries in
-    let x = c.change-item.result in
-    let cs = c.args.changes.now in
-    let i = c.loop-change.change-index in
-    let inside : i < length cs = omega arith in
-    let test = λ (d : Change). watches (shown string_bytes (λ w. w) es) d.name in
-    let passes : test x ≡ true = ap (watches (shown string_bytes (λ w. w) es)) (sym c.as_str.ensures) ∙ sym (found-watched c.as_str.result.now es) ∙ sym c.contains_key.ensures ∙ c.if-contains_key.true in
-    if_err c.from_residual.result (filter-some test cs i x inside c.change-item.is passes)
+    if_err c.from_residual.result
+    (watched-some c.args.watchers.now.entries c.as_str.result.now c.args.changes.now c.loop-change.change-index c.change-item.result (omega arith) c.change-item.is
+    c.as_str.ensures (sym c.contains_key.ensures ∙ c.if-contains_key.true))
 
 pub returns-in_err-push-clause-err : goal.returns-in_err-push-clause-err
 returns-in_err-push-clause-err g c =
-    let es = c.args.watchers.now.entries in
-    let x = c.change-item.result in
-    let cs = c.args.changes.now in
-    let i = c.loop-change.change-index in
-    let inside : i < length cs = omega arith in
-    let test = λ (d : Change). watches (shown string_bytes (λ w. w) es) d.name in
-    let passes : test x ≡ true = ap (watches (shown string_bytes (λ w. w) es)) (sym c.as_str.ensures) ∙ sym (found-watched c.as_str.result.now es) ∙ sym c.contains_key.ensures ∙ c.if-contains_key.true in
-    if_err c.from_residual-in_err-push.result (filter-some test cs i x inside c.change-item.is passes)
+    if_err c.from_residual-in_err-push.result
+    (watched-some c.args.watchers.now.entries c.as_str.result.now c.args.changes.now c.loop-change.change-index c.change-item.result (omega arith) c.change-item.is
+    c.as_str.ensures (sym c.contains_key.ensures ∙ c.if-contains_key.true))
 
 pub loop-change-preserved : goal.loop-change-preserved
 loop-change-preserved g c =
