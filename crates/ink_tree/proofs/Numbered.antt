@@ -17,6 +17,7 @@ use Rattle.ink_tree.specs.declared.node.Node.{Node}
 use Rattle.ink_tree.specs.declared.spot.NodeId.{NodeId}
 use Rattle.ink_tree.proofs.Absent.{absent, got_place, lacks}
 use Rattle.ink_tree.proofs.Further.{below}
+use Rattle.ink_tree.proofs.Kept.{some_place}
 use Rattle.ink_tree.proofs.Prefixes.{around_below, below_around, not_around}
 use Rattle.ink_tree.proofs.Rising.{one_number}
 use Rattle.ink_tree.proofs.Standing.{at_append}
@@ -225,10 +226,6 @@ module _ (s : StoryTree) where
           (hold_by_key m h p ks inside here (λ o some. let on = further o k t ks apart.0 some in each o (ap is_some on ∙ some) ∙ on)
           (sits_back n m p (map (λ q. Name k ∷ q) (places t)) (places_by_key ks)
           (omega (arith, many n h (Some (Name k)) t, length-map (places t) (λ q. Name k ∷ q))) sits) two.1)
-
-some_place : (s : StoryTree) → 0 < length (places s)
-some_place (leaf l) = omega arith
-some_place (container name flags content named) = omega arith
 
 pub keeps_all : (s : StoryTree) (ns : List Node) → ns ≡ nodes_of 0 (record { number = 0 }) None s → keys_rise s ≡ true → KeepsAll s ns
 keeps_all s ns is rise = λ i n e.
