@@ -1,65 +1,8 @@
--- The blank ends of texts, and of two texts that are joined.
-use Rattle.std.proofs.Common.{◌≡◌, ℕ, zero, suc, ◌+◌, ◌-◌, ◌<◌, ◌≤◌, Bool, true, false, cond, eqb, ◌==◌, List, [], ◌∷◌, ◌++◌, reverse, length, get_or, take, drop, refl, sym, ap, ◌∙◌, arith, inl, inr}
-use Rattle.std.specs.List.{prefix_len, suffix_len}
-use Rattle.std.specs.Str.{IsUtf8, IsCharBoundary}
-use Rattle.std.proofs.lemmas.Bool.{cases_lt, eqb-true, or_cases, cases_Bool}
-use Rattle.std.proofs.lemmas.List.{drop_at, append-nil, length-drop, length-reverse, reverse-append, reverse-reverse, take-append-drop, get_or-reverse}
-use Rattle.std.proofs.lemmas.List.Sums.{prefix_len-le-length, suffix_len-le-length, prefix_len_passes}
-use Rattle.std.proofs.lemmas.Str.{IsCharBoundary-start, IsCharBoundary-end, IsCharBoundary-before_ascii, IsCharBoundary-after_ascii}
-use Rattle.std.proofs.Math.Numerals.{one-add, add-one}
-use Rattle.ink_model.specs.Bytes.{is_blank, trimmed, without}
-
--- ---- the ends by their lengths
-
-pub without_is : (test : ℕ → Bool) (cs : List ℕ) → without test cs ≡ drop (prefix_len test cs) cs
-without_is test [] = refl
-without_is test (c ∷ cs) =
-    elim (test c) as (λ b. cond b (without test cs) (c ∷ cs) ≡ drop (cond b (1 + prefix_len test cs) 0) (c ∷ cs))
-    [ true ↦ rw one-add (without_is test cs) | false ↦ refl ]
-
--- a list turned round, by its parts
-turned : (cs : List ℕ) (n : ℕ) → reverse cs ≡ reverse (drop n cs) ++ reverse (take n cs)
-turned cs n = ap reverse (sym (take-append-drop n cs)) ∙ reverse-append (take n cs) (drop n cs)
-
-turned_length : (cs : List ℕ) (k : ℕ) → k ≤ length cs → length (reverse (drop (length cs - k) cs)) ≡ k
-turned_length cs k h = length-reverse (drop (length cs - k) cs) ∙ length-drop (length cs - k) cs ∙ omega arith
-
-turned_drop : (cs : List ℕ) (k : ℕ) → k ≤ length cs → reverse (drop k (reverse cs)) ≡ take (length cs - k) cs
-turned_drop cs k h =
-    ap (λ ds. reverse (drop k ds)) (turned cs (length cs - k))
-    ∙ ap reverse (drop_at (reverse (drop (length cs - k) cs)) (reverse (take (length cs - k) cs)) k (turned_length cs k h))
-    ∙ reverse-reverse (take (length cs - k) cs)
-
-pub trimmed_is : (test : ℕ → Bool) (cs : List ℕ) → trimmed test cs ≡ take (length cs - suffix_len test cs) cs
-trimmed_is test cs = ap reverse (without_is test (reverse cs)) ∙ turned_drop cs (suffix_len test cs) (suffix_len-le-length test cs)
-
--- ---- where a text may be cut
-
-blank_ascii : (c : ℕ) → is_blank c ≡ true → c < 128
-blank_ascii c e = elim (or_cases (eqb c 32) (eqb c 9) e) [ inl h ↦ omega (arith, eqb-true c 32 h) | inr h ↦ omega (arith, eqb-true c 9 h) ]
-
-blank_at_start : (cs : List ℕ) (i : ℕ) → i < prefix_len is_blank cs → get_or cs i 0 < 128
-blank_at_start cs i h = blank_ascii (get_or cs i 0) (prefix_len_passes is_blank cs i 0 h)
-
-blank_at_end : (cs : List ℕ) (i : ℕ) → length cs - suffix_len is_blank cs ≤ i → i < length cs → get_or cs i 0 < 128
-blank_at_end cs i h l =
-    let blank = blank_at_start (reverse cs) (length cs - 1 - i) (omega arith) in
-    let turned : get_or (reverse cs) (length cs - 1 - i) 0 ≡ get_or cs i 0 =
-    get_or-reverse cs (length cs - 1 - i) 0 (omega arith) ∙ ap (λ n. get_or cs n 0) (omega arith) in
-    omega arith
-
-pub cut_at_start : (cs : List ℕ) (i : ℕ) → IsUtf8 cs → i ≤ prefix_len is_blank cs → IsCharBoundary cs i
-cut_at_start cs zero u h = IsCharBoundary-start cs u
-cut_at_start cs (suc i) u h =
-    rw (sym (add-one i))
-    (IsCharBoundary-after_ascii cs i u (omega (arith, prefix_len-le-length is_blank cs)) (blank_at_start cs i (omega arith)))
-
-pub cut_at_end : (cs : List ℕ) (i : ℕ) → length cs - suffix_len is_blank cs ≤ i → i ≤ length cs → IsCharBoundary cs i
-cut_at_end cs i h l =
-    elim (cases_lt i (length cs)) [
-      | inl m ↦ IsCharBoundary-before_ascii cs i m (blank_at_end cs i h m)
-      | inr m ↦ let e : i ≡ length cs = omega arith in rw e (IsCharBoundary-end cs)
-    ]
+-- The ends of two texts that are joined.
+use Rattle.std.proofs.Common.{◌≡◌, ℕ, Bool, true, false, ◌==◌, List, [], ◌∷◌, ◌++◌, reverse, length, refl, sym, ap, ◌∙◌, inl, inr}
+use Rattle.std.proofs.lemmas.Bool.{eqb-true, cases_Bool}
+use Rattle.std.proofs.lemmas.List.{append-nil, length-reverse, reverse-append, reverse-reverse}
+use Rattle.ink_model.specs.Bytes.{trimmed, without}
 
 -- ---- two texts
 

@@ -1,7 +1,7 @@
 -- Lists of choices, seen one after another.
 use Rattle.std.proofs.Common.{◌≡◌, ◌≢◌, ◌∙◌, ℕ, zero, suc, ◌+◌, ◌<◌, ◌≤◌, Bool, true, false, not, ◌||◌, List, [], ◌∷◌, ◌++◌, length, map, get_or, take, drop, Option, Some, None, Err, option_map, ap, sym, refl, append_assoc, add-one, arith, inl, inr}
 use Rattle.std.specs.List.{remove}
-use Rattle.std.proofs.lemmas.Bool.{cases_Bool, le-ltb}
+use Rattle.std.proofs.lemmas.Bool.{cases_Bool, le-ltb, not-false, not-true}
 use Rattle.std.proofs.lemmas.List.{drop_all, drop_more, take_more}
 use Rattle.ink_choice.specs.Words.{Adds, FindsIndex, Takes}
 use Rattle.ink_model.specs.Choices.{added, behind, none_visible, shown, shown_choice, taken, taken_of, visible}
@@ -9,14 +9,6 @@ use Rattle.ink_model.specs.Configuration.{ChoiceOf}
 use Rattle.ink_model.specs.declared.fault.Fault.TheVariants.{TooDeep}
 use Rattle.ink_model.specs.declared.limits.TheConstants.{MAX_CHOICES}
 use Rattle.ink_model.specs.declared.passage.Shown.{Shown}
-
-not_true : (b : Bool) → not b ≡ true → b ≡ false
-not_true true h = cc
-not_true false h = refl
-
-not_false : (b : Bool) → not b ≡ false → b ≡ true
-not_false true h = refl
-not_false false h = cc
 
 module _ {P : Type 0} where
   -- ---- the first of the rest
@@ -128,23 +120,23 @@ module _ {P : Type 0} where
         omega arith
       where
         shows : not x.hidden ≡ true → (get_or cs i x).hidden ≡ false
-        shows k = ap (λ c. c.hidden) (sym is) ∙ not_true x.hidden k
+        shows k = ap (λ c. c.hidden) (sym is) ∙ not-true x.hidden k
 
     pub counts_none : (n m : ℕ) → not x.hidden ≡ false → n + length (visible (drop i cs)) ≡ m → n + length (visible (drop (i + 1) cs)) ≡ m
-    counts_none n m h e = ap (λ xs. n + length xs) (sym (hidden_here cs i x inside (ap (λ c. c.hidden) (sym is) ∙ not_false x.hidden h))) ∙ e
+    counts_none n m h e = ap (λ xs. n + length xs) (sym (hidden_here cs i x inside (ap (λ c. c.hidden) (sym is) ∙ not-false x.hidden h))) ∙ e
 
     pub shows_one : (done all : List Shown) (y : Shown) → not x.hidden ≡ true → y ≡ shown_choice x → done ++ shown (drop i cs) ≡ all → (done ++ y ∷ []) ++ shown (drop (i + 1) cs) ≡ all
     shows_one done all y h made e =
         append_assoc done (y ∷ []) (shown (drop (i + 1) cs))
         ∙ ap (λ z. done ++ z ∷ shown (drop (i + 1) cs)) (made ∙ ap shown_choice is)
-        ∙ ap (λ xs. done ++ map shown_choice xs) (sym (visible_here cs i x inside (ap (λ c. c.hidden) (sym is) ∙ not_true x.hidden h)))
+        ∙ ap (λ xs. done ++ map shown_choice xs) (sym (visible_here cs i x inside (ap (λ c. c.hidden) (sym is) ∙ not-true x.hidden h)))
         ∙ e
 
     pub shows_none : (done all : List Shown) → not x.hidden ≡ false → done ++ shown (drop i cs) ≡ all → done ++ shown (drop (i + 1) cs) ≡ all
-    shows_none done all h e = ap (λ xs. done ++ map shown_choice xs) (sym (hidden_here cs i x inside (ap (λ c. c.hidden) (sym is) ∙ not_false x.hidden h))) ∙ e
+    shows_none done all h e = ap (λ xs. done ++ map shown_choice xs) (sym (hidden_here cs i x inside (ap (λ c. c.hidden) (sym is) ∙ not-false x.hidden h))) ∙ e
 
     pub some_shown : not x.hidden ≡ true → visible cs ≢ []
-    some_shown h = any_visible cs i x inside (ap (λ c. c.hidden) (sym is) ∙ not_true x.hidden h)
+    some_shown h = any_visible cs i x inside (ap (λ c. c.hidden) (sym is) ∙ not-true x.hidden h)
 
   -- a copy of the next one
   pub copied_one : (cs done : List (ChoiceOf P)) (i : ℕ) (x y : ChoiceOf P) → i < length cs → x ≡ get_or cs i x → done ≡ take i cs → y ≡ x → done ++ y ∷ [] ≡ take (i + 1) cs

@@ -8,7 +8,6 @@ use Rattle.ink_model.specs.Place.{entered, landed, next_place}
 use Rattle.ink_model.specs.Configuration.{fresh_at}
 use Rattle.ink_model.specs.Run.{run}
 use Rattle.ink_model.specs.Shown.{shown_text}
-use Rattle.ink_model.specs.Stack.{pushed}
 use Rattle.ink_model.specs.Step.{step}
 use Rattle.ink_model.specs.Tree.{StoryTree, leaf}
 use Rattle.ink_model.specs.Value.{is_true, printed}
@@ -27,7 +26,7 @@ gives_a_text = story (does control.BeginEval ∷ calls (codes "f") ∷ does cont
 
 -- a call that returns a value
 a_value_returned : line_of (after 9 gives_a_text) ≡ Enter 0 ∷ Leave (Some 0) ∷ Text (codes "x") ∷ Newline ∷ []
-unfolding run step start fresh_at entered next_place read_path target landed pushed cut printed is_true passed_places entered_places
+unfolding run step start fresh_at entered next_place read_path target landed cut printed is_true passed_places entered_places
 a_value_returned = refl
 
 abbrev runs_off : StoryTree
@@ -35,31 +34,31 @@ runs_off = story (does control.BeginEval ∷ calls (codes "f") ∷ does control.
 
 -- the new frame is outside evaluation mode, and its caller stays where the call is
 a_frame_of_its_own : modes_in (threads_in (now (after 2 runs_off))) ≡ false ∷ true ∷ []
-unfolding run step start fresh_at entered next_place read_path target landed pushed cut printed is_true passed_places entered_places
+unfolding run step start fresh_at entered next_place read_path target landed cut printed is_true passed_places entered_places
 a_frame_of_its_own = refl
 
 -- flow comes to the new frame from the call, which stays the caller's place
 places_in_a_call : where_in (threads_in (now (after 2 runs_off))) ≡ main_at 1 ∷ in_f 0 ∷ main_at 1 ∷ []
-unfolding run step start fresh_at entered next_place read_path target landed pushed cut printed is_true passed_places entered_places
+unfolding run step start fresh_at entered next_place read_path target landed cut printed is_true passed_places entered_places
 places_in_a_call = refl
 
 -- off the end of a function void is pushed where the caller evaluates, and flow goes on after the call
 off_the_end_in_evaluation : stack_in (now (after 3 runs_off)) ≡ value.Void ∷ []
-unfolding run step start fresh_at entered next_place read_path target landed pushed cut printed is_true passed_places entered_places
+unfolding run step start fresh_at entered next_place read_path target landed cut printed is_true passed_places entered_places
 off_the_end_in_evaluation = refl
 
 off_the_end_goes_on : where_in (threads_in (now (after 3 runs_off))) ≡ main_at 1 ∷ main_at 2 ∷ []
-unfolding run step start fresh_at entered next_place read_path target landed pushed cut printed is_true passed_places entered_places
+unfolding run step start fresh_at entered next_place read_path target landed cut printed is_true passed_places entered_places
 off_the_end_goes_on = refl
 
 -- and nothing is pushed where it does not
 off_the_end_outside_evaluation : stack_in (now (after 6 runs_off)) ≡ value.Void ∷ []
-unfolding run step start fresh_at entered next_place read_path target landed pushed cut printed is_true passed_places entered_places
+unfolding run step start fresh_at entered next_place read_path target landed cut printed is_true passed_places entered_places
 off_the_end_outside_evaluation = refl
 
 -- each call on a line has a number of its own
 numbers_of_calls : line_of (after 6 runs_off) ≡ Enter 0 ∷ Text (codes "x") ∷ Leave (Some 0) ∷ Enter 1 ∷ Text (codes "x") ∷ Leave (Some 1) ∷ []
-unfolding run step start fresh_at entered next_place read_path target landed pushed cut printed is_true passed_places entered_places
+unfolding run step start fresh_at entered next_place read_path target landed cut printed is_true passed_places entered_places
 numbers_of_calls = refl
 
 abbrev nested : StoryTree
@@ -67,11 +66,11 @@ nested = story (calls (codes "f") ∷ says (codes "y") ∷ []) (calls (codes "g"
 
 -- nested functions end in one step
 both_end : line_of (after 3 nested) ≡ Enter 0 ∷ Enter 1 ∷ Text (codes "x") ∷ Leave (Some 1) ∷ Leave (Some 0) ∷ []
-unfolding run step start fresh_at entered next_place read_path target landed pushed cut printed is_true passed_places entered_places
+unfolding run step start fresh_at entered next_place read_path target landed cut printed is_true passed_places entered_places
 both_end = refl
 
 both_end_after_the_outer_call : where_in (threads_in (now (after 3 nested))) ≡ main_at 0 ∷ main_at 1 ∷ []
-unfolding run step start fresh_at entered next_place read_path target landed pushed cut printed is_true passed_places entered_places
+unfolding run step start fresh_at entered next_place read_path target landed cut printed is_true passed_places entered_places
 both_end_after_the_outer_call = refl
 
 abbrev calls_if : Bool → StoryTree
@@ -79,11 +78,11 @@ calls_if = λ b. story (does control.BeginEval ∷ leaf (leaves.Bool b) ∷ does
 
 -- a conditional call is made where the condition is true
 called_where_true : where_in (threads_in (now (after 4 (calls_if true)))) ≡ main_at 3 ∷ in_f 0 ∷ main_at 3 ∷ []
-unfolding run step start fresh_at entered next_place read_path target landed pushed cut printed is_true passed_places entered_places
+unfolding run step start fresh_at entered next_place read_path target landed cut printed is_true passed_places entered_places
 called_where_true = refl
 
 not_called_where_false : where_in (threads_in (now (after 4 (calls_if false)))) ≡ main_at 3 ∷ main_at 4 ∷ []
-unfolding run step start fresh_at entered next_place read_path target landed pushed cut printed is_true passed_places entered_places
+unfolding run step start fresh_at entered next_place read_path target landed cut printed is_true passed_places entered_places
 not_called_where_false = refl
 
 abbrev calls_a_variable : StoryTree
@@ -91,7 +90,7 @@ calls_a_variable = story (leaf (leaves.Call (destination.Variable (codes "v")) f
 
 -- a variable that holds no target
 call_of_no_target : fault_of (after 1 calls_a_variable) ≡ Some fault.BadTarget
-unfolding run step start fresh_at entered next_place read_path target landed pushed cut printed is_true passed_places entered_places
+unfolding run step start fresh_at entered next_place read_path target landed cut printed is_true passed_places entered_places
 call_of_no_target = refl
 
 -- ---- the text of functions
@@ -101,16 +100,16 @@ with_newlines = story (says (codes "[") ∷ does control.BeginEval ∷ calls (co
 
 -- a newline at a function's start is not written, and one at its end is hidden back to its Enter
 newlines_of_a_function : line_of (after 10 with_newlines) ≡ Text (codes "[") ∷ Enter 0 ∷ Text (codes "x") ∷ Newline ∷ Leave (Some 0) ∷ Text (codes "]") ∷ Newline ∷ []
-unfolding run step start fresh_at entered next_place read_path target landed pushed cut printed is_true passed_places entered_places
+unfolding run step start fresh_at entered next_place read_path target landed cut printed is_true passed_places entered_places
 newlines_of_a_function = refl
 
 shown_of_a_function : shown_text (line_of (after 10 with_newlines)) ≡ codes "[x]\n"
-unfolding run step start fresh_at entered next_place read_path target landed pushed cut printed is_true passed_places entered_places
+unfolding run step start fresh_at entered next_place read_path target landed cut printed is_true passed_places entered_places
 shown_of_a_function = refl
 
 -- a Leave hides a newline back to its Enter, and none before that
 hides_to_its_enter : shown_text (Text (codes "a") ∷ Newline ∷ Enter 0 ∷ Newline ∷ Leave (Some 0) ∷ Text (codes "b") ∷ []) ≡ codes "a\nb"
-unfolding run step start fresh_at entered next_place read_path target landed pushed cut printed is_true passed_places entered_places
+unfolding run step start fresh_at entered next_place read_path target landed cut printed is_true passed_places entered_places
 hides_to_its_enter = refl
 
 abbrev writes_below : StoryTree
@@ -118,7 +117,7 @@ writes_below = story (calls (codes "f") ∷ []) (leaf leaves.Newline ∷ calls (
 
 -- a text ends the freshness of the functions below too
 freshness_below : line_of (after 5 writes_below) ≡ Enter 0 ∷ Enter 1 ∷ Text (codes "x") ∷ Leave (Some 1) ∷ Newline ∷ Leave (Some 0) ∷ []
-unfolding run step start fresh_at entered next_place read_path target landed pushed cut printed is_true passed_places entered_places
+unfolding run step start fresh_at entered next_place read_path target landed cut printed is_true passed_places entered_places
 freshness_below = refl
 
 abbrev writes_in_a_string : StoryTree
@@ -126,5 +125,5 @@ writes_in_a_string = story (calls (codes "f") ∷ []) (does control.BeginEval �
 
 -- a text in a string ends no freshness outside it
 freshness_outside_a_string : line_of (after 7 writes_in_a_string) ≡ Enter 0 ∷ Leave (Some 0) ∷ []
-unfolding run step start fresh_at entered next_place read_path target landed pushed cut printed is_true passed_places entered_places
+unfolding run step start fresh_at entered next_place read_path target landed cut printed is_true passed_places entered_places
 freshness_outside_a_string = refl

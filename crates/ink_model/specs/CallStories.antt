@@ -1,7 +1,9 @@
 -- Stories with two knots, and what is looked at after some steps of them.
 use Rattle.std.specs.Prelude.{ℕ, List, [], ◌∷◌, codes, Bool, false, map, Option, Some, None}
+use Rattle.ink_model.specs.Asks.{asks}
 use Rattle.ink_model.specs.Configuration.{Configuration, start}
 use Rattle.ink_model.specs.Frames.{ThreadsOf}
+use Rattle.ink_model.specs.Host.{Bound}
 use Rattle.ink_model.specs.Run.{Moment, At, Stopped, Faulted, Waits, moment}
 use Rattle.ink_model.specs.Step.{nothing_bound}
 use Rattle.ink_model.specs.Store.{Values}
@@ -95,6 +97,14 @@ all_places (Some ts) = map (λ t. t.frame.place) (ts.thread ∷ ts.below)
 abbrev pub safe_in : Option Configuration → Bool
 safe_in None = false
 safe_in (Some c) = c.flow.safe
+
+-- the step that comes next asks for memory
+abbrev pub asks_in : StoryTree → Bound → Option Configuration → Bool
+asks_in s b None = false
+asks_in s b (Some c) = asks s b c
+
+abbrev pub asks_after : ℕ → StoryTree → Bool
+asks_after n s = asks_in s nothing_bound (now (after n s))
 
 abbrev pub through_f : List StoryTree → StoryTree
 through_f = λ f. story (tunnels (destination.Path (codes "f")) ∷ says (codes "y") ∷ []) f (says (codes "z") ∷ [])

@@ -2,7 +2,7 @@
 use Rattle.std.specs.Prelude.{◌≡◌, ℕ, pos, List, [], ◌∷◌, bytes_eq, refl, codes, Bool, true, false, not, if◌then◌else◌, Option, Some, None}
 use Rattle.ink_model.specs.Asks.{asks}
 use Rattle.ink_model.specs.Bytes.{fits_text}
-use Rattle.ink_model.specs.CallStories.{does, fault_of, in_f, line_of, main_at, now, says, stack_in, story, threads_in, where_in}
+use Rattle.ink_model.specs.CallStories.{asks_in, does, fault_of, in_f, line_of, main_at, now, says, stack_in, story, threads_in, where_in}
 use Rattle.ink_model.specs.Configuration.{Configuration, fresh_at, start}
 use Rattle.ink_model.specs.Effect.{Fails, Fields}
 use Rattle.ink_model.specs.Entered.{entered_places, passed_places}
@@ -197,15 +197,11 @@ where_it_is_true = refl
 
 -- ---- memory
 
-abbrev memory_asked : Option Configuration → StoryTree → Bool
-memory_asked None s = false
-memory_asked (Some c) s = asks s host c
-
 -- a call asks for memory, and a fault that comes before it does not
-a_call_asks : memory_asked (now (under [] 2 rolls)) rolls ≡ true
+a_call_asks : asks_in rolls host (now (under [] 2 rolls)) ≡ true
 unfolding run step start fresh_at entered next_place passed_places entered_places asks
 a_call_asks = refl
 
-no_call_asks_in_a_string : let s = evaluating (number 1 ∷ does control.BeginString ∷ external (codes "roll") 1 ∷ []) in memory_asked (now (under [] 3 s)) s ≡ false
+no_call_asks_in_a_string : let s = evaluating (number 1 ∷ does control.BeginString ∷ external (codes "roll") 1 ∷ []) in asks_in s host (now (under [] 3 s)) ≡ false
 unfolding run step start fresh_at entered next_place passed_places entered_places asks
 no_call_asks_in_a_string = refl

@@ -2,7 +2,7 @@
 use Rattle.std.specs.Prelude.{◌≡◌, ℕ, List, [], ◌∷◌, refl, codes, true, false}
 use Rattle.ink_model.specs.Asks.{asks}
 use Rattle.ink_model.specs.Host.{nothing_bound}
-use Rattle.ink_model.specs.CallStories.{after, after_with, calls, does, says, tunnels}
+use Rattle.ink_model.specs.CallStories.{after, after_with, asks_after, calls, does, says, tunnels}
 use Rattle.ink_model.specs.Configuration.{start, fresh_at, with_counts}
 use Rattle.ink_model.specs.Entered.{entered_places, passed_places}
 use Rattle.ink_model.specs.Mark.{cut}
@@ -79,12 +79,12 @@ entered_by_two_threads = refl
 -- ---- where memory is asked for
 
 -- a first visit asks for memory
-a_first_visit : asks (with_knot 1 (diverts (codes "k") ∷ []) (says (codes "x") ∷ [])) nothing_bound (start (with_knot 1 (diverts (codes "k") ∷ []) (says (codes "x") ∷ [])) []) ≡ true
+a_first_visit : asks_after 0 (with_knot 1 (diverts (codes "k") ∷ []) (says (codes "x") ∷ [])) ≡ true
 unfolding run step start fresh_at entered passed_places entered_places next_place read_path target landed cut printed is_true asks
 a_first_visit = refl
 
 -- a landing that counts nothing asks for none
-nothing_counted : asks (with_knot 0 (diverts (codes "k") ∷ []) (says (codes "x") ∷ [])) nothing_bound (start (with_knot 0 (diverts (codes "k") ∷ []) (says (codes "x") ∷ [])) []) ≡ false
+nothing_counted : asks_after 0 (with_knot 0 (diverts (codes "k") ∷ []) (says (codes "x") ∷ [])) ≡ false
 unfolding run step start fresh_at entered passed_places entered_places next_place read_path target landed cut printed is_true asks
 nothing_counted = refl
 

@@ -10,7 +10,7 @@ use Rattle.ink_model.specs.Run.{moment, run}
 use Rattle.ink_model.specs.Step.{nothing_bound, step}
 use Rattle.ink_model.specs.Value.{is_true, printed}
 use Rattle.ink_model.specs.Clean.{clean}
-use Rattle.ink_model.specs.CallStories.{after, does, fault_of, main_at, now, safe_in, says, stack_in, threads_in, where_in}
+use Rattle.ink_model.specs.CallStories.{after, asks_after, does, fault_of, main_at, now, safe_in, says, stack_in, threads_in, where_in}
 use Rattle.ink_model.specs.ChoiceStories.{choice_by, choices_in, offers, shown_as, shows, string_of, tag_of}
 use Rattle.ink_model.specs.Configuration.{Configuration, with_counts}
 use Rattle.ink_model.specs.CountStories.{evaluates, flagged, knot, target_of, with_knot}
@@ -160,14 +160,10 @@ after_one_choice = refl
 
 -- ---- where memory is asked for
 
-abbrev asks_in : StoryTree → Option Configuration → Bool
-asks_in s None = false
-asks_in s (Some c) = asks s nothing_bound c
-
-a_choice_that_is_made : asks_in (to_k 4) (now (after 5 (to_k 4))) ≡ true
+a_choice_that_is_made : asks_after 5 (to_k 4) ≡ true
 unfolding run step start fresh_at settled entered passed_places entered_places next_place read_path target landed cut printed is_true asks
 a_choice_that_is_made = refl
 
-no_choice_is_made : asks_in (where_holds false) (now (after 6 (where_holds false))) ≡ false
+no_choice_is_made : asks_after 6 (where_holds false) ≡ false
 unfolding run step start fresh_at settled entered passed_places entered_places next_place read_path target landed cut printed is_true asks
 no_choice_is_made = refl

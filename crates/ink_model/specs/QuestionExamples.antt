@@ -1,5 +1,5 @@
 -- What is asked of visits and turns, each proved by computation (docs/RUNNING.md, "Questions for counts").
-use Rattle.std.specs.Prelude.{◌≡◌, pos, negsuc, [], ◌∷◌, refl, codes, Some, None}
+use Rattle.std.specs.Prelude.{◌≡◌, ℕ, pos, negsuc, List, [], ◌∷◌, refl, codes, Some, None}
 use Rattle.std.proofs.lemmas.Str.{is_utf8-from_IsUtf8}
 use Rattle.std.specs.Char.{encode_utf8}
 use Rattle.ink_model.specs.Answer.{Counts, Refuses}
@@ -19,11 +19,16 @@ use Rattle.ink_model.specs.Session.{Visits}
 use Rattle.ink_model.specs.State.{State, Broken}
 use Rattle.ink_model.specs.Tree.{StoryTree, leaf}
 use Rattle.ink_model.specs.declared.command.Command.TheVariants as command
+use Rattle.ink_model.specs.declared.content.Control.{Control}
 use Rattle.ink_model.specs.declared.content.Control.TheVariants as control
 use Rattle.ink_model.specs.declared.content.Leaf.TheVariants as leaves
 use Rattle.ink_model.specs.declared.fault.Fault.TheVariants as fault
 use Rattle.ink_model.specs.declared.fault.Refusal.TheVariants as refusal
 use Rattle.ink_model.specs.declared.value.Value.TheVariants as value
+
+-- a question about a target, beside a knot of these flags
+abbrev asked_of : ℕ → List ℕ → Control → StoryTree
+asked_of flags path question = with_knot flags (does control.BeginEval ∷ target_of path ∷ does question ∷ []) (says (codes "x") ∷ [])
 
 -- ---- the visits of a container
 
@@ -52,16 +57,16 @@ unfolding run step start fresh_at entered passed_places entered_places next_plac
 a_read_count = refl
 
 -- a container that was never entered
-none_yet : stack_in (now (after 3 (with_knot 1 (does control.BeginEval ∷ target_of (codes "k") ∷ does control.ReadCount ∷ []) (says (codes "x") ∷ [])))) ≡ value.Int (pos 0) ∷ []
+none_yet : stack_in (now (after 3 (asked_of 1 (codes "k") control.ReadCount))) ≡ value.Int (pos 0) ∷ []
 unfolding run step start fresh_at entered passed_places entered_places next_place read_path target landed cut printed is_true
 none_yet = refl
 
 -- what is no container has none
-visits_of_a_text : stack_in (now (after 3 (with_knot 1 (does control.BeginEval ∷ target_of (codes "k.0") ∷ does control.ReadCount ∷ []) (says (codes "x") ∷ [])))) ≡ value.Int (pos 0) ∷ []
+visits_of_a_text : stack_in (now (after 3 (asked_of 1 (codes "k.0") control.ReadCount))) ≡ value.Int (pos 0) ∷ []
 unfolding run step start fresh_at entered passed_places entered_places next_place read_path target landed cut printed is_true
 visits_of_a_text = refl
 
-a_read_count_not_counted : fault_of (after 3 (with_knot 2 (does control.BeginEval ∷ target_of (codes "k") ∷ does control.ReadCount ∷ []) (says (codes "x") ∷ []))) ≡ Some fault.NotCounted
+a_read_count_not_counted : fault_of (after 3 (asked_of 2 (codes "k") control.ReadCount)) ≡ Some fault.NotCounted
 unfolding run step start fresh_at entered passed_places entered_places next_place read_path target landed cut printed is_true
 a_read_count_not_counted = refl
 
@@ -83,16 +88,16 @@ unfolding run step start fresh_at entered passed_places entered_places next_plac
 in_this_turn = refl
 
 -- never entered
-never : stack_in (now (after 3 (with_knot 2 (does control.BeginEval ∷ target_of (codes "k") ∷ does control.Turns ∷ []) (says (codes "x") ∷ [])))) ≡ value.Int (negsuc 0) ∷ []
+never : stack_in (now (after 3 (asked_of 2 (codes "k") control.Turns))) ≡ value.Int (negsuc 0) ∷ []
 unfolding run step start fresh_at entered passed_places entered_places next_place read_path target landed cut printed is_true
 never = refl
 
 -- what is no container never was
-turns_of_a_text : stack_in (now (after 3 (with_knot 2 (does control.BeginEval ∷ target_of (codes "k.0") ∷ does control.Turns ∷ []) (says (codes "x") ∷ [])))) ≡ value.Int (negsuc 0) ∷ []
+turns_of_a_text : stack_in (now (after 3 (asked_of 2 (codes "k.0") control.Turns))) ≡ value.Int (negsuc 0) ∷ []
 unfolding run step start fresh_at entered passed_places entered_places next_place read_path target landed cut printed is_true
 turns_of_a_text = refl
 
-turns_not_noted : fault_of (after 3 (with_knot 1 (does control.BeginEval ∷ target_of (codes "k") ∷ does control.Turns ∷ []) (says (codes "x") ∷ []))) ≡ Some fault.NotCounted
+turns_not_noted : fault_of (after 3 (asked_of 1 (codes "k") control.Turns)) ≡ Some fault.NotCounted
 unfolding run step start fresh_at entered passed_places entered_places next_place read_path target landed cut printed is_true
 turns_not_noted = refl
 

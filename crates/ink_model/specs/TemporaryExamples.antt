@@ -1,9 +1,8 @@
 -- Temporaries and pointers in small steps, each proved by computation (docs/VARIABLES.md).
-use Rattle.std.specs.Prelude.{◌≡◌, pos, negsuc, List, [], ◌∷◌, refl, codes, Bool, true, false, Option, Some, None}
+use Rattle.std.specs.Prelude.{◌≡◌, pos, negsuc, List, [], ◌∷◌, refl, codes, true, false, Some}
 use Rattle.ink_model.specs.Asks.{asks}
-use Rattle.ink_model.specs.Host.{nothing_bound}
-use Rattle.ink_model.specs.CallStories.{after, after_with, calls, does, fault_of, main_at, now, says, stack_in, story, threads_in, where_in}
-use Rattle.ink_model.specs.Configuration.{Configuration, start, fresh_at}
+use Rattle.ink_model.specs.CallStories.{after, after_with, asks_after, calls, does, fault_of, main_at, now, says, stack_in, story, threads_in, where_in}
+use Rattle.ink_model.specs.Configuration.{start, fresh_at}
 use Rattle.ink_model.specs.Entered.{entered_places, passed_places}
 use Rattle.ink_model.specs.Mark.{cut}
 use Rattle.ink_model.specs.Path.{read_path, target}
@@ -133,16 +132,12 @@ by_a_bad_pointer = refl
 
 -- ---- where memory is asked for
 
-abbrev asks_now : StoryTree → Option Configuration → Bool
-asks_now s None = false
-asks_now s (Some c) = asks s nothing_bound c
-
 -- a name that is new
-a_new_name : asks_now (declares_a [] []) (now (after 2 (declares_a [] []))) ≡ true
+a_new_name : asks_after 2 (declares_a [] []) ≡ true
 unfolding run step start fresh_at entered passed_places entered_places next_place read_path target landed cut printed is_true asks apply
 a_new_name = refl
 
 -- and none that is there
-a_name_again : asks_now (declares_a (leaf (leaves.Int (pos 6)) ∷ leaf (leaves.DeclareTemp (codes "a")) ∷ []) []) (now (after 4 (declares_a (leaf (leaves.Int (pos 6)) ∷ leaf (leaves.DeclareTemp (codes "a")) ∷ []) []))) ≡ false
+a_name_again : asks_after 4 (declares_a (leaf (leaves.Int (pos 6)) ∷ leaf (leaves.DeclareTemp (codes "a")) ∷ []) []) ≡ false
 unfolding run step start fresh_at entered passed_places entered_places next_place read_path target landed cut printed is_true asks apply
 a_name_again = refl

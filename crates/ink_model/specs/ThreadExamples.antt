@@ -8,7 +8,6 @@ use Rattle.ink_model.specs.Path.{read_path, target}
 use Rattle.ink_model.specs.Place.{entered, landed, next_place}
 use Rattle.ink_model.specs.Configuration.{fresh_at}
 use Rattle.ink_model.specs.Run.{run}
-use Rattle.ink_model.specs.Stack.{pushed}
 use Rattle.ink_model.specs.Step.{step}
 use Rattle.ink_model.specs.Tree.{StoryTree, leaf, container, no_keys}
 use Rattle.ink_model.specs.Value.{is_true, printed}
@@ -26,47 +25,47 @@ in_a_thread = λ f. story (does control.Thread ∷ leaf (leaves.Divert (destinat
 
 -- `thread` moves on, and then the top thread is there twice
 thread_moves_then_copies : all_places (threads_in (now (after 1 (in_a_thread (says (codes "x") ∷ []))))) ≡ main_at 1 ∷ main_at 1 ∷ []
-unfolding run step start fresh_at entered next_place read_path target landed pushed cut printed is_true passed_places entered_places
+unfolding run step start fresh_at entered next_place read_path target landed cut printed is_true passed_places entered_places
 thread_moves_then_copies = refl
 
 -- a thread that runs off is dropped, and the one below goes on after its place
 thread_runs_off : all_places (threads_in (now (after 3 (in_a_thread (says (codes "x") ∷ []))))) ≡ main_at 2 ∷ []
-unfolding run step start fresh_at entered next_place read_path target landed pushed cut printed is_true passed_places entered_places
+unfolding run step start fresh_at entered next_place read_path target landed cut printed is_true passed_places entered_places
 thread_runs_off = refl
 
 thread_writes : line_of (after 4 (in_a_thread (says (codes "x") ∷ []))) ≡ Text (codes "x") ∷ Text (codes "y") ∷ []
-unfolding run step start fresh_at entered next_place read_path target landed pushed cut printed is_true passed_places entered_places
+unfolding run step start fresh_at entered next_place read_path target landed cut printed is_true passed_places entered_places
 thread_writes = refl
 
 -- `done` in a thread drops it, and is no safe stop
 done_in_a_thread : all_places (threads_in (now (after 3 (in_a_thread (does control.Done ∷ []))))) ≡ main_at 2 ∷ []
-unfolding run step start fresh_at entered next_place read_path target landed pushed cut printed is_true passed_places entered_places
+unfolding run step start fresh_at entered next_place read_path target landed cut printed is_true passed_places entered_places
 done_in_a_thread = refl
 
 done_in_a_thread_is_not_safe : safe_in (now (after 3 (in_a_thread (does control.Done ∷ [])))) ≡ false
-unfolding run step start fresh_at entered next_place read_path target landed pushed cut printed is_true passed_places entered_places
+unfolding run step start fresh_at entered next_place read_path target landed cut printed is_true passed_places entered_places
 done_in_a_thread_is_not_safe = refl
 
 -- `done` in the last thread stops safely, and does not move
 done_in_the_last_thread : where_in (threads_in (now (after 1 (story (does control.Done ∷ []) ([]) ([]))))) ≡ None ∷ None ∷ []
-unfolding run step start fresh_at entered next_place read_path target landed pushed cut printed is_true passed_places entered_places
+unfolding run step start fresh_at entered next_place read_path target landed cut printed is_true passed_places entered_places
 done_in_the_last_thread = refl
 
 done_in_the_last_thread_is_safe : safe_in (now (after 1 (story (does control.Done ∷ []) ([]) ([])))) ≡ true
-unfolding run step start fresh_at entered next_place read_path target landed pushed cut printed is_true passed_places entered_places
+unfolding run step start fresh_at entered next_place read_path target landed cut printed is_true passed_places entered_places
 done_in_the_last_thread_is_safe = refl
 
 -- `end` in a thread in a function leaves one thread of one frame, that came from nowhere
 end_in_a_thread_in_a_function : threads_in (now (after 3 (story (calls (codes "f") ∷ []) (does control.Thread ∷ does control.End ∷ []) ([])))) ≡ Some (base_threads None)
-unfolding run step start fresh_at entered next_place read_path target landed pushed cut printed is_true passed_places entered_places
+unfolding run step start fresh_at entered next_place read_path target landed cut printed is_true passed_places entered_places
 end_in_a_thread_in_a_function = refl
 
 -- where moving on stops flow there is nothing to copy
 thread_at_the_end : all_places (threads_in (now (after 1 (container None 0 (trees_of (does control.Thread ∷ [])) no_keys)))) ≡ None ∷ []
-unfolding run step start fresh_at entered next_place read_path target landed pushed cut printed is_true passed_places entered_places
+unfolding run step start fresh_at entered next_place read_path target landed cut printed is_true passed_places entered_places
 thread_at_the_end = refl
 
 -- a copied function keeps the number of its Enter, which then has two Leave marks
 two_leaves : line_of (after 6 (story (calls (codes "f") ∷ says (codes "y") ∷ []) (does control.Thread ∷ says (codes "x") ∷ []) ([]))) ≡ Enter 0 ∷ Text (codes "x") ∷ Leave (Some 0) ∷ Text (codes "y") ∷ Leave (Some 0) ∷ Text (codes "y") ∷ []
-unfolding run step start fresh_at entered next_place read_path target landed pushed cut printed is_true passed_places entered_places
+unfolding run step start fresh_at entered next_place read_path target landed cut printed is_true passed_places entered_places
 two_leaves = refl

@@ -2,7 +2,7 @@
 use Rattle.std.proofs.Common.{◌≡◌, ℕ, suc, ◌<◌, ◌≤◌, Bool, true, false, not, cond, if◌then◌else◌, List, [], ◌∷◌, ◌++◌, Option, None, Some, map, filter, length, take, drop, get_or, refl, sym, ap, ◌∙◌, arith, inl, inr}
 use Rattle.std.specs.List.{prefix_len}
 use Rattle.std.specs.Str.{IsUtf8, IsCharBoundary}
-use Rattle.std.proofs.lemmas.Bool.{cases_lt, ne_eqb, eqb-true, or_parts, or_cases}
+use Rattle.std.proofs.lemmas.Bool.{cases_lt, ne_eqb, eqb-true, or_parts, or_cases, not-false, not-true}
 use Rattle.std.proofs.lemmas.List.{append-nil, append_assoc, take-append-drop, length-take-le, get_or-take}
 use Rattle.std.proofs.lemmas.List.Sums.{prefix_len-le-length, prefix_len_passes, prefix_len_stops}
 use Rattle.std.proofs.lemmas.Str.{IsCharBoundary-end, IsCharBoundary-before_ascii, IsCharBoundary-after_ascii}
@@ -138,14 +138,6 @@ word_first before (c ∷ cs) rest some h =
 abbrev pub word_of : List ℕ → ℕ
 word_of cs = prefix_len (λ byte. not (is_white byte)) cs
 
-not_true : (b : Bool) → not b ≡ true → b ≡ false
-not_true true e = cc
-not_true false e = refl
-
-not_false : (b : Bool) → not b ≡ false → b ≡ true
-not_false true e = refl
-not_false false e = cc
-
 word_within : (cs : List ℕ) (n : ℕ) → n ≡ word_of cs → n ≤ length cs
 word_within cs n e = omega (arith, e, prefix_len-le-length (λ byte. not (is_white byte)) cs)
 
@@ -154,7 +146,7 @@ word_passes cs n e = λ k l.
     let len = length-take-le n cs (word_within cs n e) in
     let below : k < n = omega (arith, l, len) in
     let passes = prefix_len_passes (λ byte. not (is_white byte)) cs k 0 (omega (arith, below, e)) in
-    rw (get_or-take n cs k 0 below) (not_true (is_white (get_or cs k 0)) passes)
+    rw (get_or-take n cs k 0 below) (not-true (is_white (get_or cs k 0)) passes)
 
 pub word_step : (out cs more : List ℕ) (before : Before) (n : ℕ) → 0 < n → n ≡ word_of cs → ((out ++ space before) ++ take n cs) ++ cleaned_on Word (drop n cs ++ more) ≡ out ++ cleaned_on before (cs ++ more)
 word_step out cs more before n some e =
@@ -171,7 +163,7 @@ word_boundary cs n e =
     elim (cases_lt n (length cs)) [
       | inl l ↦
           let stops = prefix_len_stops (λ byte. not (is_white byte)) cs 0 (omega (arith, l, e)) in
-          let white : is_white (get_or cs n 0) ≡ true = ap (λ k. is_white (get_or cs k 0)) e ∙ not_false (is_white (get_or cs (word_of cs) 0)) stops in
+          let white : is_white (get_or cs n 0) ≡ true = ap (λ k. is_white (get_or cs k 0)) e ∙ not-false (is_white (get_or cs (word_of cs) 0)) stops in
           IsCharBoundary-before_ascii cs n l (white_ascii (get_or cs n 0) white)
       | inr l ↦ let end : n ≡ length cs = omega (arith, l, word_within cs n e) in rw end (IsCharBoundary-end cs)
     ]
@@ -180,7 +172,7 @@ word_boundary cs n e =
 pub white_first : (cs : List ℕ) → 0 < length cs → word_of cs ≡ 0 → is_white (get_or cs 0 0) ≡ true
 white_first cs some none =
     let stops = prefix_len_stops (λ byte. not (is_white byte)) cs 0 (omega (arith, some, none)) in
-    ap (λ k. is_white (get_or cs k 0)) (sym none) ∙ not_false (is_white (get_or cs (word_of cs) 0)) stops
+    ap (λ k. is_white (get_or cs k 0)) (sym none) ∙ not-false (is_white (get_or cs (word_of cs) 0)) stops
 
 pub white_boundary : (cs : List ℕ) → IsUtf8 cs → 0 < length cs → is_white (get_or cs 0 0) ≡ true → IsCharBoundary cs 1
 white_boundary cs u some white = IsCharBoundary-after_ascii cs 0 u some (white_ascii (get_or cs 0 0) white)

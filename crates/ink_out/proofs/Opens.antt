@@ -2,6 +2,7 @@
 use Rattle.std.proofs.Common.{◌≡◌, ℕ, suc, ◌<◌, ◌≤◌, Bool, true, false, not, ◌||◌, ◌&&◌, cond, eqb, List, [], ◌∷◌, ◌++◌, length, drop, reverse, None, Some, refl, sym, ap, ◌∙◌, arith, inl, inr}
 use Rattle.std.proofs.lemmas.Bool.{cases_lt, cases_Bool, or_cases, or_parts, or_left, or_right, eqb-true, eq-eqb, false≢true, le-ltb, le-leb, lt-leb, both_ways}
 use Rattle.std.proofs.lemmas.List.{reverse-append, reverse-reverse, length-reverse, drop-append-le, drop_all}
+use Rattle.std.proofs.Math.Bool.{or-false}
 use Rattle.ink_model.specs.Shown.{clear, some, ends, newline_shown, newlines_before, is_among, is_shown, open_before, open_newline, has_more, more_from}
 use Rattle.ink_model.specs.declared.mark.Mark.{Mark}
 use Rattle.ink_model.specs.declared.mark.Mark.TheVariants.{Text, Blank, Newline, Glue, Tag, Enter, Leave}
@@ -152,10 +153,6 @@ last_mark m before i h =
 past_all : (ms : List Mark) (i : ℕ) → length ms ≤ i → has_more (drop i (reverse ms)) ≡ false
 past_all ms i h = ap has_more (drop_all i (reverse ms) (omega (arith, length-reverse ms)))
 
-end_false : (b : Bool) → (b || false) ≡ b
-end_false true = refl
-end_false false = refl
-
 marked_more : (m : Mark) (before : List Mark) (i : ℕ) → has_more (m ∷ []) ≡ true → has_more (drop i (reverse (m ∷ before))) ≡ is_past i (Some (length before))
 marked_more m before i e =
     elim (cases_lt (length before) i) [
@@ -170,7 +167,7 @@ plain_more : (m : Mark) (before : List Mark) (i : ℕ) → has_more (m ∷ []) �
 plain_more m before i e h =
     elim (cases_lt (length before) i) [
       | inl l ↦ past_all (m ∷ before) i (omega arith) ∙ sym (more_within before i (omega arith))
-      | inr l ↦ last_mark m before i l ∙ ap (λ b. has_more (drop i (reverse before)) || b) e ∙ end_false (has_more (drop i (reverse before))) ∙ h
+      | inr l ↦ last_mark m before i l ∙ ap (λ b. has_more (drop i (reverse before)) || b) e ∙ or-false (has_more (drop i (reverse before))) ∙ h
     ]
 
 pub more_is : (before : List Mark) (i : ℕ) → has_more (drop i (reverse before)) ≡ is_past i (more_at before)

@@ -13,6 +13,7 @@ use Rattle.ink_out.specs.declared.tracker.Tracker.{Tracker}
 use Rattle.ink_out.specs.Cutting.{piece_mark}
 use Rattle.ink_out.specs.Tracks.{Tracks, settled_after, waiting_at}
 use Rattle.ink_out.specs.Stands.{more_at, Falling, Stands, Knows, Sees}
+use Rattle.ink_out.proofs.Tracking.{or_nothing}
 
 -- ---- the last text or tag
 
@@ -69,10 +70,6 @@ turned_end xs end some fits =
     let e : end - 1 + 1 ≡ end = omega arith in
     let more = take_more xs (end - 1) 0 (omega arith) in
     ap reverse (rw e at more) ∙ reverse-append (take (end - 1) xs) (get_or xs (end - 1) 0 ∷ [])
-
-or_nothing : (b c : Bool) → c ≡ false → (b || c) ≡ b
-or_nothing true c e = refl
-or_nothing false c e = e
 
 -- where none behind the one that is looked at can be it, this is the one or there is none
 pub among_here : (xs : List ℕ) (end i n : ℕ) → 0 < end → end ≤ length xs → Falling n (reverse (take end xs)) → get_or xs (end - 1) 0 ≤ i → eqb i (get_or xs (end - 1) 0) ≡ is_among i (reverse (take end xs))

@@ -15,7 +15,7 @@ use Rattle.ink_out.specs.declared.tracker.Tracker.{Tracker}
 use Rattle.ink_out.specs.Tracks.{since, hidden_by, waits, waiting, waiting_at, IsBroken, FitsNewline, Fits, stays, FitsFirst, Tracks, reach_of, settled_by}
 use Rattle.ink_out.specs.Next.{hides_behind, hides_next, newline_left, blank_left}
 use Rattle.ink_out.proofs.Covers.{since_more, since_here}
-use Rattle.ink_out.proofs.Tracking.{Plain, hidden_now, fits_over, first_over, waiting_kept, stays_over, bare, bare_end, plain_newline, plain_blank, newline_more, newline_next, blank_more, left}
+use Rattle.ink_out.proofs.Tracking.{Plain, hidden_now, fits_over, first_over, waiting_kept, stays_over, bare, or_nothing, plain_newline, plain_blank, newline_more, newline_next, blank_more, left}
 
 -- some tracker of these marks
 record Tracked (before : List Mark) : Type 0 where
@@ -80,7 +80,7 @@ first_blank t before s settled textless none k =
       ends = λ after. (waiting_kept m p before after s settled k).1;
       some = λ after.
           let nothing : some before (m ∷ after) ≡ false = k.some (m ∷ after) ∙ rw (textless, none) refl in
-          bare_end (not (covered [] after || (broken before && glued after))) (some before (m ∷ after)) nothing
+          or_nothing (not (covered [] after || (broken before && glued after))) (some before (m ∷ after)) nothing
           ∙ ap (λ b. not (covered [] after || (b && glued after))) (sym k.breaks)
           ∙ rw (textless, since_here) refl;
     }

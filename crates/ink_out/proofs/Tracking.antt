@@ -2,6 +2,7 @@
 use Rattle.std.proofs.Common.{◌≡◌, ℕ, ◌<◌, Bool, true, false, not, ◌||◌, ◌&&◌, cond, if◌then◌else◌, List, [], ◌∷◌, ◌++◌, length, Option, None, Some, refl, sym, ap, ◌∙◌, subst, arith, inl, inr}
 use Rattle.std.specs.Option.{is_some}
 use Rattle.std.proofs.lemmas.Bool.{cases_Bool, or_parts, or_right, not-true, false≢true}
+use Rattle.std.proofs.Math.Bool.{and-true}
 use Rattle.ink_model.specs.Shown.{glued, broken, glues, covered, some, clear, ends, newlines_before, has_more}
 use Rattle.ink_model.specs.declared.mark.Mark.{Mark}
 use Rattle.ink_model.specs.declared.mark.Mark.TheVariants.{Text, Blank, Newline, Glue, Tag, Enter, Leave}
@@ -143,9 +144,9 @@ bare true true e h = rw h refl
 bare true false e h = refl
 bare false y e h = refl
 
-pub bare_end : (x e : Bool) → e ≡ false → (x || e) ≡ x
-bare_end true e h = refl
-bare_end false e h = h
+pub or_nothing : (x e : Bool) → e ≡ false → (x || e) ≡ x
+or_nothing true e h = refl
+or_nothing false e h = h
 
 put_before : (b : Bool) (k : ℕ) (ks : List ℕ) → cond b (k ∷ ks) ks ≡ cond b (k ∷ []) [] ++ ks
 put_before true k ks = refl
@@ -173,10 +174,6 @@ any_shown x true d false h k = rw (k refl) refl
 any_shown x false d true h k = rw (h refl) (elim x as (λ y. (not (y || false) && false) ≡ false) [ true ↦ refl | false ↦ refl ])
 any_shown x false d false h k = rw (h refl, k refl) refl
 
-both : (x : Bool) → (x && true) ≡ x
-both true = refl
-both false = refl
-
 first_shown : (b : First) (before after : List Mark) → (not (glues after || covered [] after) && stays before (Some b) (Newline ∷ after)) ≡ not (hidden_by (if b.broken then Any else Near) after || covered [] after)
 first_shown b before after =
     elim b.broken as (λ r. (not (glues after || covered [] after) && not (covered (since before b.at) (Newline ∷ after) || (r && glued after))) ≡ not (hidden_by (cond r Any Near) after || covered [] after)) [
@@ -188,7 +185,7 @@ next_shown : (g t : Bool) (o : Option First) (hides : Hides) (before after : Lis
 next_shown true t o hides before after h = cc
 next_shown false true o hides before after h =
     let e : Near ≡ hides = cc in
-    subst (λ k. (not (glues after || covered [] after) && true) ≡ not (hidden_by k after || covered [] after)) e (both (not (glues after || covered [] after)))
+    subst (λ k. (not (glues after || covered [] after) && true) ≡ not (hidden_by k after || covered [] after)) e (and-true (not (glues after || covered [] after)))
 next_shown false false None hides before after h = cc
 next_shown false false (Some b) hides before after h =
     let e : (if b.broken then Any else Near) ≡ hides = cc in
@@ -217,7 +214,7 @@ newline_next before s settled hides is h t =
           rw (bare (clear before after) (some before (Newline ∷ after)) (ends before (Newline ∷ after)) (unended after), shown after, rest after, since_here)
           (put_before (not (hidden_by hides after || covered [] after)) (length before) settled);
       ends = λ after.
-          bare_end (clear before after && some before (Newline ∷ after)) (ends before (Newline ∷ after)) (unended after)
+          or_nothing (clear before after && some before (Newline ∷ after)) (ends before (Newline ∷ after)) (unended after)
           ∙ shown after ∙ rw since_here refl;
       some = λ after. t.some (Newline ∷ after) ∙ ap (λ b. s.text || b) (sym (stays_over Newline plain_newline before after s s.blank t.first));
     }

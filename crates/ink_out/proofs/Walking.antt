@@ -20,6 +20,7 @@ use Rattle.ink_out.specs.Cleaning.{Holds}
 use Rattle.ink_out.specs.Stands.{Knows}
 use Rattle.ink_out.specs.Walks.{Walks, held_at, glue_at, held_text, pile_text, left_pile, is_at, now_text, pile_now, Falls}
 use Rattle.ink_out.proofs.Covers.{since_more, since_here, passes_reached}
+use Rattle.ink_out.proofs.Tracking.{or_nothing}
 
 -- ---- piles
 
@@ -126,15 +127,11 @@ glue_within (kinds.Tag t ∷ before) = omega (arith, glue_within before)
 glue_within (kinds.Enter n ∷ before) = omega (arith, glue_within before)
 glue_within (kinds.Leave n ∷ before) = omega (arith, glue_within before)
 
-not_joined : (b c : Bool) → c ≡ false → (b || c) ≡ b
-not_joined true c e = refl
-not_joined false c e = e
-
 -- a Blank is shown as its piece says
 blank_here : (before after : List Mark) (w : Option Waiting) (r : Bool) (text : Bor (List ℕ)) → r ≡ broken before → held_text (kinds.Blank text.now ∷ before) w (Blank (length before) r text) after ≡ written before (kinds.Blank text.now) after
 blank_here before after w r text e =
     let past : nat_lt (length before) (glue_at before) ≡ false = le-ltb (length before) (glue_at before) (glue_within before) in
-    let joined = not_joined (glued after) (nat_lt (length before) (glue_at before)) past in
+    let joined = or_nothing (glued after) (nat_lt (length before) (glue_at before)) past in
     let here = since_here (kinds.Blank text.now) before in
     ap (λ ms. cond (not (covered ms after || (r && (glued after || nat_lt (length before) (glue_at before))))) text.now []) here
     ∙ ap (λ b. cond (not (covered [] after || (r && b))) text.now []) joined
@@ -223,7 +220,7 @@ quiet_waits : (before after : List Mark) (w : Waiting) → Quiet after → waits
 quiet_waits before after w q = rw (unhidden w.hides after q, q.covered (since before w.at)) refl
 
 among_one : (at k : ℕ) → is_among at (k ∷ []) ≡ eqb at k
-among_one at k = not_joined (eqb at k) false refl
+among_one at k = or_nothing (eqb at k) false refl
 
 quiet_newline : (before after : List Mark) (o : Option Waiting) (at : ℕ) → Quiet after → is_among at (waiting_at before o after) ≡ is_at at o
 quiet_newline before after None at q = refl

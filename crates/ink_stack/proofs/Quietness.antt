@@ -1,18 +1,11 @@
 -- Function frames of which none is fresh.
 use Rattle.std.proofs.Common.{◌≡◌, ◌∙◌, ℕ, ◌+◌, ◌<◌, List, [], ◌∷◌, ◌++◌, Bool, true, false, not, ◌&&◌, ap, append_assoc, drop, get_or, if◌then◌else◌, length, map, nat_eq, refl, reverse, set, sym, take}
 use Rattle.std.proofs.lemmas.List.{append-nil, drop-set, reverse-append, take-append-drop, take_more}
+use Rattle.std.proofs.Math.Bool.{and-true, and_assoc}
 use Rattle.ink_model.specs.Frames.{FrameOf, is_function, unnumbered_frame}
 use Rattle.ink_model.specs.Threads.{stale, stale_run}
 use Rattle.ink_stack.proofs.Runs.{first_stale, first_stays}
 use Rattle.ink_stack.specs.Quiet.{is_quiet}
-
-and-assoc : (a b c : Bool) → a && (b && c) ≡ (a && b) && c
-and-assoc true b c = refl
-and-assoc false b c = refl
-
-and-true : (a : Bool) → a && true ≡ a
-and-true true = refl
-and-true false = refl
 
 neither : (a b : Bool) → (not a && b) ≡ true → (a ≡ false) × (b ≡ true)
 neither false b h = (refl, h)
@@ -67,7 +60,7 @@ module _ {P : Type 0} where
       ∙ ap (λ m. is_quiet (reverse (drop m fs) ++ g ∷ more)) (sym is)
       ∙ before (g ∷ more)
       ∙ ap (λ b. quiet && b) (first_quiet g more (ap (λ a. is_function a.kind) made ∙ stale_kind depth f ∙ function))
-      ∙ and-assoc quiet (not g.fresh) (is_quiet more)
+      ∙ sym (and_assoc quiet (not g.fresh) (is_quiet more))
 
   pub quiet_stop : (fs : List (FrameOf P)) (i n : ℕ) (d : FrameOf P) (quiet : Bool) → n ≡ i + 1 → i < length fs → is_function (get_or fs i d).kind ≡ false
       → QuietSoFar n fs quiet → quiet ≡ is_quiet (reverse fs)

@@ -1,18 +1,18 @@
 -- What is kept of contents, and what is read of it.
-use Rattle.std.proofs.Common.{◌≡◌, ◌∙◌, ap, sym, refl, subst, ℕ, zero, suc, ◌+◌, ◌<◌, ◌≤◌, List, [], ◌∷◌, ◌++◌, length, Bool, true, false, cond, Option, Some, None, option_map, option_and_then, nat_lt, slice_get, append_assoc, arith, inl, inr}
+use Rattle.std.proofs.Common.{◌≡◌, ◌∙◌, ap, sym, refl, subst, ℕ, zero, suc, ◌+◌, ◌<◌, ◌≤◌, List, [], ◌∷◌, ◌++◌, length, Bool, true, false, cond, Option, Some, None, option_map, option_and_then, nat_le, nat_lt, ◌&&◌, slice_get, get_or, append_assoc, arith, inl, inr}
 use Rattle.std.proofs.lemmas.Bool.Decides.{nat_tests}
 use Rattle.std.proofs.lemmas.List.{append-nil, length-append}
 use Rattle.std.proofs.lemmas.Bool.{cases_lt}
-use Rattle.std.proofs.lemmas.Option.{cond_some, none-some, same_Some, slice_get_past}
+use Rattle.std.proofs.lemmas.Option.{cond_some, none-some, same_Some, slice_get_past, slice_get_read}
 use Rattle.std.specs.Option.{unwrap_or}
-use Rattle.ink_model.specs.Entered.{listed_if, passed_at, passed_places}
+use Rattle.ink_model.specs.Entered.{is_around, listed_if, passed_at, passed_places}
 use Rattle.ink_model.specs.Path.{is_container}
 use Rattle.ink_model.specs.Place.{entered, first_content_at, landed, next_place}
 use Rattle.ink_model.specs.Places.{places}
 use Rattle.ink_model.specs.Tree.{StoryTree, leaf, container, no_trees, tree, at, down, width}
 use Rattle.ink_model.specs.declared.place.Part.{Part}
 use Rattle.ink_model.specs.declared.place.Part.TheVariants.{Index, Name}
-use Rattle.ink_tree.specs.Kept.{AreLinked, IsLinked, Keeps, first_inside, way_to}
+use Rattle.ink_tree.specs.Kept.{AreLinked, IsLinked, Keeps, KeepsAll, Spans, first_inside, way_to}
 use Rattle.ink_tree.specs.Nodes.{Finds, IsNode, MayBeNode, index_part, node_place, place_of}
 use Rattle.ink_tree.specs.Walks.{GoesIn}
 use Rattle.ink_tree.specs.declared.node.Links.{Links}
@@ -20,7 +20,7 @@ use Rattle.ink_tree.specs.declared.node.Node.{Node}
 use Rattle.ink_tree.specs.declared.spot.NodeId.{NodeId}
 use Rattle.ink_tree.specs.declared.spot.Spot.{Spot}
 use Rattle.ink_tree.proofs.Further.{below}
-use Rattle.ink_tree.proofs.Next.{landed_in, landed_on, next_at_root, next_at_name, next_inside}
+use Rattle.ink_tree.proofs.Next.{landed_in, landed_on, next_at_root, next_at_name, next_inside, next_outside}
 use Rattle.ink_tree.proofs.Standing.{index_stands, root_place, there}
 
 -- ---- nodes by number
@@ -179,3 +179,21 @@ module _ (s : StoryTree) (p : List Part) (n : Node) (k : Keeps s p n) where
 
   pub led_by_none : n.last ≡ None → p ≡ []
   led_by_none is = sym k.1 ∙ ap (way_to s n.holder) is
+
+  -- by index: beside it, or behind the last one what follows the container
+  pub next_beside : (x : Part) (i : ℕ) (r : Option NodeId) → n.last ≡ Some x → x ≡ Index i → i + 1 < width (at s (node_place s n.holder))
+      → Finds s (node_place s n.holder ++ Index (i + 1) ∷ []) r → option_map (node_place s) r ≡ next_place s p
+  next_beside x i r is part below f = next_found s (node_place s n.holder) (node_place s n.holder) i r refl below f ∙ ap (next_place s) (sym (led_by (Index i) (is ∙ ap (λ y. Some y) part)))
+
+  pub next_behind : (x : Part) (i : ℕ) → n.last ≡ Some x → x ≡ Index i → width (at s (node_place s n.holder)) ≤ i + 1 → next_place s (node_place s n.holder) ≡ next_place s p
+  next_behind x i is part past = next_outside s (node_place s n.holder) i past ∙ ap (next_place s) (sym (led_by (Index i) (is ∙ ap (λ y. Some y) part)))
+
+module _ (s : StoryTree) (ns : List Node) (many : length ns ≡ length (places s)) (all : KeepsAll s ns) where
+  pub kept_at : (n : NodeId) (k : Node) → IsNode s n → k ≡ get_or ns n.number k → Keeps s (node_place s n) k × Spans s n.number k.behind
+  kept_at n k is got = all n.number k (slice_get_read ns (length ns) n.number k refl (omega arith) got)
+
+  -- a content is around another, by their numbers
+  pub around_by_number : (p q : List Part) (m n : NodeId) (k : Node) (low : Bool) → Finds s p (Some m) → Finds s q (Some n) → k ≡ get_or ns m.number k
+      → nat_le m.number n.number ≡ low → (low && nat_lt n.number k.behind) ≡ is_around p q
+  around_by_number p q m n k low is_m is_n got e =
+      sym ((λ i. is_around (sym is_m.1 i) (sym is_n.1 i)) ∙ (kept_at m k is_m.0 got).1 n is_n.0 ∙ ap (λ b. b && nat_lt n.number k.behind) e)

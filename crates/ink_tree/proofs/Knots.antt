@@ -3,10 +3,7 @@ use Rattle.std.proofs.Common.{◌≡◌, ◌∙◌, ap, sym, refl, ℕ, suc, ◌
 use Rattle.ink_model.specs.Path.{listed_index}
 use Rattle.ink_model.specs.Place.{knot, named_index, is_named}
 use Rattle.ink_model.specs.Tree.{StoryTree, leaf, container, Trees, no_trees, tree, by_key, nth, at}
-use Rattle.ink_model.specs.declared.place.Part.{Part}
 use Rattle.ink_model.specs.declared.place.Part.TheVariants.{Index, Name}
-use Rattle.ink_tree.specs.Nodes.{Finds, node_place}
-use Rattle.ink_tree.specs.declared.spot.NodeId.{NodeId}
 
 is_some_kept : (found : Option StoryTree) → is_some (option_and_then (λ t. Some t) found) ≡ is_some found
 is_some_kept None = refl
@@ -45,8 +42,3 @@ listed_there name (container own flags content named) i is =
     let found = in_list name 0 i content (sym is) in
     let same : i ≡ found.0 = omega (arith, found.1) in
     ap (λ k. is_some (option_and_then (λ t. Some t) (nth k content))) same ∙ is_some_kept (nth found.0 content) ∙ found.2
-
--- a search where something stands finds its node
-pub must_find : (s : StoryTree) (p : List Part) (r : Option NodeId) → Finds s p r → is_some (at s p) ≡ true → option_map (node_place s) r ≡ Some p
-must_find s p None h some = absurd (true≢false (sym some ∙ ap is_some h))
-must_find s p (Some n) h some = ap Some h.1

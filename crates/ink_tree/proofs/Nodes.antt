@@ -1,9 +1,10 @@
 -- Where keys rise, every node of a story is content that stands at its place.
-use Rattle.std.proofs.Common.{◌≡◌, ◌∙◌, ap, sym, refl, ℕ, zero, suc, ◌+◌, List, [], ◌∷◌, ◌++◌, map, Bool, true, false, true≢false, ◌&&◌, Option, Some, None, is_some, option_and_then, unwrap_or, slice_get, Ordering, Less, Equal, Greater, nat_cmp, arith}
+use Rattle.std.proofs.Common.{◌≡◌, ◌∙◌, ap, sym, refl, ℕ, zero, suc, ◌+◌, List, [], ◌∷◌, ◌++◌, map, true, true≢false, ◌&&◌, Option, Some, None, is_some, option_and_then, unwrap_or, slice_get, Ordering, Less, Equal, Greater, nat_cmp, arith}
 use Rattle.std.proofs.lemmas.Cmp.{nat_list_cmp_total, tied_itself}
 use Rattle.std.specs.Cmp.Lexicographic.{slice_cmp}
 use Rattle.std.specs.FinMap.{nat_cmp-IsAntisymmetric, slice_cmp-IsAntisymmetric}
 use Rattle.std.specs.Ordering.{is_lt, match_ordering}
+use Rattle.std.proofs.lemmas.Bool.{and_parts}
 use Rattle.ink_model.specs.Places.{places, places_from, places_by_key}
 use Rattle.ink_model.specs.Tree.{StoryTree, leaf, container, Trees, no_trees, tree, Keyed, no_keys, key, nth, by_key, down, at}
 use Rattle.ink_model.specs.declared.place.Part.{Part}
@@ -11,11 +12,6 @@ use Rattle.ink_model.specs.declared.place.Part.TheVariants.{Index, Name}
 use Rattle.ink_tree.specs.Nodes.{node_place}
 use Rattle.ink_tree.specs.Order.{keys_rise, keys_rise_in, keys_rise_by_key, is_below}
 use Rattle.ink_tree.specs.declared.spot.NodeId.{NodeId}
-
--- both of two tests
-pub both : (a b : Bool) → (a && b) ≡ true → (a ≡ true) × (b ≡ true)
-both true b h = (refl, h)
-both false b h = absurd cc
 
 -- ---- keys that rise are apart
 
@@ -32,7 +28,7 @@ other Greater a t h = refl
 absent : (k : List ℕ) (ks : Keyed) → is_below k ks ≡ true → by_key k ks ≡ None
 absent k no_keys h = refl
 absent k (key l t ks) h =
-    let two = both (is_lt (slice_cmp nat_cmp k l)) (is_below k ks) h in
+    let two = and_parts (is_lt (slice_cmp nat_cmp k l)) (is_below k ks) h in
     less (slice_cmp nat_cmp k l) (by_key k ks) t two.0 ∙ absent k ks two.1
 
 pub at_its_key : (k : List ℕ) (t : StoryTree) (ks : Keyed) → by_key k (key k t ks) ≡ Some t
@@ -62,7 +58,7 @@ mutual
   places_stand : (t : StoryTree) → keys_rise t ≡ true → Stand t (places t)
   places_stand (leaf l) h = (refl, tt)
   places_stand (container name flags content named) h =
-      let two = both (keys_rise_in content) (keys_rise_by_key named) h in
+      let two = and_parts (keys_rise_in content) (keys_rise_by_key named) h in
       let t = container name flags content named in (
         refl,
         stand_append t (places_from 0 content) (places_by_key named) (elements_stand t 0 content (λ k j e. ap (λ n. nth n content) (omega (arith, e))) two.0)
@@ -72,7 +68,7 @@ mutual
   elements_stand : (t : StoryTree) (i : ℕ) (ts : Trees) → ((k j : ℕ) → k ≡ i + j → down (Index k) t ≡ nth j ts) → keys_rise_in ts ≡ true → Stand t (places_from i ts)
   elements_stand t i no_trees each h = tt
   elements_stand t i (tree u us) each h =
-      let two = both (keys_rise u) (keys_rise_in us) h in
+      let two = and_parts (keys_rise u) (keys_rise_in us) h in
       stand_append t (map (λ p. Index i ∷ p) (places u)) (places_from (i + 1) us)
       (stand_under t u (Index i) (each i 0 (omega arith)) (places u) (places_stand u two.0))
       (elements_stand t (i + 1) us (λ k j e. each k (suc j) (omega (arith, e))) two.1)
@@ -80,8 +76,8 @@ mutual
   keyed_stand : (t : StoryTree) (ks : Keyed) → ((m : List ℕ) → is_some (by_key m ks) ≡ true → down (Name m) t ≡ by_key m ks) → keys_rise_by_key ks ≡ true → Stand t (places_by_key ks)
   keyed_stand t no_keys each h = tt
   keyed_stand t (key k u us) each h =
-      let two = both (is_below k us) (keys_rise u && keys_rise_by_key us) h in
-      let rest = both (keys_rise u) (keys_rise_by_key us) two.1 in
+      let two = and_parts (is_below k us) (keys_rise u && keys_rise_by_key us) h in
+      let rest = and_parts (keys_rise u) (keys_rise_by_key us) two.1 in
       stand_append t (map (λ p. Name k ∷ p) (places u)) (places_by_key us)
       (stand_under t u (Name k) (each k (ap is_some (at_its_key k u us)) ∙ at_its_key k u us) (places u) (places_stand u rest.0))
       (keyed_stand t us (λ m some. let on = further m k u us two.0 some in each m (ap is_some on ∙ some) ∙ on) rest.1)

@@ -1,6 +1,6 @@
 -- What is kept of the contents of a story is what stands at their places.
 use Rattle.std.proofs.Common.{◌≡◌, ◌∙◌, inl, inr, ap, sym, refl, subst, ℕ, zero, suc, ◌+◌, ◌<◌, ◌≤◌, List, [], ◌∷◌, ◌++◌, length, map, true, false, true≢false, ◌&&◌, nat_le, nat_lt, Option, Some, None, is_some, option_and_then, slice_get, unwrap_or, append_assoc, arith}
-use Rattle.std.proofs.lemmas.Bool.{cases_lt}
+use Rattle.std.proofs.lemmas.Bool.{cases_lt, and_parts}
 use Rattle.std.proofs.lemmas.Bool.Decides.{nat_tests}
 use Rattle.std.proofs.lemmas.List.{append-nil, length-append, length-map}
 use Rattle.std.proofs.lemmas.Option.{none-some, same_Some, slice_get_within}
@@ -17,11 +17,12 @@ use Rattle.ink_tree.specs.declared.node.Node.{Node}
 use Rattle.ink_tree.specs.declared.spot.NodeId.{NodeId}
 use Rattle.ink_tree.proofs.Absent.{absent, got_place, lacks}
 use Rattle.ink_tree.proofs.Further.{below}
+use Rattle.ink_tree.proofs.Kept.{some_place}
 use Rattle.ink_tree.proofs.Prefixes.{around_below, below_around, not_around}
 use Rattle.ink_tree.proofs.Rising.{one_number}
 use Rattle.ink_tree.proofs.Standing.{at_append}
 use Rattle.ink_tree.proofs.Leaves.{leaf_seen}
-use Rattle.ink_tree.proofs.Nodes.{both, at_its_key, further, node_stands}
+use Rattle.ink_tree.proofs.Nodes.{at_its_key, further, node_stands}
 
 -- ---- as many as there are places
 
@@ -174,7 +175,7 @@ module _ (s : StoryTree) where
           ((keeps n p (leaf l) node sits.0 stands inside way refl refl (ap (λ o. leaf_in (Some o)) (leaf_seen l)), spans whole n p (leaf l) stands sits (n + 1) (placed n p sits.0) refl), tt)
       hold n h x p (container name flags content named) inside way stands sits rise =
           let own : NodeId = record { number = n } in
-          let two = both (keys_rise_in content) (keys_rise_by_key named) rise in
+          let two = and_parts (keys_rise_in content) (keys_rise_by_key named) rise in
           let within : IsNode s own = slice_get_within (places s) n (p ++ []) sits.0 in
           let here = placed n p sits.0 in
           let elements = nodes_from (n + 1) own 0 content in
@@ -200,7 +201,7 @@ module _ (s : StoryTree) where
           → Sits n p (places_from i ts) → keys_rise_in ts ≡ true → Each n (nodes_from n h i ts)
       hold_from n h i p no_trees inside here each sits rise = tt
       hold_from n h i p (tree t ts) inside here each sits rise =
-          let two = both (keys_rise t) (keys_rise_in ts) rise in
+          let two = and_parts (keys_rise t) (keys_rise_in ts) rise in
           let first = nodes_of n h (Some (Index i)) t in
           let m = n + length first in
           each_append n m first (nodes_from m h (i + 1) ts) refl
@@ -215,8 +216,8 @@ module _ (s : StoryTree) where
           → Sits n p (places_by_key ks) → keys_rise_by_key ks ≡ true → Each n (nodes_by_key n h ks)
       hold_by_key n h p no_keys inside here each sits rise = tt
       hold_by_key n h p (key k t ks) inside here each sits rise =
-          let apart = both (is_below k ks) (keys_rise t && keys_rise_by_key ks) rise in
-          let two = both (keys_rise t) (keys_rise_by_key ks) apart.1 in
+          let apart = and_parts (is_below k ks) (keys_rise t && keys_rise_by_key ks) rise in
+          let two = and_parts (keys_rise t) (keys_rise_by_key ks) apart.1 in
           let first = nodes_of n h (Some (Name k)) t in
           let m = n + length first in
           each_append n m first (nodes_by_key m h ks) refl
@@ -225,10 +226,6 @@ module _ (s : StoryTree) where
           (hold_by_key m h p ks inside here (λ o some. let on = further o k t ks apart.0 some in each o (ap is_some on ∙ some) ∙ on)
           (sits_back n m p (map (λ q. Name k ∷ q) (places t)) (places_by_key ks)
           (omega (arith, many n h (Some (Name k)) t, length-map (places t) (λ q. Name k ∷ q))) sits) two.1)
-
-some_place : (s : StoryTree) → 0 < length (places s)
-some_place (leaf l) = omega arith
-some_place (container name flags content named) = omega arith
 
 pub keeps_all : (s : StoryTree) (ns : List Node) → ns ≡ nodes_of 0 (record { number = 0 }) None s → keys_rise s ≡ true → KeepsAll s ns
 keeps_all s ns is rise = λ i n e.

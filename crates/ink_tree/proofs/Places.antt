@@ -5,6 +5,8 @@ use Rattle.std.proofs.lemmas.List.{drop_more, drop_all, append-nil, length-appen
 use Rattle.std.specs.List.{AllByRecursion}
 use Rattle.std.specs.List.Sorted.{IsStrictlySortedBy}
 use Rattle.std.specs.Map.{keys_of}
+use Rattle.std.proofs.lemmas.Bool.{and_parts}
+use Rattle.ink_json.proofs.Trees.{Entry}
 use Rattle.ink_model.specs.Narrow.{is_narrow, are_narrow, are_keyed_narrow}
 use Rattle.ink_model.specs.Places.{places, places_from, places_by_key}
 use Rattle.ink_model.specs.Tree.{StoryTree, container, Trees, Keyed, count}
@@ -16,10 +18,6 @@ use Rattle.ink_tree.specs.Kept.{nodes_of, nodes_from, nodes_by_key}
 use Rattle.ink_tree.specs.Order.{keys_rise, keys_rise_in, keys_rise_by_key, is_below}
 use Rattle.ink_tree.specs.declared.node.Node.{Node}
 use Rattle.ink_tree.specs.declared.spot.NodeId.{NodeId}
-use Rattle.ink_tree.proofs.Nodes.{both}
-
-abbrev pub Entry : Type 0
-Entry = String Global × Content
 
 -- ---- one after another
 
@@ -76,8 +74,8 @@ module _ (s : StoryTree) (name : Option (List ℕ)) (flags : ℕ) (elements : Tr
 
   narrow_inside : is_narrow s ≡ true → (count elements < 2 ^ 32) × (are_narrow elements ≡ true) × (are_keyed_narrow named ≡ true)
   narrow_inside h =
-      let whole = both (nat_lt (count elements) (2 ^ 32)) (are_narrow elements && are_keyed_narrow named) (sym (ap is_narrow is) ∙ h) in
-      let inside = both (are_narrow elements) (are_keyed_narrow named) whole.1 in
+      let whole = and_parts (nat_lt (count elements) (2 ^ 32)) (are_narrow elements && are_keyed_narrow named) (sym (ap is_narrow is) ∙ h) in
+      let inside = and_parts (are_narrow elements) (are_keyed_narrow named) whole.1 in
       let width : count elements < 2 ^ 32 = grind (arith, nat_tests, whole.0) in
       (width, inside.0, inside.1)
 
@@ -107,8 +105,8 @@ index_small cs n h = omega (arith, count_is cs)
 
 element_narrow_or : (cs : List Content) (i : ℕ) (d : Content) → i < length cs → are_narrow (trees_view cs) ≡ true → is_narrow (view (get_or cs i d)) ≡ true
 element_narrow_or [] i d h n = absurd (omega arith)
-element_narrow_or (c ∷ cs) zero d h n = (both (is_narrow (view c)) _ n).0
-element_narrow_or (c ∷ cs) (suc i) d h n = element_narrow_or cs i d (omega arith) (both (is_narrow (view c)) _ n).1
+element_narrow_or (c ∷ cs) zero d h n = (and_parts (is_narrow (view c)) _ n).0
+element_narrow_or (c ∷ cs) (suc i) d h n = element_narrow_or cs i d (omega arith) (and_parts (is_narrow (view c)) _ n).1
 
 pub element_narrow : (cs : List Content) (i : ℕ) (c : Content) → c ≡ get_or cs i c → i < length cs → are_narrow (trees_view cs) ≡ true → is_narrow (view c) ≡ true
 element_narrow cs i c is h n = ap (λ x. is_narrow (view x)) is ∙ element_narrow_or cs i c h n
@@ -155,7 +153,7 @@ unfolding IsStrictlySortedBy
 keys_after e es sorted = sorted.1
 
 pub key_narrow : (e : Entry) (es : List Entry) → are_keyed_narrow (keyed_view (e ∷ es)) ≡ true → (is_narrow (view e.1) ≡ true) × (are_keyed_narrow (keyed_view es) ≡ true)
-key_narrow e es n = both (is_narrow (view e.1)) _ n
+key_narrow e es n = and_parts (is_narrow (view e.1)) _ n
 
 pub after_key : (all done : List Entry) (e : Entry) (more : List Entry) → all ≡ done ++ e ∷ more → all ≡ (done ++ e ∷ []) ++ more
 after_key all done e more split = split ∙ sym (append_assoc done (e ∷ []) more)

@@ -3,15 +3,13 @@ use Rattle.std.proofs.Common.{◌≡◌, ap, refl, sym, ◌∙◌, List, [], ◌
 use Rattle.std.proofs.lemmas.Bool.Decides.{nat_tests}
 use Rattle.std.proofs.lemmas.Map.Text.{is_eq-slice_cmp}
 use Rattle.std.proofs.lemmas.Slice.Eq.{bytes_eq-Decides}
+use Rattle.std.proofs.lemmas.Bool.{and_parts, false_from_ne_true}
+use Rattle.std.proofs.Math.Bool.{and-false}
 use Rattle.ink_model.specs.Entered.{is_around}
 use Rattle.ink_model.specs.Value.{same_part}
 use Rattle.ink_model.specs.declared.place.Part.{Part}
 use Rattle.ink_model.specs.declared.place.Part.TheVariants.{Index, Name}
 use Rattle.ink_tree.proofs.Rising.{nat_list_tied}
-
-and_false : (b : Bool) → (b && false) ≡ false
-and_false true = refl
-and_false false = refl
 
 part_is : (x y : Part) → same_part x y ≡ true → x ≡ y
 part_is (Index i) (Index j) h = let same : i ≡ j = grind (arith, nat_tests, h) in ap Index same
@@ -48,7 +46,7 @@ not_both false u h = refl
 pub around_above : (p q : List Part) (x : Part) → (p ≡ q ++ x ∷ [] → ⊥) → is_around p (q ++ x ∷ []) ≡ is_around p q
 around_above [] q x h = refl
 around_above (y ∷ []) [] x h = not_both (same_part y x) true (λ same. absurd (h (ap (λ z. z ∷ []) (part_is y x same))))
-around_above (y ∷ z ∷ p) [] x h = and_false (same_part y x)
+around_above (y ∷ z ∷ p) [] x h = and-false (same_part y x)
 around_above (y ∷ p) (z ∷ q) x h = both_same (same_part y z) (is_around p (q ++ x ∷ [])) (is_around p q) (λ same. around_above p q x (λ e. h (λ i. part_is y z same i ∷ e i)))
 
 -- a place is around all that is below it, and around nothing else
@@ -56,20 +54,13 @@ pub around_below : (p r : List Part) → is_around p (p ++ r) ≡ true
 around_below [] r = refl
 around_below (x ∷ p) r = rw (itself x) (around_below p r)
 
-true_both : (b u : Bool) → (b && u) ≡ true → (b ≡ true) × (u ≡ true)
-true_both true u h = (refl, h)
-true_both false u h = absurd cc
-
 pub below_around : (p q : List Part) → is_around p q ≡ true → (r : List Part) × (q ≡ p ++ r)
 below_around [] q h = (q, refl)
 below_around (x ∷ p) [] h = absurd cc
 below_around (x ∷ p) (y ∷ q) h =
-    let two = true_both (same_part x y) (is_around p q) h in
+    let two = and_parts (same_part x y) (is_around p q) h in
     let rest = below_around p q two.1 in
     (rest.0, (λ i. sym (part_is x y two.0) i ∷ rest.1 i))
 
 pub not_around : (p q : List Part) → (is_around p q ≡ true → ⊥) → is_around p q ≡ false
-not_around p q h = no_truth (is_around p q) h where
-  no_truth : (b : Bool) → (b ≡ true → ⊥) → b ≡ false
-  no_truth true h = absurd (h refl)
-  no_truth false h = refl
+not_around p q h = false_from_ne_true (is_around p q) h

@@ -1,5 +1,5 @@
 -- The places of a story rise in reading order.
-use Rattle.std.proofs.Common.{◌≡◌, ◌∙◌, ℕ, zero, suc, ◌+◌, ◌<◌, List, [], ◌∷◌, ◌++◌, map, Some, slice_get, Bool, true, false, ◌&&◌, Ordering, Less, Equal, Greater, nat_cmp, refl, sym, ap, subst, append_assoc, arith, length, unwrap_or}
+use Rattle.std.proofs.Common.{◌≡◌, ◌∙◌, ℕ, zero, suc, ◌+◌, ◌<◌, List, [], ◌∷◌, ◌++◌, map, Some, slice_get, true, ◌&&◌, Ordering, Less, Equal, Greater, nat_cmp, refl, sym, ap, subst, append_assoc, arith, length, unwrap_or}
 use Rattle.std.proofs.lemmas.Cmp.{nat_cmp_total, nat_list_cmp_total, lists_total, tied_itself}
 use Rattle.std.proofs.lemmas.Option.{none-some, same_Some, slice_get-get_or, unwrap_or-slice_get}
 use Rattle.std.specs.Cmp.{IsTotalOrder, nat_cmp_is, ranked}
@@ -7,6 +7,7 @@ use Rattle.std.specs.Cmp.Lexicographic.{slice_cmp}
 use Rattle.std.specs.FinMap.{nat_cmp-IsAntisymmetric, slice_cmp-IsAntisymmetric}
 use Rattle.std.specs.List.{AllByRecursion}
 use Rattle.std.specs.Ordering.{MatchOrdering, is_lt, ordering_reverse}
+use Rattle.std.proofs.lemmas.Bool.{and_parts}
 use Rattle.ink_model.specs.Places.{places, places_from, places_by_key}
 use Rattle.ink_model.specs.Tree.{StoryTree, leaf, container, Trees, no_trees, tree, Keyed, no_keys, key}
 use Rattle.ink_model.specs.declared.place.Part.{Part}
@@ -136,14 +137,10 @@ less Less h = refl
 less Equal h = absurd cc
 less Greater h = absurd cc
 
-both : (a b : Bool) → (a && b) ≡ true → (a ≡ true) × (b ≡ true)
-both true b h = (refl, h)
-both false b h = absurd cc
-
 above : (k : List ℕ) (ks : Keyed) → is_below k ks ≡ true → After (Name k) (places_by_key ks)
 above k no_keys h = tt
 above k (key l t ks) h =
-    let two = both (is_lt (slice_cmp nat_cmp k l)) (is_below k ks) h in
+    let two = and_parts (is_lt (slice_cmp nat_cmp k l)) (is_below k ks) h in
     all_append _ (map (λ p. Name l ∷ p) (places t)) (places_by_key ks) (all_under _ (Name l) (places t) (λ x. less (slice_cmp nat_cmp k l) two.0)) (above k ks two.1)
 
 all_any : (R : Part → Type 0) (xs : List (List Part)) → All' (Begins R) xs → Below [] xs
@@ -156,7 +153,7 @@ mutual
   rises : (s : StoryTree) → keys_rise s ≡ true → Rises (places s)
   rises (leaf l) h = (tt, tt)
   rises (container name flags content named') h =
-      let two = both (keys_rise_in content) (keys_rise_by_key named') h in (
+      let two = and_parts (keys_rise_in content) (keys_rise_by_key named') h in (
         all_append _ (places_from 0 content) (places_by_key named') (from_root 0 content) (all_any IsName (places_by_key named') (named named')),
         rises_from 0 content (places_by_key named') two.0 (named named') (rises_by_key named' two.1),
       )
@@ -164,7 +161,7 @@ mutual
   rises_from : (i : ℕ) (ts : Trees) (rest : List (List Part)) → keys_rise_in ts ≡ true → All' (Begins IsName) rest → Rises rest → Rises (places_from i ts ++ rest)
   rises_from i no_trees rest h names up = up
   rises_from i (tree t ts) rest h names up =
-      let two = both (keys_rise t) (keys_rise_in ts) h in
+      let two = and_parts (keys_rise t) (keys_rise_in ts) h in
       subst Rises (sym (append_assoc (map (λ p. Index i ∷ p) (places t)) (places_from (i + 1) ts) rest))
       (under_then (Index i) (places t) (places_from (i + 1) ts ++ rest) (rises t two.0) (rises_from (i + 1) ts rest two.1 names up)
       (all_append _ (places_from (i + 1) ts) rest (later i (i + 1) ts (omega arith)) (all_seen _ _ rest (name_after i) names)))
@@ -172,8 +169,8 @@ mutual
   rises_by_key : (ks : Keyed) → keys_rise_by_key ks ≡ true → Rises (places_by_key ks)
   rises_by_key no_keys h = tt
   rises_by_key (key k t ks) h =
-      let first = both (is_below k ks) (keys_rise t && keys_rise_by_key ks) h in
-      let two = both (keys_rise t) (keys_rise_by_key ks) first.1 in
+      let first = and_parts (is_below k ks) (keys_rise t && keys_rise_by_key ks) h in
+      let two = and_parts (keys_rise t) (keys_rise_by_key ks) first.1 in
       under_then (Name k) (places t) (places_by_key ks) (rises t two.0) (rises_by_key ks two.1) (above k ks first.0)
 
   from_root : (i : ℕ) (ts : Trees) → Below [] (places_from i ts)

@@ -2,6 +2,7 @@
 use Rattle.std.proofs.Common.{◌≡◌, ℕ, zero, suc, List, [], ◌∷◌, ◌++◌, length, reverse, Bool, true, false, ◌&&◌, ◌||◌, nat_eq, nat_le, cond, Option, Some, None, is_some, option_and_then, refl, sym, ap, ◌∙◌, arith}
 use Rattle.std.proofs.lemmas.Bool.Decides.{nat_tests}
 use Rattle.std.proofs.lemmas.List.{append-nil, reverse-append, reverse-reverse}
+use Rattle.std.proofs.Math.Bool.{or-false}
 use Rattle.ink_model.specs.Path.{is_place, is_container, ends_at}
 use Rattle.ink_model.specs.Tree.{StoryTree, leaf, container, Trees, no_trees, tree, nth, down, at, width, count}
 use Rattle.ink_model.specs.declared.place.Part.{Part}
@@ -64,13 +65,9 @@ module _ (s : StoryTree) (up : List Part) (i : ℕ) where
 
 -- ---- otherwise
 
-or_false : (b : Bool) → (b || false) ≡ b
-or_false true = refl
-or_false false = refl
-
 place_by_name : (s : StoryTree) (up : List Part) (n : List ℕ) → is_some (at s (up ++ Name n ∷ [])) ≡ is_place s (up ++ Name n ∷ [])
 unfolding is_place
-place_by_name s up n = sym (ap (λ q. is_some (at s (up ++ Name n ∷ [])) || ends_at s q) (reversed up (Name n)) ∙ or_false _)
+place_by_name s up n = sym (ap (λ q. is_some (at s (up ++ Name n ∷ [])) || ends_at s q) (reversed up (Name n)) ∙ or-false _)
 
 pub named_last : (s : StoryTree) (p up : List Part) (q : Part) (n : List ℕ) → p ≡ up ++ q ∷ [] → q ≡ Name n → is_some (at s p) ≡ is_place s p
 named_last s p up q n is named =

@@ -1,7 +1,8 @@
 -- The values at the top of a stack.
-use Rattle.std.proofs.Common.{◌≡◌, ◌≢◌, ◌∙◌, slice_set, ℕ, zero, suc, ◌+◌, ◌-◌, ◌<◌, ◌≤◌, Bool, true, false, ap, sym, subst, refl, inl, inr, List, [], ◌∷◌, ◌++◌, length, take, drop, Option, Some, None, option_map, option_and_then, Result, Ok, Err, arith}
+use Rattle.std.proofs.Common.{◌≡◌, ◌≢◌, ◌∙◌, slice_set, ℕ, zero, suc, ◌+◌, ◌-◌, ◌<◌, ◌≤◌, true, false, ap, sym, subst, refl, inl, inr, List, [], ◌∷◌, ◌++◌, length, take, drop, Option, Some, None, option_map, option_and_then, Result, Ok, Err, arith}
 use Rattle.std.proofs.Math.Seq.{append_snoc, drop-length, take-length}
 use Rattle.std.proofs.lemmas.List.{append-nil, drop-append-le, length-drop, take-append-le}
+use Rattle.std.proofs.lemmas.Bool.{true_from_ne_false}
 use Rattle.ink_model.specs.Asks.{operator_asks}
 use Rattle.ink_model.specs.Joining.{makes_text}
 use Rattle.ink_model.specs.Memory.{Gives}
@@ -82,11 +83,7 @@ module _ (o : Op) (vs : List Value) (below : ℕ) (enough : length vs ≡ below 
   makes_none f h = subst (λ r. Gives {A = List Value} (Err f) r) (sym applied_at) (on_top_fails (take below vs) _ f h)
 
   pub asks : makes_text o (take (length xs - below) (drop below xs)) ≢ false → operator_asks o (taken (takes o) vs []) ≡ true
-  asks h = ap (operator_asks o) operands ∙ set _ h
-    where
-      set : (b : Bool) → b ≢ false → b ≡ true
-      set true k = refl
-      set false k = absurd (k refl)
+  asks h = ap (operator_asks o) operands ∙ true_from_ne_false _ h
 
 -- ---- another value in the place of the one on top
 

@@ -3,7 +3,8 @@ use Rattle.std.specs.List.{suffix_len}
 use Rattle.std.proofs.Math.Nat.{sub-zero}
 use Rattle.std.proofs.lemmas.List.Sums.{prefix_len-le-length, suffix_len-le-length}
 use Rattle.ink_model.specs.Bytes.{is_blank, is_white}
-use Rattle.ink_out.proofs.WhiteEnds.{end_found, end_none, cut_at_end, blanks_le_white, trailing_is, end_before}
+use Rattle.ink_model.proofs.Ends.{cut_at_end, trailing_is}
+use Rattle.ink_out.proofs.WhiteEnds.{end_found, end_none, white_ascii, blanks_le_white, end_before}
 use Rattle.ink_out.proofs.cutting.split_end.Goals as goal
 use Rattle.ink_out.proofs.cutting.split_end.Goals.{then-after-eq0-via-then-after-eq0, then-after-eq0-via-else-after-eq0+then-not-is_newline_at}
 
@@ -23,18 +24,18 @@ pub overflow_sub-white : goal.overflow_sub-white
 overflow_sub-white c = omega (arith, suffix_len-le-length is_white c.args.text.now)
 
 pub range_from-requires : goal.range_from-requires
-range_from-requires c = λ _. cut_at_end c.args.text.now (length c.args.text.now - c.trailing-2.result) (omega arith) (omega arith)
+range_from-requires c = λ _. cut_at_end is_white white_ascii c.args.text.now (length c.args.text.now - c.trailing-2.result) (omega arith) (omega arith)
 
 pub overflow_add-first : goal.overflow_add-first
 overflow_add-first c = omega (arith, prefix_len-le-length is_blank c.range_from.result.now)
 
 pub range-requires-clause-end_boundary : goal.range-requires-clause-end_boundary
 range-requires-clause-end_boundary c =
-    cut_at_end c.args.text.now (length c.args.text.now - c.trailing-2.result + c.leading.result) (omega arith)
+    cut_at_end is_white white_ascii c.args.text.now (length c.args.text.now - c.trailing-2.result + c.leading.result) (omega arith)
     (omega (arith, prefix_len-le-length is_blank c.range_from.result.now))
 
 pub range_from-requires-2 : goal.range_from-requires-2
-range_from-requires-2 c = λ _. cut_at_end c.args.text.now (length c.args.text.now - c.trailing.result) (omega (arith, blanks_le_white)) (omega arith)
+range_from-requires-2 c = λ _. cut_at_end is_white white_ascii c.args.text.now (length c.args.text.now - c.trailing.result) (omega (arith, blanks_le_white)) (omega arith)
 
 pub returns-clause-found : goal.returns-clause-found
 returns-clause-found c =

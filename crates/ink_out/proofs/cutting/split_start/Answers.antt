@@ -2,14 +2,15 @@ use Rattle.std.proofs.Common.{sym, ◌-◌, arith, rules}
 use Rattle.std.proofs.Math.Nat.{sub-zero}
 use Rattle.std.proofs.lemmas.List.Sums.{prefix_len-le-length, suffix_len-le-length}
 use Rattle.ink_model.specs.Bytes.{is_blank, is_white}
-use Rattle.ink_out.proofs.WhiteEnds.{start_has, cut_at_start, leading_is, start_after}
+use Rattle.ink_model.proofs.Ends.{cut_at_start, leading_is}
+use Rattle.ink_out.proofs.WhiteEnds.{start_has, white_ascii, start_after}
 use Rattle.ink_out.proofs.cutting.split_start.Goals as goal
 
 pub returns-then-not-is_newline_at-clause-found : goal.returns-then-not-is_newline_at-clause-found
 returns-then-not-is_newline_at-clause-found c = rw (start_has c.args.text.now, sym c.leading-first.ensures) (search rules)
 
 pub range-requires-clause-end_boundary : goal.range-requires-clause-end_boundary
-range-requires-clause-end_boundary c = cut_at_start c.args.text.now c.leading-white.result c.utf8.text (omega arith)
+range-requires-clause-end_boundary c = cut_at_start is_white white_ascii c.args.text.now c.leading-white.result c.utf8.text (omega arith)
 
 pub overflow_sub-after : goal.overflow_sub-after
 overflow_sub-after c =
@@ -18,7 +19,7 @@ overflow_sub-after c =
     omega (arith, suffix_len-le-length is_blank c.range.result.now, prefix_len-le-length is_white text)
 
 pub range_from-requires : goal.range_from-requires
-range_from-requires c = λ _. cut_at_start c.args.text.now (c.leading-white.result - c.trailing.result) c.utf8.text (omega arith)
+range_from-requires c = λ _. cut_at_start is_white white_ascii c.args.text.now (c.leading-white.result - c.trailing.result) c.utf8.text (omega arith)
 
 pub returns-clause-found : goal.returns-clause-found
 returns-clause-found c = rw (start_has c.args.text.now, sym c.leading-first.ensures) (search rules)

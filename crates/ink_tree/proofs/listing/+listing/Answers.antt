@@ -2,6 +2,7 @@ use Rattle.std.proofs.Common.{◌≡◌, ◌+◌, true, string_cmp, subst, [], �
 use Rattle.std.proofs.lemmas.List.{length-append}
 use Rattle.std.specs.List.Sorted.{IsStrictlySortedBy}
 use Rattle.std.specs.Map.{keys_of}
+use Rattle.ink_json.proofs.Trees.{Entry}
 use Rattle.ink_model.specs.Narrow.{are_keyed_narrow}
 use Rattle.ink_model.specs.Tree.{count}
 use Rattle.ink_model.specs.View.{view, trees_view, keyed_view}
@@ -10,7 +11,7 @@ use Rattle.ink_tree.specs.Kept.{nodes_of, nodes_from, nodes_by_key}
 use Rattle.ink_tree.specs.Order.{keys_rise_by_key}
 use Rattle.ink_tree.specs.declared.node.Node.{Node}
 use Rattle.ink_tree.specs.declared.spot.NodeId.{NodeId}
-use Rattle.ink_tree.proofs.Places.{Entry, count_is, index_small, seen, inside_narrow, element_narrow, element_count, key_count, element_listed, element_rises, container_listed, key_listed, key_rises, keys_after, key_narrow, after_key}
+use Rattle.ink_tree.proofs.Places.{count_is, index_small, seen, inside_narrow, element_narrow, element_count, key_count, element_listed, element_rises, container_listed, key_listed, key_rises, keys_after, key_narrow, after_key}
 use Rattle.ink_tree.proofs.listing.+listing.Goals as goal
 
 pub list_content-list_elements-requires : goal.list_content-list_elements-requires

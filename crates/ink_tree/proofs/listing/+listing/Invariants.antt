@@ -1,10 +1,10 @@
 use Rattle.std.proofs.Common.{◌≡◌, ◌++◌, ◌+◌, ◌*◌, List, length, true, drop, string_cmp}
 use Rattle.std.specs.List.Sorted.{IsStrictlySortedBy}
 use Rattle.std.specs.Map.{keys_of}
+use Rattle.ink_json.proofs.Trees.{Entry}
 use Rattle.ink_model.specs.Narrow.{are_keyed_narrow}
 use Rattle.ink_model.specs.Places.{places, places_from, places_by_key}
 use Rattle.ink_model.specs.View.{view, trees_view, keyed_view}
-use Rattle.ink_tree.proofs.Places.{Entry}
 use Rattle.ink_tree.specs.Kept.{nodes_from, nodes_by_key}
 use Rattle.ink_tree.specs.Order.{keys_rise_in, keys_rise_by_key}
 use Rattle.ink_tree.proofs.listing.+listing.Given as goal

@@ -1,4 +1,4 @@
-use Rattle.std.proofs.Common.{◌≡◌, ◌≤◌, arith, length, length-set}
+use Rattle.std.proofs.Common.{◌≤◌, ap, arith, length, length-set}
 use Rattle.std.proofs.lemmas.List.{length-reverse}
 use Rattle.ink_stack.proofs.Numbers.{memory_along, quiet_along, temp_along}
 use Rattle.ink_stack.proofs.thread.Thread.set_temp.Goals as goal
@@ -6,8 +6,7 @@ use Rattle.ink_stack.proofs.thread.Thread.set_temp.Goals as goal
 pub invariant_of-self-2 : goal.invariant_of-self-2
 invariant_of-self-2 g c =
     let items = c.self.inside.below.items in
-    let count : length c.args.self.now.below ≡ length items = rw (← c.self.view_is) (length-reverse items) in
-    let within : c.args.frame ≤ length items = omega arith in (
+    let within : c.args.frame ≤ length items = omega (arith, length-reverse items, ap (λ t. length t.below) c.self.view_is) in (
       rw length-set c.self.invariant.0,
       λ quiet.
           rw (quiet_along c.set_temp-2.result items c.args.frame c.index_mut.result.now c.set_temp-2.new.self c.args.name.now c.args.value c.requires.from within
@@ -17,8 +16,7 @@ invariant_of-self-2 g c =
 pub returns-clause-ok : goal.returns-clause-ok
 returns-clause-ok g c =
     let items = c.self.inside.below.items in
-    let count : length c.args.self.now.below ≡ length items = rw (← c.self.view_is) (length-reverse items) in
-    let within : c.args.frame ≤ length items = omega arith in
+    let within : c.args.frame ≤ length items = omega (arith, length-reverse items, ap (λ t. length t.below) c.self.view_is) in
     rw (← c.self.view_is)
     (temp_along c.set_temp-2.result c.self.inside.frame items c.self.inside.previous c.args.frame c.index_mut.result.now c.args.name.now c.requires.from within
     c.args.value c.set_temp-2.new.self (rw (← c.index_mut.ensures.value) c.set_temp-2.ensures.ok))
@@ -26,8 +24,7 @@ returns-clause-ok g c =
 pub returns-clause-memory : goal.returns-clause-memory
 returns-clause-memory g c =
     let items = c.self.inside.below.items in
-    let count : length c.args.self.now.below ≡ length items = rw (← c.self.view_is) (length-reverse items) in
-    let within : c.args.frame ≤ length items = omega arith in
+    let within : c.args.frame ≤ length items = omega (arith, length-reverse items, ap (λ t. length t.below) c.self.view_is) in
     rw (← c.self.view_is)
     (memory_along c.set_temp-2.result c.self.inside.frame items c.self.inside.previous c.args.frame c.index_mut.result.now c.args.name.now c.requires.from within
     (rw (← c.index_mut.ensures.value) c.set_temp-2.ensures.memory))

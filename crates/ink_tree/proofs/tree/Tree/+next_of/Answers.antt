@@ -1,41 +1,28 @@
-use Rattle.std.proofs.Common.{◌∙◌, ◌+◌, ◌<◌, ◌≤◌, Some, ap, sym, refl, length, arith}
-use Rattle.ink_model.specs.Place.{next_place}
-use Rattle.ink_model.specs.Tree.{at, width}
-use Rattle.ink_model.specs.declared.place.Part.TheVariants.{Index}
+use Rattle.std.proofs.Common.{◌∙◌, ap, length, arith}
 use Rattle.ink_tree.specs.Nodes.{story_tree, node_place}
-use Rattle.ink_tree.proofs.Kept.{led_by, led_by_none, linked_at, next_found, none_after_name, none_after_root}
-use Rattle.ink_tree.proofs.Next.{next_outside}
+use Rattle.ink_tree.proofs.Kept.{led_by, led_by_none, linked_at, next_behind, next_beside, none_after_name, none_after_root}
 use Rattle.ink_tree.proofs.tree.Tree.+next_of.Goals as goal
 
 pub returns-then-index-kept : goal.returns-then-index-kept
 returns-then-index-kept t c =
     let s = story_tree c.args.self.now in
-    let k = c.kept-kept.result.now in
-    let up = node_place s k.holder in
-    let i = c.in-Index.index in
-    let here = led_by s (node_place s c.args.node) k c.kept-kept.ensures (Index i) (c.in-Some.is ∙ ap (λ x. Some x) c.in-Index.is) in
-    let below : i + 1 < width (at s up) = omega (arith, c.kept.ensures.2, c.if-index-kept.true) in
-    next_found s up up i c.child_at.result refl below c.child_at.ensures ∙ ap (next_place s) (sym here)
+    let k = c.kept-kept in
+    next_beside s (node_place s c.args.node) k.result.now k.ensures c.in-Some.last c.in-Index.index c.child_at.result c.in-Some.is c.in-Index.is
+    (omega (arith, c.kept.ensures.2, c.if-index-kept.true)) c.child_at.ensures
 
 pub returns-in-Some-links_at : goal.returns-in-Some-links_at
 returns-in-Some-links_at t c =
     let s = story_tree c.args.self.now in
-    let k = c.kept-kept.result.now in
-    let up = node_place s k.holder in
-    let i = c.in-Index.index in
-    let here = led_by s (node_place s c.args.node) k c.kept-kept.ensures (Index i) (c.in-Some.is ∙ ap (λ x. Some x) c.in-Index.is) in
-    let past : width (at s up) ≤ i + 1 = omega (arith, c.kept.ensures.2, c.if-index-kept.false) in
-    linked_at s c.args.links.now.items k.holder.number c.in-Some-links_at.around.now c.requires c.in-Some-links_at.ensures ∙ next_outside s up i past ∙ ap (next_place s) (sym here)
+    let k = c.kept-kept in
+    linked_at s c.args.links.now.items k.result.now.holder.number c.in-Some-links_at.around.now c.requires c.in-Some-links_at.ensures
+    ∙ next_behind s (node_place s c.args.node) k.result.now k.ensures c.in-Some.last c.in-Index.index c.in-Some.is c.in-Index.is (omega (arith, c.kept.ensures.2, c.if-index-kept.false))
 
 pub returns-in-None : goal.returns-in-None
 returns-in-None t c =
     let s = story_tree c.args.self.now in
-    let k = c.kept-kept.result.now in
-    let up = node_place s k.holder in
-    let i = c.in-Index.index in
-    let here = led_by s (node_place s c.args.node) k c.kept-kept.ensures (Index i) (c.in-Some.is ∙ ap (λ x. Some x) c.in-Index.is) in
-    let past : width (at s up) ≤ i + 1 = omega (arith, c.kept.ensures.2, c.if-index-kept.false) in
-    c.next_of.ensures ∙ next_outside s up i past ∙ ap (next_place s) (sym here)
+    let k = c.kept-kept in
+    c.next_of.ensures
+    ∙ next_behind s (node_place s c.args.node) k.result.now k.ensures c.in-Some.last c.in-Index.index c.in-Some.is c.in-Index.is (omega (arith, c.kept.ensures.2, c.if-index-kept.false))
 
 pub returns-in-Name : goal.returns-in-Name
 returns-in-Name t c =

@@ -5,8 +5,8 @@ use Rattle.ink_model.specs.Tree.{at}
 use Rattle.ink_model.specs.declared.place.Part.TheVariants.{Index, Name}
 use Rattle.ink_tree.specs.Nodes.{story_tree, node_place, Finds}
 use Rattle.ink_tree.proofs.Absent.{stands}
-use Rattle.ink_tree.proofs.Knots.{knot_by_key, knot_from_list, listed_there, must_find}
-use Rattle.ink_tree.proofs.Standing.{root_place}
+use Rattle.ink_tree.proofs.Knots.{knot_by_key, knot_from_list, listed_there}
+use Rattle.ink_tree.proofs.Standing.{root_place, there}
 use Rattle.ink_tree.proofs.tree.Tree.knot.Goals as goal
 
 pub returns-in-Some-clause-place : goal.returns-in-Some-clause-place
@@ -31,5 +31,5 @@ returns-clause-place c =
     let i = c.in_ok-index.index in
     let none : at s (Name name ∷ []) ≡ None = ap (λ p. at s (p ++ Name name ∷ [])) (sym (root_place s)) ∙ c.in_default.ensures in
     let listed : Some i ≡ listed_index name (Some s) = c.in_ok-index.ensures ∙ ap (λ p. listed_index name (at s p)) (root_place s) in
-    must_find s (Index i ∷ []) c.child_at.result (subst (λ p. Finds s (p ++ Index i ∷ []) c.child_at.result) (root_place s) c.child_at.ensures) (listed_there name s i listed)
+    there s (Index i ∷ []) c.child_at.result (subst (λ p. Finds s (p ++ Index i ∷ []) c.child_at.result) (root_place s) c.child_at.ensures) (listed_there name s i listed)
     ∙ knot_from_list name s (Some i) none listed
