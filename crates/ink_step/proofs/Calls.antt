@@ -64,13 +64,11 @@ module _ {P T : Type 0} (meaning : P → List Value → Option Given) (name : Li
 
   turn_in : (o : Option (Bind P T)) → Some kind.Turn ≡ option_map kind_of o → (t : T) × (o ≡ Some (bound.Turn t))
   turn_in (Some (bound.Turn t)) h = (t, refl)
-  turn_in (Some (bound.Pure p)) h = absurd (cc)
-  turn_in None h = absurd (cc)
+  turn_in o h = absurd (cc)
 
   pure_in : (o : Option (Bind P T)) → Some kind.Pure ≡ option_map kind_of o → (p : P) × (o ≡ Some (bound.Pure p))
   pure_in (Some (bound.Pure p)) h = (p, refl)
-  pure_in (Some (bound.Turn t)) h = absurd (cc)
-  pure_in None h = absurd (cc)
+  pure_in o h = absurd (cc)
 
   none_in : (o : Option (Bind P T)) → None ≡ option_map kind_of o → o ≡ None
   none_in (Some b) h = absurd (cc)
