@@ -9,4 +9,3 @@ pub mod Walking
 pub mod Tracked
 pub mod Noting
 pub mod Closing
-pub mod Strings

@@ -248,7 +248,6 @@ impl Output {
     }
 
     /// Whether a string is open, on top or below tags. Takes no memory.
-    #[tactic(auto, using(crate::proofs::Strings::strings))]
     pub fn in_string(&self) -> bool
         ensures { result ≡ host.has_string self.now.page.sections }
     {

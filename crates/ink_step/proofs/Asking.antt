@@ -38,8 +38,7 @@ where_unasked true f so never = by_top (popped f.stack)
   where
     by_truth : (x : Result Bool Fault) (g : Fields) → is_asking (or_fault x (λ b. if b then so g else Moves g)) ≡ false
     by_truth (Ok true) g = never g
-    by_truth (Ok false) g = refl
-    by_truth (Err e) g = refl
+    by_truth x g = refl
 
     by_top : (t : Option (Value × List Value)) → is_asking (or_else StackEmpty t (λ r. or_fault (is_true r.0) (λ b. if b then so (record f { stack = r.1 }) else Moves (record f { stack = r.1 })))) ≡ false
     by_top None = refl
@@ -53,8 +52,7 @@ where_asked f so v left top = ap (λ t. is_asking (or_else StackEmpty t (λ r. o
   where
     by_truth : (x : Result Bool Fault) (g : Fields) → is_asking (or_fault x (λ b. if b then so g else Moves g)) ≡ (is_true_of x && is_asking (so g))
     by_truth (Ok true) g = refl
-    by_truth (Ok false) g = refl
-    by_truth (Err e) g = refl
+    by_truth x g = refl
 
 -- ---- what is bound
 

@@ -7,7 +7,7 @@ use Rattle.ink_model.specs.Threads.{frame_count, new_frame, popped, pushed, top_
 use Rattle.ink_model.specs.declared.fault.Fault.{Fault}
 use Rattle.ink_model.specs.declared.fault.Fault.TheVariants.{TooDeep}
 use Rattle.ink_model.specs.declared.frame.FrameKind.{FrameKind}
-use Rattle.ink_model.specs.declared.frame.FrameKind.TheVariants.{Base, Function, Tunnel}
+use Rattle.ink_model.specs.declared.frame.FrameKind.TheVariants.{Function}
 use Rattle.ink_model.specs.declared.limits.TheConstants.{MAX_FRAMES}
 use Rattle.ink_stack.specs.Words.{Grows}
 use Rattle.ink_step.specs.Reaches.{PassesAs, ReachesAs, entered, left, left_asks}
@@ -61,16 +61,13 @@ module _ {P : Type 0} (after : P → Option P) (k : FrameKind) (to : Option P) (
 
   leaving_asks : (h : FrameKind) (p : Result (ThreadOf P) Fault) → left_asks h p ≡ true → popped_asks after h p to ts w ≡ true
   leaving_asks Function (Ok t) asking = refl
-  leaving_asks Function (Err f) asking = absurd (cc)
-  leaving_asks Base p asking = absurd (cc)
-  leaving_asks Tunnel p asking = absurd (cc)
+  leaving_asks h p asking = absurd (cc)
 
   going_asks : (few : Bool) (u : Unit {0}) (h : FrameKind) (p : Result (ThreadOf P) Fault)
       → PassesAs few (or_breaks p Err (λ t. or_breaks (leave_for h ts.thread.frame.enter w) Err (λ x. Ok (record ts { thread = t }, x)))) us v (Ok u)
       → went_asks after to us v ≡ true → popped_asks after h p to ts w ≡ true
   going_asks few u Function (Ok t) leaving asking = refl
-  going_asks few u Base (Ok t) leaving asking = rw (leaving.0, leaving.1) at asking
-  going_asks few u Tunnel (Ok t) leaving asking = rw (leaving.0, leaving.1) at asking
+  going_asks few u h (Ok t) leaving asking = rw (leaving.0, leaving.1) at asking
   going_asks few u h (Err f) leaving asking = absurd leaving
 
   pub return_goes : (few : Bool) (u : Unit {0}) → PassesAs few (left k ts w) us v (Ok u) → (new : ThreadsOf P) (x : Written) (r : Result StepEnd Fault)

@@ -27,7 +27,7 @@ use Rattle.ink_model.specs.declared.host.Event.TheVariants as event
 use Rattle.ink_model.specs.declared.host.Given.{Given}
 use Rattle.ink_model.specs.declared.place.Part.{Part}
 use Rattle.ink_model.specs.declared.value.Value.{Value}
-use Rattle.ink_step.specs.External.{PerformsCall, is_asking, made_call}
+use Rattle.ink_step.specs.External.{PerformsCall, is_asking, lent_arguments, lent_of, made_call}
 use Rattle.ink_step.specs.Performs.{Decides, Performs}
 use Rattle.ink_step.specs.declared.transfer.Transfer.{Transfer}
 use Rattle.ink_step.specs.declared.transfer.Transfer.TheVariants as transfer
@@ -64,13 +64,11 @@ module _ {P T : Type 0} (meaning : P → List Value → Option Given) (name : Li
 
   turn_in : (o : Option (Bind P T)) → Some kind.Turn ≡ option_map kind_of o → (t : T) × (o ≡ Some (bound.Turn t))
   turn_in (Some (bound.Turn t)) h = (t, refl)
-  turn_in (Some (bound.Pure p)) h = absurd (cc)
-  turn_in None h = absurd (cc)
+  turn_in o h = absurd (cc)
 
   pure_in : (o : Option (Bind P T)) → Some kind.Pure ≡ option_map kind_of o → (p : P) × (o ≡ Some (bound.Pure p))
   pure_in (Some (bound.Pure p)) h = (p, refl)
-  pure_in (Some (bound.Turn t)) h = absurd (cc)
-  pure_in None h = absurd (cc)
+  pure_in o h = absurd (cc)
 
   none_in : (o : Option (Bind P T)) → None ≡ option_map kind_of o → o ≡ None
   none_in (Some b) h = absurd (cc)
@@ -93,34 +91,37 @@ module _ {P T : Type 0} (meaning : P → List Value → Option Given) (name : Li
 
 -- ---- arguments
 
-some_same : {A : Type 0} (a b : A) → Some a ≡ Some b → a ≡ b
-some_same a b e = cc
-
--- the arguments that were lent
-pub lent : (o : Option (List Value × List Value)) (vs : List Value) → Some vs ≡ option_map (λ r. r.0) o → (r : List Value × List Value) × (o ≡ Some r) × (vs ≡ r.0)
+-- the arguments that were lent, and what is left
+pub lent : (o : Option (List Value × List Value)) (vs : List Value) → Ok vs ≡ lent_of o → (left : List Value) × (o ≡ Some (vs, left)) × (list_all is_argument vs ≡ true)
 lent None vs h = absurd (cc)
-lent (Some r) vs h = (r, refl, some_same vs r.0 h)
-
-pub not_lent : (o : Option (List Value × List Value)) → None ≡ option_map (λ r. r.0) o → o ≡ None
-not_lent None h = refl
-not_lent (Some r) h = absurd (cc)
+lent (Some r) vs h = by (list_all is_argument r.0) refl h
+  where
+    by : (b : Bool) → list_all is_argument r.0 ≡ b → Ok vs ≡ (if b then Ok r.0 else Err BadOperands) → (left : List Value) × (Some r ≡ Some (vs, left)) × (list_all is_argument vs ≡ true)
+    by true fits h = let same : vs ≡ r.0 = cc in (r.1, ap (λ us. Some (us, r.1)) (sym same), ap (list_all is_argument) same ∙ fits)
+    by false fits h = absurd (cc)
 
 module _ (n : ℕ) (f : Fields) (so : List Value → Fields → Effect) where
-  abbrev of_arguments : Option (List Value × List Value) → Effect
-  of_arguments o = or_else StackEmpty o (λ r. if list_all is_argument r.0 then so r.0 (record f { stack = r.1 }) else Fails BadOperands)
+  abbrev of_truth : List Value × List Value → Bool → Effect
+  of_truth r b = if b then so r.0 (record f { stack = r.1 }) else Fails BadOperands
 
-  pub too_few : arguments_on n f.stack ≡ None → with_arguments n f so ≡ Fails StackEmpty
-  too_few h = ap of_arguments h
+  -- none are lent, which is a fault
+  unlent : (fault : Fault) → Err fault ≡ lent_arguments n f.stack → with_arguments n f so ≡ Fails fault
+  unlent fault h = by (arguments_on n f.stack) h
+    where
+      by_truth : (r : List Value × List Value) (b : Bool) → Err fault ≡ (if b then Ok r.0 else Err BadOperands) → of_truth r b ≡ Fails fault
+      by_truth r true h = absurd (cc)
+      by_truth r false h = cc
 
-  module _ (r : List Value × List Value) (there : arguments_on n f.stack ≡ Some r) where
-    pub unfit : list_all is_argument r.0 ≡ false → with_arguments n f so ≡ Fails BadOperands
-    unfit h = ap of_arguments there ∙ ap (λ b. if b then so r.0 (record f { stack = r.1 }) else Fails BadOperands) h
+      by : (o : Option (List Value × List Value)) → Err fault ≡ lent_of o → or_else StackEmpty o (λ r. of_truth r (list_all is_argument r.0)) ≡ Fails fault
+      by None h = cc
+      by (Some r) h = by_truth r (list_all is_argument r.0) h
 
-    pub fit : list_all is_argument r.0 ≡ true → with_arguments n f so ≡ so r.0 (record f { stack = r.1 })
-    fit h = ap of_arguments there ∙ ap (λ b. if b then so r.0 (record f { stack = r.1 }) else Fails BadOperands) h
+  module _ (vs left : List Value) (there : arguments_on n f.stack ≡ Some (vs, left)) (fits : list_all is_argument vs ≡ true) where
+    taken : with_arguments n f so ≡ so vs (record f { stack = left })
+    taken = ap (λ o. or_else StackEmpty o (λ r. of_truth r (list_all is_argument r.0))) there ∙ ap (of_truth (vs, left)) fits
 
-    pub fit_asks : list_all is_argument r.0 ≡ true → takes_arguments (arguments_on n f.stack) ≡ true
-    fit_asks h = ap takes_arguments there ∙ h
+    taken_asks : takes_arguments (arguments_on n f.stack) ≡ true
+    taken_asks = ap takes_arguments there ∙ fits
 
 -- ---- calls that make none
 
@@ -169,72 +170,56 @@ module _ (s : StoryTree) (n : ℕ) (name : List ℕ) (k : ℕ) (f : Fields) wher
   unsafe_turn h new = uncalled_fault s n _ new _ UnsafeInString (ap of_string h)
 
   module _ (safe : has_string f.page.sections ≡ false) where
-    pub few_turn : arguments_on k f.stack ≡ None → (new : Fields) → Turned [] new (Err StackEmpty)
-    few_turn h new = uncalled_fault s n _ new _ StackEmpty (ap of_string safe ∙ too_few k f (Asks name) h)
+    pub unlent_turn : (fault : Fault) → Err fault ≡ lent_arguments k f.stack → (new : Fields) → Turned [] new (Err fault)
+    unlent_turn fault h new = uncalled_fault s n _ new _ fault (ap of_string safe ∙ unlent k f (Asks name) fault h)
 
-    module _ (r : List Value × List Value) (there : arguments_on k f.stack ≡ Some r) where
-      pub unfit_turn : list_all is_argument r.0 ≡ false → (new : Fields) → Turned [] new (Err BadOperands)
-      unfit_turn h new = uncalled_fault s n _ new _ BadOperands (ap of_string safe ∙ unfit k f (Asks name) r there h)
+    module _ (vs left : List Value) (there : arguments_on k f.stack ≡ Some (vs, left)) (fits : list_all is_argument vs ≡ true) where
+      asked : call_bound s (Some turn_function) name k f ≡ Asks name vs (record f { stack = left })
+      asked = ap of_string safe ∙ taken k f (Asks name) vs left there fits
 
-      module _ (fits : list_all is_argument r.0 ≡ true) where
-        asked : call_bound s (Some turn_function) name k f ≡ Asks name r.0 (record f { stack = r.1 })
-        asked = ap of_string safe ∙ fit k f (Asks name) r there fits
+      asks_memory : binding_asks (Some turn_function) k f ≡ true
+      asks_memory = ap (λ b. not b && takes_arguments (arguments_on k f.stack)) safe ∙ taken_asks k f (Asks name) vs left there fits
 
-        asks_memory : binding_asks (Some turn_function) k f ≡ true
-        asks_memory = ap (λ b. not b && takes_arguments (arguments_on k f.stack)) safe ∙ fit_asks k f (Asks name) r there fits
+      made_turn : (gave : Option Given) (es : List Event) (new : Fields) (t : Result Transfer Fault) → es ≡ calls n (made_call name vs gave ∷ [])
+          → Performs s (is_some gave) (answering gave (record f { stack = left })) new t → Turned es new t
+      made_turn gave es new t is h = subst (λ e. PerformsCall s n (binding_asks (Some turn_function) k f) e es new t) (sym asked) (inl (gave, is, h))
 
-        pub made_turn : (gave : Option Given) (es : List Event) (new : Fields) (t : Result Transfer Fault) → es ≡ calls n (made_call name r.0 gave ∷ [])
-            → Performs s (is_some gave) (answering gave (record f { stack = r.1 })) new t → Turned es new t
-        made_turn gave es new t is h = subst (λ e. PerformsCall s n (binding_asks (Some turn_function) k f) e es new t) (sym asked) (inl (gave, is, h))
-
-        pub short_turn : (es : List Event) (new : Fields) → es ≡ [] → Turned es new (Err OutOfMemory)
-        short_turn es new is = subst (λ e. PerformsCall s n (binding_asks (Some turn_function) k f) e es new (Err OutOfMemory)) (sym asked) (inr (is, refl, asks_memory))
-
--- values that are no arguments were lent
-pub unfit_lent : (s : StoryTree) (n : ℕ) (name : List ℕ) (k : ℕ) (f : Fields) → has_string f.page.sections ≡ false → (vs : List Value) → Some vs ≡ option_map (λ r. r.0) (arguments_on k f.stack)
-    → list_all is_argument vs ≡ false → (new : Fields) → Turned s n name k f [] new (Err BadOperands)
-unfit_lent s n name k f safe vs lends unfits new =
-    let r = lent (arguments_on k f.stack) vs lends in unfit_turn s n name k f safe r.0 r.1 (ap (list_all is_argument) (sym r.2) ∙ unfits) new
+      short_turn : (es : List Event) (new : Fields) → es ≡ [] → Turned es new (Err OutOfMemory)
+      short_turn es new is = subst (λ e. PerformsCall s n (binding_asks (Some turn_function) k f) e es new (Err OutOfMemory)) (sym asked) (inr (is, refl, asks_memory))
 
 -- ---- what the desk tells of a call
 
-module _ (s : StoryTree) (name : List ℕ) (k : ℕ) (f new : Fields) (safe : has_string f.page.sections ≡ false)
-    (vs : List Value) (lends : Some vs ≡ option_map (λ r. r.0) (arguments_on k f.stack)) (fits : list_all is_argument vs ≡ true) where
-  abbrev taken : List Value × List Value
-  taken = (lent (arguments_on k f.stack) vs lends).0
+module _ (s : StoryTree) (name : List ℕ) (k : ℕ) (f new : Fields) (safe : has_string f.page.sections ≡ false) (vs : List Value) (lends : Ok vs ≡ lent_arguments k f.stack) where
+  abbrev left : List Value
+  left = (lent (arguments_on k f.stack) vs lends).0
 
-  there : arguments_on k f.stack ≡ Some taken
+  there : arguments_on k f.stack ≡ Some (vs, left)
   there = (lent (arguments_on k f.stack) vs lends).1
 
-  same : vs ≡ taken.0
-  same = (lent (arguments_on k f.stack) vs lends).2
+  fits : list_all is_argument vs ≡ true
+  fits = (lent (arguments_on k f.stack) vs lends).2
 
-  pub left_by : option_map (λ r. r.1) (arguments_on k f.stack) ≡ Some taken.1
+  pub left_by : option_map (λ r. r.1) (arguments_on k f.stack) ≡ Some left
   left_by = ap (option_map (λ r. r.1)) there
-
-  -- the call of the turn function gave something, or refused
-  pub called_once : (n : ℕ) (gave : Option Given) (es : List Event) → es ≡ event.Call name vs gave n ∷ [] → (t : Result Transfer Fault)
-      → Performs s (is_some gave) (answering gave (record f { stack = taken.1 })) new t → Turned s n name k f es new t
-  called_once n gave es is t h = made_turn s n name k f safe taken there (ap (list_all is_argument) (sym same) ∙ fits) gave es new t (is ∙ ap (λ us. event.Call name us gave n ∷ []) same) h
 
   module _ {P T W : Type 0} (turn_log : T → List Called) (watch_log : W → List Seen) (a b : DeskView P T W) where
     abbrev Calls_it : Result Transfer Fault → Type 0
     Calls_it t = (es : List Event) × Grew turn_log watch_log a es b × Turned s a.next name k f es new t
 
     pub turn_gave : (given : Given) → Grew turn_log watch_log a (event.Call name vs (Some given) a.next ∷ []) b → (t : Result Transfer Fault)
-        → Performs s true (answering (Some given) (record f { stack = taken.1 })) new t → Calls_it t
-    turn_gave given grew t h = (event.Call name vs (Some given) a.next ∷ [], grew, called_once a.next (Some given) _ refl t h)
+        → Performs s true (answering (Some given) (record f { stack = left })) new t → Calls_it t
+    turn_gave given grew t h = (event.Call name vs (Some given) a.next ∷ [], grew, made_turn s a.next name k f safe vs left there fits (Some given) _ new t refl h)
 
     turn_refused : Grew turn_log watch_log a (event.Call name vs None a.next ∷ []) b → Calls_it (Err HostRefused)
-    turn_refused grew = (event.Call name vs None a.next ∷ [], grew, called_once a.next None _ refl (Err HostRefused) (inl refl))
+    turn_refused grew = (event.Call name vs None a.next ∷ [], grew, made_turn s a.next name k f safe vs left there fits None _ new (Err HostRefused) refl (inl refl))
 
     turn_short : (es : List Event) × Grew turn_log watch_log a es b × ((es ≡ []) ⊎ ((g : Given) × shares g × (es ≡ event.Call name vs (Some g) a.next ∷ []))) → Calls_it (Err OutOfMemory)
     turn_short m = (
       m.0,
       m.1,
       elim m.2 [
-        | inl none ↦ short_turn s a.next name k f safe taken there (ap (list_all is_argument) (sym same) ∙ fits) m.0 new none
-        | inr one ↦ called_once a.next (Some one.0) m.0 one.2 (Err OutOfMemory) (short s true new _ refl)
+        | inl none ↦ short_turn s a.next name k f safe vs left there fits m.0 new none
+        | inr one ↦ made_turn s a.next name k f safe vs left there fits (Some one.0) m.0 new (Err OutOfMemory) one.2 (short s true new _ refl)
       ],
     )
 

@@ -39,6 +39,11 @@ or_more false b h = h
 pub or_first : (a b : Bool) → a ≡ true → a || b ≡ true
 or_first a b h = subst (λ x. x || b ≡ true) (sym h) refl
 
+-- no step ends so
+pub never_wants : (asking : Bool) (o : Outcome) (globals : Values) (d : Configuration) → StepEnds asking o globals d (Ok ends.WantsCall) → ⊥
+never_wants asking (Next c) globals d h = h
+never_wants asking o globals d h = h
+
 -- where memory was refused
 pub ends_short : (asking : Bool) (o : Outcome) (globals : Values) (d : Configuration) (f : Fault) → (f ≡ OutOfMemory) × (asking ≡ true) → d.shared.globals ≡ globals
     → StepEnds asking o globals d (Err f)

@@ -1,20 +1,10 @@
--- Content that leads elsewhere: diverts, calls, and the returns of tunnels.
-use Rattle.std.proofs.Common.{◌≡◌, refl, subst, sym, inl, ℕ, List, Bool, true, false, Option, Some, None, ok_or, option_map, Result, Ok, Err}
-use Rattle.ink_model.specs.Effect.{Fields, Effect, Landing as Goal, Lands, Calls, Returns, or_else, or_fault}
-use Rattle.ink_model.specs.Page.{Page}
-use Rattle.ink_model.specs.Stack.{popped}
-use Rattle.ink_model.specs.Step.Calls.{led_back, return_tunnel}
-use Rattle.ink_model.specs.Step.Diverts.{landing_by}
-use Rattle.ink_model.specs.Store.{Values}
+-- Content that leads elsewhere: diverts and calls.
+use Rattle.std.proofs.Common.{◌≡◌, refl, subst, sym, inl, Bool, true, false, Result, Ok, Err}
+use Rattle.ink_model.specs.Effect.{Fields, Effect, Landing as Goal, Lands, Calls, or_fault}
 use Rattle.ink_model.specs.Tree.{StoryTree}
 use Rattle.ink_model.specs.declared.fault.Fault.{Fault}
-use Rattle.ink_model.specs.declared.fault.Fault.TheVariants.{BadTarget, StackEmpty}
 use Rattle.ink_model.specs.declared.frame.FrameKind.{FrameKind}
-use Rattle.ink_model.specs.declared.frame.FrameKind.TheVariants.{Tunnel}
-use Rattle.ink_model.specs.declared.place.Path.{Path}
-use Rattle.ink_model.specs.declared.value.Value.{Value}
-use Rattle.ink_model.specs.declared.value.Value.TheVariants as value
-use Rattle.ink_step.specs.Performs.{Decides, Performs, fields, landing_of}
+use Rattle.ink_step.specs.Performs.{Decides, Performs, landing_of}
 use Rattle.ink_step.specs.declared.transfer.Landing.{Landing}
 use Rattle.ink_step.specs.declared.transfer.Transfer.{Transfer}
 use Rattle.ink_step.specs.declared.transfer.Transfer.TheVariants as transfer
@@ -39,27 +29,3 @@ module _ (s : StoryTree) (asks : Bool) (new : Fields) where
 
   pub leads_nowhere : (f : Fault) (led : Result Goal Fault) (so : Goal → Effect) → Err f ≡ led → Performs s asks (or_fault led so) new (Err f)
   leads_nowhere f led so h = subst (λ o. Performs s asks (or_fault o so) new (Err f)) h (inl refl)
-
--- ---- a tunnel goes back to a target
-
-module _ (s : StoryTree) (asks evaluating : Bool) (fresh : Option ℕ) (page : Page) (globals : Values) (old new : List Value) (v : Value) (path : Path)
-    (pops : popped old ≡ Some (v, new)) (is : v ≡ value.Target path) where
-  abbrev before : Fields
-  before = fields evaluating fresh old page globals
-
-  abbrev left : Fields
-  left = fields evaluating fresh new page globals
-
-  back_by : (r : Result Transfer Fault) → Performs s asks (or_fault (led_back s (value.Target path)) (λ to. Returns Tunnel to left)) left r → Performs s asks (return_tunnel s before) left r
-  back_by r h =
-      let by_value = subst (λ w. Performs s asks (or_fault (led_back s w) (λ to. Returns Tunnel to left)) left r) (sym is) h in
-      subst (λ o. Performs s asks (or_else StackEmpty o (λ t. or_fault (led_back s t.0) (λ to. Returns Tunnel to (record before { stack = t.1 })))) left r) (sym pops) by_value
-
-  abbrev back_where : Option Goal → Effect
-  back_where o = or_fault (ok_or (option_map (λ l. Some l) o) BadTarget) (λ to. Returns Tunnel to left)
-
-  pub back_there : (to : Landing) → Some (landing_of s to) ≡ landing_by s (value.Target path) → Performs s asks (return_tunnel s before) left (Ok (transfer.Return Tunnel (Some to)))
-  back_there to h = back_by _ (subst (λ o. Performs s asks (back_where o) left (Ok (transfer.Return Tunnel (Some to)))) h (refl, refl, refl))
-
-  pub back_nowhere : None ≡ landing_by s (value.Target path) → Performs s asks (return_tunnel s before) left (Err BadTarget)
-  back_nowhere h = back_by _ (subst (λ o. Performs s asks (back_where o) left (Err BadTarget)) h (inl refl))

@@ -7,7 +7,7 @@ use Rattle.ink_model.specs.Configuration.{ChoiceOf, Configuration, current_place
 use Rattle.ink_model.specs.Effect.{Context, Fields, Effect, Stores, Offers, Asks, Fails, context_of, fields_of, or_else, or_fault}
 use Rattle.ink_model.specs.Frames.{ThreadsOf}
 use Rattle.ink_model.specs.Host.{Binding, Bound, fits_given, pure_function, turn_function, value_given}
-use Rattle.ink_model.specs.Move.{Outcome, Next, Wants, Faults, move}
+use Rattle.ink_model.specs.Move.{Outcome, Wants, Faults, move}
 use Rattle.ink_model.specs.MoveMemory.{move_asks}
 use Rattle.ink_model.specs.Place.{entered, knot}
 use Rattle.ink_model.specs.Run.{answered}
@@ -31,16 +31,11 @@ use Rattle.ink_step.specs.Steps.{StepEnds, StepMakes, Steps, wants}
 use Rattle.ink_step.specs.declared.flow.StepEnd.{StepEnd}
 use Rattle.ink_step.specs.declared.flow.StepEnd.TheVariants as ends
 use Rattle.ink_step.specs.declared.transfer.Transfer.{Transfer}
-use Rattle.ink_step.proofs.Follows.{ends_more, ends_unperformed, or_first, or_more}
+use Rattle.ink_step.proofs.Follows.{ends_more, ends_unperformed, never_wants, or_first, or_more}
 use Rattle.ink_step.proofs.Landed.{Performing, ends_outside, ends_performed}
 use Rattle.ink_step.proofs.Stopping.{broke}
 use Rattle.ink_step.proofs.Unasked.{other_acts, wanted}
 use Rattle.ink_tree.specs.declared.spot.Spot.{Spot}
-
--- no content's effect is to be called
-ends_said : (asking : Bool) (o : Outcome) (globals : Values) (d : Configuration) → StepEnds asking o globals d (Ok ends.WantsCall) → ⊥
-ends_said asking (Next c) globals d h = h
-ends_said asking o globals d h = h
 
 module _ (s : StoryTree) (b : Bound) (n : ℕ) where
   -- an outcome that wants no call
@@ -67,7 +62,7 @@ module _ (s : StoryTree) (b : Bound) (n : ℕ) where
     -- only a quiet step says that a call is wanted
     pub makes_said : (asking : Bool) (o : Outcome) → StepMakes s b n asking o es globals d (Ok ends.WantsCall) → ⊥
     makes_said asking (Wants name arguments f c) h = elim h [
-      | inl made ↦ ends_said _ (answered s f c made.0) globals d made.3
+      | inl made ↦ never_wants _ (answered s f c made.0) globals d made.3
       | inr short ↦ absurd (cc)
     ]
     makes_said asking o h = h.1

@@ -21,45 +21,31 @@ use Rattle.ink_step.specs.Runs.{AreBound, RunFalls}
 use Rattle.ink_step.specs.Steps.{StepEnds, Steps}
 use Rattle.ink_step.specs.declared.flow.StepEnd.{StepEnd}
 use Rattle.ink_step.specs.declared.flow.StepEnd.TheVariants as ends
+use Rattle.ink_step.proofs.Follows.{never_wants}
 
 -- ---- the moment after an outcome
 
 module _ (left : List (Option Given)) (made : List Made) (asking : Bool) (old new : Configuration) where
   went : (o : Outcome) → StepEnds asking o old.shared.globals new (Ok ends.Went) → moment_after old o left made ≡ At new left made
   went (Next c) h = ap (λ d. At d left made) (sym h)
-  went (Stop c) h = absurd h
-  went (Wants name arguments f c) h = absurd h
-  went (Faults f) h = absurd h
+  went o h = absurd h
 
   stopped : (o : Outcome) → StepEnds asking o old.shared.globals new (Ok ends.Stopped) → moment_after old o left made ≡ Stopped new left made
-  stopped (Next c) h = absurd h
   stopped (Stop c) h = ap (λ d. Stopped d left made) (sym h)
-  stopped (Wants name arguments f c) h = absurd h
-  stopped (Faults f) h = absurd h
-
--- no step ends so
-never_wants : (asking : Bool) (globals : Values) (new : Configuration) (o : Outcome) → StepEnds asking o globals new (Ok ends.WantsCall) → ⊥
-never_wants asking globals new (Next c) h = h
-never_wants asking globals new (Stop c) h = h
-never_wants asking globals new (Wants name arguments f c) h = h
-never_wants asking globals new (Faults f) h = h
+  stopped o h = absurd h
 
 -- a fault of the story, or a step that asks for memory and got none
 faulted : (made : List Made) (asking : Bool) (old new : Configuration) (f : Fault) (o : Outcome) → StepEnds asking o old.shared.globals new (Err f)
     → (((left : List (Option Given)) → moment_after old o left made ≡ Faulted f old left made) ⊎ ((f ≡ OutOfMemory) × (asking ≡ true)))
-faulted made asking old new f (Next c) h = inr h.0
-faulted made asking old new f (Stop c) h = inr h.0
-faulted made asking old new f (Wants name arguments g c) h = inr h.0
 faulted made asking old new f (Faults g) h = elim h.0 [
   | inl same ↦ inl (λ left. ap (λ x. Faulted x old left made) (sym same))
   | inr short ↦ inr short
 ]
+faulted made asking old new f o h = inr h.0
 
 kept_globals : (asking : Bool) (globals : Values) (new : Configuration) (f : Fault) (o : Outcome) → StepEnds asking o globals new (Err f) → new.shared.globals ≡ globals
-kept_globals asking globals new f (Next c) h = h.1
-kept_globals asking globals new f (Stop c) h = h.1
-kept_globals asking globals new f (Wants name arguments g c) h = h.1
 kept_globals asking globals new f (Faults g) h = h.1
+kept_globals asking globals new f o h = h.1
 
 -- ---- what a step did in a run
 
@@ -93,7 +79,7 @@ module _ (s : StoryTree) (b : Bound) (made : List Made) (n : ℕ) (es : List Eve
     ends_plainly : (result : Result StepEnd Fault) → StepEnds (asks s b old) o old.shared.globals new result → Ends s b made [] old new result
     ends_plainly (Ok ends.Went) h = λ left. came_so left (At new left) (went left made (asks s b old) old new o h)
     ends_plainly (Ok ends.Stopped) h = λ left. came_so left (Stopped new left) (stopped left made (asks s b old) old new o h)
-    ends_plainly (Ok ends.WantsCall) h = never_wants (asks s b old) old.shared.globals new o h
+    ends_plainly (Ok ends.WantsCall) h = never_wants (asks s b old) o old.shared.globals new h
     ends_plainly (Err f) h = (
       kept_globals (asks s b old) old.shared.globals new f o h,
       elim (faulted made (asks s b old) old new f o h) [
@@ -119,7 +105,7 @@ module _ (s : StoryTree) (b : Bound) (made : List Made) (n : ℕ) (es : List Eve
       ends_calling : (result : Result StepEnd Fault) → StepEnds (is_some gave) (answered s f d gave) old.shared.globals new result → Ends s b made (call gave ∷ []) old new result
       ends_calling (Ok ends.Went) h = λ left. came_calling left _ (went left (made ++ call gave ∷ []) (is_some gave) old new (answered s f d gave) h)
       ends_calling (Ok ends.Stopped) h = λ left. came_calling left _ (stopped left (made ++ call gave ∷ []) (is_some gave) old new (answered s f d gave) h)
-      ends_calling (Ok ends.WantsCall) h = never_wants (is_some gave) old.shared.globals new (answered s f d gave) h
+      ends_calling (Ok ends.WantsCall) h = never_wants (is_some gave) (answered s f d gave) old.shared.globals new h
       ends_calling (Err g) h = (
         kept_globals (is_some gave) old.shared.globals new g (answered s f d gave) h,
         elim (faulted (made ++ call gave ∷ []) (is_some gave) old new g (answered s f d gave) h) [

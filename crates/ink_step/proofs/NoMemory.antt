@@ -10,7 +10,7 @@ use Rattle.ink_model.specs.Entered.{flags_at}
 use Rattle.ink_model.specs.Flags.{counts_visits, has_choice_only_text, has_start_text, is_conditional, notes_turns}
 use Rattle.ink_model.specs.Flow.{Written, Reached, Reaches, Halts, Breaks, Ending, Continues, Finishes, Collapses, called, done_by, doubled_in, enter_for, frames_on, halt, is_last, leave_for, moved_on, on_ending, on_page, on_stack, or_breaks, or_end, reach, reach_or_on, returned, thread_of, threads_on, void_for}
 use Rattle.ink_model.specs.Frames.{FrameOf, ThreadOf, ThreadsOf, base_threads, is_function}
-use Rattle.ink_model.specs.Move.{Outcome, Next, Stop, Wants, Faults, landed_in, may_enter, move, place_to, reached_in, written_in}
+use Rattle.ink_model.specs.Move.{Outcome, Stop, Wants, Faults, landed_in, may_enter, move, place_to, reached_in, written_in}
 use Rattle.ink_model.specs.Opening.{Unopened, declaring, opening, opened_by, opened_from}
 use Rattle.ink_model.specs.Operator.{Operand, number, Operands, numbers, texts, targets, unlike, both, operand, can_divide, of_numbers, of_texts, of_targets, of_one, of_two, apply, takes}
 use Rattle.ink_model.specs.Output.{closes_string_of, closes_tag_of, begins_function, is_line, with_next, writes_value}
@@ -32,7 +32,7 @@ use Rattle.ink_model.specs.Step.Host.{answering, arguments_on, call_bound, has_s
 use Rattle.ink_model.specs.Step.Text.{closed_tag, in_tag, keeps_tag}
 use Rattle.ink_model.specs.Step.Variables.{assign, declare, storing}
 use Rattle.ink_model.specs.Store.{Values}
-use Rattle.ink_model.specs.Tree.{StoryTree, leaf, container, at}
+use Rattle.ink_model.specs.Tree.{StoryTree, leaf, at}
 use Rattle.ink_model.specs.Value.{printed, is_true}
 use Rattle.ink_model.specs.Variables as variables
 use Rattle.ink_model.specs.Variables.{assign_at, chain_end, declared, held, kept, kept_pointer, named, on_pointer, read, stands, value_at}
@@ -293,17 +293,14 @@ control_acts s p seen control.BeginString f = effect_if f.evaluating _ _ (write_
 control_acts s p seen control.EndString f = acts_or _ _ (string_sound f.page f.page.sections) (λ r. push_acts _ _)
 control_acts s p seen control.BeginTag f = acts_or _ _ (opened_sound (in_tag f.page.sections) f.stack f.page) (λ r. write_acts _ (record f { stack = r.0 }) (deep _ (opens_deep tag_section r.1)))
 control_acts s p seen control.EndTag f = acts_or _ _ (closed_sound f.stack f.page) (λ r. moves_act _)
-control_acts s p seen control.Done f = λ h. absurd (cc)
-control_acts s p seen control.End f = λ h. absurd (cc)
-control_acts s p seen control.Return f = λ h. absurd (cc)
 control_acts s p seen control.ReturnTunnel f = acts_else StackEmpty (popped f.stack) _ (λ h. absurd (cc)) (λ r. acts_or (led_back s r.0) _ (led_back_sound s r.0) (λ to. λ h. absurd (cc)))
-control_acts s p seen control.Thread f = λ h. absurd (cc)
 control_acts s p seen control.ChoiceCount f = push_acts _ f
 control_acts s p seen control.Turn f = push_acts _ f
 control_acts s p seen control.Turns f = asking_acts s seen (turns_there s seen) f (λ q. result_if (is_container (at s q)) _ _ (turns_sound s seen q) (λ h. absurd (cc)))
 control_acts s p seen control.ReadCount f = asking_acts s seen (visits_there s seen) f (λ q. result_if (is_container (at s q)) _ _ (visits_sound s seen q) (λ h. absurd (cc)))
 control_acts s p seen control.Visit f = acts_else NotCounted (above (reverse p)) _ (λ h. absurd (cc)) (λ q. count_acts s seen _ f (less_sound s seen _ (visits_sound s seen q)))
-control_acts s p seen o f = moves_act f
+control_acts s p seen control.Nop f = moves_act f
+control_acts s p seen o f = λ h. absurd (cc)
 
 -- ---- choices
 
@@ -313,18 +310,12 @@ popping_sound (Err f) so sound on = λ h. sound (cc)
 
 condition_sound : (wanted : Bool) (vs : List Value) → Sound (pop_condition wanted vs)
 unfolding is_true
-condition_sound false vs = λ h. absurd (cc)
-condition_sound true [] = λ h. absurd (cc)
 condition_sound true (value.Int z ∷ vs) = λ h. absurd (cc)
-condition_sound true (value.Bool b ∷ vs) = λ h. absurd (cc)
-condition_sound true (value.Text t ∷ vs) = λ h. absurd (cc)
-condition_sound true (value.Void ∷ vs) = λ h. absurd (cc)
-condition_sound true (v ∷ vs) = λ h. absurd (cc)
+condition_sound wanted vs = λ h. absurd (cc)
 
 words_sound : (vs : List Value) → Sound (pop_words vs)
-words_sound [] = λ h. absurd (cc)
 words_sound (value.Text t ∷ vs) = λ h. absurd (cc)
-words_sound (v ∷ vs) = λ h. absurd (cc)
+words_sound vs = λ h. absurd (cc)
 
 any_words_sound : (wanted : Bool) (vs : List Value) → Sound (pop_any_words wanted vs)
 any_words_sound false vs = λ h. absurd (cc)
@@ -355,9 +346,6 @@ call_acts k s p seen to f = acts_or (led_to s p seen to f.globals) _ (led_to_sou
 true_sound : (v : Value) → Sound (is_true v)
 unfolding is_true
 true_sound (value.Int z) = λ h. absurd (cc)
-true_sound (value.Bool b) = λ h. absurd (cc)
-true_sound (value.Text t) = λ h. absurd (cc)
-true_sound value.Void = λ h. absurd (cc)
 true_sound v = λ h. absurd (cc)
 
 where_acts : (conditional : Bool) (f : Fields) (so : Fields → Effect) → ((g : Fields) → Acts (so g)) → Acts (where_true conditional f so)
@@ -410,9 +398,8 @@ leaf_acts s b p seen (leaves.Choice text flags) f = acts_else BadTarget (lands s
 leaf_acts s b p seen (leaves.External name n conditional) f = where_acts conditional f _ (bound_acts s (b name) name n)
 
 effect_acts : (s : StoryTree) (b : Bound) (p : List Part) (found : Option StoryTree) (seen : Context) (f : Fields) → Acts (effect s b p found seen f)
-effect_acts s b p None seen f = moves_act f
-effect_acts s b p (Some (container name flags content named)) seen f = moves_act f
 effect_acts s b p (Some (leaf l)) seen f = leaf_acts s b p seen l f
+effect_acts s b p found seen f = moves_act f
 
 -- ---- frames and threads, and what is written to where they are pushed and popped
 
@@ -530,25 +517,20 @@ module _ {P : Type 0} (after : P → Option P) where
 
   forked_stays : (r : Reached P) → Stays r → Stays (doubled_in after r)
   forked_stays (Reaches ts w) stays = stays_or (threads.doubled ts) _ (doubled_sound ts) (λ us. λ h. absurd (cc))
-  forked_stays (Halts ts w) stays = stays
-  forked_stays (Breaks f) stays = stays
+  forked_stays r stays = stays
 
   done_stays : (below : Option (ThreadsOf P)) (ts : ThreadsOf P) (w : Written) → Stays (done_by after below ts w)
   done_stays None ts w = halt_stays _ w
   done_stays (Some below) ts w = moved_stays below w
 
 reached_goes : (c : Configuration) (r : Reached (List Part)) → Stays r → Goes (reached_in c r)
-reached_goes c (Reaches ts w) stays = λ h. absurd (cc)
-reached_goes c (Halts ts w) stays = λ h. absurd (cc)
 reached_goes c (Breaks f) stays = λ h. stays (cc)
+reached_goes c r stays = λ h. absurd (cc)
 
 landed_goes : (s : StoryTree) (enters : Bool) (c : Configuration) (r : Reached (List Part)) → Stays r → Goes (landed_in s enters c r)
-landed_goes s true c (Reaches ts w) stays = λ h. absurd (cc)
-landed_goes s false c (Reaches ts w) stays = λ h. absurd (cc)
-landed_goes s true c (Halts ts w) stays = λ h. absurd (cc)
-landed_goes s false c (Halts ts w) stays = λ h. absurd (cc)
 landed_goes s true c (Breaks f) stays = λ h. stays (cc)
 landed_goes s false c (Breaks f) stays = λ h. stays (cc)
+landed_goes s enters c r stays = λ h. absurd (cc)
 
 module _ (s : StoryTree) where
   move_goes : (e : Effect) (c : Configuration) → Acts e → Goes (move s e c)
@@ -565,14 +547,12 @@ module _ (s : StoryTree) where
   move_goes (Fails f) c acts = λ h. acts (cc)
 
   following_goes : (o : Outcome) → Goes o → Goes (following s o)
-  following_goes (Next c) goes = goes
-  following_goes (Wants name arguments after c) goes = goes
-  following_goes (Faults f) goes = goes
   following_goes (Stop c) goes = by (default_choice c.flow.choices)
     where
       by : (o : Option (ChoiceOf (List Part))) → Goes (stopped_by s o c)
       by None = λ h. absurd (cc)
       by (Some choice) = λ h. absurd (cc)
+  following_goes o goes = goes
 
   step_goes : (b : Bound) (c : Configuration) → Goes (step s b c)
   unfolding step
@@ -592,10 +572,8 @@ module _ (s : StoryTree) (b : Bound) where
   Runs m = (c : Configuration) (left : List (Option Given)) (made : List Made) → m ≢ Faulted OutOfMemory c left made
 
   after_runs : (c : Configuration) (o : Outcome) (left : List (Option Given)) (made : List Made) → Goes o → Runs (moment_after c o left made)
-  after_runs c (Next d) left made goes e l m = λ h. absurd (cc)
-  after_runs c (Stop d) left made goes e l m = λ h. absurd (cc)
   after_runs c (Faults f) left made goes e l m = λ h. goes (cc)
-  after_runs c (Wants name arguments after d) left made goes e l m = λ h. absurd (cc)
+  after_runs c o left made goes e l m = λ h. absurd (cc)
 
   came_runs : (c : Configuration) (o : Outcome) (left : List (Option Given)) (made : List Made) → Goes o → Runs (came s c o left made)
   came_runs c (Wants name arguments after d) (a ∷ left) made goes = after_runs c (answered s after d a) left _ (answered_goes s after d a)
@@ -603,9 +581,7 @@ module _ (s : StoryTree) (b : Bound) where
 
   next_runs : (m : Moment) → Runs m → Runs (next s b m)
   next_runs (At c left made) runs = came_runs c (step s b c) left made (step_goes s b c)
-  next_runs (running.Stopped c left made) runs = runs
-  next_runs (Faulted f c left made) runs = runs
-  next_runs (Waits name made) runs = runs
+  next_runs m runs = runs
 
   run_runs : (n : ℕ) (m : Moment) → Runs m → Runs (run s b n m)
   unfolding run
@@ -617,9 +593,7 @@ module _ (s : StoryTree) (b : Bound) where
     where
       by_end : (m : Moment) → Runs m → Runs (cut_off m)
       by_end (At d left made) runs = λ e l k h. absurd (cc)
-      by_end (running.Stopped d left made) runs = runs
-      by_end (Faulted f d left made) runs = runs
-      by_end (Waits name made) runs = runs
+      by_end m runs = runs
 
 -- ---- opening
 

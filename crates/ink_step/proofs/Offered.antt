@@ -197,9 +197,8 @@ module _ (s : StoryTree) (p : List Part) (rest : Rest) (ts : ThreadsOf Spot) (te
         keeps_added : (f : Fields) (r : Result (List (ChoiceOf Spot)) Fault) (x : Result (Unit {0}) Fault) → Adds r rest.choices after x
             → OnOk x (KeepsChoices s (or_fault (offered_at (place_of s) r) (λ choices. Offers choices f)) rest.choices after)
         keeps_added f (Ok ds) (Ok u) h = ap (map (map_choice (place_of s))) h
-        keeps_added f (Ok ds) (Err g) h = tt
         keeps_added f (Err g) (Ok u) h = absurd h
-        keeps_added f (Err g) (Err x) h = tt
+        keeps_added f r (Err g) h = tt
 
         pub keeps_one : (result : Result (Unit {0}) Fault) → Makes made old new (Ok (Some c)) → Adds (added c rest.choices) rest.choices after result
             → OnOk result (KeepsChoices s offers rest.choices after)

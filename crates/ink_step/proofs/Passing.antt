@@ -45,9 +45,8 @@ module _ {P Q : Type 0} (f : P → Q) where
   changes_map : {U : Type 0} (r : Result (ThreadOf P) Fault) (old new : ThreadsOf P) (result : Result U Fault) → Changes (top_result r old) old new result
       → Changes (top_result (mapped (map_thread f) r) (map_threads f old)) (map_threads f old) (map_threads f new) result
   changes_map (Ok t) old new (Ok u) h = ap (map_threads f) h
-  changes_map (Ok t) old new (Err g) h = absurd h
-  changes_map (Err e) old new (Ok u) h = absurd h
   changes_map (Err e) old new (Err g) h = (h.0, ap (map_threads f) h.1)
+  changes_map r old new result h = absurd h
 
   grows_map : {U : Type 0} (r : Result (ThreadOf P) Fault) (old new : ThreadsOf P) (u : U) → Grows (top_result r old) old new (Ok u)
       → Grows (top_result (mapped (map_thread f) r) (map_threads f old)) (map_threads f old) (map_threads f new) (Ok u)

@@ -5,7 +5,7 @@ use Rattle.ink_model.specs.Frames.{FrameOf, ThreadOf, frame_numbered, map_frame,
 use Rattle.ink_model.specs.Rows.{name_order, row}
 use Rattle.ink_model.specs.Store.{Values, stored, store}
 use Rattle.ink_model.specs.Threads.{changed, frame_count, temp_in, with_row_in, with_temp}
-use Rattle.ink_model.specs.Variables.{assign, assign_at, chain_end, declare, declared, held, kept, kept_pointer, last_pointer, named, on_pointer, point, read, stands, value_at, with_held, with_named}
+use Rattle.ink_model.specs.Variables.{assign, assign_at, chain_end, declare, declared, held, kept, kept_pointer, last_pointer, named, on_pointer, read, stands, value_at, with_held, with_named}
 use Rattle.ink_model.specs.declared.fault.Fault.{Fault}
 use Rattle.ink_model.specs.declared.fault.Fault.TheVariants.{BadPointer, NoTemp}
 use Rattle.ink_model.specs.declared.scope.Scope.{Scope}
@@ -160,7 +160,3 @@ module _ {P Q : Type 0} (f : P → Q) where
 
     pub declare_renamed : (scope : Scope) (name : List ℕ) (v : Value) → declare globals (map_thread f t) scope name v ≡ left_as (declare globals t scope name v)
     declare_renamed scope name v = ap (declared globals (map_thread f t) scope name) (kept_renamed v) ∙ declared_renamed scope name (kept globals t v)
-
-  pub point_renamed : (t : ThreadOf P) (i : ℤ) (m : List ℕ) → point (map_thread f t) i m ≡ point t i m
-  point_renamed t (pos n) m = refl
-  point_renamed t (negsuc n) m = ap (λ k. value.Pointer (if is_some (row name_order m t.frame.temps) then pos k else pos 0) m) (count_renamed t)

@@ -83,9 +83,6 @@ module _ {P T W : Type 0} (turn_log : T → List Called) (watch_log : W → List
     ran_to_stop end below is stepped = let h = ended_so end ends.Stopped is stepped in let d = did_in (Ok ends.Stopped) h in
         (ran.made ++ d.more, grown_by (Ok ends.Stopped) h d, run_stopped s bound_first start n MAX_STEPS old new ran.made d.more below ran.got_there d.ends, bound_too bound_first ran.made d.more ran.bound d.bound)
 
-    pub never_waits : (end : StepEnd) → end ≡ ends.WantsCall → Stepped before old after new (Ok end) → ⊥
-    never_waits end is stepped = let h = ended_so end ends.WantsCall is stepped in let d = did_in (Ok ends.WantsCall) h in d.ends
-
     pub ran_to_fault : (f : Fault) → n < MAX_STEPS → Stepped before old after new (Err f) → EndsRun after new (Err f)
     ran_to_fault f below h = let d = did_in (Err f) h in
         (ran.made ++ d.more, grown_by (Err f) h d, run_faulted s bound_first start n old new ran.made d.more f below ran.got_there d.ends, bound_too bound_first ran.made d.more ran.bound d.bound)

@@ -64,12 +64,7 @@ module _ {P : Type 0} (globals : Values) (thread : ThreadOf P) where
     noted (Some w) t h = or_second (is_pointer (Some w)) true refl
     noted None None h = let none = h value.Void in absurd (cc)
     noted None (Some (value.Pointer frame there)) h = refl
-    noted None (Some (value.Int z)) h = absurd (not_temporary h)
-    noted None (Some (value.Bool b)) h = absurd (not_temporary h)
-    noted None (Some (value.Text t)) h = absurd (not_temporary h)
-    noted None (Some (value.Target p)) h = absurd (not_temporary h)
-    noted None (Some value.Void) h = absurd (not_temporary h)
-    noted None (Some (value.Tag t)) h = absurd (not_temporary h)
+    noted None (Some v) h = absurd (not_temporary h)
 
   -- a variable in the frame of 0
   at_zero : (x : Variable) (v : Value) → x.frame ≡ 0 → with_variable globals thread x v ≡ (store (name_of x.name) v globals, thread)

@@ -48,16 +48,9 @@ asks_renamed s globals t Temporary name = refl
 -- what is stored, where more asks for memory
 stored_more : (s : StoryTree) (less asks : Bool) (t : ThreadOf (List Part)) (f new : Fields) (result : Result Transfer Fault) → (less ≡ true → asks ≡ true)
     → Performs s less (Stores t f) new result → Performs s asks (Stores t f) new result
-stored_more s less asks t f new (Ok transfer.Next) so h = h
-stored_more s less asks t f new (Ok transfer.Wrote) so h = h
 stored_more s less asks t f new (Ok (transfer.Store name v)) so h = (h.0, so h.1)
-stored_more s less asks t f new (Ok (transfer.Land to)) so h = h
-stored_more s less asks t f new (Ok (transfer.Call k to)) so h = h
-stored_more s less asks t f new (Ok (transfer.Return k to)) so h = h
-stored_more s less asks t f new (Ok transfer.Fork) so h = h
-stored_more s less asks t f new (Ok transfer.Done) so h = h
-stored_more s less asks t f new (Ok transfer.End) so h = h
 stored_more s less asks t f new (Err g) so h = (h.0, so h.1)
+stored_more s less asks t f new result so h = h
 
 on_ok : {A : Type 0} (r : Result A Fault) (B C : Type 0) → (B → C) → OnOk r B → OnOk r C
 on_ok (Ok a) B C so h = so h

@@ -10,7 +10,7 @@ use Rattle.ink_model.specs.declared.host.Change.{Change}
 use Rattle.ink_model.specs.declared.value.Value.{Value}
 use Rattle.ink_host.specs.Desk.{Rows, has_rows, watches}
 use Rattle.ink_host.specs.Telling.{OncePerName, named}
-use Rattle.ink_vars.specs.Changes.{Tracks, changed_from, changed_numbers, differs}
+use Rattle.ink_vars.specs.Changes.{Tracks, changed_from, changed_numbers}
 use Rattle.ink_vars.specs.Globals.{DifferInName}
 use Rattle.ink_vars.specs.declared.changes.Before.{Before}
 use Rattle.ink_vars.proofs.Changing.{changed_are}
@@ -35,10 +35,6 @@ module _ (watches : List ℕ → Bool) (now : Values) where
   -- ---- those that changed
 
   module _ (start : Values) where
-    other_so : (o : Option Value) (v : Value) → differs o v ≡ is_other o v
-    other_so None v = refl
-    other_so (Some w) v = refl
-
     by_cases : (n : ℕ) (e : List ℕ × Value) (numbers : List ℕ) (rest : List Change) (other watched : Bool) → slice_get now n ≡ Some e → watches e.0 ≡ watched → told_at numbers ≡ rest
         → told_at (if other then n ∷ numbers else numbers) ≡ cond (watched && other) (change_of e ∷ rest) rest
     by_cases n e numbers rest true true at is so = ap (λ o. told_one o ++ told_at numbers) at ∙ ap (λ b. cond b (change_of e ∷ []) [] ++ told_at numbers) is ∙ ap (λ cs. change_of e ∷ cs) so
@@ -57,8 +53,7 @@ module _ (watches : List ℕ → Bool) (now : Values) where
         let first : slice_get now n ≡ Some e = ap (slice_get now) (sym here) ∙ at 0 in
         let further : (i : ℕ) → slice_get now (suc n + i) ≡ slice_get es i =
         λ i. (let next : suc n + i ≡ n + suc i = omega arith in ap (slice_get now) next ∙ at (suc i)) in
-        by_cases n e (changed_from start (suc n) es) (told watches start es) (differs (stored e.0 start) e.1) (watches e.0) first refl (told_from (suc n) es further)
-        ∙ ap (λ b. cond (watches e.0 && b) (change_of e ∷ told watches start es) (told watches start es)) (other_so (stored e.0 start) e.1)
+        by_cases n e (changed_from start (suc n) es) (told watches start es) (is_other (stored e.0 start) e.1) (watches e.0) first refl (told_from (suc n) es further)
         ∙ sym (map_cond (watches e.0 && is_other (stored e.0 start) e.1) e (filter (is_told watches start) es))
 
     pub told_changed : told_at (changed_numbers start now) ≡ told watches start now

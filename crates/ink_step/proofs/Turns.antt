@@ -60,22 +60,16 @@ module _ {P : Type 0} (after : P → Option P) where
 pub more_asks : {P : Type 0} (few many : Bool) → (few ≡ true → many ≡ true) → (m : Reached P) (ts : ThreadsOf P) (w : Written) (r : Result StepEnd Fault) → ReachesAs few m ts w r
     → ReachesAs many m ts w r
 more_asks few many more (Reaches us v) ts w (Ok ends.Went) h = h
-more_asks few many more (Reaches us v) ts w (Ok ends.Stopped) h = absurd h
-more_asks few many more (Reaches us v) ts w (Ok ends.WantsCall) h = absurd h
-more_asks few many more (Reaches us v) ts w (Err f) h = (h.0, more h.1)
-more_asks few many more (Halts us v) ts w (Ok ends.Went) h = absurd h
 more_asks few many more (Halts us v) ts w (Ok ends.Stopped) h = h
-more_asks few many more (Halts us v) ts w (Ok ends.WantsCall) h = absurd h
-more_asks few many more (Halts us v) ts w (Err f) h = (h.0, more h.1)
-more_asks few many more (Breaks g) ts w (Ok u) h = absurd h
+more_asks few many more m ts w (Ok end) h = absurd h
 more_asks few many more (Breaks g) ts w (Err f) (inl h) = inl h
 more_asks few many more (Breaks g) ts w (Err f) (inr h) = inr (h.0, more h.1)
+more_asks few many more m ts w (Err f) h = (h.0, more h.1)
 
 -- memory was refused
 pub refused : {P : Type 0} (asks : Bool) (m : Reached P) (ts : ThreadsOf P) (w : Written) (f : Fault) → (f ≡ OutOfMemory) × (asks ≡ true) → ReachesAs asks m ts w (Err f)
-refused asks (Reaches us v) ts w f h = h
-refused asks (Halts us v) ts w f h = h
 refused asks (Breaks g) ts w f h = inr h
+refused asks m ts w f h = h
 
 module _ {P : Type 0} (go : ThreadsOf P × Written → Reached P) where
   -- the first call went through

@@ -123,8 +123,7 @@ alike compare total p q k e = total.antisymm p q ∙ ap ordering_reverse (total.
 module _ {K V : Type 0} (compare : K → K → Ordering) (total : IsTotalOrder compare) where
   same_some : (o : Ordering) (v w : V) (rest : Option V) → is_some (match_ordering o None (Some v) rest) ≡ is_some (match_ordering o None (Some w) rest)
   same_some Less v w rest = refl
-  same_some Equal v w rest = refl
-  same_some Greater v w rest = refl
+  same_some o v w rest = refl
 
   kept_after : (p q k : K) (v w : V) (rest : Option V) (o : Ordering) → compare p q ≡ o → compare q k ≡ Less
       → is_some (match_ordering (compare p k) None (Some w) rest) ≡ true → is_some (match_ordering o None (Some v) (match_ordering (compare p k) None (Some w) rest)) ≡ true

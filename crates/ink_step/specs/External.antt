@@ -1,12 +1,13 @@
 -- Calls of external functions, beside the definitions (docs/HOST.md, "Calls").
-use Rattle.std.specs.Prelude.{◌≡◌, ◌⊎◌, ℕ, List, [], ◌∷◌, Bool, true, false, Option, Some, None, is_some, Result, Ok, Err}
+use Rattle.std.specs.Prelude.{◌≡◌, ◌⊎◌, ℕ, List, [], ◌∷◌, Bool, true, false, if◌then◌else◌, Option, Some, None, is_some, Result, Ok, Err}
+use Rattle.std.specs.List.{list_all}
 use Rattle.ink_model.specs.Effect.{Effect, Fields, Asks}
 use Rattle.ink_model.specs.Events.{Made, calls}
-use Rattle.ink_model.specs.Step.Host.{answering}
+use Rattle.ink_model.specs.Step.Host.{answering, arguments_on, is_argument}
 use Rattle.ink_model.specs.Tree.{StoryTree, leaf}
 use Rattle.ink_model.specs.declared.content.Leaf.TheVariants as leaves
 use Rattle.ink_model.specs.declared.fault.Fault.{Fault}
-use Rattle.ink_model.specs.declared.fault.Fault.TheVariants.{OutOfMemory}
+use Rattle.ink_model.specs.declared.fault.Fault.TheVariants.{BadOperands, OutOfMemory, StackEmpty}
 use Rattle.ink_model.specs.declared.host.Event.{Event}
 use Rattle.ink_model.specs.declared.host.Given.{Given}
 use Rattle.ink_model.specs.declared.value.Value.{Value}
@@ -27,6 +28,14 @@ call_of call = record { name = call.name.now; arguments = call.arguments; condit
 abbrev pub external_in : Option StoryTree → Option Call
 external_in (Some (leaf (leaves.External name arguments conditional))) = Some (record { name = name; arguments = arguments; conditional = conditional })
 external_in found = None
+
+-- what is lent to a function of a host: so many values on top, where all may be arguments
+abbrev pub lent_of : Option (List Value × List Value) → Result (List Value) Fault
+lent_of None = Err StackEmpty
+lent_of (Some r) = if list_all is_argument r.0 then Ok r.0 else Err BadOperands
+
+abbrev pub lent_arguments : ℕ → List Value → Result (List Value) Fault
+lent_arguments n vs = lent_of (arguments_on n vs)
 
 -- what a turn function was called with, and what it gave
 abbrev pub made_call : List ℕ → List Value → Option Given → Made

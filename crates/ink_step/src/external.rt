@@ -1,6 +1,6 @@
 //! External functions: what a host has bound is called or asked, and what it has not bound is a knot (docs/HOST.md, "Calls").
 
-ghost use Rattle.std.specs.Prelude.{◌≡◌, ◌≤◌, ℕ, List, Bool, Option, Some, true, false, length, option_map};
+ghost use Rattle.std.specs.Prelude.{◌≡◌, ◌≤◌, ℕ, List, Bool, Option, Some, Ok, Err, IfOk, IfErr, true, false, length, option_map};
 ghost use Rattle.std.specs.List.{list_all};
 ghost use Rattle.ink_check.specs.Words.{story_tree};
 ghost use Rattle.ink_host.specs.Desk.{Grew, answer_of, at, bound_by};
@@ -16,7 +16,7 @@ ghost use Rattle.ink_model.specs.Value as truth;
 ghost use Rattle.ink_model.specs.View.{view};
 ghost use Rattle.ink_model.specs.declared.host.Event.{Event as Happening};
 ghost use Rattle.ink_model.specs.declared.value.Value.{Value as Data};
-ghost use Rattle.ink_step.specs.External.{PerformsCall, call_of, external_in, is_asking, is_true_of};
+ghost use Rattle.ink_step.specs.External.{PerformsCall, call_of, external_in, is_asking, is_true_of, lent_arguments};
 ghost use Rattle.ink_step.specs.Performs.{Performs, fields};
 
 use crate::diverting::is_wanted;
@@ -145,12 +145,7 @@ fn call_turn<'a, P, T: TurnFn, W: Watcher>(
     if output.in_string() {
         return Err(Fault::UnsafeInString);
     }
-    let Some(arguments) = stack.lend(call.arguments) else {
-        return Err(Fault::StackEmpty);
-    };
-    if !are_arguments(arguments) {
-        return Err(Fault::BadOperands);
-    }
+    let arguments = lend_arguments(stack, call.arguments)?;
     match desk.call(call.name, arguments) {
         Ok(given) => answer(stack, call.arguments, given),
         Err(fault) => Err(fault),
@@ -168,16 +163,26 @@ fn ask_pure<'a, P: PureFn, T, W>(
         (s : StoryTree) (evaluating : Bool) (fresh : Option ℕ) (page : Page) (globals : Values) → let f = fields evaluating fresh stack.old.items page globals in
         Performs s (binding_asks pure k.arguments f) (rules.call_bound s pure k.name k.arguments f) (fields evaluating fresh stack.new.items page globals) result }
 {
-    let Some(arguments) = stack.lend(call.arguments) else {
-        return Err(Fault::StackEmpty);
-    };
-    if !are_arguments(arguments) {
-        return Err(Fault::BadOperands);
-    }
+    let arguments = lend_arguments(stack, call.arguments)?;
     match desk.ask(call.name, arguments) {
         Ok(given) => answer(stack, call.arguments, given),
         Err(fault) => Err(fault),
     }
+}
+
+// The arguments are lent: so many values on top. `StackEmpty` where there are not so many, `BadOperands` where one is neither an
+// integer nor a boolean nor a text.
+fn lend_arguments(stack: &EvalStack, count: usize) -> Result<&[Value], Fault>
+    ensures ok { IfOk result (λ values. Ok values.now ≡ lent_arguments count stack.now.items) }
+    ensures err { IfErr result (λ fault. Err fault ≡ lent_arguments count stack.now.items) }
+{
+    let Some(values) = stack.lend(count) else {
+        return Err(Fault::StackEmpty);
+    };
+    if !are_arguments(values) {
+        return Err(Fault::BadOperands);
+    }
+    Ok(values)
 }
 
 // The arguments are dropped, and what was given is pushed in their place.

@@ -72,26 +72,16 @@ impl Machine {
     pub fn from_parts(alloc: Global, fields: Fields) -> Machine
         ensures { (s : StoryTree) → config_of s result ≡ config_of_fields s fields }
     {
-        let Fields {
-            threads,
-            stack,
-            choices,
-            safe,
-            output,
-            globals,
-            counts,
-            turn,
-        } = fields;
         Machine {
-            threads,
-            stack,
-            choices,
-            safe,
-            output,
-            globals,
+            threads: fields.threads,
+            stack: fields.stack,
+            choices: fields.choices,
+            safe: fields.safe,
+            output: fields.output,
+            globals: fields.globals,
             changes: Changes::new(alloc),
-            counts,
-            turn,
+            counts: fields.counts,
+            turn: fields.turn,
             alloc,
         }
     }

@@ -10,9 +10,10 @@ use Rattle.std.specs.Bool.{⊤}
 use Rattle.std.specs.List.{sum_by}
 use Rattle.std.specs.List.Sorted.{IsNonDecreasingBy, IsPermutation, IsSorted}
 use Rattle.ink_model.specs.Store.{Values, stored}
+use Rattle.ink_model.specs.Told.{is_other}
 use Rattle.ink_model.specs.declared.value.Value.{Value}
 use Rattle.ink_value.proofs.SameValues.{values_are}
-use Rattle.ink_vars.specs.Changes.{Marks, Tracks, as_it_was, as_they_were, changed_from, changed_numbers, changed_to, differs, noted_at, one, times}
+use Rattle.ink_vars.specs.Changes.{Marks, Tracks, as_it_was, as_they_were, changed_from, changed_numbers, changed_to, noted_at, one, times}
 use Rattle.ink_vars.specs.Globals.{DifferInName}
 use Rattle.ink_vars.specs.declared.changes.Before.{Before}
 use Rattle.ink_vars.proofs.Copying.{other_way}
@@ -45,7 +46,7 @@ above n (x ∷ xs) r h = (by (cases_lt n x), r.1)
 
 abbrev flag : Values → Option (List ℕ × Value) → Bool
 flag start None = false
-flag start (Some e) = differs (stored e.0 start) e.1
+flag start (Some e) = is_other (stored e.0 start) e.1
 
 listed : (start : Values) (n : ℕ) (es : Values) (ns : List ℕ) → Rising n ns → ((i : ℕ) → among (n + i) ns ≡ one (flag start (slice_get es i))) → ns ≡ changed_from start n es
 listed start n [] [] r h = refl
@@ -54,8 +55,8 @@ listed start n [] (m ∷ ms) r h =
     let none : among m (m ∷ ms) ≡ 0 = ap (λ k. among k (m ∷ ms)) at ∙ h (m - n) in
     absurd (omega (arith, none, one_same m))
 listed start n (e ∷ es) ns r h =
-    let first : among n ns ≡ one (differs (stored e.0 start) e.1) = ap (λ k. among k ns) (omega arith) ∙ h 0 in
-    by (differs (stored e.0 start) e.1) ns r first (λ i. ap (λ k. among k ns) (omega arith) ∙ h (suc i)) (listed start (suc n) es)
+    let first : among n ns ≡ one (is_other (stored e.0 start) e.1) = ap (λ k. among k ns) (omega arith) ∙ h 0 in
+    by (is_other (stored e.0 start) e.1) ns r first (λ i. ap (λ k. among k ns) (omega arith) ∙ h (suc i)) (listed start (suc n) es)
   where
     by : (d : Bool) (ns : List ℕ) → Rising n ns → among n ns ≡ one d → ((i : ℕ) → among (suc n + i) ns ≡ one (flag start (slice_get es i)))
         → ((ms : List ℕ) → Rising (suc n) ms → ((i : ℕ) → among (suc n + i) ms ≡ one (flag start (slice_get es i))) → ms ≡ changed_from start (suc n) es)
@@ -183,10 +184,10 @@ stored_was bs n (x ∷ xs) (suc i) e differ at =
 
 -- ---- what was noted says what has changed
 
-same_as_it_was : (v : Value) → false ≡ differs (Some v) v
+same_as_it_was : (v : Value) → false ≡ is_other (Some v) v
 same_as_it_was v = sym (ap not ((values_are v v).1 refl))
 
-flags : (x : Option (Option Value)) (e : List ℕ × Value) → now_changed x (Some e) ≡ differs (was_value x e.1) e.1
+flags : (x : Option (Option Value)) (e : List ℕ × Value) → now_changed x (Some e) ≡ is_other (was_value x e.1) e.1
 flags None e = same_as_it_was e.1
 flags (Some o) e = refl
 
@@ -200,7 +201,7 @@ tie start now bs were differ i None at = nothing (noted_at i bs)
 tie start now bs were differ i (Some e) at =
     let was : was_value (noted_at i bs) e.1 ≡ stored e.0 start =
     ap (λ k. was_value (noted_at k bs) e.1) (omega arith) ∙ sym (stored_was bs 0 now i e differ at) ∙ ap (stored e.0) were in
-    flags (noted_at i bs) e ∙ ap (λ o. differs o e.1) was
+    flags (noted_at i bs) e ∙ ap (λ o. is_other o e.1) was
 
 pub changed_are : (start now : Values) (bs : List Before) (marked : List Bool) (ns : List ℕ) → Tracks start bs now → Marks marked bs → DifferInName now
     → IsPermutation (picked now bs) ns → IsSorted nat_cmp ns → ns ≡ changed_numbers start now

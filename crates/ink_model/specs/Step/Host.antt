@@ -1,9 +1,10 @@
 -- The effects of external functions (docs/HOST.md, "Calls").
-use Rattle.std.specs.Prelude.{ℕ, ◌-◌, nat_le, List, [], ◌∷◌, length, take, drop, Bool, true, false, ◌||◌, if◌then◌else◌, Option, Some, None}
-use Rattle.std.specs.List.{list_all}
+use Rattle.std.specs.Prelude.{ℕ, ◌-◌, nat_le, List, length, take, drop, Bool, true, false, if◌then◌else◌, Option, Some, None}
+use Rattle.std.specs.List.{list_all, list_any}
 use Rattle.ink_model.specs.Effect.{Fields, Effect, Asks, Calls, Fails, or_else, pushing}
 use Rattle.ink_model.specs.Host.{Binding, Bound, turn_function, pure_function, fits_given, value_given}
-use Rattle.ink_model.specs.Page.{Section, SectionKind, string_section, tag_section}
+use Rattle.ink_model.specs.Output.{is_string}
+use Rattle.ink_model.specs.Page.{Section}
 use Rattle.ink_model.specs.Place.{knot, landed}
 use Rattle.ink_model.specs.Step.Diverts.{where_true}
 use Rattle.ink_model.specs.Tree.{StoryTree}
@@ -44,13 +45,8 @@ answering (Some g) f = if fits_given g then pushing (value_given g) f else Fails
 -- ---- the effects
 
 -- a string section is open
-abbrev pub is_string : SectionKind → Bool
-is_string string_section = true
-is_string tag_section = false
-
 abbrev pub has_string : List Section → Bool
-has_string [] = false
-has_string (section ∷ sections) = is_string section.kind || has_string sections
+has_string sections = list_any is_string sections
 
 -- what is not bound calls the knot of that name, with its arguments left where they are
 abbrev pub fall_back : StoryTree → List ℕ → Fields → Effect
