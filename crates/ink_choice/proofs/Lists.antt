@@ -1,6 +1,6 @@
 -- Lists of choices, seen one after another.
-use Rattle.std.proofs.Common.{◌≡◌, ◌≢◌, ◌∙◌, ℕ, zero, suc, ◌+◌, ◌<◌, ◌≤◌, Bool, true, false, not, ◌||◌, List, [], ◌∷◌, ◌++◌, length, map, get_or, take, drop, Option, Some, None, Err, option_map, ap, sym, refl, append_assoc, add-one, arith, inl, inr}
-use Rattle.std.specs.List.{remove}
+use Rattle.std.proofs.Common.{◌≡◌, ◌≢◌, ◌∙◌, ℕ, zero, suc, ◌+◌, ◌<◌, ◌≤◌, Bool, true, false, not, ◌||◌, cond, if◌then◌else◌, List, [], ◌∷◌, ◌++◌, length, map, get_or, take, drop, Option, Some, None, Err, option_map, ap, sym, refl, append_assoc, add-one, arith, inl, inr}
+use Rattle.std.specs.List.{filter, remove}
 use Rattle.std.proofs.lemmas.Bool.{cases_Bool, le-ltb, not-false, not-true}
 use Rattle.std.proofs.lemmas.List.{drop_all, drop_more, take_more}
 use Rattle.ink_choice.specs.Words.{Adds, FindsIndex, Takes}
@@ -111,20 +111,17 @@ module _ {P : Type 0} where
     | inr shows ↦ rw shows (λ none. absurd (cc))
   ]
 
+  -- ---- how many there are
+
+  pub visible_is : (cs : List (ChoiceOf P)) → visible cs ≡ filter (λ c. not c.hidden) cs
+  visible_is [] = refl
+  visible_is (c ∷ cs) =
+      elim c.hidden as (λ b. (if b then visible cs else c ∷ visible cs) ≡ cond (not b) (c ∷ filter (λ d. not d.hidden) cs) (filter (λ d. not d.hidden) cs))
+      [ true ↦ visible_is cs | false ↦ ap (λ xs. c ∷ xs) (visible_is cs) ]
+
   -- ---- one more
 
   module _ (cs : List (ChoiceOf P)) (i : ℕ) (x : ChoiceOf P) (inside : i < length cs) (is : x ≡ get_or cs i x) where
-    pub counts_one : (n m : ℕ) → not x.hidden ≡ true → n + length (visible (drop i cs)) ≡ m → n + 1 + length (visible (drop (i + 1) cs)) ≡ m
-    counts_one n m h e =
-        let first : length (visible (drop i cs)) ≡ suc (length (visible (drop (i + 1) cs))) = ap length (visible_here cs i x inside (shows h)) in
-        omega arith
-      where
-        shows : not x.hidden ≡ true → (get_or cs i x).hidden ≡ false
-        shows k = ap (λ c. c.hidden) (sym is) ∙ not-true x.hidden k
-
-    pub counts_none : (n m : ℕ) → not x.hidden ≡ false → n + length (visible (drop i cs)) ≡ m → n + length (visible (drop (i + 1) cs)) ≡ m
-    counts_none n m h e = ap (λ xs. n + length xs) (sym (hidden_here cs i x inside (ap (λ c. c.hidden) (sym is) ∙ not-false x.hidden h))) ∙ e
-
     pub shows_one : (done all : List Shown) (y : Shown) → not x.hidden ≡ true → y ≡ shown_choice x → done ++ shown (drop i cs) ≡ all → (done ++ y ∷ []) ++ shown (drop (i + 1) cs) ≡ all
     shows_one done all y h made e =
         append_assoc done (y ∷ []) (shown (drop (i + 1) cs))

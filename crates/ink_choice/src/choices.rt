@@ -90,13 +90,10 @@ impl<P: Copy> Choices<P> {
     pub fn count_visible(&self) -> usize
         ensures { result ≡ length (rules.visible self.now) }
     {
-        let mut count = 0;
-        for choice in &self.items {
-            if is_visible(choice) {
-                count += 1;
-            }
-        }
-        count
+        self.items
+            .iter()
+            .filter(|choice| is_visible(*choice))
+            .count()
     }
 
     /// Whether there are choices and none is visible. Takes no memory.
