@@ -2,7 +2,7 @@
 use Rattle.std.proofs.Common.{◌≡◌, ◌≢◌, ◌∙◌, ℕ, zero, suc, ◌+◌, ◌<◌, ◌≤◌, Bool, true, false, not, ◌||◌, cond, if◌then◌else◌, List, [], ◌∷◌, ◌++◌, length, map, get_or, take, drop, Option, Some, None, Err, option_map, ap, sym, refl, append_assoc, add-one, arith, inl, inr}
 use Rattle.std.specs.List.{filter, remove}
 use Rattle.std.proofs.lemmas.Bool.{cases_Bool, le-ltb, not-false, not-true}
-use Rattle.std.proofs.lemmas.List.{drop_all, drop_more, take_more}
+use Rattle.std.proofs.lemmas.List.{drop_more, take_more}
 use Rattle.ink_choice.specs.Words.{Adds, FindsIndex, Takes}
 use Rattle.ink_model.specs.Choices.{added, behind, none_visible, shown, shown_choice, taken, taken_of, visible}
 use Rattle.ink_model.specs.Configuration.{ChoiceOf}
@@ -19,12 +19,6 @@ module _ {P : Type 0} where
 
     pub visible_here : (get_or cs i d).hidden ≡ false → visible (drop i cs) ≡ get_or cs i d ∷ visible (drop (i + 1) cs)
     visible_here h = ap visible (drop_more cs i d inside) ∙ rw h refl
-
-    pub none_here : (get_or cs i d).hidden ≡ true → none_visible (drop i cs) ≡ none_visible (drop (i + 1) cs)
-    none_here h = ap none_visible (drop_more cs i d inside) ∙ rw h refl
-
-    pub some_here : (get_or cs i d).hidden ≡ false → none_visible (drop i cs) ≡ false
-    some_here h = ap none_visible (drop_more cs i d inside) ∙ rw h refl
 
   -- ---- the one that is to be taken
 
@@ -87,19 +81,11 @@ module _ {P : Type 0} where
           ∙ ap (option_map (after (take i cs))) (here (get_or cs i d) (drop (i + 1) cs) h)
           ∙ ap (λ k. Some (get_or cs i d, take i cs ++ drop k cs)) (add-one i)
 
-    pub passed_all : (n left i : ℕ) (cs : List (ChoiceOf P)) → length cs ≤ i → Passed test n left i cs → taken_of test n cs ≡ None
-    passed_all n left i cs h p = p.is ∙ ap (λ xs. option_map (after (take i cs)) (taken_of test left xs)) (drop_all i cs h)
-
   pub took : (n i : ℕ) (cs new : List (ChoiceOf P)) (x : ChoiceOf P) (any : Bool) → any ≡ none_visible cs → FindsIndex (λ c. any || not c.hidden) n cs (Some i)
       → x ≡ get_or cs i x → new ≡ remove cs i → Takes (taken n cs) cs new (Some x)
   took n i cs new x any same found is left =
       let taken_is : taken n cs ≡ Some (get_or cs i x, remove cs i) = ap (λ b. taken_of (λ c. b || not c.hidden) n cs) (sym same) ∙ found.1 x in
       rw taken_is (is, left)
-
-  pub left_all : (n : ℕ) (cs : List (ChoiceOf P)) (any : Bool) → any ≡ none_visible cs → FindsIndex (λ c. any || not c.hidden) n cs None → Takes (taken n cs) cs cs None
-  left_all n cs any same found =
-      let taken_is : taken n cs ≡ None = ap (λ b. taken_of (λ c. b || not c.hidden) n cs) (sym same) ∙ found in
-      rw taken_is refl
 
   -- ---- where there is one
 
