@@ -181,12 +181,7 @@ fn can_take<P: Copy>(choice: &Choice<P>, any: bool) -> bool
 fn none_visible<P: Copy>(choices: &[Choice<P>]) -> bool
     ensures { result ≡ rules.none_visible choices.now }
 {
-    for choice in choices {
-        if is_visible(choice) {
-            return false;
-        }
-    }
-    true
+    choices.iter().all(|choice| choice.hidden)
 }
 
 // The index of the n-th visible one, or of the n-th, where any can be taken.
