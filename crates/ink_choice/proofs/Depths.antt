@@ -1,6 +1,6 @@
 -- Values by their depths.
-use Rattle.std.proofs.Common.{◌≡◌, ◌≢◌, ◌∙◌, ◌⊎◌, ◌↔◌, ℕ, ◌+◌, ◌≤◌, List, [], ◌∷◌, ◌++◌, drop, length, reverse, Some, Result, Ok, Err, IfOk, IfErr, OnErr, ap, arith, inl, inr, refl, slice_get}
-use Rattle.std.proofs.lemmas.List.{drop-drop, drop_more, length-append, reverse-append}
+use Rattle.std.proofs.Common.{◌≡◌, ◌≢◌, ◌∙◌, ◌⊎◌, ◌↔◌, ℕ, ◌+◌, List, [], ◌∷◌, ◌++◌, drop, reverse, Some, Result, Ok, Err, IfOk, IfErr, OnErr, ap, inl, inr, refl, slice_get}
+use Rattle.std.proofs.lemmas.List.{drop-drop, drop_more, reverse-append}
 use Rattle.std.proofs.lemmas.Option.{get_or_from_slice_get, slice_get_within}
 use Rattle.ink_model.specs.declared.fault.Fault.{Fault}
 use Rattle.ink_model.specs.declared.fault.Fault.TheVariants.{OutOfMemory, StackEmpty}
@@ -23,10 +23,3 @@ pop_one old new (Err f) is kept empty faults memory = elim faults [
 
 pub pop_more : (xs ys zs : List Value) (k : ℕ) → ys ≡ drop k xs → zs ≡ drop 1 ys → zs ≡ drop (k + 1) xs
 pop_more xs ys zs k h e = e ∙ ap (drop 1) h ∙ drop-drop 1 k xs
-
--- ---- tags
-
-pub some_tag : (tags old : List (List ℕ)) (t : List ℕ) (more first : List (List ℕ)) → tags ++ t ∷ more ≡ old ++ first → length old ≤ length tags → first ≢ []
-some_tag tags old t more first h l none =
-    let is : length (tags ++ t ∷ more) ≡ length (old ++ first) = ap length h in
-    omega (arith, length-append tags (t ∷ more), length-append old first, ap length none)

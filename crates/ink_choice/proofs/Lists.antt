@@ -1,8 +1,8 @@
 -- Lists of choices, seen one after another.
-use Rattle.std.proofs.Common.{◌≡◌, ◌≢◌, ◌∙◌, ℕ, zero, suc, ◌+◌, ◌<◌, ◌≤◌, Bool, true, false, not, ◌||◌, List, [], ◌∷◌, ◌++◌, length, map, get_or, take, drop, Option, Some, None, Err, option_map, ap, sym, refl, append_assoc, add-one, arith, inl, inr}
-use Rattle.std.specs.List.{remove}
+use Rattle.std.proofs.Common.{◌≡◌, ◌≢◌, ◌∙◌, ℕ, zero, suc, ◌+◌, ◌<◌, ◌≤◌, Bool, true, false, not, ◌||◌, cond, if◌then◌else◌, List, [], ◌∷◌, ◌++◌, length, map, get_or, take, drop, Option, Some, None, Err, option_map, ap, sym, refl, append_assoc, add-one, arith, inl, inr}
+use Rattle.std.specs.List.{filter, remove}
 use Rattle.std.proofs.lemmas.Bool.{cases_Bool, le-ltb, not-false, not-true}
-use Rattle.std.proofs.lemmas.List.{drop_all, drop_more, take_more}
+use Rattle.std.proofs.lemmas.List.{drop_more, take_more}
 use Rattle.ink_choice.specs.Words.{Adds, FindsIndex, Takes}
 use Rattle.ink_model.specs.Choices.{added, behind, none_visible, shown, shown_choice, taken, taken_of, visible}
 use Rattle.ink_model.specs.Configuration.{ChoiceOf}
@@ -19,12 +19,6 @@ module _ {P : Type 0} where
 
     pub visible_here : (get_or cs i d).hidden ≡ false → visible (drop i cs) ≡ get_or cs i d ∷ visible (drop (i + 1) cs)
     visible_here h = ap visible (drop_more cs i d inside) ∙ rw h refl
-
-    pub none_here : (get_or cs i d).hidden ≡ true → none_visible (drop i cs) ≡ none_visible (drop (i + 1) cs)
-    none_here h = ap none_visible (drop_more cs i d inside) ∙ rw h refl
-
-    pub some_here : (get_or cs i d).hidden ≡ false → none_visible (drop i cs) ≡ false
-    some_here h = ap none_visible (drop_more cs i d inside) ∙ rw h refl
 
   -- ---- the one that is to be taken
 
@@ -87,19 +81,11 @@ module _ {P : Type 0} where
           ∙ ap (option_map (after (take i cs))) (here (get_or cs i d) (drop (i + 1) cs) h)
           ∙ ap (λ k. Some (get_or cs i d, take i cs ++ drop k cs)) (add-one i)
 
-    pub passed_all : (n left i : ℕ) (cs : List (ChoiceOf P)) → length cs ≤ i → Passed test n left i cs → taken_of test n cs ≡ None
-    passed_all n left i cs h p = p.is ∙ ap (λ xs. option_map (after (take i cs)) (taken_of test left xs)) (drop_all i cs h)
-
   pub took : (n i : ℕ) (cs new : List (ChoiceOf P)) (x : ChoiceOf P) (any : Bool) → any ≡ none_visible cs → FindsIndex (λ c. any || not c.hidden) n cs (Some i)
       → x ≡ get_or cs i x → new ≡ remove cs i → Takes (taken n cs) cs new (Some x)
   took n i cs new x any same found is left =
       let taken_is : taken n cs ≡ Some (get_or cs i x, remove cs i) = ap (λ b. taken_of (λ c. b || not c.hidden) n cs) (sym same) ∙ found.1 x in
       rw taken_is (is, left)
-
-  pub left_all : (n : ℕ) (cs : List (ChoiceOf P)) (any : Bool) → any ≡ none_visible cs → FindsIndex (λ c. any || not c.hidden) n cs None → Takes (taken n cs) cs cs None
-  left_all n cs any same found =
-      let taken_is : taken n cs ≡ None = ap (λ b. taken_of (λ c. b || not c.hidden) n cs) (sym same) ∙ found in
-      rw taken_is refl
 
   -- ---- where there is one
 
@@ -111,20 +97,17 @@ module _ {P : Type 0} where
     | inr shows ↦ rw shows (λ none. absurd (cc))
   ]
 
+  -- ---- how many there are
+
+  pub visible_is : (cs : List (ChoiceOf P)) → visible cs ≡ filter (λ c. not c.hidden) cs
+  visible_is [] = refl
+  visible_is (c ∷ cs) =
+      elim c.hidden as (λ b. (if b then visible cs else c ∷ visible cs) ≡ cond (not b) (c ∷ filter (λ d. not d.hidden) cs) (filter (λ d. not d.hidden) cs))
+      [ true ↦ visible_is cs | false ↦ ap (λ xs. c ∷ xs) (visible_is cs) ]
+
   -- ---- one more
 
   module _ (cs : List (ChoiceOf P)) (i : ℕ) (x : ChoiceOf P) (inside : i < length cs) (is : x ≡ get_or cs i x) where
-    pub counts_one : (n m : ℕ) → not x.hidden ≡ true → n + length (visible (drop i cs)) ≡ m → n + 1 + length (visible (drop (i + 1) cs)) ≡ m
-    counts_one n m h e =
-        let first : length (visible (drop i cs)) ≡ suc (length (visible (drop (i + 1) cs))) = ap length (visible_here cs i x inside (shows h)) in
-        omega arith
-      where
-        shows : not x.hidden ≡ true → (get_or cs i x).hidden ≡ false
-        shows k = ap (λ c. c.hidden) (sym is) ∙ not-true x.hidden k
-
-    pub counts_none : (n m : ℕ) → not x.hidden ≡ false → n + length (visible (drop i cs)) ≡ m → n + length (visible (drop (i + 1) cs)) ≡ m
-    counts_none n m h e = ap (λ xs. n + length xs) (sym (hidden_here cs i x inside (ap (λ c. c.hidden) (sym is) ∙ not-false x.hidden h))) ∙ e
-
     pub shows_one : (done all : List Shown) (y : Shown) → not x.hidden ≡ true → y ≡ shown_choice x → done ++ shown (drop i cs) ≡ all → (done ++ y ∷ []) ++ shown (drop (i + 1) cs) ≡ all
     shows_one done all y h made e =
         append_assoc done (y ∷ []) (shown (drop (i + 1) cs))

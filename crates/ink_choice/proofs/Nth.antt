@@ -1,6 +1,5 @@
 -- The n-th visible choice, looked at and taken.
-use Rattle.std.proofs.Common.{◌≡◌, ◌∙◌, ap, sym, refl, ℕ, zero, suc, Bool, true, false, not, ◌||◌, ◌&&◌, if◌then◌else◌, List, [], ◌∷◌, ◌<◌, length, get_or, slice_get, Option, Some, None, option_map}
-use Rattle.std.specs.List.{remove}
+use Rattle.std.proofs.Common.{◌≡◌, ◌∙◌, ap, sym, refl, ℕ, zero, suc, Bool, true, false, not, ◌||◌, ◌&&◌, if◌then◌else◌, List, [], ◌∷◌, get_or, slice_get, Option, Some, None, option_map}
 use Rattle.ink_choice.specs.Words.{FindsIndex}
 use Rattle.ink_model.specs.Choices.{behind, none_visible, taken, taken_of, visible}
 use Rattle.ink_model.specs.Configuration.{ChoiceOf}

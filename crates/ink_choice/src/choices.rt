@@ -90,13 +90,10 @@ impl<P: Copy> Choices<P> {
     pub fn count_visible(&self) -> usize
         ensures { result ≡ length (rules.visible self.now) }
     {
-        let mut count = 0;
-        for choice in &self.items {
-            if is_visible(choice) {
-                count += 1;
-            }
-        }
-        count
+        self.items
+            .iter()
+            .filter(|choice| is_visible(*choice))
+            .count()
     }
 
     /// Whether there are choices and none is visible. Takes no memory.
@@ -184,12 +181,7 @@ fn can_take<P: Copy>(choice: &Choice<P>, any: bool) -> bool
 fn none_visible<P: Copy>(choices: &[Choice<P>]) -> bool
     ensures { result ≡ rules.none_visible choices.now }
 {
-    for choice in choices {
-        if is_visible(choice) {
-            return false;
-        }
-    }
-    true
+    choices.iter().all(|choice| choice.hidden)
 }
 
 // The index of the n-th visible one, or of the n-th, where any can be taken.

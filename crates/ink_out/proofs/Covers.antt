@@ -39,10 +39,6 @@ uncovered a after h = covered_less [] a after (λ n e. absurd (false≢true e)) 
 pub since_more : (m : Mark) (before : List Mark) (at : ℕ) → at < length before → since (m ∷ before) at ≡ m ∷ since before at
 since_more m before at h = rw (lt-ltb at (length before) h) refl
 
-pub since_past : (before : List Mark) (at : ℕ) → length before ≤ at → since before at ≡ []
-since_past [] at h = refl
-since_past (m ∷ before) at h = rw (le-ltb at (length before) (omega arith)) refl
-
 pub since_here : (m : Mark) (before : List Mark) → since (m ∷ before) (length before) ≡ []
 since_here m before = rw (le-ltb (length before) (length before) (omega arith)) refl
 

@@ -2,7 +2,7 @@
 use Rattle.std.proofs.Common.{◌≡◌, ℕ, suc, ◌<◌, ◌≤◌, Bool, true, false, not, cond, if◌then◌else◌, List, [], ◌∷◌, ◌++◌, Option, None, Some, map, filter, length, take, drop, get_or, refl, sym, ap, ◌∙◌, arith, inl, inr}
 use Rattle.std.specs.List.{prefix_len}
 use Rattle.std.specs.Str.{IsUtf8, IsCharBoundary}
-use Rattle.std.proofs.lemmas.Bool.{cases_lt, ne_eqb, eqb-true, or_parts, or_cases, not-false, not-true}
+use Rattle.std.proofs.lemmas.Bool.{cases_lt, or_parts, not-false, not-true}
 use Rattle.std.proofs.lemmas.List.{append-nil, append_assoc, take-append-drop, length-take-le, get_or-take}
 use Rattle.std.proofs.lemmas.List.Sums.{prefix_len-le-length, prefix_len_passes, prefix_len_stops}
 use Rattle.std.proofs.lemmas.Str.{IsCharBoundary-end, IsCharBoundary-before_ascii, IsCharBoundary-after_ascii}
@@ -176,21 +176,6 @@ white_first cs some none =
 
 pub white_boundary : (cs : List ℕ) → IsUtf8 cs → 0 < length cs → is_white (get_or cs 0 0) ≡ true → IsCharBoundary cs 1
 white_boundary cs u some white = IsCharBoundary-after_ascii cs 0 u some (white_ascii (get_or cs 0 0) white)
-
-pub blank_step : (out more : List ℕ) (before : Before) (c : ℕ) → is_white c ≡ true → (c ≡ 10 → ⊥) → out ++ cleaned_on (gap before) more ≡ out ++ cleaned_on before (c ∷ more)
-blank_step out more before c white other =
-    elim (or_cases (is_blank c) (is_newline c) white) [
-      | inl blank ↦ rw (ne_eqb c 10 other, blank) refl
-      | inr newline ↦ absurd (other (eqb-true c 10 newline))
-    ]
-
-pub newline_step : (out more : List ℕ) (before : Before) (c : ℕ) → c ≡ 10 → (out ++ 10 ∷ []) ++ cleaned_on Nothing more ≡ out ++ cleaned_on before (c ∷ more)
-newline_step out more before c e = rw e (append_assoc out (10 ∷ []) (cleaned_on Nothing more))
-
--- a text's first byte in front of the rest
-pub first_of_rest : (cs more : List ℕ) → 0 < length cs → get_or cs 0 0 ∷ (drop 1 cs ++ more) ≡ cs ++ more
-first_of_rest [] more some = absurd (omega arith)
-first_of_rest (c ∷ cs) more some = refl
 
 -- ---- what was written
 

@@ -1,5 +1,5 @@
 -- What is known of a section's marks, after one more mark.
-use Rattle.std.proofs.Common.{◌≡◌, ℕ, suc, ◌+◌, ◌-◌, ◌<◌, ◌≤◌, Bool, true, false, ◌||◌, cond, eqb, List, [], ◌∷◌, ◌++◌, length, reverse, take, get_or, refl, sym, ap, ◌∙◌, subst, arith}
+use Rattle.std.proofs.Common.{◌≡◌, ℕ, suc, ◌+◌, ◌-◌, ◌<◌, ◌≤◌, true, false, cond, eqb, List, [], ◌∷◌, ◌++◌, length, reverse, take, get_or, refl, sym, ap, ◌∙◌, subst, arith}
 use Rattle.std.proofs.lemmas.Bool.{ne_eqb, or_from}
 use Rattle.std.proofs.lemmas.List.{reverse-append, take_more}
 use Rattle.ink_model.specs.Shown.{newline_shown, newlines_before, is_among}
@@ -79,15 +79,6 @@ among_here xs end i n some fits f at =
     let is = turned_end xs end some fits in
     let falls : Falling n (k ∷ rest) = subst (λ (ks : List ℕ). Falling n ks) is f in
     sym (ap (is_among i) is ∙ or_nothing (eqb i k) (is_among i rest) (among_under k i rest at falls.1))
-
--- else it is looked for before that
-pub among_over : (xs : List ℕ) (end i n : ℕ) → 0 < end → end ≤ length xs → Falling n (reverse (take end xs)) → i < get_or xs (end - 1) 0 → Falling (get_or xs (end - 1) 0) (reverse (take (end - 1) xs)) × (is_among i (reverse (take end xs)) ≡ is_among i (reverse (take (end - 1) xs)))
-among_over xs end i n some fits f at =
-    let k = get_or xs (end - 1) 0 in
-    let rest = reverse (take (end - 1) xs) in
-    let is = turned_end xs end some fits in
-    let falls : Falling n (k ∷ rest) = subst (λ (ks : List ℕ). Falling n ks) is f in
-    (falls.1, ap (is_among i) is ∙ ap (λ (b : Bool). b || is_among i rest) (ne_eqb i k (λ e. omega (arith, at, e))))
 
 -- ---- a section
 

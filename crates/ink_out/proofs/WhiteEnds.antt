@@ -1,6 +1,6 @@
 -- A text's white ends: whether they hold a newline, and what is cut off there.
-use Rattle.std.proofs.Common.{◌≡◌, ℕ, ◌+◌, ◌-◌, ◌<◌, ◌≤◌, true, false, not, ◌||◌, cond, eqb, List, [], ◌∷◌, ◌++◌, reverse, length, get_or, take, drop, refl, sym, ap, ◌∙◌, arith, inl, inr}
-use Rattle.std.specs.List.{prefix_len, suffix_len, list_any}
+use Rattle.std.proofs.Common.{◌≡◌, ℕ, ◌+◌, ◌-◌, ◌<◌, ◌≤◌, true, false, ◌||◌, cond, eqb, List, [], ◌∷◌, ◌++◌, reverse, length, get_or, take, drop, refl, sym, ap, ◌∙◌, arith, inl, inr}
+use Rattle.std.specs.List.{prefix_len, suffix_len}
 use Rattle.std.proofs.lemmas.Bool.{eqb-true, or_cases, cases_Bool}
 use Rattle.std.proofs.lemmas.List.{length-take-le, length-reverse, take-append-drop, drop-append-le, get_or-reverse, get_or_past}
 use Rattle.std.proofs.lemmas.List.Sums.{prefix_len-le-length}
@@ -9,8 +9,6 @@ use Rattle.std.proofs.Math.Seq.{take-add}
 use Rattle.std.proofs.lemmas.List.Sorted.{list_any-IsPermutation, IsPermutation-reverse}
 use Rattle.ink_model.proofs.Ends.{blank_ascii, leading_is, trailing_is, trimmed_is, without_is}
 use Rattle.ink_model.specs.Bytes.{has_newline, is_blank, is_newline, is_white, leading, trailing, trimmed, without}
-use Rattle.ink_model.specs.Mark.{piece}
-use Rattle.ink_model.specs.declared.mark.Mark.TheVariants.{Text, Blank}
 
 -- ---- whether the white there holds a newline
 
@@ -44,16 +42,6 @@ end_found cs h = end_has cs ∙ ap (λ c. eqb c 10) (turned_at cs (suffix_len is
 -- and not in blanks alone
 pub end_none : (cs : List ℕ) → length cs ≤ suffix_len is_blank cs → has_newline (trailing is_white cs) ≡ false
 end_none cs h = end_has cs ∙ ap (λ c. eqb c 10) (get_or_past (reverse cs) (suffix_len is_blank cs) 0 (omega (arith, length-reverse cs)))
-
--- ---- pieces
-
-pub piece_words : (cs : List ℕ) → list_any (λ c. not (is_blank c)) cs ≡ true → piece cs ≡ Text cs ∷ []
-piece_words [] h = cc
-piece_words (c ∷ cs) h = rw h refl
-
-pub piece_blank : (cs : List ℕ) → eqb (length cs) 0 ≡ false → list_any (λ c. not (is_blank c)) cs ≡ false → piece cs ≡ Blank cs ∷ []
-piece_blank [] e h = cc
-piece_blank (c ∷ cs) e h = rw h refl
 
 -- ---- where a text may be cut
 

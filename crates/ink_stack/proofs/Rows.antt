@@ -1,8 +1,8 @@
 -- Rows from the first one that does not come before a name.
-use Rattle.std.proofs.Common.{◌≡◌, ◌∙◌, ◌<◌, ◌+◌, add-one, ℕ, List, ◌++◌, Some, Ok, Err, ap, append_assoc, arith, drop, get_or, length, refl, set, take}
-use Rattle.std.proofs.lemmas.List.{drop_all, drop_more, get_or_default, set_split, take_more}
+use Rattle.std.proofs.Common.{◌≡◌, ◌∙◌, ◌<◌, ◌+◌, add-one, ℕ, List, ◌++◌, Some, Ok, ap, append_assoc, drop, get_or, length, refl, set, take}
+use Rattle.std.proofs.lemmas.List.{drop_more, get_or_default, set_split, take_more}
 use Rattle.std.proofs.lemmas.Map.Lookups.{exact_bytes}
-use Rattle.std.specs.declared.cmp.Ordering.TheVariants.{Less, Equal, Greater}
+use Rattle.std.specs.declared.cmp.Ordering.TheVariants.{Equal, Greater}
 use Rattle.ink_model.specs.Rows.{name_order, row, with_row}
 use Rattle.ink_model.specs.Store.{Values}
 use Rattle.ink_model.specs.declared.value.Value.{Value}
@@ -37,17 +37,3 @@ module _ (name : List ℕ) where
           λ e. reads ∙ ap (λ r. Some r.1) (get_or_default rows i d e inside),
           λ e v. writes v ∙ ap (λ r. set rows i (r.0, v)) (get_or_default rows i d e inside),
         )
-
-    pub missing_here : name_order name (get_or rows i d).0 ≡ Less → FindsName name rows (Err i)
-    missing_here before = (
-      omega arith,
-      p.reads ∙ ap (row name_order name) (drop_more rows i d inside) ∙ rw before refl,
-      λ v. p.writes v ∙ ap (λ rs. take i rows ++ with_row name_order name v rs) (drop_more rows i d inside) ∙ rw before (rw (drop_more rows i d inside) refl),
-    )
-
-  pub missing_at_end : (rows : Values) → Passed (length rows) rows → FindsName name rows (Err (length rows))
-  missing_at_end rows p = (
-    omega arith,
-    p.reads ∙ ap (row name_order name) (drop_all (length rows) rows (omega arith)),
-    λ v. p.writes v ∙ rw (drop_all (length rows) rows (omega arith)) refl,
-  )

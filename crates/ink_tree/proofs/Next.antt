@@ -32,11 +32,6 @@ pub next_at_root : (s : StoryTree) (rest : List Part) → length rest ≡ 0 → 
 next_at_root s [] h = refl
 next_at_root s (p ∷ ps) h = absurd (omega arith)
 
--- flow stops at the end of a container that is given by name
-pub after_name : (s : StoryTree) (parts rest up : List Part) (p : Part) (n : List ℕ) → rest ≡ up ++ p ∷ [] → p ≡ Name n
-    → next_upwards s (reverse rest) ≡ next_upwards s (reverse parts) → None ≡ next_upwards s (reverse parts)
-after_name s parts rest up p n e is before = sym (next_at_name s rest up n (e ∙ ap (λ q. up ++ q ∷ []) is)) ∙ before
-
 -- ---- landing
 
 module _ (s : StoryTree) (p : List Part) where

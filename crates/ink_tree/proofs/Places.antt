@@ -1,7 +1,7 @@
 -- Listing the places of content one element and one key at a time.
 use Rattle.std.proofs.Common.{Box, ◌≡◌, ℕ, zero, suc, ◌+◌, ◌^◌, ◌<◌, ◌≤◌, List, [], ◌∷◌, ◌++◌, length, get_or, drop, slice_set, true, ◌&&◌, Option, Some, String, Global, Vec, BTreeMap, nat_lt, Less, string_bytes, string_cmp, refl, sym, ap, ◌∙◌, append_assoc, arith, rules}
 use Rattle.std.proofs.lemmas.Bool.Decides.{nat_tests}
-use Rattle.std.proofs.lemmas.List.{drop_more, drop_all, append-nil, length-append, length-map}
+use Rattle.std.proofs.lemmas.List.{drop_more, drop_all, length-append, length-map}
 use Rattle.std.specs.List.{AllByRecursion}
 use Rattle.std.specs.List.Sorted.{IsStrictlySortedBy}
 use Rattle.std.specs.Map.{keys_of}
@@ -126,12 +126,6 @@ module _ (cs : List Content) (i : ℕ) (c : Content) (is : c ≡ get_or cs i c) 
 
 pub elements_end : (cs : List Content) (n : ℕ) (h : NodeId) (i j : ℕ) → length cs ≤ i → nodes_from n h j (trees_view (drop i cs)) ≡ []
 elements_end cs n h i j past = ap (λ l. nodes_from n h j (trees_view l)) (drop_all i cs past)
-
-pub elements_risen : (cs : List Content) (i : ℕ) → length cs ≤ i → keys_rise_in (trees_view (drop i cs)) ≡ true
-elements_risen cs i h = ap (λ l. keys_rise_in (trees_view l)) (drop_all i cs h)
-
-pub nothing_left : (ns rest whole : List Node) → rest ≡ [] → ns ++ rest ≡ whole → ns ≡ whole
-nothing_left ns rest whole none total = sym (append-nil ns) ∙ ap (λ r. ns ++ r) (sym none) ∙ total
 
 -- ---- keys
 

@@ -29,11 +29,6 @@ around_itself (x ∷ p) = rw (itself x) (around_itself p)
 pub around_same : (p q : List Part) → p ≡ q → true ≡ is_around p q
 around_same p q e = sym (around_itself p) ∙ ap (is_around p) e
 
--- only the root is around the root
-pub around_root : (p q : List Part) → q ≡ [] → (p ≡ q → ⊥) → false ≡ is_around p q
-around_root [] q e h = absurd (h (sym e))
-around_root (x ∷ p) q e h = ap (is_around (x ∷ p)) (sym e)
-
 both_same : (b u v : Bool) → (b ≡ true → u ≡ v) → (b && u) ≡ (b && v)
 both_same true u v h = h refl
 both_same false u v h = refl

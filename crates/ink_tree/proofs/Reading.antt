@@ -10,7 +10,6 @@ use Rattle.std.proofs.lemmas.Str.Parse.{IsNumeralModel, numerals_by_fold}
 use Rattle.ink_model.specs.Bytes.{onto, pieces, is_digit, is_dot, number_from}
 use Rattle.ink_model.specs.Path.{component, components, path_with, read_path}
 use Rattle.ink_model.specs.declared.place.Part.{Part}
-use Rattle.ink_model.specs.declared.place.Path.{Path}
 use Rattle.ink_model.specs.declared.place.Part.TheVariants.{Index, Name}
 use Rattle.ink_tree.specs.Laws.{index_of}
 
@@ -38,10 +37,6 @@ is_index (c ∷ cs) filled digits = rw digits (indexed (nat_lt (number_from 0 (c
 pub is_name : (cs : List ℕ) → 0 < length cs → list_all is_digit cs ≡ false → component cs ≡ Some (Name cs)
 is_name [] filled named = absurd (omega arith)
 is_name (c ∷ cs) filled named = rw named refl
-
-pub none_empty : (cs : List ℕ) → is_some (component cs) ≡ true → 0 < length cs
-none_empty [] h = absurd (true≢false (sym h))
-none_empty (c ∷ cs) h = omega arith
 
 mapped : (o : Option ℕ) → is_some (option_map (λ i. Index i) o) ≡ is_some o
 mapped None = refl
@@ -88,10 +83,6 @@ utf8_behind cs first others u split =
 -- components behind those that were read
 abbrev pub behind : List Part → Option (List Part) → Option (List Part)
 behind ps rest = option_map (λ qs. ps ++ qs) rest
-
-pub behind_none : (rest : Option (List Part)) → behind [] rest ≡ rest
-behind_none None = refl
-behind_none (Some qs) = refl
 
 behind_one : (ps : List Part) (p : Part) (rest : Option (List Part)) → behind (ps ++ p ∷ []) rest ≡ behind ps (option_map (λ qs. p ∷ qs) rest)
 behind_one ps p None = refl
@@ -149,16 +140,6 @@ first_stands true b whole is h = refl
 first_stands false b whole is h = sym is ∙ h
 
 -- ---- paths
-
-pub path_stands : (relative : Bool) (cs : List ℕ) → is_some (path_with relative cs) ≡ is_some (components (pieces is_dot cs))
-path_stands relative cs = stands (components (pieces is_dot cs))
-  where
-    path : List Part → Path
-    path ps = record { relative = relative; parts = ps }
-
-    stands : (o : Option (List Part)) → is_some (option_map path o) ≡ is_some o
-    stands None = refl
-    stands (Some ps) = refl
 
 pub absolute : (cs : List ℕ) → ((rest : List ℕ) → cs ≢ 46 ∷ rest) → read_path cs ≡ path_with false cs
 unfolding read_path

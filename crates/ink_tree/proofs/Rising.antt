@@ -58,9 +58,6 @@ part_same (Index i) (Name n) h = absurd cc
 part_same (Name m) (Index j) h = absurd cc
 part_same (Name m) (Name n) h = ap Name (name_same m n h)
 
-pub place_same : (p q : List Part) → place_order p q ≡ Equal → p ≡ q
-place_same = slice_cmp-IsAntisymmetric part_same
-
 pub place_tied : (p : List Part) → place_order p p ≡ Equal
 place_tied p = tied_itself place_total p
 

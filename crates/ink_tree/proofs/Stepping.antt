@@ -1,9 +1,8 @@
 -- Steps of a path.
-use Rattle.std.proofs.Common.{◌≡◌, ◌∙◌, inl, inr, ap, sym, refl, subst, add-one, drop-cons, drop, get_or, length, suc, ◌+◌, ℕ, ◌<◌, List, [], ◌∷◌, ◌++◌, reverse, true, false, true≢false, Option, Some, None, is_some, option_map, option_and_then, nat_lt, arith}
-use Rattle.std.proofs.lemmas.List.{append-nil, reverse-append, reverse-reverse}
+use Rattle.std.proofs.Common.{◌≡◌, ◌∙◌, inl, inr, ap, sym, refl, add-one, drop-cons, drop, get_or, length, suc, ◌+◌, ℕ, ◌<◌, List, [], ◌∷◌, ◌++◌, true, false, true≢false, Option, Some, None, is_some, option_map, option_and_then, nat_lt, arith}
 use Rattle.std.proofs.lemmas.Bool.{cases_lt}
 use Rattle.std.proofs.lemmas.Bool.Decides.{nat_tests}
-use Rattle.ink_model.specs.Path.{above, by_name, listed_index, stepped, walked}
+use Rattle.ink_model.specs.Path.{by_name, listed_index, stepped, walked}
 use Rattle.ink_model.specs.Tree.{StoryTree, at, width}
 use Rattle.ink_model.specs.declared.place.Part.{Part}
 use Rattle.ink_model.specs.declared.place.Part.TheVariants.{Index, Name}
@@ -11,7 +10,7 @@ use Rattle.ink_tree.specs.Nodes.{node_place, Finds}
 use Rattle.ink_tree.specs.declared.spot.NodeId.{NodeId}
 use Rattle.ink_tree.specs.Order.{keys_rise}
 use Rattle.ink_tree.proofs.Nodes.{node_stands}
-use Rattle.ink_tree.proofs.Standing.{stands_around, index_stands, index_within, listed_within, there}
+use Rattle.ink_tree.proofs.Standing.{index_stands, index_within, listed_within, there}
 
 module _ (s : StoryTree) (p : List Part) where
   -- by an index
@@ -26,13 +25,6 @@ module _ (s : StoryTree) (p : List Part) where
       let within : nat_lt i (width (at s p)) ≡ true = grind (arith, nat_tests) in
       ap Some f.1 ∙ rw within refl
 
-  -- up
-  pub above_found : (up : List Part) (x : Part) (r : Option NodeId) → p ≡ up ++ x ∷ [] → is_some (at s p) ≡ true → Finds s (up ++ []) r
-      → option_map (node_place s) r ≡ above (reverse p)
-  above_found up x r e h f =
-      there s up r (subst (λ q. Finds s q r) (append-nil up) f) (stands_around s p up x e h)
-      ∙ sym (ap (λ q. above (reverse q)) e ∙ ap above (reverse-append up (x ∷ [])) ∙ ap Some (reverse-reverse up))
-
   -- by a name
   module _ (name : List ℕ) where
     pub key_found : (n : NodeId) → keys_rise s ≡ true → node_place s n ≡ p ++ Name name ∷ [] → Some (node_place s n) ≡ by_name s p name
@@ -43,9 +35,6 @@ module _ (s : StoryTree) (p : List Part) where
     module _ (o : Option StoryTree) (e : o ≡ at s p) where
       not_by_key : at s (p ++ Name name ∷ []) ≡ None → by_name s p name ≡ option_map (λ i. p ++ Index i ∷ []) (listed_index name o)
       not_by_key none = rw (ap is_some none) (ap (λ q. option_map (λ i. p ++ Index i ∷ []) (listed_index name q)) (sym e))
-
-      pub named_not_found : at s (p ++ Name name ∷ []) ≡ None → listed_index name o ≡ None → None ≡ by_name s p name
-      named_not_found h none = sym (not_by_key h ∙ ap (option_map (λ i. p ++ Index i ∷ [])) none)
 
       pub named_found : (i : ℕ) (r : Option NodeId) → at s (p ++ Name name ∷ []) ≡ None → listed_index name o ≡ Some i
           → Finds s (p ++ Index i ∷ []) r → option_map (node_place s) r ≡ by_name s p name
