@@ -1,5 +1,5 @@
 -- What a story is refused for, by the steps of reading it.
-use Rattle.std.proofs.Common.{◌≡◌, ◌∙◌, ◌⊎◌, ap, refl, inl, inr, ℕ, List, [], ◌∷◌, length, nat_lt, Bool, true, false, not, ◌&&◌, cond, Some, None, Result, Ok, Err, IfOk, IfErr}
+use Rattle.std.proofs.Common.{◌≡◌, ◌∙◌, ◌⊎◌, ap, refl, inl, inr, ℕ, List, [], ◌∷◌, length, nat_lt, Bool, true, false, not, ◌&&◌, cond, None, Result, Ok, Err, IfOk, IfErr}
 use Rattle.std.specs.Str.{is_utf8}
 use Rattle.serde_json.proofs.OnLiterals.{serde_json_on_literals}
 use Rattle.serde_json.specs.Read.{read}

@@ -1,5 +1,5 @@
 -- A restart, by what opening comes to.
-use Rattle.std.proofs.Common.{◌≡◌, ◌≢◌, ap, refl, subst, sym, inl, inr, List, [], Ok, Err}
+use Rattle.std.proofs.Common.{◌≡◌, ◌≢◌, ◌∙◌, ap, refl, subst, sym, inl, inr, List, [], Ok}
 use Rattle.ink_model.specs.Answer.{Reply, Breaks, Refuses}
 use Rattle.ink_model.specs.Configuration.{Configuration}
 use Rattle.ink_model.specs.Host.{Bindings}
@@ -18,9 +18,11 @@ use Rattle.ink_step.proofs.NoMemory.{opens_otherwise}
 use Rattle.ink_step.specs.Steps.{FailsToOpen}
 
 module _ (s : StoryTree) (h : Bindings) (old : State) where
-  pub restart-opened : (c : Configuration) (es : List Event) (reply : Reply) (new : State) → opening s ≡ Ok c
-      → TellsOrKeeps (told h.watches (globals_of old.condition) c.shared.globals) (Ready c) es old reply new → Restart s h es old reply new
-  restart-opened c es reply new opens p = inl (subst (λ r. RestartsAs h r es old reply new) (sym opens) p)
+  -- with these globals before
+  pub restart-opened : (c : Configuration) (start : Values) (es : List Event) (reply : Reply) (new : State) → opening s ≡ Ok c → globals_of old.condition ≡ start
+      → TellsOrKeeps (told h.watches start c.shared.globals) (Ready c) es old reply new → Restart s h es old reply new
+  restart-opened c start es reply new opens were p =
+      inl (subst (λ r. RestartsAs h r es old reply new) (sym opens) (subst (λ vs. TellsOrKeeps (told h.watches vs c.shared.globals) (Ready c) es old reply new) (sym were) p))
 
   module _ (globals : Values) where
     pub restart-refused : (f : Fault) → f ≡ OutOfMemory → FailsToOpen s f globals → Restart s h [] old (Refuses refusal.OutOfMemory) old
@@ -29,12 +31,11 @@ module _ (s : StoryTree) (h : Bindings) (old : State) where
       | inr short ↦ inr (short.1, refl, (refl, refl))
     ]
 
-    -- with these globals now, and these events, which are none
-    pub restart-broken : (f : Fault) (now : Values) (events : List Event) → f ≢ OutOfMemory → now ≡ globals → events ≡ [] → FailsToOpen s f globals
-        → Restart s h [] old (Breaks f events) (at_stamp (Broken f now) old.stamp)
-    restart-broken f now events other kept none k = elim k [
+    -- with these globals now
+    pub restart-broken : (f : Fault) (now : Values) (reply : Reply) (new : State) → f ≢ OutOfMemory → now ≡ globals → FailsToOpen s f globals → reply ≡ Breaks f [] → new ≡ at_stamp (Broken f now) old.stamp
+        → Restart s h [] old reply new
+    restart-broken f now reply new other kept k replies leaves = elim k [
       | inl fails ↦
-          inl (subst (λ r. RestartsAs h r [] old (Breaks f events) (at_stamp (Broken f now) old.stamp)) (sym fails)
-          (refl, ap (λ l. Breaks f l) none, ap (λ vs. at_stamp (Broken f vs) old.stamp) kept))
+          inl (subst (λ r. RestartsAs h r [] old reply new) (sym fails) (refl, replies, leaves ∙ ap (λ vs. at_stamp (Broken f vs) old.stamp) kept))
       | inr short ↦ absurd (other short.0)
     ]

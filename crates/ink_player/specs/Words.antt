@@ -1,5 +1,5 @@
 -- What a player stands for, and what happens between it and the objects of its host.
-use Rattle.std.specs.Prelude.{◌≡◌, ◌⊎◌, List, [], ◌++◌, Bool, Option, None, Some}
+use Rattle.std.specs.Prelude.{◌≡◌, ◌≢◌, ◌⊎◌, List, [], ◌++◌, Bool, Option, None, Some, Result, Ok, Err}
 use Rattle.ink_check.specs.Words.{story_tree}
 use Rattle.ink_host.specs.Desk.{DeskView, Grew, Resting, bound_by, watches}
 use Rattle.ink_host.specs.declared.objects.Called.{Called}
@@ -7,8 +7,10 @@ use Rattle.ink_host.specs.declared.objects.Seen.{Seen}
 use Rattle.ink_model.specs.Configuration.{Configuration}
 use Rattle.ink_model.specs.Host.{Bindings}
 use Rattle.ink_model.specs.State.{State, Condition, Ready, Broken}
+use Rattle.ink_model.specs.Told.{ToldAs}
 use Rattle.ink_model.specs.Tree.{StoryTree}
 use Rattle.ink_model.specs.declared.fault.Fault.{Fault}
+use Rattle.ink_model.specs.declared.host.Change.{Change}
 use Rattle.ink_model.specs.declared.host.Event.{Event}
 use Rattle.ink_model.specs.declared.host.Given.{Given}
 use Rattle.ink_model.specs.declared.value.Value.{Value}
@@ -49,3 +51,9 @@ module _ {P F O : Type 0} where
   -- The same of the desk with which a player was opened; or none was opened, and it is as it was.
   abbrev pub DealtAnew : (F → List Called) → (O → List Seen) → DeskView P F O → List Event → DeskView P F O → Type 0
   DealtAnew turn_log watch_log old es new = ((new ≡ old) × (es ≡ [])) ⊎ Dealt turn_log watch_log (anew old) es new
+
+  -- The watchers were told these changes, all of them or all but those for which a watcher found no memory. Or memory was refused for
+  -- telling, with something to tell, and nothing has changed.
+  abbrev pub TellsWatchers : {E : Type 0} → (F → List Called) → (O → List Seen) → DeskView P F O → List Change → Result Bool E → DeskView P F O → Type 0
+  TellsWatchers turn_log watch_log old cs (Ok all) new = (es : List Event) × ToldAs old.next cs all es × Grew turn_log watch_log old es new
+  TellsWatchers turn_log watch_log old cs (Err e) new = (cs ≢ []) × (new ≡ old)

@@ -12,6 +12,7 @@ mod path;
 mod player;
 mod playing;
 mod session;
+mod telling;
 mod visits;
 mod watched;
 

@@ -1,27 +1,27 @@
 //! The player.
 
-ghost use Rattle.std.specs.Prelude.{◌≡◌, List, [], ◌∷◌, true, is_some, Ok, Err, IfOk, IfErr, IfSome, OnOk, OnErr};
+ghost use Rattle.std.specs.Prelude.{◌≡◌, List, [], ◌∷◌, None, true, is_some, Ok, Err, IfOk, IfErr, IfSome, OnOk, OnErr};
 ghost use Rattle.ink_host.specs.Desk.{Resting, at, put, without};
-ghost use Rattle.ink_model.specs.Answer.{Breaks, reply_of, reply_of_events, reply_of_halt, reply_of_landing, reply_of_value, reply_of_visits};
+ghost use Rattle.ink_model.specs.Answer.{Acts, Breaks, Tells, reply_of, reply_of_events, reply_of_halt, reply_of_landing, reply_of_value, reply_of_visits};
 ghost use Rattle.ink_model.specs.Configuration.{Configuration, with_globals};
 ghost use Rattle.ink_model.specs.Host as host;
 ghost use Rattle.ink_model.specs.Opening.{opening, opened};
-ghost use Rattle.ink_model.specs.Session.{Through, Set, Get, Restart, TellsOrKeeps, settable};
-ghost use Rattle.ink_model.specs.State.{Ready, globals_of, is_running, fault_in};
+ghost use Rattle.ink_model.specs.Session.{Through, Set, Get, Restart, TellsOrKeeps, condition_told, reply_told, settable};
+ghost use Rattle.ink_model.specs.State.{Ready, is_running, fault_in};
 ghost use Rattle.ink_model.specs.Store.{store, stored};
-ghost use Rattle.ink_model.specs.Told.{change_of, told};
+ghost use Rattle.ink_model.specs.Told.{told};
 ghost use Rattle.ink_model.specs.Turns.{Choose, ShowsChoices};
 ghost use Rattle.ink_model.specs.declared.host.Event.{Event as Happening};
 ghost use Rattle.ink_player.specs.Words.{Dealt, Idle, anew, bindings, desk_of, state_of, story_of};
 ghost use Rattle.ink_step.specs.Words.{config_of};
 
 use crate::path::landing_by;
+use crate::telling::{tell, tell_between, tell_one};
 use crate::visits::visits_by;
 use ink_check::Story;
-use ink_host::{Bound, Change, Desk, PureFn, TellFault, TurnFn, Watcher};
-use ink_model::{Event, Fault, Given, Halt, MAX_TEXT, Passage, Refusal, Seq, Shown, Text, Value};
-use ink_step::{Machine, Unopened, told_between};
-use ink_value::same_value;
+use ink_host::{Bound, Desk, PureFn, TurnFn, Watcher};
+use ink_model::{Event, Fault, Given, Halt, MAX_TEXT, Passage, Refusal, Seq, Shown, Value};
+use ink_step::{Machine, Unopened};
 use std::alloc::{AllocError, Global};
 
 /// A story that runs: where it stands, and the desk of the host's objects.
@@ -112,17 +112,23 @@ impl<P: PureFn, F: TurnFn, O: Watcher> Player<P, F, O> {
         let Ok(changes) = self.machine.told(&self.desk) else {
             return Err(self.break_by(Fault::OutOfMemory));
         };
-        match self.desk.tell(changes.as_slice()) {
-            Ok(()) => Ok(self.with_events(passage)),
-            Err(_) => Err(self.break_by(Fault::OutOfMemory)),
+        match tell(&mut self.desk, changes.as_slice()) {
+            Ok(all) => self.end_run(passage, all),
+            Err(AllocError) => Err(self.break_by(Fault::OutOfMemory)),
         }
     }
 
-    /// A passage with what happened on the way to it.
-    fn with_events(&mut self, passage: Passage) -> Passage
-        ensures passage { result ≡ record passage { events = (desk_of self.old).events } }
-        ensures player { self.new ≡ record self.old { desk = record (desk_of self.old) { events = [] } } }
+    /// The passage of a run, with what happened on the way to it. Where not all watchers found memory the player is broken.
+    fn end_run(&mut self, passage: Passage, all: bool) -> Result<Passage, Halt>
+        requires unbroken { self.old.broken ≡ None }
+        ensures reply { reply_of result ≡ reply_told all (Tells (record passage { events = (desk_of self.old).events })) (desk_of self.old).events }
+        ensures state { state_of self.new ≡ record { condition = condition_told all (Ready (config_of (story_of self.old) self.old.machine)); stamp = (desk_of self.old).next } }
+        ensures desk { desk_of self.new ≡ record (desk_of self.old) { events = [] } }
+        ensures story { story_of self.new ≡ story_of self.old }
     {
+        if !all {
+            return Err(self.break_by(Fault::OutOfMemory));
+        }
         let Passage {
             text,
             tags,
@@ -131,14 +137,28 @@ impl<P: PureFn, F: TurnFn, O: Watcher> Player<P, F, O> {
             more,
             loose,
         } = passage;
-        Passage {
+        Ok(Passage {
             text,
             tags,
             choices,
             events: self.desk.take_events(),
             more,
             loose,
+        })
+    }
+
+    /// What happened at a command that runs nothing. Where not all watchers found memory the player is broken.
+    fn end_telling(&mut self, all: bool) -> Result<Seq<Event>, Halt>
+        requires unbroken { self.old.broken ≡ None }
+        ensures reply { reply_of_events result ≡ reply_told all (Acts (desk_of self.old).events) (desk_of self.old).events }
+        ensures state { state_of self.new ≡ record { condition = condition_told all (Ready (config_of (story_of self.old) self.old.machine)); stamp = (desk_of self.old).next } }
+        ensures desk { desk_of self.new ≡ record (desk_of self.old) { events = [] } }
+        ensures story { story_of self.new ≡ story_of self.old }
+    {
+        if !all {
+            return Err(self.break_by(Fault::OutOfMemory));
         }
+        Ok(self.desk.take_events())
     }
 
     /// A fault breaks the player; the events so far are told with it.
@@ -170,38 +190,28 @@ impl<P: PureFn, F: TurnFn, O: Watcher> Player<P, F, O> {
         if !is_settable(&value) {
             return Err(Halt::Refused(Refusal::BadValue));
         }
-        let value = value_given(value);
-        let Some(before) = self.machine.globals().get(name) else {
+        if !self.machine.globals().contains(name) {
             return Err(Halt::Refused(Refusal::NoSuchVariable));
-        };
-        if !self.desk.watches(name) || same_value(before, &value) {
-            return Ok(self.store(name, value));
         }
-        let Ok(changes) = one_change(self.alloc, name, &value) else {
-            return Err(Halt::Refused(Refusal::OutOfMemory));
-        };
-        match self.desk.tell(changes.as_slice()) {
-            Ok(()) => Ok(self.store(name, value)),
-            Err(TellFault::NoRoom) => Err(Halt::Refused(Refusal::OutOfMemory)),
-            Err(TellFault::Watcher) => {
-                let _stored = self.machine.set(name, value);
-                Err(self.break_by(Fault::OutOfMemory))
-            }
-        }
+        self.store(name, value_given(value))
     }
 
-    /// Gives a global that is there a value, and hands out the events so far.
-    fn store(&mut self, name: &str, value: Value) -> Seq<Event>
-        requires { is_some (stored name.now self.old.machine.globals) ≡ true }
-        ensures events { result ≡ (desk_of self.old).events }
-        ensures desk { desk_of self.new ≡ record (desk_of self.old) { events = [] } }
-        ensures broken { self.new.broken ≡ self.old.broken }
-        ensures story { self.new.story ≡ self.old.story }
-        ensures stored { let s = story_of self.old in
-            config_of s self.new.machine ≡ with_globals (store name.now value self.old.machine.globals) (config_of s self.old.machine) }
+    /// Gives a global that is there a value, once its watcher is told where that is another one.
+    fn store(&mut self, name: &str, value: Value) -> Result<Seq<Event>, Halt>
+        requires idle { Idle O.at_rest (desk_of self.old) }
+        requires unbroken { self.old.broken ≡ None }
+        requires there { let c = config_of (story_of self.old) self.old.machine in is_some (stored name.now c.shared.globals) ≡ true }
+        ensures does { let c = config_of (story_of self.old) self.old.machine in let h = bindings P.meaning (desk_of self.old) in
+            (es : List Happening) × TellsOrKeeps (told h.watches c.shared.globals ((name.now, value) ∷ [])) (Ready (with_globals (store name.now value c.shared.globals) c)) es (state_of self.old) (reply_of_events result) (state_of self.new)
+            × Dealt F.log O.log (desk_of self.old) es (desk_of self.new) }
+        ensures idle { Idle O.at_rest (desk_of self.new) }
+        ensures story { story_of self.new ≡ story_of self.old }
     {
+        let Ok(all) = tell_one(self.alloc, &mut self.desk, &self.machine, name, &value) else {
+            return Err(Halt::Refused(Refusal::OutOfMemory));
+        };
         let _stored = self.machine.set(name, value);
-        self.desk.take_events()
+        self.end_telling(all)
     }
 
     /// A global's value; of a broken player as it stood before the step that faulted. Takes no memory: a text, a target or a tag
@@ -306,35 +316,21 @@ impl<P: PureFn, F: TurnFn, O: Watcher> Player<P, F, O> {
         }
     }
 
-    /// Begins anew with a machine that was opened.
+    /// Begins anew with a machine that was opened, once the watchers are told of what has another value in it.
     fn begin_anew(&mut self, machine: Machine) -> Result<Seq<Event>, Halt>
         requires idle { Idle O.at_rest (desk_of self.old) }
-        ensures does { let c = config_of (story_of self.old) machine in let h = bindings P.meaning (desk_of self.old) in
-            (es : List Happening) × TellsOrKeeps (told h.watches (globals_of (state_of self.old).condition) c.shared.globals) (Ready c) es (state_of self.old) (reply_of_events result) (state_of self.new)
+        ensures does { let s = story_of self.old in let was = config_of s self.old.machine in let c = config_of s machine in let h = bindings P.meaning (desk_of self.old) in
+            (es : List Happening) × TellsOrKeeps (told h.watches was.shared.globals c.shared.globals) (Ready c) es (state_of self.old) (reply_of_events result) (state_of self.new)
             × Dealt F.log O.log (desk_of self.old) es (desk_of self.new) }
         ensures idle { Idle O.at_rest (desk_of self.new) }
         ensures story { story_of self.new ≡ story_of self.old }
     {
-        let Ok(changes) = told_between(
-            self.alloc,
-            self.machine.globals(),
-            machine.globals(),
-            &self.desk,
-        ) else {
+        let Ok(all) = tell_between(self.alloc, &mut self.desk, &self.machine, &machine) else {
             return Err(Halt::Refused(Refusal::OutOfMemory));
         };
-        match self.desk.tell(changes.as_slice()) {
-            Ok(()) => {
-                self.machine = machine;
-                self.broken = None;
-                Ok(self.desk.take_events())
-            }
-            Err(TellFault::NoRoom) => Err(Halt::Refused(Refusal::OutOfMemory)),
-            Err(TellFault::Watcher) => {
-                self.machine = machine;
-                Err(self.break_by(Fault::OutOfMemory))
-            }
-        }
+        self.machine = machine;
+        self.broken = None;
+        self.end_telling(all)
     }
 
     /// Binds a name to a pure function. The function or turn function that was bound to it is handed back; where memory is
@@ -444,17 +440,4 @@ fn value_given(value: Given) -> Value
         Given::Text(text) => Value::Text(text),
         Given::Void => Value::Void,
     }
-}
-
-/// One change, to be told. The one error is a refused request for memory.
-fn one_change(alloc: Global, name: &str, value: &Value) -> Result<Seq<Change>, AllocError>
-    ensures { IfOk result (λ changes. changes ≡ change_of (name.now, value.now) ∷ []) }
-{
-    let change = Change {
-        name: Text::from_str(alloc, name)?,
-        value: value.clone_in(alloc)?,
-    };
-    let mut changes = Vec::new(alloc);
-    changes.push(change)?;
-    Ok(Seq::from_vec(changes))
 }

@@ -1,4 +1,4 @@
-use Rattle.std.proofs.Common.{List, [], ◌++◌, ◌∙◌, append_assoc, refl, sym, Ok, Err}
+use Rattle.std.proofs.Common.{[], ◌++◌, ◌∙◌, append_assoc, refl, sym, Ok, Err}
 use Rattle.ink_player.proofs.Sessions.{runs_as, runs_more}
 use Rattle.ink_player.specs.Words.{desk_of}
 use Rattle.ink_player.proofs.Tellings.{bindings-same, dealt-dealt, dealt-none}

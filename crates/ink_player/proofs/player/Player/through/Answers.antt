@@ -1,13 +1,9 @@
-use Rattle.std.proofs.Common.{◌≡◌, ◌∙◌, [], List, Ok, Err, ap, filter, sym}
+use Rattle.std.proofs.Common.{◌∙◌, [], List, ap, filter, refl, sym}
 use Rattle.ink_host.specs.Desk.{watches}
-use Rattle.ink_model.specs.Answer.{Breaks, Tells, reply_of_halt}
-use Rattle.ink_model.specs.Session.{Through}
-use Rattle.ink_model.specs.Told.{told}
-use Rattle.ink_model.specs.declared.fault.Fault.TheVariants.{OutOfMemory}
+use Rattle.ink_model.specs.Answer.{reply_of, reply_of_halt}
 use Rattle.ink_model.specs.declared.host.Change.{Change}
-use Rattle.ink_player.specs.Words.{bindings, desk_of, state_of, story_of}
-use Rattle.ink_step.specs.Words.{config_of}
-use Rattle.ink_player.proofs.Tellings.{comes-as, dealt-none, through-broken, through-fault, through-not-told, through-stopped, through-told, through-untold, told-by, told-watched}
+use Rattle.ink_player.specs.Words.{desk_of, state_of, story_of}
+use Rattle.ink_player.proofs.Tellings.{dealt-none, through-broken, through-fault, through-stopped, through-told, through-untold, told-watched}
 use Rattle.ink_player.proofs.player.Player.through.Goals as goal
 
 pub returns-in-Some-clause-does : goal.returns-in-Some-clause-does
@@ -21,66 +17,38 @@ returns-then-not-can_go_on-clause-does g c =
 
 pub returns-in_default-told-clause-does : goal.returns-in_default-told-clause-does
 returns-in_default-told-clause-does g c =
-    let turn = g.F.TurnFn.log in
-    let watch = g.O.Watcher.log in
-    let meaning = g.P.PureFn.meaning in
     let p = c.args.self.now in
-    let s = story_of p in
+    let mid = c.through.new.desk in
     let runs = c.in-Ok.ensures.runs in
-    comes-as turn watch (desk_of p) (λ es reply new. Through s (bindings meaning (desk_of p)) es (state_of p) reply new)
-    (Breaks OutOfMemory c.through.new.desk.events) (reply_of_halt c.break_by-in_default-told.result) _ c.break_by-in_default-told.new.self
-    c.break_by-in_default-told.ensures.reply c.break_by-in_default-told.ensures.player
-    (through-untold turn watch meaning s (desk_of p) c.through.new.desk c.through.new.desk p.broken (config_of s p.machine) (config_of s c.through.new.self) runs.0 c.in_default.is (sym (c.can_go_on.ensures s) ∙ c.if-not-can_go_on.false) runs.1
-    c.in-Ok.passage c.requires.idle.taken runs.2)
+    through-untold g.F.TurnFn.log g.O.Watcher.log g.P.PureFn.meaning p c.through.new.self mid runs.0 c.in_default.is c.requires.idle.taken
+    (sym (c.can_go_on.ensures (story_of p)) ∙ c.if-not-can_go_on.false) runs.1 c.in-Ok.passage c.break_by-in_default-told.new.self mid (reply_of_halt c.break_by-in_default-told.result)
+    runs.2 refl c.break_by-in_default-told.ensures.reply c.break_by-in_default-told.ensures.player
 
 pub returns-in-Ok-tell-clause-does : goal.returns-in-Ok-tell-clause-does
 returns-in-Ok-tell-clause-does g c =
-    let turn = g.F.TurnFn.log in
-    let watch = g.O.Watcher.log in
-    let meaning = g.P.PureFn.meaning in
     let p = c.args.self.now in
-    let s = story_of p in
+    let q = c.end_run.new.self in
     let mid = c.through.new.desk in
     let runs = c.in-Ok.ensures.runs in
-    let changes : c.as_slice.result.now ≡ told (watches mid.watchers) p.machine.globals c.through.new.self.globals =
-    c.as_slice.ensures ∙ c.in-Ok-told.ensures.told p.machine.globals c.in-Ok.ensures.tracks in
-    let all = ap (λ (cs : List Change). filter (λ x. watches mid.watchers x.name) cs) changes ∙ told-watched (watches mid.watchers) p.machine.globals c.through.new.self.globals in
-    comes-as turn watch (desk_of p) (λ es reply new. Through s (bindings meaning (desk_of p)) es (state_of p) reply new)
-    (Tells (record c.in-Ok.passage { events = c.tell.new.self.events })) (Tells c.with_events.result) _ c.with_events.new.self
-    (ap (λ q. Tells q) c.with_events.ensures.passage) c.with_events.ensures.player
-    (through-told turn watch meaning s (desk_of p) mid c.tell.new.self p.broken (config_of s p.machine) (config_of s c.through.new.self) runs.0 c.in_default.is (sym (c.can_go_on.ensures s) ∙ c.if-not-can_go_on.false) runs.1
-    c.in-Ok.passage c.requires.idle.taken c.in-Ok.ensures.watchers runs.2
-    (told-by turn watch mid c.tell.new.self _ _ (Ok tt) all c.in-Ok-tell.ensures.no_room c.in-Ok-tell.ensures.told))
+    let start = p.machine.globals in
+    let w = watches mid.watchers in
+    let all = ap (λ (cs : List Change). filter (λ x. w x.name) cs) (c.as_slice.ensures ∙ c.in-Ok-told.ensures.told start c.in-Ok.ensures.tracks) ∙ told-watched w start c.through.new.self.globals in
+    through-told g.F.TurnFn.log g.O.Watcher.log g.P.PureFn.meaning p c.through.new.self mid runs.0 c.in_default.is c.requires.idle.taken
+    (sym (c.can_go_on.ensures (story_of p)) ∙ c.if-not-can_go_on.false) runs.1 c.in-Ok.passage c.in-Ok-tell.all c.tell.new.desk (desk_of q) (reply_of c.end_run.result) (state_of q)
+    c.in-Ok.ensures.watchers runs.2 (rw all at c.in-Ok-tell.ensures.tells) c.end_run.ensures.reply c.end_run.ensures.state c.end_run.ensures.desk
 
 pub returns-in-Err-tell-clause-does : goal.returns-in-Err-tell-clause-does
 returns-in-Err-tell-clause-does g c =
-    let turn = g.F.TurnFn.log in
-    let watch = g.O.Watcher.log in
-    let meaning = g.P.PureFn.meaning in
     let p = c.args.self.now in
-    let s = story_of p in
-    let mid = c.through.new.desk in
     let runs = c.in-Ok.ensures.runs in
-    let changes : c.as_slice.result.now ≡ told (watches mid.watchers) p.machine.globals c.through.new.self.globals =
-    c.as_slice.ensures ∙ c.in-Ok-told.ensures.told p.machine.globals c.in-Ok.ensures.tracks in
-    let all = ap (λ (cs : List Change). filter (λ x. watches mid.watchers x.name) cs) changes ∙ told-watched (watches mid.watchers) p.machine.globals c.through.new.self.globals in
-    comes-as turn watch (desk_of p) (λ es reply new. Through s (bindings meaning (desk_of p)) es (state_of p) reply new)
-    (Breaks OutOfMemory c.tell.new.self.events) (reply_of_halt c.break_by-in-Err-tell.result) _ c.break_by-in-Err-tell.new.self
-    c.break_by-in-Err-tell.ensures.reply c.break_by-in-Err-tell.ensures.player
-    (through-not-told turn watch meaning s (desk_of p) mid c.tell.new.self p.broken (config_of s p.machine) (config_of s c.through.new.self) runs.0 c.in_default.is (sym (c.can_go_on.ensures s) ∙ c.if-not-can_go_on.false) runs.1
-    c.in-Ok.passage c.in-Err-tell.field-0 c.requires.idle.taken c.in-Ok.ensures.watchers runs.2
-    (told-by turn watch mid c.tell.new.self _ _ (Err c.in-Err-tell.field-0) all c.in-Err-tell.ensures.no_room c.in-Err-tell.ensures.told))
+    through-untold g.F.TurnFn.log g.O.Watcher.log g.P.PureFn.meaning p c.through.new.self c.through.new.desk runs.0 c.in_default.is c.requires.idle.taken
+    (sym (c.can_go_on.ensures (story_of p)) ∙ c.if-not-can_go_on.false) runs.1 c.in-Ok.passage c.break_by-in-Err-tell.new.self c.tell.new.desk (reply_of_halt c.break_by-in-Err-tell.result)
+    runs.2 c.in-Err-tell.ensures.tells.1 c.break_by-in-Err-tell.ensures.reply c.break_by-in-Err-tell.ensures.player
 
 pub returns-in-Err-clause-does : goal.returns-in-Err-clause-does
 returns-in-Err-clause-does g c =
-    let turn = g.F.TurnFn.log in
-    let watch = g.O.Watcher.log in
-    let meaning = g.P.PureFn.meaning in
     let p = c.args.self.now in
-    let s = story_of p in
-    let mid = c.through.new.desk in
     let runs = c.in-Err.ensures.runs in
-    comes-as turn watch (desk_of p) (λ es reply new. Through s (bindings meaning (desk_of p)) es (state_of p) reply new) (Breaks c.in-Err.fault mid.events) (reply_of_halt c.break_by.result)
-    _ c.break_by.new.self c.break_by.ensures.reply c.break_by.ensures.player
-    (through-fault turn watch meaning s (desk_of p) mid mid p.broken (config_of s p.machine) (config_of s c.through.new.self) runs.0 c.in_default.is
-    (sym (c.can_go_on.ensures s) ∙ c.if-not-can_go_on.false) runs.1 c.in-Err.fault c.requires.idle.taken runs.2)
+    through-fault g.F.TurnFn.log g.O.Watcher.log g.P.PureFn.meaning p c.through.new.self c.through.new.desk runs.0 c.in_default.is c.requires.idle.taken
+    (sym (c.can_go_on.ensures (story_of p)) ∙ c.if-not-can_go_on.false) runs.1 c.in-Err.fault c.break_by.new.self (reply_of_halt c.break_by.result)
+    runs.2 c.break_by.ensures.reply c.break_by.ensures.player

@@ -1,0 +1,94 @@
+//! Telling the watchers what a command changes (docs/HOST.md, "Telling").
+
+ghost use Rattle.std.specs.Prelude.{◌≡◌, [], ◌∷◌, IfOk, filter};
+ghost use Rattle.ink_host.specs.Desk.{Resting, watches};
+ghost use Rattle.ink_host.specs.Telling.{OncePerName};
+ghost use Rattle.ink_model.specs.Told as rules;
+ghost use Rattle.ink_model.specs.Told.{change_of, told};
+ghost use Rattle.ink_player.specs.Words.{TellsWatchers};
+ghost use Rattle.ink_step.specs.Words.{globals_of};
+
+use ink_host::{Change, Desk, PureFn, TellFault, TurnFn, Watcher};
+use ink_model::{Seq, Text, Value};
+use ink_step::{Machine, told_between};
+use ink_value::same_value;
+use std::alloc::{AllocError, Global};
+
+/// Tells these changes; whether all watchers found memory. The one error is a refused request for memory, which is made only where
+/// somebody watches, and nothing has changed then.
+pub(crate) fn tell<P, F: TurnFn, O: Watcher>(
+    desk: &mut Desk<P, F, O>,
+    changes: &[Change],
+) -> Result<bool, AllocError>
+    requires once { OncePerName changes.now }
+    requires rest { Resting O.at_rest desk.old.watchers }
+    ensures tells { TellsWatchers F.log O.log desk.old (filter (λ c. watches desk.old.watchers c.name) changes.now) result desk.new }
+    ensures rest { Resting O.at_rest desk.new.watchers }
+{
+    match desk.tell(changes) {
+        Ok(()) => Ok(true),
+        Err(TellFault::Watcher) => Ok(false),
+        Err(TellFault::NoRoom) => Err(AllocError),
+    }
+}
+
+/// Tells the watcher of a global, as `tell` does, that this is its value now, where that is another one.
+pub(crate) fn tell_one<P, F: TurnFn, O: Watcher>(
+    alloc: Global,
+    desk: &mut Desk<P, F, O>,
+    machine: &Machine,
+    name: &str,
+    value: &Value,
+) -> Result<bool, AllocError>
+    requires rest { Resting O.at_rest desk.old.watchers }
+    ensures tells { TellsWatchers F.log O.log desk.old (told (watches desk.old.watchers) (globals_of machine.now) ((name.now, value.now) ∷ [])) result desk.new }
+    ensures rest { Resting O.at_rest desk.new.watchers }
+{
+    if !is_told(desk, machine, name, value) {
+        return Ok(true);
+    }
+    let changes = one_change(alloc, name, value)?;
+    tell(desk, changes.as_slice())
+}
+
+/// Tells the watchers, as `tell` does, of the globals that have another value in the new machine than in the old one, or were not
+/// there.
+pub(crate) fn tell_between<P: PureFn, F: TurnFn, O: Watcher>(
+    alloc: Global,
+    desk: &mut Desk<P, F, O>,
+    old: &Machine,
+    new: &Machine,
+) -> Result<bool, AllocError>
+    requires rest { Resting O.at_rest desk.old.watchers }
+    ensures tells { TellsWatchers F.log O.log desk.old (told (watches desk.old.watchers) (globals_of old.now) (globals_of new.now)) result desk.new }
+    ensures rest { Resting O.at_rest desk.new.watchers }
+{
+    let changes = told_between(alloc, old.globals(), new.globals(), desk)?;
+    tell(desk, changes.as_slice())
+}
+
+// Whether a global is watched, and was absent or had another value.
+fn is_told<P, F, O>(desk: &Desk<P, F, O>, machine: &Machine, name: &str, value: &Value) -> bool
+    ensures { result ≡ rules.is_told (watches desk.now.watchers) (globals_of machine.now) (name.now, value.now) }
+{
+    if !desk.watches(name) {
+        return false;
+    }
+    match machine.globals().get(name) {
+        Some(before) => !same_value(before, value),
+        None => true,
+    }
+}
+
+// One change, to be told. The one error is a refused request for memory.
+fn one_change(alloc: Global, name: &str, value: &Value) -> Result<Seq<Change>, AllocError>
+    ensures { IfOk result (λ changes. changes ≡ change_of (name.now, value.now) ∷ []) }
+{
+    let change = Change {
+        name: Text::from_str(alloc, name)?,
+        value: value.clone_in(alloc)?,
+    };
+    let mut changes = Vec::new(alloc);
+    changes.push(change)?;
+    Ok(Seq::from_vec(changes))
+}
