@@ -1,6 +1,7 @@
 //! What a host's objects are asked and answer, and what happened between them and a player (docs/HOST.md).
 
 ghost use Rattle.std.specs.Prelude.{◌≡◌, IfOk, OnErr};
+ghost use Rattle.ink_model.specs.Host.{value_given};
 
 use crate::seq::Seq;
 use crate::shared::Shared;
@@ -31,6 +32,18 @@ impl Given {
             Given::Text(text) => Ok(Given::Text(text.share()?)),
             Given::Void => Ok(Given::Void),
         }
+    }
+}
+
+/// What is given, as a value.
+pub fn value_given(given: Given) -> Value
+    ensures { result ≡ value_given given }
+{
+    match given {
+        Given::Int(number) => Value::Int(number),
+        Given::Bool(truth) => Value::Bool(truth),
+        Given::Text(text) => Value::Text(text),
+        Given::Void => Value::Void,
     }
 }
 

@@ -4,7 +4,6 @@ ghost use Rattle.std.specs.Prelude.{◌≡◌, List, [], ◌∷◌, None, true, 
 ghost use Rattle.ink_host.specs.Desk.{Resting, at, put, without};
 ghost use Rattle.ink_model.specs.Answer.{Acts, Breaks, Tells, reply_of, reply_of_events, reply_of_halt, reply_of_landing, reply_of_value, reply_of_visits};
 ghost use Rattle.ink_model.specs.Configuration.{Configuration, with_globals};
-ghost use Rattle.ink_model.specs.Host as host;
 ghost use Rattle.ink_model.specs.Opening.{opening, opened};
 ghost use Rattle.ink_model.specs.Session.{Through, Set, Get, Restart, TellsOrKeeps, condition_told, reply_told, settable};
 ghost use Rattle.ink_model.specs.State.{Ready, is_running, fault_in};
@@ -20,7 +19,9 @@ use crate::telling::{tell, tell_between, tell_one};
 use crate::visits::visits_by;
 use ink_check::Story;
 use ink_host::{Bound, Desk, PureFn, TurnFn, Watcher};
-use ink_model::{Event, Fault, Given, Halt, MAX_TEXT, Passage, Refusal, Seq, Shown, Value};
+use ink_model::{
+    Event, Fault, Given, Halt, MAX_TEXT, Passage, Refusal, Seq, Shown, Value, value_given,
+};
 use ink_step::{Machine, Unopened};
 use std::alloc::{AllocError, Global};
 
@@ -428,16 +429,5 @@ fn is_settable(value: &Given) -> bool
         Given::Int(_) | Given::Bool(_) => true,
         Given::Text(text) => text.get().as_str().len() <= MAX_TEXT,
         Given::Void => false,
-    }
-}
-
-fn value_given(value: Given) -> Value
-    ensures { result ≡ host.value_given value }
-{
-    match value {
-        Given::Int(number) => Value::Int(number),
-        Given::Bool(truth) => Value::Bool(truth),
-        Given::Text(text) => Value::Text(text),
-        Given::Void => Value::Void,
     }
 }

@@ -7,7 +7,7 @@ ghost use Rattle.ink_host.specs.Desk.{Grew, answer_of, at, bound_by};
 ghost use Rattle.ink_host.specs.declared.objects.Bound.TheVariants as bound;
 ghost use Rattle.ink_model.specs.Effect.{Fields};
 ghost use Rattle.ink_model.specs.Asks.{binding_asks, external_asks, takes_arguments};
-ghost use Rattle.ink_model.specs.Host.{fits_given, pure_function, turn_function, value_given};
+ghost use Rattle.ink_model.specs.Host.{fits_given, pure_function, turn_function};
 ghost use Rattle.ink_model.specs.Page.{Page};
 ghost use Rattle.ink_model.specs.Step.Host as rules;
 ghost use Rattle.ink_model.specs.Store.{Values};
@@ -24,7 +24,7 @@ use crate::operands::push;
 use crate::transfer::{Landing, Transfer, moving};
 use ink_check::Story;
 use ink_host::{Desk, FnKind, PureFn, TurnFn, Watcher};
-use ink_model::{Content, Fault, FrameKind, Given, Leaf, MAX_TEXT, Value};
+use ink_model::{Content, Fault, FrameKind, Given, Leaf, MAX_TEXT, Value, value_given};
 use ink_out::Output;
 use ink_tree::Spot;
 use ink_value::{EvalStack, is_true};
@@ -269,16 +269,5 @@ fn fits(given: &Given) -> bool
     match given {
         Given::Int(_) | Given::Bool(_) | Given::Void => true,
         Given::Text(text) => text.get().as_str().len() <= MAX_TEXT,
-    }
-}
-
-fn value_given(given: Given) -> Value
-    ensures { result ≡ value_given given }
-{
-    match given {
-        Given::Int(number) => Value::Int(number),
-        Given::Bool(truth) => Value::Bool(truth),
-        Given::Text(text) => Value::Text(text),
-        Given::Void => Value::Void,
     }
 }
