@@ -81,30 +81,23 @@ stopped-uncut (run.Stopped d l k) c left made h = h
 stopped-uncut (run.Faulted f d l k) c left made h = absurd (cc)
 stopped-uncut (run.Waits name k) c left made h = absurd (cc)
 
+module _ (s : StoryTree) (h : Bindings) (b : Option Fault) (c : Configuration) (n : ℕ) where
+  abbrev start : State
+  start = at_stamp (condition_by b c) n
+
+  pub through-broken : (f : Fault) → b ≡ Some f → Through s h [] start (Refuses (refusal.Broken f)) start
+  through-broken f e = subst (λ x. Through s h [] (at_stamp (condition_by x c) n) (Refuses (refusal.Broken f)) (at_stamp (condition_by x c) n)) (sym e) (refl, (refl, refl))
+
+  -- from a player that is not broken
+  module _ (es : List Event) (reply : Reply) (new : State) where
+    abbrev ThroughWhere : Bool → Type 0
+    ThroughWhere goes = MatchBool goes ((made : List Made) × rules.RunsThrough s h c made es start reply new) ((es ≡ []) × Keeps (Refuses refusal.CannotContinue) start reply new)
+
+    -- by whether flow can go on
+    pub through-where : (goes : Bool) → b ≡ None → can_go_on c ≡ goes → ThroughWhere goes → Through s h es start reply new
+    through-where goes free e p = subst (λ x. rules.ThroughFrom s h es (condition_by x c) start reply new) (sym free) (subst (λ x. ThroughWhere x) (sym e) p)
+
 module _ (s : StoryTree) (h : Bindings) where
-  -- a running command, from a player that is not broken and whose flow has not stopped
-  goes-through : (b : Option Fault) (c : Configuration) (n : ℕ) (es : List Event) (reply : Reply) (new : State) → b ≡ None → can_go_on c ≡ true
-      → (made : List Made) × rules.RunsThrough s h c made es (at_stamp (condition_by b c) n) reply new
-      → Through s h es (at_stamp (condition_by b c) n) reply new
-  goes-through None c n es reply new e go p =
-      subst (λ x. MatchBool x ((made : List Made) × rules.RunsThrough s h c made es (at_stamp (Ready c) n) reply new) ((es ≡ []) × Keeps (Refuses refusal.CannotContinue) (at_stamp (Ready c) n) reply new))
-      (sym go) p
-  goes-through (Some f) c n es reply new e go p = absurd (cc)
-
-  pub through-broken : (b : Option Fault) (c : Configuration) (n : ℕ) (f : Fault) → b ≡ Some f
-      → Through s h [] (at_stamp (condition_by b c) n) (Refuses (refusal.Broken f)) (at_stamp (condition_by b c) n)
-  through-broken None c n f e = absurd (cc)
-  through-broken (Some g) c n f e = (refl, (cc, refl))
-
-  pub through-stopped : (b : Option Fault) (c : Configuration) (n : ℕ) → b ≡ None → can_go_on c ≡ false
-      → Through s h [] (at_stamp (condition_by b c) n) (Refuses refusal.CannotContinue) (at_stamp (condition_by b c) n)
-  through-stopped None c n e stopped =
-      let st = at_stamp (Ready c) n in
-      let P : Type 0 = (made : List Made) × rules.RunsThrough s h c made [] st (Refuses refusal.CannotContinue) st in
-      let Q : Type 0 = (◌≡◌ {A = List Event} [] []) × Keeps (Refuses refusal.CannotContinue) st (Refuses refusal.CannotContinue) st in
-      subst (λ x. MatchBool x P Q) (sym stopped) (refl, (refl, refl))
-  through-stopped (Some f) c n e stopped = absurd (cc)
-
   -- its run came to its end, and the watchers were told
   ended : (c stop : Configuration) (made : List Made) (es : List Event) (old : State) (reply : Reply) (new : State)
       → run.through s h.functions c (answers_of made) ≡ run.Stopped stop [] made
@@ -212,7 +205,7 @@ module _ {P F O : Type 0} (turn_log : F → List Called) (watch_log : O → List
         (subst (λ w. ToldAs d1.next (told (watches w) before.shared.globals run.stop.shared.globals) all t.0) watching
         (subst (λ c. ToldAs d1.next (told (watches d1.watchers) before.shared.globals c.shared.globals) all t.0) run.leaves t.1)) in (
           es,
-          goes-through tree host p.broken before (desk_of p).next es reply new free goes (
+          through-where tree host p.broken before (desk_of p).next es reply new true free goes (
             made,
             ended tree host before run.stop made es (state_of p) reply new run.got_there (record {
               all = all;
@@ -234,7 +227,7 @@ module _ {P F O : Type 0} (turn_log : F → List Called) (watch_log : O → List
         let events : d1.events ≡ first = called.events ∙ ap (λ l. l ++ first) none in
         let by = runs (refl, replies ∙ ap (λ l. Breaks f l) events, ap (λ x. state_of x) is ∙ ap (at_stamp (Broken f after.shared.globals)) called.next) in (
           first,
-          goes-through tree host p.broken before (desk_of p).next first reply (state_of q) free goes (made, by),
+          through-where tree host p.broken before (desk_of p).next first reply (state_of q) true free goes (made, by),
           dealt-to (desk_of p) d1 (desk_of q) first called (ap (λ x. desk_of x) is),
         )
 

@@ -1,9 +1,9 @@
-use Rattle.std.proofs.Common.{◌∙◌, [], List, ap, filter, refl, sym}
+use Rattle.std.proofs.Common.{◌∙◌, [], List, false, ap, filter, refl, sym}
 use Rattle.ink_host.specs.Desk.{watches}
 use Rattle.ink_model.specs.Answer.{reply_of, reply_of_halt}
 use Rattle.ink_model.specs.declared.host.Change.{Change}
 use Rattle.ink_player.specs.Words.{desk_of, state_of, story_of}
-use Rattle.ink_player.proofs.Tellings.{dealt-none, through-broken, through-fault, through-stopped, through-told, through-untold, told-watched}
+use Rattle.ink_player.proofs.Tellings.{dealt-none, through-broken, through-fault, through-told, through-untold, through-where, told-watched}
 use Rattle.ink_player.proofs.player.Player.through.Goals as goal
 
 pub returns-in-Some-clause-does : goal.returns-in-Some-clause-does
@@ -13,7 +13,8 @@ returns-in-Some-clause-does g c =
 pub returns-then-not-can_go_on-clause-does : goal.returns-then-not-can_go_on-clause-does
 returns-then-not-can_go_on-clause-does g c =
     let s = story_of c.args.self.now in
-    ([], through-stopped s _ c.args.self.now.broken _ _ c.in_default.is (sym (c.can_go_on.ensures s) ∙ c.if-not-can_go_on.true), dealt-none g.F.TurnFn.log g.O.Watcher.log _)
+    let stopped = sym (c.can_go_on.ensures s) ∙ c.if-not-can_go_on.true in
+    ([], through-where s _ c.args.self.now.broken _ _ [] _ _ false c.in_default.is stopped (refl, (refl, refl)), dealt-none g.F.TurnFn.log g.O.Watcher.log _)
 
 pub returns-in_default-told-clause-does : goal.returns-in_default-told-clause-does
 returns-in_default-told-clause-does g c =
