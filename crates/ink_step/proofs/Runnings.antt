@@ -4,7 +4,6 @@ use Rattle.ink_model.specs.Configuration.{Configuration}
 use Rattle.ink_model.specs.Events.{Made, calls}
 use Rattle.ink_model.specs.Host.{Bound as Binds, nothing_bound}
 use Rattle.ink_model.specs.Memory.{asks}
-use Rattle.ink_model.specs.Run.{Stopped}
 use Rattle.ink_model.specs.Step.{step}
 use Rattle.ink_model.specs.Tree.{StoryTree}
 use Rattle.ink_model.specs.declared.fault.Fault.{Fault}

@@ -22,7 +22,7 @@ impl Machine {
         desk: &Desk<P, T, W>,
     ) -> Result<Seq<Change>, AllocError>
         ensures told { (start : Values) → Tracks start self.now.changes self.now.globals → IfOk result (λ changes. changes ≡ told (watches desk.now.watchers) start self.now.globals) }
-        ensures once { (start : Values) → Tracks start self.now.changes self.now.globals → IfOk result (λ cs. OncePerName cs) }
+        ensures once { IfOk result (λ cs. OncePerName cs) }
         ensures memory { OnErr result (self.now.changes ≢ []) }
     {
         if self.globals.len() == 0 || !desk.has_watchers() || self.changes.is_empty() {

@@ -1,6 +1,7 @@
 //! Which globals were assigned since a moment, and what they were then.
 
-ghost use Rattle.std.specs.Prelude.{◌≡◌, ◌==◌, ◌≢◌, ◌<◌, ◌++◌, ◌∷◌, ℕ, [], false, true, None, length, slice_get, slice_index_or, IfOk, OnOk, OnErr};
+ghost use Rattle.std.specs.Prelude.{◌≡◌, ◌==◌, ◌≢◌, ◌<◌, ◌++◌, ◌∷◌, ℕ, [], false, true, None, length, nat_eq, slice_get, slice_index_or, IfOk, OnOk, OnErr};
+ghost use Rattle.std.specs.List.{IsDistinct};
 ghost use Rattle.std.specs.Option.{option_copied};
 ghost use Rattle.ink_model.specs.Store.{Values, store};
 ghost use Rattle.ink_model.specs.declared.value.Value.{Value};
@@ -119,6 +120,7 @@ pub fn changed(
     globals: &Globals,
 ) -> Result<Vec<usize>, AllocError>
     ensures numbers { (start : Values) → Tracks start changes.now globals.now → IfOk result (λ numbers. numbers.items ≡ changed_numbers start globals.now) }
+    ensures once { IfOk result (λ numbers. IsDistinct nat_eq numbers.items) }
     ensures memory { OnErr result (changes.now ≢ []) }
 {
     let there = globals.len();

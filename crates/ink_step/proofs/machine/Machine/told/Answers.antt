@@ -1,13 +1,16 @@
-use Rattle.std.proofs.Common.{◌≡◌, ◌<◌, ◌≤◌, ◌∙◌, ◌++◌, ◌∷◌, ℕ, List, [], Some, None, ap, arith, length, subst, sym}
+use Rattle.std.proofs.Common.{◌≡◌, ◌<◌, ◌≤◌, ◌∙◌, ◌++◌, ◌∷◌, ℕ, List, [], Some, None, ap, arith, length, nat_eq, subst, sym}
 use Rattle.std.proofs.lemmas.Bool.{eqb-true}
-use Rattle.std.proofs.lemmas.List.{append-nil}
+use Rattle.std.proofs.lemmas.List.{append-nil, take_all}
+use Rattle.std.specs.List.{IsDistinct}
 use Rattle.ink_host.specs.Desk.{watches}
 use Rattle.ink_host.specs.Telling.{OncePerName}
 use Rattle.ink_model.specs.Told.{told}
 use Rattle.ink_model.specs.declared.value.Value.{Value}
-use Rattle.ink_step.proofs.Telling.{all_told, one_unwatched, one_watched, told_next, told_nobody, told_of_none, told_once, told_unchanged}
+use Rattle.ink_step.proofs.Telling.{once_at, one_unwatched, one_watched, told_at, told_changed, told_next, told_nobody, told_of_none, told_unchanged}
 use Rattle.ink_step.proofs.machine.Machine.told.Goals.{then-len-eq0-via-then-len-eq0, then-len-eq0-via-else-len-eq0+then-not-has_watchers, then-len-eq0-via-else-len-eq0+else-not-has_watchers+then-is_empty, in-Some+then-watches+in_ok-change+in_ok-push, in-Some+else-watches, in_default}
+use Rattle.ink_step.proofs.machine.Machine.told.Given as given
 use Rattle.ink_step.proofs.machine.Machine.told.Goals as goal
+use Rattle.ink_step.proofs.machine.Machine.told.Goals.{After-from_vec}
 
 pub returns-then-len-eq0-clause-told : goal.returns-then-len-eq0-clause-told
 returns-then-len-eq0-clause-told g c start tracks =
@@ -44,14 +47,23 @@ loop-number-preserved g c =
           (ap (λ v. v.items) w.told-is ∙ sym (append-nil so_far))
     ]
 
+-- all that was picked was told, where it is watched
+all_at : (g : given.Over) (c : After-from_vec g) → c.from_vec.result ≡ told_at (watches c.args.desk.now.watchers) c.args.self.now.globals c.deref-number-items.result.now
+all_at g c =
+    let ns = c.deref-number-items.result.now in
+    let past : length ns ≤ c.loop-number.number-index = omega (arith, c.loop-number-test.false) in
+    c.from_vec.ensures ∙ c.loop-number.invariant ∙ ap (told_at (watches c.args.desk.now.watchers) c.args.self.now.globals) (take_all c.loop-number.number-index ns past)
+
 pub returns-clause-told : goal.returns-clause-told
 returns-clause-told g c start tracks =
     let watched = watches c.args.desk.now.watchers in
-    let past : length c.deref-number-items.result.now ≤ c.loop-number.number-index = omega (arith, c.loop-number-test.false) in
-    c.from_vec.ensures
-    ∙ all_told watched c.args.self.now.globals start c.deref-number-items.result.now c.loop-number.number-index c.loop-number.told.items past c.loop-number.invariant
-    (c.deref-number-items.ensures.value ∙ c.in_ok-numbers.ensures.numbers start tracks)
+    let now = c.args.self.now.globals in
+    all_at g (goal.at.returns-clause-told g c).After-from_vec
+    ∙ ap (told_at watched now) (c.deref-number-items.ensures.value ∙ c.in_ok-numbers.ensures.numbers start tracks) ∙ told_changed watched now start
 
 pub returns-clause-once : goal.returns-clause-once
-returns-clause-once g c start tracks =
-    subst (λ cs. OncePerName cs) (sym (returns-clause-told g c start tracks)) (told_once (watches c.args.desk.now.watchers) start c.args.self.now.globals c.len.ensures.names)
+returns-clause-once g c =
+    let watched = watches c.args.desk.now.watchers in
+    let now = c.args.self.now.globals in
+    let once = subst (IsDistinct nat_eq) (sym c.deref-number-items.ensures.value) c.in_ok-numbers.ensures.once in
+    subst (λ cs. OncePerName cs) (sym (all_at g (goal.at.returns-clause-once g c).After-from_vec)) (once_at watched now c.len.ensures.names c.deref-number-items.result.now once)
