@@ -1,10 +1,10 @@
 //! The game's objects: what its story calls, and who watches its gold.
 
-ghost use Rattle.std.specs.Prelude.{◌≡◌, Some, false, not, IfOk};
+ghost use Rattle.std.specs.Prelude.{◌≡◌, Some, true};
 ghost use Rattle.ink_model.specs.declared.host.Given.TheVariants as given;
 
-use ink_host::{Called, PureFn, Seen, TurnFn, Watcher};
-use ink_model::{Given, HostFault, Seq, Shared, Text, Value};
+use ink_host::{Called, Observer, PureFn, TurnFn, Watcher, copied_values};
+use ink_model::{Given, HostFault, Shared, Text, Value};
 use std::alloc::{AllocError, Global};
 
 /// The inn, whose name is asked for. To ask changes nothing: it is a pure function.
@@ -63,7 +63,7 @@ impl TurnFn for Die {
     ghost log = { λ die. die.throws.items };
 
     fn call(&mut self, stamp: u64, arguments: &[Value]) -> Result<Given, HostFault> {
-        let Ok(noted) = copied(self.alloc, arguments) else {
+        let Ok(noted) = copied_values(self.alloc, arguments) else {
             return Err(HostFault::OutOfMemory);
         };
         if self.throws.reserve(1).is_err() {
@@ -94,62 +94,42 @@ impl TurnFn for Die {
     }
 }
 
-fn copied(alloc: Global, values: &[Value]) -> Result<Seq<Value>, AllocError>
-    ensures { IfOk result (λ copies. copies ≡ values.now) }
-{
-    let mut copies = Vec::new(alloc);
-    for value in values {
-        copies.push(value.clone_in(alloc)?)?;
-    }
-    Ok(Seq::from_vec(copies))
-}
-
-/// A purse, which shows how much gold is in it whenever that has changed.
+/// A purse, which notes how much gold is in it whenever that has changed, and shows it.
 #[derive(Drop)]
 pub(crate) struct Purse<R> {
     rt: R,
-    seen: Vec<Seen>,
-    is_told: bool,
-    alloc: Global,
+    noted: Observer,
 }
 
 impl<R: Print> Purse<R> {
     pub(crate) fn new(alloc: Global, rt: R) -> Purse<R>
-        ensures { result.is_told ≡ false }
+        ensures { result.noted.resting ≡ true }
     {
         Purse {
             rt,
-            seen: Vec::new(alloc),
-            is_told: false,
-            alloc,
+            noted: Observer::new(alloc),
         }
     }
 }
 
 impl<R: Print> Watcher for Purse<R> {
-    ghost log = { λ purse. purse.seen.items };
+    ghost log = { λ purse. purse.noted.log };
 
-    ghost at_rest = { λ purse. not purse.is_told };
+    ghost at_rest = { λ purse. purse.noted.resting };
 
     fn begin(&mut self) {
-        self.is_told = true;
+        self.noted.begin()
     }
 
     fn changed(&mut self, stamp: u64, name: &str, value: &Value) -> Result<(), AllocError> {
-        let text = Text::from_str(self.alloc, name)?;
-        let value = value.clone_in(self.alloc)?;
-        if let Value::Int(gold) = &value {
+        self.noted.changed(stamp, name, value)?;
+        if let Value::Int(gold) = value {
             let _ = println!(&self.rt; "[{name}: {gold}]");
         }
-        self.seen.push(Seen {
-            stamp,
-            name: text,
-            value,
-        })?;
         Ok(())
     }
 
     fn end(&mut self) {
-        self.is_told = false;
+        self.noted.end()
     }
 }

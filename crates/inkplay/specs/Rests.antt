@@ -1,7 +1,7 @@
 -- When a watcher of the program is at rest (docs/HOST.md, "Rest").
-use Rattle.std.specs.Prelude.{Bool, not}
-use Rattle.inkplay.specs.declared.objects.Observer.{Observer}
+use Rattle.std.specs.Prelude.{Bool}
+use Rattle.ink_host.specs.Telling.{Watching}
 
 -- it is being told nothing
-abbrev pub rests : Observer → Bool
-rests o = not o.is_told
+abbrev pub rests : Watching → Bool
+rests w = w.resting

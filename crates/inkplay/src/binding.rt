@@ -4,10 +4,10 @@ ghost use Rattle.std.specs.Prelude.{◌≡◌};
 ghost use Rattle.ink_host.specs.Desk.{Resting};
 ghost use Rattle.inkplay.specs.Rests.{rests};
 
-use crate::objects::{Observer, Row, Script, Table};
+use crate::objects::{Row, Script, Table};
 use crate::options::{PlayOption, WordsRefused, read_options};
 use clap::ArgMatches;
-use ink_host::Desk;
+use ink_host::{Desk, Observer};
 use ink_model::Given;
 use std::alloc::Global;
 

@@ -1,13 +1,13 @@
-//! The objects that the program binds to names, and the watchers of globals (docs/PROGRAM.md).
+//! The objects that the program binds to names (docs/PROGRAM.md).
 
-ghost use Rattle.std.specs.Prelude.{◌≡◌, false, not, bytes_eq, option_map, IfOk};
+ghost use Rattle.std.specs.Prelude.{◌≡◌, bytes_eq, option_map};
 ghost use Rattle.ink_player.specs.Answers.{values_text};
 ghost use Rattle.inkplay.specs.Tables.{answer_in};
 
-use ink_host::{Called, PureFn, Seen, TurnFn, Watcher};
-use ink_model::{Given, HostFault, Seq, Text, Value};
+use ink_host::{Called, PureFn, TurnFn, copied_values};
+use ink_model::{Given, HostFault, Text, Value};
 use ink_player::print_values;
-use std::alloc::{AllocError, Global};
+use std::alloc::Global;
 
 /// A turn function that gives its answers in order, each at one call, and refuses once they are used up. It notes its calls.
 #[derive(Drop)]
@@ -34,7 +34,7 @@ impl TurnFn for Script {
     ghost log = { λ s. s.calls.items };
 
     fn call(&mut self, stamp: u64, arguments: &[Value]) -> Result<Given, HostFault> {
-        let Ok(noted) = copied(self.alloc, arguments) else {
+        let Ok(noted) = copied_values(self.alloc, arguments) else {
             return Err(HostFault::OutOfMemory);
         };
         if self.calls.reserve(1).is_err() {
@@ -59,17 +59,6 @@ impl TurnFn for Script {
         });
         Ok(answer)
     }
-}
-
-// Copies of values. The one error is a refused request for memory, or a count of owners that is full.
-fn copied(alloc: Global, values: &[Value]) -> Result<Seq<Value>, AllocError>
-    ensures { IfOk result (λ copies. copies ≡ values.now) }
-{
-    let mut copies = Vec::new(alloc);
-    for value in values {
-        copies.push(value.clone_in(alloc)?)?;
-    }
-    Ok(Seq::from_vec(copies))
 }
 
 /// One row of a table: the answer to these arguments, which are spelled as a compact JSON array.
@@ -126,46 +115,4 @@ fn is_spelled(row: &Row, text: &[u8]) -> bool
     ensures { result ≡ bytes_eq text.now row.now.arguments }
 {
     text == row.arguments.as_str().as_bytes()
-}
-
-/// A watcher that notes the new values that it is told.
-#[derive(Drop)]
-pub(crate) struct Observer {
-    seen: Vec<Seen>,
-    is_told: bool,
-    alloc: Global,
-}
-
-impl Observer {
-    /// A watcher that was told nothing yet.
-    pub(crate) fn new(alloc: Global) -> Observer
-        ensures { result.is_told ≡ false }
-    {
-        Observer {
-            seen: Vec::new(alloc),
-            is_told: false,
-            alloc,
-        }
-    }
-}
-
-impl Watcher for Observer {
-    ghost log = { λ o. o.seen.items };
-
-    ghost at_rest = { λ o. not o.is_told };
-
-    fn begin(&mut self) {
-        self.is_told = true;
-    }
-
-    fn changed(&mut self, stamp: u64, name: &str, value: &Value) -> Result<(), AllocError> {
-        let name = Text::from_str(self.alloc, name)?;
-        let value = value.clone_in(self.alloc)?;
-        self.seen.push(Seen { stamp, name, value })?;
-        Ok(())
-    }
-
-    fn end(&mut self) {
-        self.is_told = false;
-    }
 }
