@@ -4,7 +4,7 @@ use crate::answer::{Answer, NoAnswer, compared};
 use crate::expansion::expanded;
 use crate::table::{Kind, Table};
 use crate::tally::{Tally, Verdict};
-use crate::{operators, output, paths, reading, stories};
+use crate::{boxes, operators, output, paths, reading, stories};
 use std::alloc::{AllocError, Global};
 
 /// Runs the cases of a table.
@@ -59,6 +59,7 @@ pub(crate) fn question_and_answer(line: &[u8]) -> (&str, &str) {
 
 fn answer(alloc: Global, kind: Kind, story: &str, question: &str) -> Answer {
     match kind {
+        Kind::Boxes => boxes::answer(alloc, question),
         Kind::Operators => operators::answer(alloc, question),
         Kind::Output => output::answer(alloc, question),
         Kind::Paths => paths::answer(alloc, question),

@@ -6,6 +6,7 @@
 #![tactic(auto)]
 
 mod answer;
+mod boxes;
 mod content;
 mod expansion;
 mod lines;
@@ -31,7 +32,8 @@ use table::run_table;
 use tally::Tally;
 
 /// The tables that are read where none are named.
-const TABLES: [&str; 26] = [
+const TABLES: [&str; 27] = [
+    "boxes.txt",
     "operators.txt",
     "operators_large.txt",
     "output.txt",

@@ -1,10 +1,10 @@
 //! The objects that tables bind to names. Each notes what was asked of it, and can refuse, or find no memory.
 
-ghost use Rattle.std.specs.Prelude.{◌≡◌, false, not, IfOk};
+ghost use Rattle.std.specs.Prelude.{◌≡◌, true};
 ghost use Rattle.inktest.specs.Deeds.{given_by};
 
-use ink_host::{Called, PureFn, Seen, TurnFn, Watcher};
-use ink_model::{Given, HostFault, Seq, Text, Value};
+use ink_host::{Called, Observer, PureFn, TurnFn, Watcher, copied_values};
+use ink_model::{Given, HostFault, Value};
 use std::alloc::{AllocError, Global};
 
 /// What a function does when it is called.
@@ -67,7 +67,7 @@ impl TurnFn for Script {
     ghost log = { λ s. s.calls.items };
 
     fn call(&mut self, stamp: u64, arguments: &[Value]) -> Result<Given, HostFault> {
-        let Ok(arguments) = copied(self.alloc, arguments) else {
+        let Ok(arguments) = copied_values(self.alloc, arguments) else {
             return Err(HostFault::OutOfMemory);
         };
         if self.calls.reserve(1).is_err() {
@@ -103,58 +103,41 @@ impl TurnFn for Script {
     }
 }
 
-fn copied(alloc: Global, values: &[Value]) -> Result<Seq<Value>, AllocError>
-    ensures { IfOk result (λ copies. copies ≡ values.now) }
-{
-    let mut copies = Vec::new(alloc);
-    for value in values {
-        copies.push(value.clone_in(alloc)?)?;
-    }
-    Ok(Seq::from_vec(copies))
-}
-
 /// A watcher that notes what it is told, or never finds memory for that.
 #[derive(Drop)]
-pub(crate) struct Observer {
-    pub seen: Vec<Seen>,
+pub(crate) struct Witness {
+    pub noted: Observer,
     finds_memory: bool,
-    is_told: bool,
-    alloc: Global,
 }
 
-impl Observer {
-    pub(crate) fn new(alloc: Global, finds_memory: bool) -> Observer
-        ensures { result.is_told ≡ false }
+impl Witness {
+    pub(crate) fn new(alloc: Global, finds_memory: bool) -> Witness
+        ensures { result.noted.resting ≡ true }
     {
-        Observer {
-            seen: Vec::new(alloc),
+        Witness {
+            noted: Observer::new(alloc),
             finds_memory,
-            is_told: false,
-            alloc,
         }
     }
 }
 
-impl Watcher for Observer {
-    ghost log = { λ o. o.seen.items };
+impl Watcher for Witness {
+    ghost log = { λ w. w.noted.log };
 
-    ghost at_rest = { λ o. not o.is_told };
+    ghost at_rest = { λ w. w.noted.resting };
 
     fn begin(&mut self) {
-        self.is_told = true;
+        self.noted.begin()
     }
 
     fn changed(&mut self, stamp: u64, name: &str, value: &Value) -> Result<(), AllocError> {
         if !self.finds_memory {
             return Err(AllocError);
         }
-        let name = Text::from_str(self.alloc, name)?;
-        let value = value.clone_in(self.alloc)?;
-        self.seen.push(Seen { stamp, name, value })?;
-        Ok(())
+        self.noted.changed(stamp, name, value)
     }
 
     fn end(&mut self) {
-        self.is_told = false;
+        self.noted.end()
     }
 }

@@ -20,7 +20,7 @@ ghost use Rattle.inktest.specs.Deeds.{rests};
 use crate::answer::{Answer, NoAnswer, compared, first_word, text};
 use crate::expansion::expanded;
 use crate::lines::{first_line, is_comment, question_and_answer};
-use crate::objects::{Constant, Deed, Observer, Script};
+use crate::objects::{Constant, Deed, Script, Witness};
 use crate::table::Table;
 use crate::tally::{Tally, Verdict};
 use crate::words::{encode, given_of, show_given, show_value, shown_value, value_of};
@@ -32,7 +32,7 @@ use ink_player::{Bound, Desk, OpenFault, PlayEnd, PlayFault, Player, open_story}
 use std::alloc::{AllocError, Global};
 
 /// A player with the objects of tables.
-type TestPlayer = Player<Constant, Script, Observer>;
+type TestPlayer = Player<Constant, Script, Witness>;
 
 /// A story, and the calls of its player.
 #[derive(Clone, Copy)]
@@ -152,7 +152,7 @@ fn accepted(alloc: Global, story: &str) -> Result<Story, NoAnswer> {
 /// Opens a story. Where its declarations fault the story is handed back.
 fn opened(alloc: Global, story: &str) -> Answer {
     let story = accepted(alloc, story)?;
-    let desk: Desk<Constant, Script, Observer> = Desk::new(alloc);
+    let desk: Desk<Constant, Script, Witness> = Desk::new(alloc);
     match Player::open(alloc, story, desk) {
         Ok(player) => {
             let _objects = player.close().close();
@@ -225,7 +225,7 @@ fn said(alloc: Global, player: &mut TestPlayer, call: &str) -> Answer
     }
 }
 
-fn passage(alloc: Global, outcome: Result<Passage, Halt>) -> Answer {
+pub(crate) fn passage(alloc: Global, outcome: Result<Passage, Halt>) -> Answer {
     match outcome {
         Ok(passage) => {
             let mut said = String::new(alloc);
@@ -343,7 +343,7 @@ fn watch(alloc: Global, player: &mut TestPlayer, rest: &str) -> Answer
     ensures { Idle rests (desk_of player.new) }
 {
     let (name, word) = first_word(rest);
-    match player.watch(name, Observer::new(alloc, word != "short")) {
+    match player.watch(name, Witness::new(alloc, word != "short")) {
         Ok(was) => shown_watcher(alloc, was),
         Err(_) => Err(NoAnswer::OutOfMemory),
     }
@@ -382,12 +382,12 @@ fn show_called(alloc: Global, said: &mut String, called: &Called) -> Result<(), 
     write!(said, "@{}", called.stamp)
 }
 
-fn shown_watcher(alloc: Global, watcher: Option<Observer>) -> Answer {
+fn shown_watcher(alloc: Global, watcher: Option<Witness>) -> Answer {
     match watcher {
         None => text(alloc, "nothing"),
-        Some(observer) => {
+        Some(witness) => {
             let mut said = String::from_str(alloc, "watcher")?;
-            for seen in &observer.seen {
+            for seen in witness.noted.seen() {
                 said.push(' ')?;
                 show_sight(
                     alloc,
@@ -404,7 +404,7 @@ fn shown_watcher(alloc: Global, watcher: Option<Observer>) -> Answer {
 
 // ---- events
 
-fn done(alloc: Global, outcome: Result<Seq<Event>, Halt>) -> Answer {
+pub(crate) fn done(alloc: Global, outcome: Result<Seq<Event>, Halt>) -> Answer {
     match outcome {
         Ok(events) => {
             let mut said = String::from_str(alloc, "done")?;

@@ -19,6 +19,7 @@ pub(crate) struct Table<'t> {
 /// What kind of cases a table has.
 #[derive(Clone, Copy, PartialEq, Eq)]
 pub(crate) enum Kind {
+    Boxes,
     Operators,
     Output,
     Paths,
@@ -29,7 +30,8 @@ pub(crate) enum Kind {
 }
 
 /// How the names of files begin, and the kinds that this tells.
-const KINDS: [(&str, Kind); 7] = [
+const KINDS: [(&str, Kind); 8] = [
+    ("boxes", Kind::Boxes),
     ("operators", Kind::Operators),
     ("output", Kind::Output),
     ("paths", Kind::Paths),
