@@ -1,5 +1,5 @@
 -- Reading content element by element and key by key, beside its faults and its tree.
-use Rattle.std.proofs.Common.{◌≡◌, ℕ, zero, suc, ◌+◌, ◌-◌, ◌<◌, ◌≤◌, List, [], ◌∷◌, ◌++◌, map, length, get_or, drop, Bool, true, false, cond, Option, Some, None, Ok, Err, String, Global, Vec, BTreeMap, Ordering, Less, Equal, Greater, string_bytes, string_cmp, nat_cmp, refl, sym, ap, subst, ◌∙◌, append_assoc, arith, rules, add-one, drop-cons}
+use Rattle.std.proofs.Common.{◌≡◌, ℕ, zero, suc, ◌+◌, ◌-◌, ◌<◌, ◌≤◌, List, [], ◌∷◌, ◌++◌, map, length, get_or, drop, Bool, true, false, cond, Option, Some, None, Ok, Err, String, Global, Ordering, Less, Equal, Greater, string_bytes, string_cmp, nat_cmp, refl, sym, ap, subst, ◌∙◌, append_assoc, arith, add-one, drop-cons}
 use Rattle.std.proofs.lemmas.List.{map_push}
 use Rattle.std.proofs.lemmas.Cmp.{nat_list_cmp_total}
 use Rattle.std.specs.BTreeMap.{insert_entry}
@@ -12,7 +12,7 @@ use Rattle.serde_json.specs.Data.{Data, null, boolean, number, string, array, ob
 use Rattle.serde_json.specs.View.{view as json_view, items_view, members_view}
 use Rattle.serde_json.specs.declared.value.Value.{Value}
 use Rattle.ink_model.specs.Tree.{StoryTree, container, Trees, no_trees, tree, Keyed, key}
-use Rattle.ink_model.specs.View.{view, trees_of, trees_view, keyed_view}
+use Rattle.ink_model.specs.View.{view, trees_of, keyed_view}
 use Rattle.ink_model.specs.declared.limits.TheConstants.{MAX_NESTING}
 use Rattle.ink_model.specs.Grammar.{under, first, own, own_after, is_empty, is_last, are_flags, member_of, flags_key, flags_of, name_in, name_of, is_misnamed, is_taken, with_name, is_own, content, faults, faults_inside, faults_keyed, faults_by, tree_of, content_of, keyed_in, keyed_last, keyed_by}
 use Rattle.ink_model.specs.declared.content.Content.{Content}

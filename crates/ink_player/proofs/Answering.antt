@@ -1,8 +1,6 @@
 -- The tokens of answers, one behind another, and the text that they come to.
-use Rattle.std.proofs.Common.{◌≡◌, ◌∙◌, refl, sym, ap, subst, ℕ, ◌+◌, ◌<◌, ◌≤◌, ℤ, pos, negsuc, suc, List, [], ◌∷◌, ◌++◌, length, take, get_or, map, flat_map, Result, Ok, Err, OnOk, arith, append_assoc, append-nil, codes, decimal}
-use Rattle.std.proofs.Math.Seq.{take-suc}
-use Rattle.std.proofs.lemmas.Grind.{flat_map-append}
-use Rattle.std.proofs.lemmas.List.{map-append, take_all}
+use Rattle.std.proofs.Common.{◌≡◌, ◌∙◌, refl, sym, ap, subst, ℕ, ◌≤◌, ℤ, pos, negsuc, List, [], ◌∷◌, ◌++◌, length, take, map, flat_map, Result, Ok, Err, OnOk, append_assoc, codes, decimal}
+use Rattle.std.proofs.lemmas.List.{take_all}
 use Rattle.std.specs.Fmt.{signed_decimal}
 use Rattle.json.specs.Print.{print}
 use Rattle.json.specs.Token.{Token}
@@ -50,17 +48,6 @@ items_are (d ∷ ds) = ap (λ l. data_tokens d ++ l) (items_are ds) ∙ sym (app
 -- the front of a list, as it is written
 abbrev pub list_front : {A : Type 0} → (A → Data) → List A → List Token
 list_front json items = token.begin_array ∷ flat_map data_tokens (map json items)
-
-pub list_more : {A : Type 0} (json : A → Data) (items : List A) (i : ℕ) (item : A) (a b c : Written) → i < length items → item ≡ get_or items i item
-    → Added a b (list_front json (take i items)) → Added b c (data_tokens (json item)) → Added a c (list_front json (take (i + 1) items))
-list_more json items i item a b c h is before now =
-    let next : i + 1 ≡ suc i = omega arith in
-    let more : take (i + 1) items ≡ take i items ++ item ∷ [] = ap (λ n. take n items) next ∙ take-suc items i item h ∙ ap (λ x. take i items ++ x ∷ []) (sym is) in
-    let tokens : flat_map data_tokens (map json (take (i + 1) items)) ≡ flat_map data_tokens (map json (take i items)) ++ (data_tokens (json item) ++ []) =
-    ap (λ l. flat_map data_tokens (map json l)) more ∙ ap (flat_map data_tokens) (map-append json (take i items) (item ∷ []))
-    ∙ flat_map-append data_tokens (map json (take i items)) (json item ∷ []) in
-    subst (Added a c) (ap (λ l. token.begin_array ∷ (flat_map data_tokens (map json (take i items)) ++ l)) (sym (append-nil (data_tokens (json item))))
-    ∙ ap (λ l. token.begin_array ∷ l) (sym tokens)) (then before now)
 
 pub list_ends : {A E : Type 0} (json : A → Data) (items : List A) (i : ℕ) (r : Result (Unit {0}) E) (a b c : Written) → length items ≤ i
     → Added a b (list_front json (take i items)) → OnOk r (Added b c (token.end_array ∷ [])) → OnOk r (Added a c (data_tokens (array (items_of (map json items)))))

@@ -27,9 +27,6 @@ as_slice chunk unread at end h e =
 pub count_unread : (chunk unread : List ℕ) (at end : ℕ) → at ≤ end → end ≤ length chunk → drop at (take end chunk) ≡ unread → end - at ≡ length unread
 count_unread chunk unread at end h k e = omega (arith, ap length e, length-drop at (take end chunk), length-take end chunk)
 
-pub takes_nil : (a : Option (List ℕ)) (o : Buffered) → Takes a a o o []
-takes_nil a o = record { got = []; consumed = Consumes-nil a; bytes = append-nil o.unread; count = omega arith }
-
 pub takes_trans : (a b c : Option (List ℕ)) (o m n : Buffered) (x y : List ℕ) → Takes a b o m x → Takes b c m n y → Takes a c o n (x ++ y)
 takes_trans a b c o m n x y t u = record {
   got = t.got ++ u.got;

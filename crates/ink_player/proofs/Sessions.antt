@@ -240,9 +240,6 @@ module _ (s : StoryTree) (host : Bindings) (a b h : Option (List ℕ)) (o n : Bu
     whole_unserved f t p =
         unserved (line ++ 10 ∷ []) f t.0.takes (record { plain = t.0.plain; within = t.1 }) (inl (n.unread, append_assoc line (10 ∷ []) n.unread)) p
 
-    pub whole_served : TakesLine a b o n (MAX_LINE + 1) (line ++ 10 ∷ []) line × length line ≤ MAX_LINE → Answered s host made line h i old new → ServesLine s host made a b h i o n old new
-    whole_served t p = record { line = line; is_line = record { plain = t.0.plain; within = t.1 }; takes = t.0.takes; answered = p }
-
     pub last_unserved : (f : RunFault) → TakesLast a b o n line → 0 < length line → Answers s host made line h i old new (Err f) → Runs s host made o.spare o.unread a b h i old new (Err f)
     last_unserved f t some p =
         unserved line f t.0.takes (record { plain = t.0.plain; within = t.1 }) (inr (all_taken line n.unread t.2, some, t.3)) p

@@ -1,5 +1,5 @@
 -- Content that holds no other.
-use Rattle.std.proofs.Common.{Box, ◌≡◌, refl, ◌∙◌, ap, sym, ℕ, List, Option, Some, None, option_map, String, Global, Vec, BTreeMap, rules}
+use Rattle.std.proofs.Common.{Box, ◌≡◌, refl, ◌∙◌, ap, sym, Option, Some, None, option_map, Global, rules}
 use Rattle.std.proofs.lemmas.Option.{none-some}
 use Rattle.ink_model.specs.Tree.{StoryTree, leaf, container}
 use Rattle.ink_model.specs.View.{view}
