@@ -287,11 +287,13 @@ def many_globals(count):
 def hosts(program, _worker):
     """Calls of functions that a host has bound, and globals that are set, of which one is watched."""
     print("%-34s %9s %9s" % ("calls with two arguments", "calls", "ns each"))
-    call = '1,true,{"x()":"f","exArgs":2},"pop",'
-    for name, word in (("a turn function", "f=[" + ",".join(["7"] * 60000) + "]"), ("a pure function", 'f={"[1,true]":7}')):
-        words = ("--answer" if "turn" in name else "--table", word)
-        for count in (10000, 50000):
-            with_calls, without = (best(program, calling(body, count) + "\nthrough\n", words)[0] for body in (call, ""))
+    # a word holds some 60,000 answers at the most, and a passage has at most 1,000,000 steps
+    body = "".join('1,true,{"x()":"%s","exArgs":2},"pop",' % name for name in "fg" * 10)
+    for name, option, bound in (("a turn function", "--answer", "[" + ",".join(["7"] * 50000) + "]"), ("a pure function", "--table", '{"[1,true]":7}')):
+        words = (option, "f=" + bound, option, "g=" + bound)
+        for rounds in (500, 5000):
+            with_calls, without = (best(program, calling(part, rounds) + "\nthrough\n", words)[0] for part in (body, ""))
+            count = rounds * 20
             print("%-34s %9d %9.0f" % ("  " + name, count, (with_calls - without) * 1e6 / count))
     print("%-34s %9s %12s" % ("set, one global watched", "globals", "ns a command"))
     lines = "".join("set g0 %d\n" % (n + 1) for n in range(10000))
