@@ -10,9 +10,9 @@ goes from 1 on until no request is left to refuse. Each run has to end as docs/P
 memory, or the same answers as with ample memory up to the command that found none, the fault OutOfMemory there, and what a
 broken player answers to the lines after it.
 
-Then inktest runs each table, and with each request that is refused no case may fail: a case holds, or found no memory. Where
-a table makes more requests than the time allows, every k-th is refused. Printed is how many of how many; the status is 0 only
-where all holds.
+Then inktest runs each table, and with each request that is refused a case holds, or it found no memory, or it stands behind
+such a case in what is asked of the same player. Where a table makes more requests than the time allows, every k-th is
+refused. Printed is how many of how many; the status is 0 only where all holds.
 """
 import argparse
 import json
@@ -287,7 +287,7 @@ def wrong_stories(program, shim):
 
 # ---- inktest
 
-HELD = re.compile(r"(\d+) cases, 0 failed(, \d+ out of memory)?")
+HELD = re.compile(r"\d+ cases, \d+ failed(, \d+ out of memory)?")
 
 
 def run_table(worker, table, shim, **env):
@@ -299,13 +299,47 @@ def run_table(worker, table, shim, **env):
         return done.returncode, done.stdout.decode(errors="replace").splitlines(), told.read().decode()
 
 
+def players_of(table):
+    """The lines of a table by players: a line with a story begins one; where there is none, each line has a player of its own."""
+    with open(table, encoding="utf-8") as it:
+        lines = [line.rstrip("\n") for line in it if line.strip() and not line.startswith("//")]
+    players = []
+    for line in lines:
+        if line.startswith("= ") or not players or not any(it.startswith("= ") for it in lines):
+            players.append([])
+        players[-1].append(line)
+    return players
+
+
+def is_short(line):
+    """Whether a line's answer tells of want of memory."""
+    return line.rpartition(" => ")[2].startswith("OutOfMemory")
+
+
+def are_excused(table, told, out_of_memory):
+    """Whether cases differ because a call found no memory: they are of one player, and one that found none is the first of them,
+    or stands before it. Such a call tells OutOfMemory with the events so far, or was refused where it broke the player before."""
+    differing = [line[len(table) + 2:].rpartition(": came ") for line in told]
+    for player in players_of(table):
+        at, found = 0, []
+        for line, _, _ in differing:
+            if line not in player[at:]:
+                break
+            found.append(player.index(line, at))
+            at = found[-1] + 1
+        if len(found) == len(differing):
+            return out_of_memory or "OutOfMemory" in differing[0][2].split() or any(is_short(line) for line in player[:found[0]])
+    return False
+
+
 def is_held(worker, table, shim, n):
-    """Whether no case fails where the n-th request is refused."""
+    """Whether no case fails where the n-th request is refused, but for want of memory."""
     status, lines, told = run_table(worker, table, shim, REFUSE=str(n))
-    holds = status == 0 and len(lines) == 1 and HELD.fullmatch(lines[0]) is not None
+    counts = HELD.fullmatch(lines[-1]) if lines else None
+    holds = counts is not None and (len(lines) == 1 or are_excused(table, lines[:-1], counts[1] is not None))
     if not holds:
         print("request %d of %s: status %d, %s" % (n, os.path.basename(table), status, " | ".join(lines)[:300]), flush=True)
-    return holds and told == "x"
+    return holds and status in (0, 1) and told == "x"
 
 
 def wrong_requests(worker, table, shim, seconds, jobs):
