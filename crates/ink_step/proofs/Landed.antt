@@ -1,5 +1,5 @@
 -- Flow lands, and the containers around are entered; a step goes in before it performs.
-use Rattle.std.proofs.Common.{◌≡◌, ◌∙◌, ◌||◌, ◌&&◌, ap, sym, refl, subst, inl, inr, List, Bool, true, false, true≢false, cond, nat_lt, Option, Some, option_map, Result, Ok, Err}
+use Rattle.std.proofs.Common.{◌≡◌, ◌∙◌, ◌||◌, ◌&&◌, ap, sym, refl, subst, inl, inr, List, Bool, true, false, true≢false, cond, nat_lt, Option, Some, None, option_map, Result, Ok, Err}
 use Rattle.ink_model.specs.Asks.{going_in_asks}
 use Rattle.ink_model.specs.Choosing.{following, following_asks}
 use Rattle.ink_model.specs.Configuration.{Configuration, current_place, with_choices, with_threads}
@@ -14,7 +14,7 @@ use Rattle.ink_model.specs.Host.{Bound}
 use Rattle.ink_model.specs.Step.{effect, gone_in, step, step_at}
 use Rattle.ink_model.specs.Store.{Values}
 use Rattle.ink_model.specs.Threads.{frame_count}
-use Rattle.ink_model.specs.Tree.{StoryTree, at}
+use Rattle.ink_model.specs.Tree.{StoryTree, at, container, leaf}
 use Rattle.ink_model.specs.Visits.{adds_rows, around, entering_around}
 use Rattle.ink_model.specs.declared.fault.Fault.{Fault}
 use Rattle.ink_model.specs.declared.fault.Fault.TheVariants.{OutOfMemory}
@@ -30,6 +30,7 @@ use Rattle.ink_step.specs.declared.flow.StepEnd.TheVariants as ends
 use Rattle.ink_step.specs.declared.transfer.Landing.{Landing}
 use Rattle.ink_step.specs.declared.transfer.Transfer.TheVariants as transfer
 use Rattle.ink_step.proofs.Follows.{ends_more, or_first, or_more}
+use Rattle.ink_tree.specs.Kept.{leaf_in}
 use Rattle.ink_tree.specs.Nodes.{place_of}
 use Rattle.ink_vars.specs.declared.places.Name.{Name}
 
@@ -130,6 +131,13 @@ abbrev pub Performing : StoryTree → Bound → (Bool → Outcome → Type 0) �
 Performing s b Ending here found m =
     let e = effect s b here found (context_of m) (fields_of m) in
     Ending ((content_asks s b here found (context_of m) (fields_of m) || move_asks s e m) || following_asks s (move s e m)) (following s (move s e m))
+
+-- an empty container is performed as nothing is
+pub performs_alike : (s : StoryTree) (b : Bound) (Ending : Bool → Outcome → Type 0) (here : List Part) (found : Option StoryTree) (m : Configuration)
+    → Performing s b Ending here (option_map leaf (leaf_in found)) m → Performing s b Ending here found m
+performs_alike s b Ending here None m h = h
+performs_alike s b Ending here (Some (leaf l)) m h = h
+performs_alike s b Ending here (Some (container name flags content named)) m h = h
 
 module _ (s : StoryTree) (b : Bound) (p : List Part) (old : Configuration) (at_p : current_place old ≡ Some p) where
   -- a step goes in, performs what stands there and moves

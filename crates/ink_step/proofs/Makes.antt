@@ -1,5 +1,5 @@
 -- Steps that call turn functions.
-use Rattle.std.proofs.Common.{◌≡◌, ◌∙◌, ◌||◌, ap, sym, refl, subst, inl, inr, ℕ, List, [], Bool, true, false, if◌then◌else◌, Option, Some, None, is_some, Result, Ok, Err}
+use Rattle.std.proofs.Common.{◌≡◌, ◌∙◌, ◌||◌, ap, sym, refl, subst, inl, inr, ℕ, List, [], Bool, true, false, if◌then◌else◌, Option, Some, None, is_some, option_map, Bor, Result, Ok, Err}
 use Rattle.std.specs.List.{list_all}
 use Rattle.ink_model.specs.Asks.{asks, content_asks, external_asks, going_in_asks}
 use Rattle.ink_model.specs.Choosing.{following, following_asks}
@@ -15,7 +15,7 @@ use Rattle.ink_model.specs.Stack.{popped, pushed}
 use Rattle.ink_model.specs.Step.{effect, gone_in, step, step_at}
 use Rattle.ink_model.specs.Step.Host.{answering, arguments_on, call_bound, call_external, has_string, is_argument, with_arguments}
 use Rattle.ink_model.specs.Store.{Values}
-use Rattle.ink_model.specs.Tree.{StoryTree, leaf, at}
+use Rattle.ink_model.specs.Tree.{StoryTree, container, leaf, at}
 use Rattle.ink_model.specs.Value.{is_true}
 use Rattle.ink_model.specs.declared.content.Leaf.{Leaf}
 use Rattle.ink_model.specs.declared.content.Leaf.TheVariants as leaves
@@ -35,6 +35,7 @@ use Rattle.ink_step.proofs.Follows.{ends_more, ends_unperformed, never_wants, or
 use Rattle.ink_step.proofs.Landed.{Performing, ends_outside, ends_performed}
 use Rattle.ink_step.proofs.Stopping.{broke}
 use Rattle.ink_step.proofs.Unasked.{other_acts, wanted}
+use Rattle.ink_tree.specs.Kept.{leaf_in}
 use Rattle.ink_tree.specs.declared.spot.Spot.{Spot}
 
 module _ (s : StoryTree) (b : Bound) (n : ℕ) where
@@ -186,8 +187,20 @@ module _ (s : StoryTree) (b : Bound) (p : List Part) (seen : Context) (f : Field
 
 -- ---- whether a step wants a call
 
-pub stands_in : (s : StoryTree) (here inside : List Part) (found : Option StoryTree) → found ≡ at s here → here ≡ inside → found ≡ at s inside
-stands_in s here inside found stands is = stands ∙ ap (at s) is
+pub stands_in : (s : StoryTree) (here inside : List Part) (found : Option Leaf) → found ≡ leaf_in (at s here) → here ≡ inside → found ≡ leaf_in (at s inside)
+stands_in s here inside found stands is = stands ∙ ap (λ p. leaf_in (at s p)) is
+
+-- what was found, as it stands
+pub found_leaves : (found : Option (Bor Leaf)) (o : Option StoryTree) → option_map (λ l. l.now) found ≡ leaf_in o → option_map (λ l. leaf l.now) found ≡ option_map leaf (leaf_in o)
+found_leaves None o is = ap (option_map leaf) is
+found_leaves (Some l) o is = ap (option_map leaf) is
+
+-- an empty container asks nothing, as nothing does
+asking_alike : (s : StoryTree) (b : Bound) (p : List Part) (o : Option StoryTree) (seen : Context) (f : Fields)
+    → is_asking (effect s b p o seen f) ≡ is_asking (effect s b p (option_map leaf (leaf_in o)) seen f)
+asking_alike s b p None seen f = refl
+asking_alike s b p (Some (leaf l)) seen f = refl
+asking_alike s b p (Some (container name flags content named)) seen f = refl
 
 module _ (s : StoryTree) (b : Bound) (p : List Part) (c : Configuration) (at_p : current_place c ≡ Some p) where
   abbrev inside : Configuration
@@ -200,13 +213,16 @@ module _ (s : StoryTree) (b : Bound) (p : List Part) (c : Configuration) (at_p :
   unfolding step
   step_wants = ap (λ o. wants (step_at s b o c)) at_p ∙ wanted s (effect s b (entered s p) (at s (entered s p)) (context_of inside) (fields_of inside)) inside
 
-  pub wants_none : (found : Option StoryTree) → found ≡ at s (entered s p) → external_in found ≡ None → false ≡ wants (step s b c)
-  wants_none found is other = sym (step_wants ∙ ap Wanting (sym is) ∙ other_acts s b (entered s p) found (context_of inside) (fields_of inside) other)
+  step_asks : wants (step s b c) ≡ Wanting (option_map leaf (leaf_in (at s (entered s p))))
+  step_asks = step_wants ∙ asking_alike s b (entered s p) (at s (entered s p)) (context_of inside) (fields_of inside)
 
-  pub wants_call : (found : Option StoryTree) (k : Call) (answer : Bool) → found ≡ at s (entered s p) → external_in found ≡ Some k
+  pub wants_none : (found : Option StoryTree) → found ≡ option_map leaf (leaf_in (at s (entered s p))) → external_in found ≡ None → false ≡ wants (step s b c)
+  wants_none found is other = sym (step_asks ∙ ap Wanting (sym is) ∙ other_acts s b (entered s p) found (context_of inside) (fields_of inside) other)
+
+  pub wants_call : (found : Option StoryTree) (k : Call) (answer : Bool) → found ≡ option_map leaf (leaf_in (at s (entered s p))) → external_in found ≡ Some k
       → answer ≡ is_asking (call_external s b k.name k.arguments k.conditional (fields_of inside)) → answer ≡ wants (step s b c)
   wants_call found k answer is here asking =
-      asking ∙ sym (step_wants ∙ ap Wanting (sym is) ∙ ap is_asking (found_call s b (entered s p) (context_of inside) (fields_of inside) found k here).0)
+      asking ∙ sym (step_asks ∙ ap Wanting (sym is) ∙ ap is_asking (found_call s b (entered s p) (context_of inside) (fields_of inside) found k here).0)
 
 -- ---- a whole step
 

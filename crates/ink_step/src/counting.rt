@@ -5,20 +5,19 @@ ghost use Rattle.ink_check.specs.Words as check;
 ghost use Rattle.ink_model.specs.Counts as rules;
 ghost use Rattle.ink_model.specs.Entered.{entered_places, flags_at, passed_places};
 ghost use Rattle.ink_model.specs.Asks.{going_in_asks};
-ghost use Rattle.ink_model.specs.Path.{is_container};
 ghost use Rattle.ink_model.specs.Place.{entered};
 ghost use Rattle.ink_model.specs.Rows.{place_order};
 ghost use Rattle.ink_model.specs.Step.{gone_in};
 ghost use Rattle.ink_model.specs.Tree.{at};
-ghost use Rattle.ink_model.specs.View.{view};
 ghost use Rattle.ink_model.specs.Visits.{adds_rows, all_visited, around, entering_around};
 ghost use Rattle.ink_step.specs.Words.{config_of, counts_in};
+ghost use Rattle.ink_tree.specs.Kept.{leaf_in};
 ghost use Rattle.ink_tree.specs.Nodes.{node_place, place_of, story_tree};
 ghost use Rattle.ink_tree.specs.Walks.{still_entered};
 
 use crate::machine::Machine;
 use ink_check::Story;
-use ink_model::{Content, Fault};
+use ink_model::{Fault, Leaf};
 use ink_tree::{NodeId, Spot, Tree, Upward};
 use ink_vars::{Counts, Turn};
 
@@ -56,16 +55,16 @@ fn enter(tree: &Tree, counts: &mut Counts, container: NodeId, turn: Turn) -> Res
     counts.visit(tree.number_of(container), tree.flags(container), true, turn)
 }
 
-// The containers on the way down from a content are entered, to the first content that holds no other, which is given. The one
-// error is a refused request for memory.
+// The containers on the way down from a content are entered, to the first content that holds no other by index, which is given;
+// an empty container is entered too, and none is given. The one error is a refused request for memory.
 fn enter_passed<'a>(
     tree: &'a Tree,
     counts: &mut Counts,
     node: NodeId,
     turn: Turn,
-) -> Result<(Spot, Option<&'a Content>), Fault>
+) -> Result<(Spot, Option<&'a Leaf>), Fault>
     ensures here { let s = story_tree tree.now in IfOk result (λ r. place_of s r.0 ≡ entered s (node_place s node)) }
-    ensures found { let s = story_tree tree.now in IfOk result (λ r. option_map (λ c. view c.now) r.1 ≡ at s (place_of s r.0)) }
+    ensures found { let s = story_tree tree.now in IfOk result (λ r. option_map (λ l. l.now) r.1 ≡ leaf_in (at s (place_of s r.0))) }
     ensures ok { let s = story_tree tree.now in OnOk result (counts_in s counts.new ≡ all_visited s turn (passed_places s (node_place s node)) (counts_in s counts.old)) }
     ensures fault { IfErr result (λ f. f ≡ Fault.OutOfMemory) }
     ensures memory { let s = story_tree tree.now in OnErr result (adds_rows s (passed_places s (node_place s node)) (counts_in s counts.old) ≡ true) }
@@ -79,21 +78,11 @@ fn enter_passed<'a>(
         holder: last,
         index: None,
     };
-    let found = tree.content(here);
-    if is_container(found) {
+    let found = tree.leaf(last);
+    if found.is_none() {
         enter(tree, counts, last, turn)?;
     }
     Ok((here, found))
-}
-
-fn is_container(found: Option<&Content>) -> bool
-    ensures { result ≡ is_container (option_map (λ c. view c.now) found.entry) }
-{
-    match found {
-        Some(Content::Container(_)) => true,
-        Some(Content::Leaf(_)) => false,
-        None => false,
-    }
 }
 
 /// The containers around a place are entered in a turn where flow lands there from another place. The one error is a refused
@@ -151,16 +140,16 @@ impl Machine {
         visits_of(story.tree(), &self.counts, container)
     }
 
-    /// Flow goes down from its place to the first content that holds no other, and enters the containers on the way. And that
-    /// content, none where nothing stands there. The one error is a refused request for memory, which is made only for a
+    /// Flow goes down from its place to the first content that holds no other by index, and enters the containers on the way. And
+    /// that content, none for an empty container, and where nothing stands there. The one error is a refused request for memory, which is made only for a
     /// container that is entered for the first time.
     pub(crate) fn go_in<'a>(
         &mut self,
         tree: &'a Tree,
         place: Spot,
-    ) -> Result<(Spot, Option<&'a Content>), Fault>
+    ) -> Result<(Spot, Option<&'a Leaf>), Fault>
         ensures here { let s = story_tree tree.now in IfOk result (λ r. place_of s r.0 ≡ entered s (place_of s place)) }
-        ensures found { let s = story_tree tree.now in IfOk result (λ r. option_map (λ c. view c.now) r.1 ≡ at s (place_of s r.0)) }
+        ensures found { let s = story_tree tree.now in IfOk result (λ r. option_map (λ l. l.now) r.1 ≡ leaf_in (at s (place_of s r.0))) }
         ensures ok { let s = story_tree tree.now in OnOk result (config_of s self.new ≡ gone_in s (place_of s place) (config_of s self.old)) }
         ensures fault { IfErr result (λ f. f ≡ Fault.OutOfMemory) }
         ensures memory { let s = story_tree tree.now in OnErr result (going_in_asks s (place_of s place) (config_of s self.old) ≡ true) }

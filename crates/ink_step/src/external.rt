@@ -11,9 +11,8 @@ ghost use Rattle.ink_model.specs.Host.{fits_given, pure_function, turn_function}
 ghost use Rattle.ink_model.specs.Page.{Page};
 ghost use Rattle.ink_model.specs.Step.Host as rules;
 ghost use Rattle.ink_model.specs.Store.{Values};
-ghost use Rattle.ink_model.specs.Tree.{StoryTree};
+ghost use Rattle.ink_model.specs.Tree.{StoryTree, leaf};
 ghost use Rattle.ink_model.specs.Value as truth;
-ghost use Rattle.ink_model.specs.View.{view};
 ghost use Rattle.ink_model.specs.declared.host.Event.{Event as Happening};
 ghost use Rattle.ink_model.specs.declared.value.Value.{Value as Data};
 ghost use Rattle.ink_step.specs.External.{PerformsCall, call_of, external_in, is_asking, is_true_of, lent_arguments};
@@ -24,7 +23,7 @@ use crate::operands::push;
 use crate::transfer::{Landing, Transfer, moving};
 use ink_check::Story;
 use ink_host::{Desk, FnKind, PureFn, TurnFn, Watcher};
-use ink_model::{Content, Fault, FrameKind, Given, Leaf, MAX_TEXT, Value, value_given};
+use ink_model::{Fault, FrameKind, Given, Leaf, MAX_TEXT, Value, value_given};
 use ink_out::Output;
 use ink_tree::Spot;
 use ink_value::{EvalStack, is_true};
@@ -39,18 +38,16 @@ pub(crate) struct External<'a> {
 }
 
 /// The call that stands at a place, none where other content stands there, or nothing.
-pub(crate) fn external_in<'a>(found: Option<&'a Content>) -> Option<External<'a>>
-    ensures { option_map call_of result ≡ external_in (option_map (λ c. view c.now) found.entry) }
+pub(crate) fn external_in<'a>(found: Option<&'a Leaf>) -> Option<External<'a>>
+    ensures { option_map call_of result ≡ external_in (option_map (λ l. leaf l.now) found.entry) }
 {
     match found {
         Some(
-            Content::Leaf(
-                Leaf::External {
-                    name,
-                    arguments,
-                    conditional,
-                },
-            ),
+            Leaf::External {
+                name,
+                arguments,
+                conditional,
+            },
         ) => Some(External {
             name: name.as_str(),
             arguments: *arguments as usize,

@@ -18,7 +18,6 @@ ghost use Rattle.ink_model.specs.Step.Host.{call_external};
 ghost use Rattle.ink_model.specs.Store.{Values};
 ghost use Rattle.ink_model.specs.Threads.{frame_count};
 ghost use Rattle.ink_model.specs.Tree.{StoryTree, at, leaf};
-ghost use Rattle.ink_model.specs.View.{view};
 ghost use Rattle.ink_model.specs.declared.host.Event.{Event as Happening};
 ghost use Rattle.ink_model.specs.declared.limits.TheConstants.{MAX_FRAMES};
 ghost use Rattle.ink_step.specs.Performs.{Keeps, KeepsChoices, Performs, landing_of, storing_in, unstored};
@@ -27,6 +26,7 @@ ghost use Rattle.ink_step.specs.Steps.{StepEnds, StepMakes, Steps, wants};
 ghost use Rattle.ink_step.specs.Words.{config_of};
 ghost use Rattle.ink_step.specs.declared.flow.StepEnd.TheVariants.{WantsCall};
 ghost use Rattle.ink_step.specs.declared.machine.Machine.{Machine as Before};
+ghost use Rattle.ink_tree.specs.Kept.{leaf_in};
 ghost use Rattle.ink_tree.specs.Nodes.{place_of};
 ghost use Rattle.ink_vars.specs.Changes.{Tracks};
 
@@ -45,7 +45,7 @@ use crate::writing::{output_top, write_glue, write_newline, write_text};
 use crate::{external, flow};
 use ink_check::Story;
 use ink_host::{Desk, PureFn, TurnFn, Watcher};
-use ink_model::{Content, Control, Fault, FrameKind, Leaf, Scope, Value};
+use ink_model::{Control, Fault, FrameKind, Leaf, Scope, Value};
 use ink_tree::Spot;
 
 impl Machine {
@@ -90,7 +90,7 @@ impl Machine {
         requires { self.now.threads.thread.frame.place ≡ Some place }
         ensures { let s = story_tree story.now in result ≡ wants (step s (bound_by P.meaning desk.now.functions) (config_of s self.now)) }
     {
-        let (_, found) = story.tree().first_content(place);
+        let (_, found) = story.tree().first_leaf(place);
         match external_in(found) {
             Some(call) => would_call(&call, &self.stack, &self.output, desk),
             None => false,
@@ -116,10 +116,10 @@ impl Machine {
     }
 
     /// What stands where flow is has its effect, and flow moves; where it stops it may follow a choice.
-    fn act(&mut self, story: &Story, here: Spot, found: Option<&Content>) -> Result<StepEnd, Fault>
-        requires stands { let s = story_tree story.now in option_map (λ c. view c.now) found ≡ at s (place_of s here) }
-        requires other { external_in (option_map (λ c. view c.now) found) ≡ None }
-        ensures ends { (b : Bound) → let s = story_tree story.now in let p = place_of s here in let stands = option_map (λ c. view c.now) found.entry in let c = config_of s self.old in
+    fn act(&mut self, story: &Story, here: Spot, found: Option<&Leaf>) -> Result<StepEnd, Fault>
+        requires stands { let s = story_tree story.now in option_map (λ l. l.now) found ≡ leaf_in (at s (place_of s here)) }
+        requires other { external_in (option_map (λ l. leaf l.now) found) ≡ None }
+        ensures ends { (b : Bound) → let s = story_tree story.now in let p = place_of s here in let stands = option_map (λ l. leaf l.now) found.entry in let c = config_of s self.old in
             let e = effect s b p stands (context_of c) (fields_of c) in
             StepEnds ((content_asks s b p stands (context_of c) (fields_of c) || move_asks s e c) || following_asks s (moved s e c)) (following s (moved s e c)) self.old.globals (config_of s self.new) result }
         ensures tracks { (start : Values) → Tracks start self.old.changes self.old.globals → Tracks start self.new.changes self.new.globals }
@@ -175,15 +175,15 @@ impl Machine {
         &mut self,
         story: &Story,
         here: Spot,
-        found: Option<&'a Content>,
+        found: Option<&'a Leaf>,
     ) -> Result<Transfer<'a>, Fault>
-        requires stands { let s = story_tree story.now in option_map (λ c. view c.now) found ≡ at s (place_of s here) }
-        requires other { external_in (option_map (λ c. view c.now) found) ≡ None }
-        ensures effect { (b : Bound) → let s = story_tree story.now in let p = place_of s here in let stands = option_map (λ c. view c.now) found.entry in let c = config_of s self.old in
+        requires stands { let s = story_tree story.now in option_map (λ l. l.now) found ≡ leaf_in (at s (place_of s here)) }
+        requires other { external_in (option_map (λ l. leaf l.now) found) ≡ None }
+        ensures effect { (b : Bound) → let s = story_tree story.now in let p = place_of s here in let stands = option_map (λ l. leaf l.now) found.entry in let c = config_of s self.old in
             Performs s (content_asks s b p stands (context_of c) (fields_of c)) (effect s b p stands (context_of c) (fields_of c)) (fields_of (config_of s self.new)) result }
-        ensures threads { (b : Bound) → let s = story_tree story.now in let stands = option_map (λ c. view c.now) found.entry in let c = config_of s self.old in
+        ensures threads { (b : Bound) → let s = story_tree story.now in let stands = option_map (λ l. leaf l.now) found.entry in let c = config_of s self.old in
             OnOk result (Keeps s (effect s b (place_of s here) stands (context_of c) (fields_of c)) self.old.threads self.new.threads) }
-        ensures choices { (b : Bound) → let s = story_tree story.now in let stands = option_map (λ c. view c.now) found.entry in let c = config_of s self.old in
+        ensures choices { (b : Bound) → let s = story_tree story.now in let stands = option_map (λ l. leaf l.now) found.entry in let c = config_of s self.old in
             OnOk result (KeepsChoices s (effect s b (place_of s here) stands (context_of c) (fields_of c)) self.old.choices self.new.choices) }
         ensures counts { self.new.counts ≡ self.old.counts }
         ensures turn { self.new.turn ≡ self.old.turn }
@@ -193,8 +193,7 @@ impl Machine {
     {
         match found {
             None => Ok(Transfer::Next),
-            Some(Content::Container(_)) => Ok(Transfer::Next),
-            Some(Content::Leaf(content)) => self.perform_leaf(story, here, content),
+            Some(content) => self.perform_leaf(story, here, content),
         }
     }
 

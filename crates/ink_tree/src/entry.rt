@@ -4,12 +4,12 @@ ghost use Rattle.std.specs.Prelude.{◌≡◌, option_map};
 ghost use Rattle.ink_model.specs.Place.{entered};
 ghost use Rattle.ink_model.specs.Tree.{at};
 ghost use Rattle.ink_model.specs.View.{view};
-ghost use Rattle.ink_tree.specs.Kept.{first_inside};
+ghost use Rattle.ink_tree.specs.Kept.{first_inside, leaf_in};
 ghost use Rattle.ink_tree.specs.Walks.{GoesIn};
 
 use crate::spot::{NodeId, Spot};
 use crate::tree::Tree;
-use ink_model::Content;
+use ink_model::{Content, Leaf};
 
 impl Tree {
     ghost use Rattle.ink_tree.specs.Nodes.{story_tree, node_place, place_of, MayBeNode};
@@ -25,6 +25,20 @@ impl Tree {
             Some(node) => {
                 let first = self.first_in(node);
                 (Spot::of(first), self.content_of(first))
+            }
+        }
+    }
+
+    /// The same with the content only where it holds no other: none for an empty container. Takes no memory.
+    pub fn first_leaf(&self, spot: Spot) -> (Spot, Option<&Leaf>)
+        ensures spot { place_of (story_tree self.now) result.0 ≡ entered (story_tree self.now) (place_of (story_tree self.now) spot) }
+        ensures leaf { option_map (λ l. l.now) result.1 ≡ leaf_in (at (story_tree self.now) (place_of (story_tree self.now) result.0)) }
+    {
+        match self.node(spot) {
+            None => (spot, None),
+            Some(node) => {
+                let first = self.first_in(node);
+                (Spot::of(first), self.leaf(first))
             }
         }
     }

@@ -6,7 +6,7 @@ use Rattle.ink_model.specs.Memory.{content_asks}
 use Rattle.ink_model.specs.Move.{move}
 use Rattle.ink_model.specs.MoveMemory.{move_asks}
 use Rattle.ink_model.specs.Step.{effect}
-use Rattle.ink_model.specs.View.{view}
+use Rattle.ink_model.specs.Tree.{leaf}
 use Rattle.ink_step.specs.Steps.{StepEnds}
 use Rattle.ink_step.specs.Words.{config_of}
 use Rattle.ink_step.proofs.Follows.{ends_unperformed}
@@ -19,7 +19,7 @@ returns-in_err-transfer-clause-ends c b =
     let s = story_tree c.args.story.now in
     let p = place_of s c.args.here in
     let before = config_of s c.args.self.now in
-    let found = option_map (λ x. view x.now) c.args.found in
+    let found = option_map (λ x. leaf x.now) c.args.found in
     let asking = content_asks s b p found (context_of before) (fields_of before) in
     let e = effect s b p found (context_of before) (fields_of before) in
     let new = config_of s c.perform.new.self in
@@ -33,7 +33,7 @@ returns-clause-ends c b =
     let p = place_of s c.args.here in
     let old = c.args.self.now in
     let before = config_of s old in
-    let found = option_map (λ x. view x.now) c.args.found in
+    let found = option_map (λ x. leaf x.now) c.args.found in
     let performs = c.in_ok-transfer.ensures in
     c.finish.ensures.ends old (content_asks s b p found (context_of before) (fields_of before)) (effect s b p found (context_of before) (fields_of before)) (performs.effect b) (performs.threads b) (performs.choices b)
     performs.safe performs.counts performs.turn performs.globals
