@@ -1,21 +1,21 @@
 -- What is kept of contents, and what is read of it.
-use Rattle.std.proofs.Common.{◌≡◌, ◌∙◌, ap, sym, refl, subst, ℕ, zero, suc, ◌+◌, ◌<◌, ◌≤◌, List, [], ◌∷◌, ◌++◌, length, Bool, true, false, cond, Option, Some, None, option_map, option_and_then, nat_le, nat_lt, ◌&&◌, slice_get, get_or, append_assoc, arith, inl, inr}
+use Rattle.std.proofs.Common.{◌≡◌, ◌∙◌, ap, sym, refl, subst, ℕ, zero, suc, ◌+◌, ◌<◌, ◌≤◌, List, [], ◌∷◌, ◌++◌, length, reverse, Bool, true, false, cond, Option, Some, None, option_map, option_and_then, nat_le, nat_lt, ◌&&◌, slice_get, get_or, append_assoc, arith, inl, inr}
 use Rattle.std.proofs.lemmas.Bool.Decides.{nat_tests}
-use Rattle.std.proofs.lemmas.List.{append-nil, length-append}
+use Rattle.std.proofs.lemmas.List.{append-nil, length-append, length-reverse}
 use Rattle.std.proofs.lemmas.Bool.{cases_lt}
 use Rattle.std.proofs.lemmas.Option.{cond_some, none-some, same_Some, slice_get_past, slice_get_read}
 use Rattle.std.specs.Option.{unwrap_or}
 use Rattle.ink_model.specs.Entered.{is_around, listed_if, passed_at, passed_places}
 use Rattle.ink_model.specs.Path.{is_container}
-use Rattle.ink_model.specs.Place.{entered, first_content_at, landed, next_place}
+use Rattle.ink_model.specs.Place.{entered, first_content_at, landed, next_place, next_upwards}
 use Rattle.ink_model.specs.Places.{places}
 use Rattle.ink_model.specs.Tree.{StoryTree, leaf, container, no_trees, tree, at, down, width}
 use Rattle.ink_model.specs.declared.place.Part.{Part}
 use Rattle.ink_model.specs.declared.place.Part.TheVariants.{Index, Name}
-use Rattle.ink_tree.specs.Kept.{AreLinked, IsLinked, Keeps, KeepsAll, Spans, first_inside, way_to}
+use Rattle.ink_tree.specs.Kept.{AreLinked, IsLinked, Keeps, KeepsAll, KeepsAt, StartsBehind, first_inside, way_to}
 use Rattle.ink_tree.specs.Nodes.{Finds, IsNode, MayBeNode, index_part, node_place, place_of}
 use Rattle.ink_tree.specs.Walks.{GoesIn}
-use Rattle.ink_tree.specs.declared.node.Links.{Links}
+use Rattle.ink_tree.specs.declared.node.Link.{Link}
 use Rattle.ink_tree.specs.declared.node.Node.{Node}
 use Rattle.ink_tree.specs.declared.spot.NodeId.{NodeId}
 use Rattle.ink_tree.specs.declared.spot.Spot.{Spot}
@@ -36,10 +36,14 @@ root_for s n past = (some_place s, root_place s ∙ sym (ap (λ o. unwrap_or o [
 -- ---- the first content by index
 
 module _ (s : StoryTree) (p : List Part) where
-  pub first_found : (q : List Part) (r : Option NodeId) → q ≡ p → 0 < width (at s p) → Finds s (q ++ Index 0 ∷ []) r → option_map (node_place s) r ≡ first_inside s p
-  first_found q r same some f =
-      let any : nat_lt 0 (width (at s p)) ≡ true = grind (arith, nat_tests) in
-      there s (p ++ Index 0 ∷ []) r (subst (λ o. Finds s (o ++ Index 0 ∷ []) r) same f) (index_stands s p 0 some) ∙ rw any refl
+  -- it comes right behind the content, where there is one
+  pub first_behind : (n : NodeId) (w : ℕ) → node_place s n ≡ p → w ≡ width (at s p) → 0 < w → StartsBehind s n.number w
+      → Some (node_place s (record { number = n.number + 1 })) ≡ first_inside s p
+  first_behind n w is wide some starts =
+      let any : nat_lt 0 (width (at s p)) ≡ true = grind (arith, nat_tests) in ap Some (starts some ∙ ap (λ q. q ++ Index 0 ∷ []) is) ∙ rw any refl
+
+  pub none_inside : (w : ℕ) → w ≡ width (at s p) → w ≤ 0 → None ≡ first_inside s p
+  none_inside w wide none = let empty : nat_lt 0 (width (at s p)) ≡ false = grind (arith, nat_tests) in rw empty refl
 
   first_at : (q : List Part) → Some q ≡ first_inside s p → (0 < width (at s p)) × (p ++ Index 0 ∷ [] ≡ q)
   first_at q e =
@@ -150,26 +154,49 @@ none_after_root s p e = sym (next_at_root s p e)
 
 -- ---- one more
 
-got_more : (ls : List Links) (l m : Links) (i : ℕ) → slice_get (ls ++ l ∷ []) i ≡ Some m → (P : ℕ → Links → Type 0)
+got_more : (ls : List Link) (l m : Link) (i : ℕ) → slice_get (ls ++ l ∷ []) i ≡ Some m → (P : ℕ → Link → Type 0)
     → (slice_get ls i ≡ Some m → P i m) → (P (length ls) l) → P i m
 got_more [] l m zero e P before here = subst (P 0) (same_Some l m e) here
 got_more [] l m (suc i) e P before here = absurd (none-some m e)
 got_more (k ∷ ls) l m zero e P before here = before e
 got_more (k ∷ ls) l m (suc i) e P before here = got_more ls l m i e (λ j x. P (suc j) x) before here
 
-pub linked_more : (s : StoryTree) (ls new : List Links) (l : Links) → AreLinked s ls → IsLinked s (node_place s (record { number = length ls })) l → new ≡ ls ++ l ∷ [] → AreLinked s new
+pub linked_more : (s : StoryTree) (ls new : List Link) (l : Link) → AreLinked s ls → IsLinked s (node_place s (record { number = length ls })) l → new ≡ ls ++ l ∷ [] → AreLinked s new
 linked_more s ls new l all here is = λ i m e.
     got_more ls l m i (ap (λ xs. slice_get xs i) (sym is) ∙ e) (λ j x. IsLinked s (node_place s (record { number = j })) x) (all i m) here
 
-pub one_more : (ls new : List Links) (l : Links) → new ≡ ls ++ l ∷ [] → length new ≡ length ls + 1
+pub one_more : (ls new : List Link) (l : Link) → new ≡ ls ++ l ∷ [] → length new ≡ length ls + 1
 one_more ls new l is = ap length is ∙ length-append ls (l ∷ [])
 
 pub none_linked : (s : StoryTree) → AreLinked s []
 none_linked s = λ i l e. absurd (none-some l e)
 
+-- no content comes before the root
+module _ (s : StoryTree) where
+  comes_later : (b : Bool) (q : List Part) (o : Option (List Part)) → 0 < length q → (o ≡ Some [] → ⊥) → cond b (Some q) o ≡ Some [] → ⊥
+  comes_later true q o some rest e = omega (arith, some, ap length (same_Some q [] e))
+  comes_later false q o some rest e = rest e
+
+  never_back : (up : List Part) → next_upwards s up ≡ Some [] → ⊥
+  never_back [] e = none-some [] e
+  never_back (Name n ∷ up) e = none-some [] e
+  never_back (Index i ∷ up) e =
+      comes_later (nat_lt (i + 1) (width (at s (reverse up)))) (reverse (Index (i + 1) ∷ up)) (next_upwards s up) (omega (arith, length-reverse (Index (i + 1) ∷ up)))
+      (never_back up) e
+
+  pub after_root : (p : List Part) (n : NodeId) → Some (node_place s n) ≡ next_place s p → 0 < n.number
+  unfolding next_place
+  after_root p n e =
+      elim (cases_lt 0 n.number) [
+        | inl later ↦ later
+        | inr root ↦
+            let zeroth : n.number ≡ 0 = omega arith in
+            absurd (never_back (reverse p) (sym e ∙ ap (λ i. Some (node_place s (record { number = i }))) zeroth ∙ ap Some (root_place s)))
+      ]
+
 -- what is linked at a number
-pub linked_at : (s : StoryTree) (ls : List Links) (i : ℕ) (l : Links) → AreLinked s ls → Some l ≡ slice_get ls i → option_map (node_place s) l.next ≡ next_place s (node_place s (record { number = i }))
-linked_at s ls i l all is = (all i l (sym is)).1
+pub linked_at : (s : StoryTree) (ls : List Link) (i : ℕ) (l : Link) → AreLinked s ls → Some l ≡ slice_get ls i → IsLinked s (node_place s (record { number = i })) l
+linked_at s ls i l all is = all i l (sym is)
 
 -- ---- what is kept of a node
 
@@ -189,7 +216,7 @@ module _ (s : StoryTree) (p : List Part) (n : Node) (k : Keeps s p n) where
   next_behind x i is part past = next_outside s (node_place s n.holder) i past ∙ ap (next_place s) (sym (led_by (Index i) (is ∙ ap (λ y. Some y) part)))
 
 module _ (s : StoryTree) (ns : List Node) (many : length ns ≡ length (places s)) (all : KeepsAll s ns) where
-  pub kept_at : (n : NodeId) (k : Node) → IsNode s n → k ≡ get_or ns n.number k → Keeps s (node_place s n) k × Spans s n.number k.behind
+  pub kept_at : (n : NodeId) (k : Node) → IsNode s n → k ≡ get_or ns n.number k → KeepsAt s n.number k
   kept_at n k is got = all n.number k (slice_get_read ns (length ns) n.number k refl (omega arith) got)
 
   -- a content is around another, by their numbers

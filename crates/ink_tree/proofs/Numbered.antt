@@ -10,7 +10,7 @@ use Rattle.ink_model.specs.Entered.{flags_at, is_around}
 use Rattle.ink_model.specs.declared.content.Content as contents
 use Rattle.ink_model.specs.declared.place.Part.{Part}
 use Rattle.ink_model.specs.declared.place.Part.TheVariants.{Index, Name}
-use Rattle.ink_tree.specs.Kept.{Keeps, KeepsAll, Spans, kept_leaf, leaf_in, nodes_of, nodes_from, nodes_by_key, way_to}
+use Rattle.ink_tree.specs.Kept.{Keeps, KeepsAll, KeepsAt, Spans, kept_leaf, leaf_in, nodes_of, nodes_from, nodes_by_key, way_to}
 use Rattle.ink_tree.specs.Numbers.{node_place, IsNode}
 use Rattle.ink_tree.specs.Order.{keys_rise, keys_rise_in, keys_rise_by_key, is_below}
 use Rattle.ink_tree.specs.declared.node.Node.{Node}
@@ -83,22 +83,28 @@ module _ (s : StoryTree) where
     sits_all (done ++ q ∷ []) qs (suc n) (omega (arith, length-append done (q ∷ []))) (e ∙ sym (append_assoc done (q ∷ []) qs)),
   )
 
+  -- the first of them is that of the first content by index
+  begins : (n : ℕ) (p : List Part) (content : Trees) (named : Keyed) → Sits n p (places_from 0 content ++ places_by_key named) → 0 < count content
+      → slice_get (places s) n ≡ Some (p ++ Index 0 ∷ [])
+  begins n p no_trees named h some = absurd (omega arith)
+  begins n p (tree (leaf l) ts) named h some = h.0
+  begins n p (tree (container name flags content inner) ts) named h some = h.0
+
   -- ---- what is kept from a number on
 
   abbrev Each : ℕ → List Node → Type 0
   Each n [] = Unit {0}
-  Each n (k ∷ ks) = (Keeps s (node_place s (record { number = n })) k × Spans s n k.behind) × Each (suc n) ks
+  Each n (k ∷ ks) = KeepsAt s n k × Each (suc n) ks
 
   each_append : (n m : ℕ) (xs ys : List Node) → m ≡ n + length xs → Each n xs → Each m ys → Each n (xs ++ ys)
   each_append n m [] ys e h g = let same : m ≡ n = omega arith in subst (λ k. Each k ys) same g
   each_append n m (x ∷ xs) ys e h g = (h.0, each_append (suc n) m xs ys (omega arith) h.1 g)
 
-  each_at : (n : ℕ) (ks : List Node) (i m : ℕ) (k : Node) → m ≡ n + i → Each n ks → slice_get ks i ≡ Some k → Keeps s (node_place s (record { number = m })) k × Spans s m k.behind
+  each_at : (n : ℕ) (ks : List Node) (i m : ℕ) (k : Node) → m ≡ n + i → Each n ks → slice_get ks i ≡ Some k → KeepsAt s m k
   each_at n [] i m k e h is = absurd (none-some k is)
   each_at n (x ∷ ks) zero m k e h is =
       let same : n ≡ m = omega arith in
-      subst (λ j. Keeps s (node_place s (record { number = j })) k × Spans s j k.behind) same
-      (subst (λ y. Keeps s (node_place s (record { number = n })) y × Spans s n y.behind) (same_Some x k is) h.0)
+      subst (λ j. KeepsAt s j k) same (subst (KeepsAt s n) (same_Some x k is) h.0)
   each_at n (x ∷ ks) (suc i) m k e h is = each_at (suc n) ks i m k (omega arith) h.1 is
 
   -- ---- one content
@@ -172,7 +178,7 @@ module _ (s : StoryTree) where
           → Each n (nodes_of n h x t)
       hold n h x p (leaf l) inside way stands sits rise =
           let node : Node = record { leaf = Some (contents.Leaf l); holder = h; last = x; width = 0; flags = 0; behind = n + 1 } in
-          ((keeps n p (leaf l) node sits.0 stands inside way refl refl (ap (λ o. leaf_in (Some o)) (leaf_seen l)), spans whole n p (leaf l) stands sits (n + 1) (placed n p sits.0) refl), tt)
+          ((keeps n p (leaf l) node sits.0 stands inside way refl refl (ap (λ o. leaf_in (Some o)) (leaf_seen l)), spans whole n p (leaf l) stands sits (n + 1) (placed n p sits.0) refl, λ some. absurd (omega arith)), tt)
       hold n h x p (container name flags content named) inside way stands sits rise =
           let own : NodeId = record { number = n } in
           let two = and_parts (keys_rise_in content) (keys_rise_by_key named) rise in
@@ -186,7 +192,11 @@ module _ (s : StoryTree) where
           let total : suc (length inside_it) ≡ length (places s') = many n h x s' in
           let next : n + 1 ≡ suc n = omega arith in
           let rest = subst (λ k. Sits k p (places_from 0 content ++ places_by_key named)) (sym next) sits.1 in (
-            (keeps n p s' node sits.0 stands inside way refl refl refl, spans whole n p s' stands sits (n + 1 + length inside_it) here (omega (arith, total))),
+            (
+              keeps n p s' node sits.0 stands inside way refl refl refl,
+              spans whole n p s' stands sits (n + 1 + length inside_it) here (omega (arith, total)),
+              λ some. ap (λ o. unwrap_or o []) (begins (n + 1) p content named rest some) ∙ ap (λ q. q ++ Index 0 ∷ []) (sym here),
+            ),
             subst (λ k. Each k (elements ++ nodes_by_key m own named)) next
                 (each_append (n + 1) m elements (nodes_by_key m own named) refl
                 (hold_from (n + 1) own 0 p content within here

@@ -1,5 +1,5 @@
 -- What is kept of a story's contents, so that no step walks a place.
-use Rattle.std.specs.Prelude.{◌≡◌, ⊤, ℕ, ◌+◌, List, [], ◌∷◌, ◌++◌, length, nat_le, nat_lt, ◌&&◌, slice_get, if◌then◌else◌, Option, Some, None}
+use Rattle.std.specs.Prelude.{◌≡◌, ⊤, ℕ, ◌+◌, ◌<◌, List, [], ◌∷◌, ◌++◌, length, nat_le, nat_lt, ◌&&◌, slice_get, if◌then◌else◌, Option, Some, None}
 use Rattle.std.specs.Borrow.{Bor}
 use Rattle.std.specs.Option.{option_map}
 use Rattle.ink_model.specs.Entered.{flags_at, is_around}
@@ -12,7 +12,7 @@ use Rattle.ink_model.specs.declared.content.Leaf.{Leaf}
 use Rattle.ink_model.specs.declared.place.Part.{Part}
 use Rattle.ink_model.specs.declared.place.Part.TheVariants.{Index, Name}
 use Rattle.ink_tree.specs.Numbers.{node_place, IsNode}
-use Rattle.ink_tree.specs.declared.node.Links.{Links}
+use Rattle.ink_tree.specs.declared.node.Link.{Link}
 use Rattle.ink_tree.specs.declared.node.Node.{Node}
 use Rattle.ink_tree.specs.declared.spot.NodeId.{NodeId}
 
@@ -38,9 +38,17 @@ Keeps s p n = IsNode s n.holder × (way_to s n.holder n.last ≡ p) × (n.width 
 abbrev pub Spans : StoryTree → ℕ → ℕ → Type 0
 Spans s i behind = (q : NodeId) → IsNode s q → is_around (node_place s (record { number = i })) (node_place s q) ≡ (nat_le i q.number && nat_lt q.number behind)
 
+-- of a content that has a number and so many contents by index, the first comes right behind it
+abbrev pub StartsBehind : StoryTree → ℕ → ℕ → Type 0
+StartsBehind s i w = 0 < w → node_place s (record { number = i + 1 }) ≡ node_place s (record { number = i }) ++ Index 0 ∷ []
+
+-- what is kept of the content of a number
+abbrev pub KeepsAt : StoryTree → ℕ → Node → Type 0
+KeepsAt s i n = Keeps s (node_place s (record { number = i })) n × Spans s i n.behind × StartsBehind s i n.width
+
 -- what is kept of the contents of a story, in reading order
 abbrev pub KeepsAll : StoryTree → List Node → Type 0
-KeepsAll s ns = (i : ℕ) (n : Node) → slice_get ns i ≡ Some n → Keeps s (node_place s (record { number = i })) n × Spans s i n.behind
+KeepsAll s ns = (i : ℕ) (n : Node) → slice_get ns i ≡ Some n → KeepsAt s i n
 
 -- a container, and the nodes of what is in it
 abbrev pub around : ℕ → NodeId → Option Part → ℕ → ℕ → List Node → List Node
@@ -72,15 +80,19 @@ abbrev mutual
 abbrev pub first_inside : StoryTree → List Part → Option (List Part)
 first_inside s p = if nat_lt 0 (width (at s p)) then Some (p ++ Index 0 ∷ []) else None
 
--- what is linked to the content at a place
-abbrev pub IsLinked : StoryTree → List Part → Links → Type 0
-IsLinked s p l = (option_map (node_place s) l.first ≡ first_inside s p) × (option_map (node_place s) l.next ≡ next_place s p)
+-- where a link leads; the root stands for nowhere
+abbrev pub linked_to : Link → Option NodeId
+linked_to l = if nat_lt 0 l.next.number then Some l.next else None
+
+-- the content at a place is linked to the one after it
+abbrev pub IsLinked : StoryTree → List Part → Link → Type 0
+IsLinked s p l = option_map (node_place s) (linked_to l) ≡ next_place s p
 
 -- the same, where anything is
-abbrev pub MayBeLinked : StoryTree → List Part → Option (Bor Links) → Type 0
+abbrev pub MayBeLinked : StoryTree → List Part → Option (Bor Link) → Type 0
 MayBeLinked s p None = ⊤
 MayBeLinked s p (Some l) = IsLinked s p l.now
 
 -- the same of the first contents of a story, in reading order
-abbrev pub AreLinked : StoryTree → List Links → Type 0
-AreLinked s ls = (i : ℕ) (l : Links) → slice_get ls i ≡ Some l → IsLinked s (node_place s (record { number = i })) l
+abbrev pub AreLinked : StoryTree → List Link → Type 0
+AreLinked s ls = (i : ℕ) (l : Link) → slice_get ls i ≡ Some l → IsLinked s (node_place s (record { number = i })) l

@@ -1,5 +1,6 @@
 pub mod Contents
 pub mod Kept
+pub mod Last
 pub mod Laws
 pub mod Names
 pub mod Nodes

@@ -1,11 +1,12 @@
 -- What nodes and spots of a story stand for.
 use Rattle.std.specs.Prelude.{◌≡◌, ⊤, ℕ, List, [], ◌∷◌, ◌++◌, Option, Some, None}
-use Rattle.std.specs.Borrow.{Bor}
 use Rattle.ink_json.specs.Story.{tree}
 use Rattle.ink_model.specs.Tree.{StoryTree, at}
 use Rattle.ink_model.specs.declared.place.Part.{Part}
 use Rattle.ink_model.specs.declared.place.Part.TheVariants.{Index}
 pub use Rattle.ink_tree.specs.Numbers.{node_place, IsNode, NumbersInOrder}
+use Rattle.ink_tree.specs.Order.{key_part}
+use Rattle.ink_tree.specs.declared.order.Key.{Key}
 use Rattle.ink_tree.specs.declared.spot.NodeId.{NodeId}
 use Rattle.ink_tree.specs.declared.spot.Spot.{Spot}
 use Rattle.ink_tree.specs.declared.tree.Tree.{Tree}
@@ -37,6 +38,6 @@ MayBeNode s None = ⊤
 MayBeNode s (Some n) = IsNode s n
 
 -- what is around the content at a place, and the part that leads from there to it
-abbrev pub IsAbove : StoryTree → List Part → Option (Bor Part × NodeId) → Type 0
+abbrev pub IsAbove : StoryTree → List Part → Option (Key × NodeId) → Type 0
 IsAbove s p None = p ≡ []
-IsAbove s p (Some x) = IsNode s x.1 × (p ≡ node_place s x.1 ++ x.0.now ∷ [])
+IsAbove s p (Some x) = IsNode s x.1 × (p ≡ node_place s x.1 ++ key_part x.0 ∷ [])

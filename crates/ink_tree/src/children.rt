@@ -9,8 +9,8 @@ use std::cmp::Ordering;
 /// found here is looked at again.
 #[derive(Drop)]
 pub(crate) struct Children {
-    numbers: Vec<usize>,
-    ends: Vec<usize>,
+    numbers: Vec<u32>,
+    ends: Vec<u32>,
 }
 
 impl Children {
@@ -27,10 +27,10 @@ impl Children {
         let mut ends = starts(alloc, nodes)?;
         let mut numbers = filled(alloc, nodes.len())?;
         for (number, node) in nodes.iter().enumerate() {
-            if node.last.is_some() {
+            if !node.last.is_none() {
                 if let Some(end) = ends.get_mut(node.holder.number) {
-                    if let Some(slot) = numbers.get_mut(*end) {
-                        *slot = number;
+                    if let Some(slot) = numbers.get_mut(*end as usize) {
+                        *slot = small(number);
                     }
                     *end = (*end).wrapping_add(1);
                 }
@@ -68,7 +68,7 @@ impl Children {
 
     fn number(&self, place: usize) -> usize {
         match self.numbers.get(place) {
-            Some(number) => *number,
+            Some(number) => *number as usize,
             None => 0,
         }
     }
@@ -83,23 +83,23 @@ impl Children {
 
     fn end(&self, container: usize) -> usize {
         match self.ends.get(container) {
-            Some(end) => *end,
+            Some(end) => *end as usize,
             None => 0,
         }
     }
 }
 
 // Where the block of each container starts.
-fn starts(alloc: Global, nodes: &Vec<Node>) -> Result<Vec<usize>, AllocError> {
+fn starts(alloc: Global, nodes: &Vec<Node>) -> Result<Vec<u32>, AllocError> {
     let mut starts = filled(alloc, nodes.len())?;
     for node in nodes {
-        if node.last.is_some() {
+        if !node.last.is_none() {
             if let Some(count) = starts.get_mut(node.holder.number) {
                 *count = (*count).wrapping_add(1);
             }
         }
     }
-    let mut before: usize = 0;
+    let mut before: u32 = 0;
     for start in starts.iter_mut() {
         let count = *start;
         *start = before;
@@ -108,7 +108,15 @@ fn starts(alloc: Global, nodes: &Vec<Node>) -> Result<Vec<usize>, AllocError> {
     Ok(starts)
 }
 
-fn filled(alloc: Global, count: usize) -> Result<Vec<usize>, AllocError> {
+// A number, or the largest of the list's where it is larger: then nothing is found there.
+fn small(number: usize) -> u32 {
+    match u32::try_from(number) {
+        Ok(number) => number,
+        Err(_) => u32::MAX,
+    }
+}
+
+fn filled(alloc: Global, count: usize) -> Result<Vec<u32>, AllocError> {
     let mut zeros = Vec::with_capacity(alloc, count)?;
     for _ in 0..count {
         zeros.push(0)?;
@@ -119,7 +127,7 @@ fn filled(alloc: Global, count: usize) -> Result<Vec<usize>, AllocError> {
 // How the key of a node stands to a name.
 fn order(nodes: &Vec<Node>, number: usize, name: &str) -> Ordering {
     match nodes.get(number) {
-        Some(node) => match &node.last {
+        Some(node) => match node.last.key() {
             Some(part) => compare_parts(part, Key::Name(name)),
             None => Ordering::Less,
         },

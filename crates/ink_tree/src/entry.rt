@@ -61,9 +61,21 @@ impl Tree {
         ensures inside { MayBeNode (story_tree self.now) result }
         ensures goes_in { GoesIn (story_tree self.now) (node_place (story_tree self.now) node) result }
     {
-        match self.linked(node) {
-            Some(links) => links.first,
-            None => self.first_child(node),
+        self.first_child(node)
+    }
+
+    // The first content in a content comes right behind it in reading order.
+    fn first_child(&self, node: NodeId) -> Option<NodeId>
+        ensures { option_map (node_place (story_tree self.now)) result
+            ≡ first_inside (story_tree self.now) (node_place (story_tree self.now) node) }
+    {
+        let own = self.own(node);
+        if self.nodes[own.number].width > 0 {
+            Some(NodeId {
+                number: own.number + 1,
+            })
+        } else {
+            None
         }
     }
 }

@@ -5,6 +5,7 @@ mod around;
 mod children;
 mod copying;
 mod entry;
+mod last;
 mod linking;
 mod listing;
 mod lookup;

@@ -11,10 +11,11 @@ ghost use Rattle.ink_tree.specs.declared.node.Node.{Node};
 ghost use Rattle.ink_tree.specs.Order.{keys_rise, keys_rise_in, keys_rise_by_key};
 
 use crate::copying::copy_leaf;
+use crate::last::Last;
 use crate::node::Node;
 use crate::spot::NodeId;
 use ink_json::RawStory;
-use ink_model::{Container, Content, Part, Text};
+use ink_model::{Container, Content};
 use std::alloc::{AllocError, Global};
 use std::collections::BTreeMap;
 
@@ -28,7 +29,7 @@ pub(crate) fn list_story(alloc: Global, raw: &RawStory) -> Result<Vec<Node>, All
     let Some(root) = raw.at(&[]) else {
         return Ok(nodes);
     };
-    list_content(alloc, &mut nodes, NodeId { number: 0 }, None, root)?;
+    list_content(alloc, &mut nodes, NodeId { number: 0 }, Last::none(), root)?;
     Ok(nodes)
 }
 
@@ -39,7 +40,7 @@ fn list_content(
     alloc: Global,
     nodes: &mut Vec<Node>,
     holder: NodeId,
-    last: Option<Part>,
+    last: Last,
     content: &Content,
 ) -> Result<(), AllocError>
     requires narrow { is_narrow (view content.now) ≡ true }
@@ -101,7 +102,7 @@ fn list_elements(
     ensures rises { OnOk result (keys_rise_in (trees_view elements.now.items) ≡ true) }
 {
     for (index, element) in elements.iter().enumerate() {
-        let last = Some(Part::Index(index as u32));
+        let last = Last::index(index as u32);
         list_content(alloc, nodes, holder, last, element)?;
     }
     Ok(())
@@ -120,7 +121,7 @@ fn list_named(
     ensures rises { OnOk result (keys_rise_by_key (keyed_view named.now.entries) ≡ true) }
 {
     for (name, content) in named.iter() {
-        let last = Some(Part::Name(Text::from_str(alloc, name.as_str())?));
+        let last = Last::name(alloc, name.as_str())?;
         list_content(alloc, nodes, holder, last, content)?;
     }
     Ok(())

@@ -55,18 +55,18 @@ impl Tree {
         ensures { option_map (node_place (story_tree self.now)) result ≡ above (reverse (node_place (story_tree self.now) node)) }
     {
         let kept = self.kept(node);
-        match &kept.last {
+        match kept.last.key() {
             Some(_) => Some(kept.holder),
             None => None,
         }
     }
 
     /// The part that leads to a node from the content around it, and that content; none for the root.
-    pub(crate) fn above(&self, node: NodeId) -> Option<(&Part, NodeId)>
+    pub(crate) fn above(&self, node: NodeId) -> Option<(Key<'_>, NodeId)>
         ensures { IsAbove (story_tree self.now) (node_place (story_tree self.now) node) result }
     {
         let kept = self.kept(node);
-        match &kept.last {
+        match kept.last.key() {
             Some(last) => Some((last, kept.holder)),
             None => None,
         }
@@ -77,7 +77,7 @@ impl Tree {
         ensures { option_map (λ c. view c.now) result ≡ at (story_tree self.now) (node_place (story_tree self.now) node) }
     {
         let kept = self.kept(node);
-        match &kept.last {
+        match kept.last.key() {
             Some(last) => match self.inside(kept.holder) {
                 Some(content) => below(content, last),
                 None => None,
@@ -176,7 +176,7 @@ impl Tree {
     {
         let own = self.own(holder);
         match node_at(&self.nodes, number) {
-            Some(node) => match &node.last {
+            Some(node) => match node.last.key() {
                 Some(last) => node.holder.number == own.number && is_part(last, key),
                 None => false,
             },
@@ -192,20 +192,20 @@ fn node_at(nodes: &Vec<Node>, number: usize) -> Option<&Node>
     nodes.get(number)
 }
 
-fn is_part(part: &Part, key: Key<'_>) -> bool
-    ensures yes { result ≡ true → part.now ≡ key_part key.entry }
-    ensures no { result ≡ false → part.now ≡ key_part key.entry → ⊥ }
+fn is_part(part: Key<'_>, key: Key<'_>) -> bool
+    ensures yes { result ≡ true → key_part part.entry ≡ key_part key.entry }
+    ensures no { result ≡ false → key_part part.entry ≡ key_part key.entry → ⊥ }
 {
     compare_parts(part, key).is_eq()
 }
 
 /// What stands one part down in content.
-fn below<'c>(content: &'c Content, part: &Part) -> Option<&'c Content>
-    ensures { option_map (λ c. view c.now) result ≡ down part.now (view content.now) }
+fn below<'c>(content: &'c Content, part: Key<'_>) -> Option<&'c Content>
+    ensures { option_map (λ c. view c.now) result ≡ down (key_part part.entry) (view content.now) }
 {
     match part {
-        Part::Index(index) => by_index(content, *index),
-        Part::Name(name) => by_name(content, name.as_str()),
+        Key::Index(index) => by_index(content, index),
+        Key::Name(name) => by_name(content, name),
     }
 }
 

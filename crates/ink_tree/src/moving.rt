@@ -55,7 +55,7 @@ impl Tree {
         ensures { option_map (node_place (story_tree self.now)) result ≡ next_place (story_tree self.now) (node_place (story_tree self.now) node) }
     {
         match self.linked(node) {
-            Some(links) => links.next,
+            Some(link) => link.next(),
             None => self.next_of(&self.links, node),
         }
     }

@@ -1,12 +1,14 @@
 //! What is kept of each content.
 
-ghost use Rattle.std.specs.Prelude.{◌≡◌, option_map};
+ghost use Rattle.std.specs.Prelude.{◌≡◌, ◌<◌, Some, option_map};
 ghost use Rattle.ink_model.specs.Tree as trees;
 ghost use Rattle.ink_model.specs.View.{view};
-ghost use Rattle.ink_tree.specs.Kept.{kept_leaf};
+ghost use Rattle.ink_tree.specs.Kept.{kept_leaf, linked_to};
+ghost use Rattle.ink_tree.specs.declared.spot.NodeId.{NodeId};
 
+use crate::last::Last;
 use crate::spot::NodeId;
-use ink_model::{Content, Leaf, Part};
+use ink_model::{Content, Leaf};
 
 /// A content: a copy of it where it holds no other, the content around it and the part that leads from there to it (the root has
 /// none), how many contents it holds by index, the flags of a container, and the number behind its own and those of all that is
@@ -15,7 +17,7 @@ use ink_model::{Content, Leaf, Part};
 pub(crate) struct Node {
     pub leaf: Option<Content>,
     pub holder: NodeId,
-    pub last: Option<Part>,
+    pub last: Last,
     pub width: u32,
     pub flags: u8,
     pub behind: usize,
@@ -46,9 +48,34 @@ impl Node {
     }
 }
 
-/// The first content by index in a content, and the content after it.
+/// The content after a content. The root comes after none, so it stands for none.
 #[derive(Clone, Copy)]
-pub(crate) struct Links {
-    pub first: Option<NodeId>,
-    pub next: Option<NodeId>,
+pub(crate) struct Link {
+    next: NodeId,
+}
+
+impl Link {
+    /// To a content other than the root, or to none.
+    pub(crate) fn to(next: Option<NodeId>) -> Link
+        requires { (n : NodeId) → next ≡ Some n → 0 < n.number }
+        ensures { linked_to result ≡ next }
+    {
+        match next {
+            Some(next) => Link { next },
+            None => Link {
+                next: NodeId { number: 0 },
+            },
+        }
+    }
+
+    /// The content after.
+    pub(crate) fn next(&self) -> Option<NodeId>
+        ensures { result ≡ linked_to self.now }
+    {
+        if self.next.number > 0 {
+            Some(self.next)
+        } else {
+            None
+        }
+    }
 }

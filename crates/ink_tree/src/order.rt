@@ -1,9 +1,10 @@
 //! The order of places.
 
-ghost use Rattle.std.specs.Prelude.{◌≡◌};
+ghost use Rattle.std.specs.Prelude.{◌≡◌, IfOk};
 ghost use Rattle.ink_tree.specs.Order.{part_order, key_part};
 
-use ink_model::Part;
+use ink_model::{Part, Text};
+use std::alloc::{AllocError, Global};
 use std::cmp::Ordering;
 
 /// A part that is lent: an index or a name.
@@ -23,14 +24,24 @@ pub(crate) fn key_of(part: &Part) -> Key<'_>
     }
 }
 
+/// A part of one's own that is the same. The one error is a refused request for memory.
+pub(crate) fn part_of(alloc: Global, key: Key<'_>) -> Result<Part, AllocError>
+    ensures { IfOk result (λ part. part ≡ key_part key.entry) }
+{
+    match key {
+        Key::Index(index) => Ok(Part::Index(index)),
+        Key::Name(name) => Ok(Part::Name(Text::from_str(alloc, name)?)),
+    }
+}
+
 /// How a part stands to another.
-pub(crate) fn compare_parts(part: &Part, other: Key<'_>) -> Ordering
-    ensures { result ≡ part_order part.now (key_part other.entry) }
+pub(crate) fn compare_parts(part: Key<'_>, other: Key<'_>) -> Ordering
+    ensures { result ≡ part_order (key_part part.entry) (key_part other.entry) }
 {
     match (part, other) {
-        (Part::Index(index), Key::Index(other)) => (*index).cmp(&other),
-        (Part::Index(_), Key::Name(_)) => Ordering::Less,
-        (Part::Name(_), Key::Index(_)) => Ordering::Greater,
-        (Part::Name(name), Key::Name(other)) => name.as_str().cmp(other),
+        (Key::Index(index), Key::Index(other)) => index.cmp(&other),
+        (Key::Index(_), Key::Name(_)) => Ordering::Less,
+        (Key::Name(_), Key::Index(_)) => Ordering::Greater,
+        (Key::Name(name), Key::Name(other)) => name.cmp(other),
     }
 }

@@ -21,7 +21,8 @@ ghost use Rattle.ink_tree.specs.Order.{keys_rise};
 use crate::children::Children;
 use crate::listing::list_story;
 use crate::names::Listed;
-use crate::node::{Links, Node};
+use crate::node::{Link, Node};
+use crate::order::part_of;
 use crate::spot::{NodeId, Spot};
 use ink_json::RawStory;
 use ink_model::{Cause, Content, Leaf, Part, Place, ReadRefusal};
@@ -34,7 +35,7 @@ pub struct Tree {
     pub(crate) raw: RawStory,
     pub(crate) nodes: Vec<Node>,
     pub(crate) children: Children,
-    pub(crate) links: Vec<Links>,
+    pub(crate) links: Vec<Link>,
     pub(crate) lists: Vec<Listed>,
     ghost many: { length nodes.items ≡ length (places (tree raw)) },
     ghost rising: { keys_rise (tree raw) ≡ true },
@@ -154,10 +155,10 @@ impl Tree {
     {
         let alloc = self.alloc;
         let kept = self.kept(node);
-        match &kept.last {
+        match kept.last.key() {
             Some(last) => {
                 let mut place = self.place_at(kept.holder)?;
-                place.push(last.clone_in(alloc)?)?;
+                place.push(part_of(alloc, last)?)?;
                 Ok(place)
             }
             None => Ok(Place::root(alloc)),

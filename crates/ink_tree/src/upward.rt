@@ -3,11 +3,12 @@
 ghost use Rattle.std.specs.Prelude.{◌≡◌, ◌≤◌, Option, List, IfOk, IsOk, length, map, option_map};
 ghost use Rattle.ink_model.specs.Entered.{entered_places, is_first, starts_only};
 ghost use Rattle.ink_model.specs.declared.place.Part.{Part as Step};
+ghost use Rattle.ink_tree.specs.Order.{key_part};
 ghost use Rattle.ink_tree.specs.Walks.{EntersNext, IsUp, still_entered};
 
+use crate::order::Key;
 use crate::spot::{NodeId, Spot};
 use crate::tree::Tree;
-use ink_model::Part;
 use ink_model::flags::counts_at_start;
 use smallvec::SmallVec;
 use std::alloc::AllocError;
@@ -97,11 +98,11 @@ impl Tree {
     }
 }
 
-fn is_first(part: &Part) -> bool
-    ensures { result ≡ is_first part.now }
+fn is_first(part: Key<'_>) -> bool
+    ensures { result ≡ is_first (key_part part.entry) }
 {
     match part {
-        Part::Index(index) => *index == 0,
-        Part::Name(_) => false,
+        Key::Index(index) => index == 0,
+        Key::Name(_) => false,
     }
 }

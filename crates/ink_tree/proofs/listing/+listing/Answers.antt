@@ -45,7 +45,8 @@ list_elements-loop-index-preserved t c =
     let is = rw c.deref-element-items.ensures.value at c.element-item.is in
     let inside = c.in_ok-list_content.ensures in
     record {
-      listed = element_listed cs l.index c.element-item.result is (omega arith) l.nodes.items c.args.holder _ c.list_content.new.nodes.items l.invariant.listed inside.lists;
+      listed = element_listed cs l.index c.element-item.result is (omega arith) l.nodes.items c.args.holder _ c.list_content.new.nodes.items l.invariant.listed
+          (inside.lists ∙ ap (λ x. l.nodes.items ++ nodes_of (length l.nodes.items) c.args.holder x (view c.element-item.result)) c.index-last.ensures);
       rises = l.invariant.rises ∙ element_rises cs l.index c.element-item.result is (omega arith) inside.rises;
     }
 
@@ -56,12 +57,12 @@ list_named-loop-name-preserved t c =
     let l = c.loop-name in
     let inside = c.in_ok-list_content.ensures in
     let steps = c.in-Some.ensures.steps in
-    let named = c.in_ok-from_str.ensures ∙ c.as_str.ensures.value in
+    let named = c.in_ok-last.ensures ∙ ap (λ n. Some (Name n)) c.as_str.ensures.value in
     let sorted = subst (λ es. IsStrictlySortedBy string_cmp (keys_of es)) steps l.invariant.sorted in
     record {
       listed = key_listed e es l.nodes.items c.args.holder _ c.list_content.new.nodes.items
           (ap (λ es. l.nodes.items ++ nodes_by_key (length l.nodes.items) c.args.holder (keyed_view es)) (sym steps) ∙ l.invariant.listed)
-          (inside.lists ∙ ap (λ n. l.nodes.items ++ nodes_of (length l.nodes.items) c.args.holder (Some (Name n)) (view e.1)) named);
+          (inside.lists ∙ ap (λ x. l.nodes.items ++ nodes_of (length l.nodes.items) c.args.holder x (view e.1)) named);
       rises = l.invariant.rises ∙ ap (λ es. keys_rise_by_key (keyed_view es)) steps ∙ key_rises e es sorted inside.rises;
       sorted = keys_after e es sorted;
       narrow = (key_narrow e es (subst (λ es. are_keyed_narrow (keyed_view es) ≡ true) steps l.invariant.narrow)).1;
@@ -74,8 +75,8 @@ list_content-overflow_cast-len t c =
     let small = index_small c.deref.result.now.content.items _ held.width in
     omega (arith, c.len-in-Container.ensures, c.deref.result.now.content.ok.0)
 
-pub list_elements-overflow_cast-last : goal.list_elements-overflow_cast-last
-list_elements-overflow_cast-last t c = let small = index_small c.args.elements.now.items _ c.requires.width in omega arith
+pub list_elements-overflow_cast-index : goal.list_elements-overflow_cast-index
+list_elements-overflow_cast-index t c = let small = index_small c.args.elements.now.items _ c.requires.width in omega arith
 
 pub list_content-returns-in_ok-list_named-in-Container-clause-lists :
     goal.list_content-returns-in_ok-list_named-in-Container-clause-lists

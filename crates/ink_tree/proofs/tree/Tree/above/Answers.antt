@@ -1,4 +1,6 @@
+use Rattle.std.proofs.Common.{◌∙◌, ap, sym, option_map}
 use Rattle.ink_tree.specs.Nodes.{story_tree, node_place}
+use Rattle.ink_tree.specs.Order.{key_part}
 use Rattle.ink_tree.proofs.Kept.{led_by, led_by_none}
 use Rattle.ink_tree.proofs.tree.Tree.above.Goals as goal
 
@@ -6,8 +8,9 @@ pub returns-in-Some : goal.returns-in-Some
 returns-in-Some c =
     let s = story_tree c.args.self.now in
     let k = c.kept-kept in
-    (k.ensures.0, led_by s (node_place s c.args.node) k.result.now k.ensures c.in-Some.last c.in-Some.is)
+    (k.ensures.0, led_by s (node_place s c.args.node) k.result.now k.ensures (key_part c.in-Some.last) (sym c.key.ensures ∙ ap (option_map key_part) c.in-Some.is))
 
 pub returns-in-None : goal.returns-in-None
 returns-in-None c =
-    let s = story_tree c.args.self.now in led_by_none s (node_place s c.args.node) c.kept-kept.result.now c.kept-kept.ensures c.in-None.is
+    let s = story_tree c.args.self.now in
+    led_by_none s (node_place s c.args.node) c.kept-kept.result.now c.kept-kept.ensures (sym c.key.ensures ∙ ap (option_map key_part) c.in-None.is)

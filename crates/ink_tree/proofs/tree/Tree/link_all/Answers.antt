@@ -16,10 +16,10 @@ pub loop-number-preserved : goal.loop-number-preserved
 loop-number-preserved c =
     let s = story_tree c.args.self.now in
     let l = c.loop-number in
-    let own = c.new_links-own.result in
+    let own = c.new_link-own.result in
     let more = c.in_ok-push.ensures.items in
     record {
       all = linked_more s l.links.items c.push.new.self.items own l.invariant.all
-          (subst (λ k. IsLinked s (node_place s (record { number = k })) own) (sym l.invariant.many) c.new_links-own.ensures) more;
+          (subst (λ k. IsLinked s (node_place s (record { number = k })) own) (sym l.invariant.many) c.new_link-own.ensures) more;
       many = one_more l.links.items c.push.new.self.items own more ∙ ap (λ k. k + 1) l.invariant.many;
     }
