@@ -16,6 +16,7 @@ use Rattle.ink_model.specs.declared.fault.Failure.{Failure}
 use Rattle.ink_model.specs.declared.fault.Failure.TheVariants.{OutOfMemory, Refused}
 use Rattle.ink_tree.specs.Nodes.{node_place}
 use Rattle.ink_tree.specs.declared.spot.NodeId.{NodeId}
+use Rattle.ink_check.specs.Names.{names, names_from, variable_of, with_variable}
 use Rattle.ink_check.specs.Outcome.{Follows, IsFirstBad}
 use Rattle.ink_check.specs.declared.link.Link.{Link}
 
@@ -71,14 +72,23 @@ bad_here : (s : StoryTree) (n : ℕ) → n < length (places s) → bad_places s 
 unfolding accepted
 bad_here s n h so_far bad = rw (so_far ∙ bad_next s n h bad) refl
 
-pub first_bad : (s : StoryTree) (n : ℕ) (e : Failure NodeId) → n < length (places s) → bad_places s ≡ bad_from s n
-    → Follows s (node n) (at s (node_place s (node n))) (Err e) → IsFirstBad s e
-first_bad s n OutOfMemory h so_far follows = tt
-first_bad s n (Refused m) h so_far (same, bad) = rw same (bad_here s n h so_far bad)
+pub first_bad : (s : StoryTree) (names : List (List ℕ)) (n : ℕ) (e : Failure NodeId) → n < length (places s) → bad_places s ≡ bad_from s n
+    → Follows s names (node n) (at s (node_place s (node n))) (Err e) → IsFirstBad s e
+first_bad s names n OutOfMemory h so_far follows = tt
+first_bad s names n (Refused m) h so_far (same, bad) = rw same (bad_here s n h so_far bad)
 
 pub all_good : (s : StoryTree) → bad_places s ≡ [] → accepted s ≡ Ok s
 unfolding accepted
 all_good s good = rw good refl
+
+-- ---- names
+
+-- the names after one more place
+pub names_next : (s : StoryTree) (n : ℕ) (now new : List (List ℕ)) → n < length (places s)
+    → new ≡ with_variable (variable_of (at s (node_place s (node n)))) now → names_from s (drop n (places s)) now ≡ names s
+    → names_from s (drop (n + 1) (places s)) new ≡ names s
+names_next s n now new h is so_far =
+    ap (names_from s (drop (n + 1) (places s))) is ∙ sym (ap (λ ps. names_from s ps now) (drop_next (places s) n h)) ∙ so_far
 
 -- ---- links
 

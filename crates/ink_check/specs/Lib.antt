@@ -1,3 +1,4 @@
 pub mod Words
 pub mod Links
 pub mod Outcome
+pub mod Names

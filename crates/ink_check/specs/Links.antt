@@ -15,7 +15,7 @@ use Rattle.ink_tree.specs.Nodes.{node_place, place_of}
 use Rattle.ink_tree.specs.declared.spot.NodeId.{NodeId}
 use Rattle.ink_tree.specs.declared.spot.Spot.{Spot}
 use Rattle.ink_check.specs.declared.link.Link.{Link}
-use Rattle.ink_check.specs.declared.link.Link.TheVariants.{Nothing, Flows, Counts, Pushes}
+use Rattle.ink_check.specs.declared.link.Link.TheVariants.{Nothing, Flows, Counts, Pushes, Variable}
 use Rattle.ink_check.specs.declared.link.Purpose.{Purpose}
 use Rattle.ink_check.specs.declared.link.Purpose.TheVariants.{Value, Count, Flow, OnceOnly}
 
@@ -88,6 +88,7 @@ target_of Nothing = None
 target_of (Flows target) = Some target
 target_of (Counts target n) = Some target
 target_of (Pushes target path) = Some target
+target_of (Variable number) = None
 
 abbrev pub counted_of : Link → Option NodeId
 counted_of (Counts target n) = Some n
@@ -96,6 +97,11 @@ counted_of l = None
 abbrev pub pushed_of : Link → Option Path
 pushed_of (Pushes target path) = Some path
 pushed_of l = None
+
+-- the number of the variable
+abbrev pub number_of : Link → Option ℕ
+number_of (Variable number) = Some number
+number_of l = None
 
 abbrev pub target_place : StoryTree → Link → Option (List Part)
 target_place s l = option_map (place_of s) (target_of l)
@@ -106,9 +112,9 @@ counted_place s l = option_map (node_place s) (counted_of l)
 -- what a path comes to for its purpose; nothing where it is bad for it
 abbrev pub IsLinkFor : StoryTree → Purpose → Path → List Part → Option Link → Type 0
 IsLinkFor s u path p None = is_good_for s u path p ≡ false
-IsLinkFor s u path p (Some l) = (is_good_for s u path p ≡ true) × (target_place s l ≡ Some (target_for s u path p)) × (counted_place s l ≡ counted_for u p) × (pushed_of l ≡ pushed_for u path)
+IsLinkFor s u path p (Some l) = (is_good_for s u path p ≡ true) × (target_place s l ≡ Some (target_for s u path p)) × (counted_place s l ≡ counted_for u p) × (pushed_of l ≡ pushed_for u path) × (number_of l ≡ None)
 
 -- a place with the container to which a path leads; nothing where its visits are not counted
 abbrev pub IsCountOf : StoryTree → List Part → List Part → Option Link → Type 0
 IsCountOf s p target None = is_counted s (Some p) ≡ false
-IsCountOf s p target (Some l) = (is_counted s (Some p) ≡ true) × (target_place s l ≡ Some target) × (counted_place s l ≡ Some p) × (pushed_of l ≡ None)
+IsCountOf s p target (Some l) = (is_counted s (Some p) ≡ true) × (target_place s l ≡ Some target) × (counted_place s l ≡ Some p) × (pushed_of l ≡ None) × (number_of l ≡ None)

@@ -1,7 +1,8 @@
 //! Accepting a story (docs/STORY_FORMAT.md, "Paths").
 
 ghost use Rattle.std.specs.Prelude.{◌≡◌, ◌⊎◌, [], map, Some, IfOk, IfErr, Ok, Err};
-ghost use Rattle.ink_check.specs.Links.{counted_place, pushed_of, pushed_path, target_place};
+ghost use Rattle.ink_check.specs.Links.{counted_place, number_of, pushed_of, pushed_path, target_place};
+ghost use Rattle.ink_check.specs.Names.{variable_number};
 ghost use Rattle.ink_check.specs.Outcome.{Follows, IsFirstBad, IsRefusedFor};
 ghost use Rattle.ink_check.specs.Words.{story_tree};
 ghost use Rattle.ink_json.specs.Story.{tree};
@@ -14,6 +15,7 @@ ghost use Rattle.ink_tree.specs.Nodes as nodes;
 
 use crate::forms::leaf_link;
 use crate::link::Link;
+use crate::names::{Names, variable_names};
 use crate::story::Story;
 use ink_json::RawStory;
 use ink_model::{Cause, Failure, ReadRefusal};
@@ -35,7 +37,7 @@ pub fn check(alloc: Global, raw: RawStory) -> Result<Story, ReadRefusal>
     }
 }
 
-// What the paths of all content come to, in reading order, or the first bad one.
+// What the paths of all content come to and the numbers of their variables, in reading order, or the first bad path.
 fn written_links(alloc: Global, tree: &Tree) -> Result<Vec<Link>, Failure<NodeId>>
     ensures good { IfOk result (λ _. bad_places (nodes.story_tree tree.now) ≡ []) }
     ensures leading { let s = nodes.story_tree tree.now in
@@ -44,22 +46,30 @@ fn written_links(alloc: Global, tree: &Tree) -> Result<Vec<Link>, Failure<NodeId
         IfOk result (λ links. map (counted_place s) links.items ≡ map (counted_container s) (places s)) }
     ensures pushing { let s = nodes.story_tree tree.now in
         IfOk result (λ links. map pushed_of links.items ≡ map (λ p. pushed_path (at s p)) (places s)) }
+    ensures numbering { let s = nodes.story_tree tree.now in
+        IfOk result (λ links. map number_of links.items ≡ map (variable_number s) (places s)) }
     ensures err { IfErr result (λ failure. IsFirstBad (nodes.story_tree tree.now) failure) }
 {
+    let names = variable_names(alloc, tree)?;
     let mut links = Vec::with_capacity(alloc, tree.len())?;
     for number in 0..tree.len() {
         let node = NodeId { number };
-        let link = node_link(alloc, tree, node)?;
+        let link = node_link(alloc, tree, &names, node)?;
         links.push(link)?;
     }
     Ok(links)
 }
 
-fn node_link(alloc: Global, tree: &Tree, node: NodeId) -> Result<Link, Failure<NodeId>>
-    ensures { let s = nodes.story_tree tree.now in Follows s node (at s (nodes.node_place s node)) result }
+fn node_link(
+    alloc: Global,
+    tree: &Tree,
+    names: &Names,
+    node: NodeId,
+) -> Result<Link, Failure<NodeId>>
+    ensures { let s = nodes.story_tree tree.now in Follows s names.now node (at s (nodes.node_place s node)) result }
 {
     match tree.leaf(node) {
-        Some(leaf) => leaf_link(alloc, tree, node, leaf),
+        Some(leaf) => leaf_link(alloc, tree, names, node, leaf),
         None => Ok(Link::Nothing),
     }
 }

@@ -1,35 +1,54 @@
 //! The forms of content that have a path (docs/STORY_FORMAT.md, "Paths").
 
-ghost use Rattle.std.specs.Prelude.{◌≡◌, Some, option_map};
+ghost use Rattle.std.specs.Prelude.{◌≡◌, None, Some, option_map};
 ghost use Rattle.ink_check.specs.Links as links;
+ghost use Rattle.ink_check.specs.Names.{number_in, variable_name};
 ghost use Rattle.ink_check.specs.Outcome.{Follows};
 ghost use Rattle.ink_model.specs.Tree as trees;
 ghost use Rattle.ink_tree.specs.Nodes.{story_tree};
 
 use crate::leading::follow;
 use crate::link::{Link, Purpose};
+use crate::names::{Names, variable};
 use ink_model::choice_flags::is_once_only;
 use ink_model::{Destination, Failure, Leaf};
 use ink_tree::{NodeId, Tree};
 use std::alloc::Global;
 
-/// What the path of a leaf comes to; nothing for a leaf without one.
+/// What the path of a leaf comes to; of a leaf without one, the number of its variable, if it has one.
 pub(crate) fn leaf_link(
     alloc: Global,
     tree: &Tree,
+    names: &Names,
     node: NodeId,
     leaf: &Leaf,
 ) -> Result<Link, Failure<NodeId>>
-    ensures { Follows (story_tree tree.now) node (Some (trees.leaf leaf.now)) result }
+    ensures { Follows (story_tree tree.now) names.now node (Some (trees.leaf leaf.now)) result }
 {
     let Some((text, purpose)) = written(leaf) else {
-        return Ok(Link::Nothing);
+        return Ok(variable_link(names, leaf));
     };
     let lead = follow(alloc, tree, node, text)?;
     match lead.link(alloc, tree, purpose) {
         Ok(Some(link)) => Ok(link),
         Ok(None) => Err(Failure::Refused(node)),
         Err(_) => Err(Failure::OutOfMemory),
+    }
+}
+
+// The number of a leaf's variable.
+fn variable_link(names: &Names, leaf: &Leaf) -> Link
+    ensures target { links.target_of result ≡ None }
+    ensures counted { links.counted_of result ≡ None }
+    ensures pushed { links.pushed_of result ≡ None }
+    ensures number { links.number_of result ≡ number_in names.now (variable_name leaf.now) }
+{
+    let Some(name) = variable(leaf) else {
+        return Link::Nothing;
+    };
+    match names.number(name) {
+        Some(number) => Link::Variable(number),
+        None => Link::Nothing,
     }
 }
 

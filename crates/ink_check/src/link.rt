@@ -17,6 +17,8 @@ pub(crate) enum Link {
     Counts(Spot, NodeId),
     /// A value, and where it leads.
     Pushes(Spot, Shared<Path>),
+    /// There is none, but the variable of this number.
+    Variable(usize),
 }
 
 impl Link {
@@ -25,7 +27,7 @@ impl Link {
         ensures { result ≡ links.target_of self.now }
     {
         match self {
-            Link::Nothing => None,
+            Link::Nothing | Link::Variable(_) => None,
             Link::Flows(target) | Link::Counts(target, _) | Link::Pushes(target, _) => Some(
                 *target,
             ),
@@ -38,7 +40,7 @@ impl Link {
     {
         match self {
             Link::Counts(_, container) => Some(*container),
-            Link::Nothing | Link::Flows(_) | Link::Pushes(..) => None,
+            Link::Nothing | Link::Flows(_) | Link::Pushes(..) | Link::Variable(_) => None,
         }
     }
 
@@ -48,7 +50,17 @@ impl Link {
     {
         match self {
             Link::Pushes(_, path) => Some(path),
-            Link::Nothing | Link::Flows(_) | Link::Counts(..) => None,
+            Link::Nothing | Link::Flows(_) | Link::Counts(..) | Link::Variable(_) => None,
+        }
+    }
+
+    /// The number of the variable.
+    pub(crate) fn variable(&self) -> Option<usize>
+        ensures { result ≡ links.number_of self.now }
+    {
+        match self {
+            Link::Variable(number) => Some(*number),
+            Link::Nothing | Link::Flows(_) | Link::Counts(..) | Link::Pushes(..) => None,
         }
     }
 }

@@ -1,7 +1,8 @@
 //! Accepted stories (docs/STORY_FORMAT.md, "Paths").
 
 ghost use Rattle.std.specs.Prelude.{◌≡◌, Some, [], map, option_map, slice_get};
-ghost use Rattle.ink_check.specs.Links.{counted_place, pushed_of, pushed_path, target_place};
+ghost use Rattle.ink_check.specs.Links.{counted_place, number_of, pushed_of, pushed_path, target_place};
+ghost use Rattle.ink_check.specs.Names.{variable_number};
 ghost use Rattle.ink_model.specs.Acceptance.{bad_places, counted_container, written_target};
 ghost use Rattle.ink_model.specs.Grammar.{IsSpelled};
 ghost use Rattle.ink_model.specs.Places.{places};
@@ -22,6 +23,7 @@ pub struct Story {
     ghost leading: { let s = nodes.story_tree tree in map (target_place s) links.items ≡ map (written_target s) (places s) },
     ghost counting: { let s = nodes.story_tree tree in map (counted_place s) links.items ≡ map (counted_container s) (places s) },
     ghost pushing: { let s = nodes.story_tree tree in map pushed_of links.items ≡ map (λ p. pushed_path (at s p)) (places s) },
+    ghost numbering: { let s = nodes.story_tree tree in map number_of links.items ≡ map (variable_number s) (places s) },
 }
 
 impl Story {
@@ -61,11 +63,20 @@ impl Story {
         self.link(node)?.pushed()
     }
 
+    /// The number of the variable that a content reads or assigns, or declares as a global: the index of its name among the
+    /// story's names of variables, in order of their first occurrence; none for other content. Takes no memory.
+    pub fn variable(&self, node: NodeId) -> Option<usize>
+        ensures { let s = story_tree self.now in result ≡ variable_number s (nodes.node_place s node) }
+    {
+        self.link(node)?.variable()
+    }
+
     // What the written path of a content comes to; a number beyond the story's content stands for the root.
     fn link(&self, node: NodeId) -> Option<&Link>
         ensures target { let s = story_tree self.now in option_map (λ l. target_place s l.now) result ≡ Some (written_target s (nodes.node_place s node)) }
         ensures counted { let s = story_tree self.now in option_map (λ l. counted_place s l.now) result ≡ Some (counted_container s (nodes.node_place s node)) }
         ensures pushed { let s = story_tree self.now in option_map (λ l. pushed_of l.now) result ≡ Some (pushed_path (at s (nodes.node_place s node))) }
+        ensures number { let s = story_tree self.now in option_map (λ l. number_of l.now) result ≡ Some (variable_number s (nodes.node_place s node)) }
     {
         let root = NodeId { number: 0 };
         self.entry(node).or(self.entry(root))

@@ -2,7 +2,8 @@ use Rattle.std.proofs.Common.{◌∙◌, arith, rules}
 use Rattle.std.proofs.lemmas.Result.{err_from_is_err_and}
 use Rattle.ink_model.specs.Acceptance.{counted_container, written_target}
 use Rattle.ink_model.specs.Tree.{at}
-use Rattle.ink_check.specs.Links.{counted_place, pushed_of, pushed_path, target_place}
+use Rattle.ink_check.specs.Links.{counted_place, number_of, pushed_of, pushed_path, target_place}
+use Rattle.ink_check.specs.Names.{variable_number}
 use Rattle.ink_check.proofs.Checked.{all_bad, first_bad, good_next, link_next}
 use Rattle.ink_check.proofs.checking.written_links.Goals as goal
 
@@ -12,12 +13,13 @@ loop-number-init c = record {
   leading = search rules;
   counting = search rules;
   pushing = search rules;
+  numbering = search rules;
 }
 
 pub returns-in_err-link-clause-err : goal.returns-in_err-link-clause-err
 returns-in_err-link-clause-err c =
     let p = err_from_is_err_and c.from_residual-in_err-link.result c.from_residual-in_err-link.ensures.1 in
-    rw (p.1, p.2) (first_bad _ c.loop-number.number _ (omega arith) c.loop-number.invariant.good c.in_err-link.ensures)
+    rw (p.1, p.2) (first_bad _ c.in_ok-names.names c.loop-number.number _ (omega arith) c.loop-number.invariant.good c.in_err-link.ensures)
 
 pub loop-number-preserved : goal.loop-number-preserved
 unfolding counted_container written_target
@@ -26,4 +28,5 @@ loop-number-preserved c = record {
   leading = link_next _ (target_place _) (written_target _) c.loop-number.number c.loop-number.links.items _ c.in_ok-link.link (omega arith) c.in_ok-link.ensures.1 c.in_ok-push.ensures.items c.loop-number.invariant.leading;
   counting = link_next _ (counted_place _) (counted_container _) c.loop-number.number c.loop-number.links.items _ c.in_ok-link.link (omega arith) c.in_ok-link.ensures.2 c.in_ok-push.ensures.items c.loop-number.invariant.counting;
   pushing = link_next _ pushed_of (λ p. pushed_path (at _ p)) c.loop-number.number c.loop-number.links.items _ c.in_ok-link.link (omega arith) c.in_ok-link.ensures.3 c.in_ok-push.ensures.items c.loop-number.invariant.pushing;
+  numbering = link_next _ number_of (variable_number _) c.loop-number.number c.loop-number.links.items _ c.in_ok-link.link (omega arith) (rw c.in_ok-names.ensures at c.in_ok-link.ensures.4) c.in_ok-push.ensures.items c.loop-number.invariant.numbering;
 }
