@@ -82,21 +82,27 @@ impl Changes {
         self.noted.clear();
     }
 
-    /// Notes what the global of a name is, where it was not noted since the moment; called before it is put. The one error is
-    /// a refused request for memory, which is made only for the first note of a global, and leaves all as it was.
-    pub fn note(&mut self, globals: &Globals, name: &str) -> Result<(), AllocError>
+    /// Notes what the global of a name is, which may have a number, where it was not noted since the moment; called before it is
+    /// put. The one error is a refused request for memory, which is made only for the first note of a global, and leaves all as
+    /// it was.
+    pub fn note(
+        &mut self,
+        globals: &Globals,
+        name: &str,
+        number: Option<usize>,
+    ) -> Result<(), AllocError>
         ensures ok { OnOk result (self.new ≡ with_noted name.now globals.now self.old) }
         ensures err { OnErr result (self.new ≡ self.old) }
         ensures memory { OnErr result (noted_at (number_of name.now globals.now) self.old ≡ None) }
         ensures tracks { (start : Values) → Tracks start self.old globals.now → Tracks start self.new globals.now }
         ensures stored { OnOk result ((start : Values) (value : Value) → Tracks start self.old globals.now → Tracks start self.new (store name.now value globals.now)) }
     {
-        let number = globals.number_of(name);
-        if is_marked(&self.marked, number) {
+        let place = globals.number_at(name, number);
+        if is_marked(&self.marked, place) {
             return Ok(());
         }
-        let value = copied(self.alloc, globals.get(name))?;
-        self.add(number, value)
+        let value = copied(self.alloc, globals.get_at(name, number))?;
+        self.add(place, value)
     }
 
     // Notes what the global of a number was, which has no mark yet.

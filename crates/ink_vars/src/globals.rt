@@ -1,6 +1,6 @@
 //! The globals of a running story.
 
-ghost use Rattle.std.specs.Prelude.{◌≡◌, ◌≢◌, [], false, is_some, is_ok, length, option_map, slice_get, IfOk, IfErr, OnOk, OnErr};
+ghost use Rattle.std.specs.Prelude.{◌≡◌, ◌≢◌, ◌<◌, [], false, is_some, is_ok, length, option_map, slice_get, IfOk, IfErr, IfSome, OnOk, OnErr, Some};
 ghost use Rattle.ink_model.specs.Store.{stored, store};
 ghost use Rattle.ink_vars.specs.Changes.{number_of};
 ghost use Rattle.ink_vars.specs.Globals.{DifferInName};
@@ -11,9 +11,13 @@ use std::alloc::{AllocError, Global};
 use std::marker::Model;
 
 /// Values by name, found by hash, in the order in which they were declared. A contract sees the list of them.
+///
+/// A name may have a number, which whoever asks gives with it: the slot of that number is where the global was put last, so that
+/// it is found there without a hash. It is looked at whether the name stands there; if not, the global is found by its name.
 #[derive(Drop)]
 pub struct Globals {
     values: IndexMap<String, Value>,
+    slots: Vec<usize>,
     alloc: Global,
 }
 
@@ -33,6 +37,7 @@ impl Globals {
     {
         Globals {
             values: IndexMap::new(alloc),
+            slots: Vec::new(alloc),
             alloc,
         }
     }
@@ -49,6 +54,9 @@ impl Globals {
                 copy.add(name.as_str(), value)?;
             }
         }
+        if !self.values.is_empty() {
+            copy.slots.extend_from_slice(self.slots.as_slice())?;
+        }
         Ok(copy)
     }
 
@@ -57,6 +65,16 @@ impl Globals {
         ensures { option_map (λ value. value.now) result ≡ stored name.now self.now }
     {
         self.values.get(name)
+    }
+
+    /// The same by a name and its number.
+    pub fn get_at(&self, name: &str, number: Option<usize>) -> Option<&Value>
+        ensures { option_map (λ value. value.now) result ≡ stored name.now self.now }
+    {
+        match self.found(name, number) {
+            Some((_, value)) => Some(value),
+            None => self.get(name),
+        }
     }
 
     /// Whether there is such a global.
@@ -81,6 +99,32 @@ impl Globals {
     {
         let next = self.values.len();
         self.values.get_index_of(name).unwrap_or(next)
+    }
+
+    /// The same by a name and its number.
+    pub fn number_at(&self, name: &str, number: Option<usize>) -> usize
+        ensures { result ≡ number_of name.now self.now }
+    {
+        match self.found(name, number) {
+            Some((index, _)) => index,
+            None => self.number_of(name),
+        }
+    }
+
+    // The global that the slot of a number leads to, with its index, where it has that name.
+    fn found(&self, name: &str, number: Option<usize>) -> Option<(usize, &Value)>
+        ensures { IfSome result (λ f. (f.0 ≡ number_of name.now self.now) × (Some f.1.now ≡ stored name.now self.now)) }
+    {
+        let index = *self.slots.get(number?)?;
+        if index >= self.values.len() {
+            return None;
+        }
+        let (key, value) = self.values.get_index(index)?;
+        if key.as_str() == name {
+            Some((index, value))
+        } else {
+            None
+        }
     }
 
     /// The name and the value of the global at an index, in the order in which they were declared; none past the last. Takes
@@ -121,6 +165,62 @@ impl Globals {
         }
     }
 
+    /// The same by a name and its number, whose slot is kept for a new global.
+    pub fn put_at(
+        &mut self,
+        name: &str,
+        number: Option<usize>,
+        value: Value,
+    ) -> Result<(), AllocError>
+        ensures ok { OnOk result (self.new ≡ store name.now value self.old) }
+        ensures err { OnErr result (self.new ≡ self.old) }
+        ensures memory { OnErr result (is_some (stored name.now self.old) ≡ false) }
+    {
+        match self.replace_at(name, number, value) {
+            Ok(()) => Ok(()),
+            Err(value) => self.add_at(name, number, value),
+        }
+    }
+
+    // As `replace`, by a name and its number.
+    fn replace_at(
+        &mut self,
+        name: &str,
+        number: Option<usize>,
+        value: Value,
+    ) -> Result<(), Value>
+        ensures found { is_ok result ≡ is_some (stored name.now self.old) }
+        ensures ok { OnOk result (self.new ≡ store name.now value self.old) }
+        ensures err { IfErr result (λ handed_back. handed_back ≡ value) }
+        ensures kept { OnErr result (self.new ≡ self.old) }
+    {
+        if let Some((index, _)) = self.found(name, number) {
+            if let Some(slot) = self.values.get_index_mut(index) {
+                *slot = value;
+                return Ok(());
+            }
+        }
+        self.replace(name, value)
+    }
+
+    // As `add`, and the slot of the number leads there.
+    fn add_at(
+        &mut self,
+        name: &str,
+        number: Option<usize>,
+        value: Value,
+    ) -> Result<(), AllocError>
+        ensures ok { OnOk result (self.new ≡ store name.now value self.old) }
+        ensures err { OnErr result (self.new ≡ self.old) }
+    {
+        let index = self.values.len();
+        if let Some(number) = number {
+            make_slot(&mut self.slots, number)?;
+            self.slots[number] = index;
+        }
+        self.add(name, value)
+    }
+
     // As `put`, with a copy of the name.
     fn add(&mut self, name: &str, value: Value) -> Result<(), AllocError>
         ensures ok { OnOk result (self.new ≡ store name.now value self.old) }
@@ -130,4 +230,14 @@ impl Globals {
         self.values.insert(key, value)?;
         Ok(())
     }
+}
+
+// Makes room for the slot of a number.
+fn make_slot(slots: &mut Vec<usize>, number: usize) -> Result<(), AllocError>
+    ensures { OnOk result (number < length slots.new.items) }
+{
+    while slots.len() <= number {
+        slots.push(0)?;
+    }
+    Ok(())
 }

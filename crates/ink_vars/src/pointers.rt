@@ -7,15 +7,16 @@ use crate::globals::Globals;
 use ink_model::{Shared, Text, Value};
 use ink_stack::Threads;
 
-/// The value of a name alone: that of the global, or else that of the top frame's temporary.
+/// The value of a name alone, which may have a number: that of the global, or else that of the top frame's temporary.
 pub(crate) fn named<'a, P: Copy>(
     globals: &'a Globals,
     threads: &'a Threads<P>,
     name: &str,
+    number: Option<usize>,
 ) -> Option<&'a Value>
     ensures { option_map (λ value. value.now) result ≡ rules.named globals.now threads.now.thread name.now }
 {
-    match globals.get(name) {
+    match globals.get_at(name, number) {
         Some(value) => Some(value),
         None => threads.temp(threads.top().frames(), name),
     }

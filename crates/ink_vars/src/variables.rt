@@ -28,23 +28,37 @@ pub fn read<P: Copy>(
 ) -> Result<Value, Fault>
     ensures { Copies (rules.read globals.now threads.now.thread name.now) result }
 {
-    match look(globals, threads, name) {
+    read_at(alloc, globals, threads, name, None)
+}
+
+/// The same by a name that may have a number.
+pub fn read_at<P: Copy>(
+    alloc: Global,
+    globals: &Globals,
+    threads: &Threads<P>,
+    name: &str,
+    number: Option<usize>,
+) -> Result<Value, Fault>
+    ensures { Copies (rules.read globals.now threads.now.thread name.now) result }
+{
+    match look(globals, threads, name, number) {
         Ok(Some(value)) => copied(alloc, value),
         Ok(None) => Ok(Value::Int(0)),
         Err(fault) => Err(fault),
     }
 }
 
-/// What a variable is read as, without a copy; none where nothing has it, which reads 0. The one error is `BadPointer`, as of
-/// `read`. Takes no memory.
+/// What a variable is read as, by a name that may have a number, without a copy; none where nothing has it, which reads 0. The
+/// one error is `BadPointer`, as of `read`. Takes no memory.
 pub fn look<'a, P: Copy>(
     globals: &'a Globals,
     threads: &'a Threads<P>,
     name: &str,
+    number: Option<usize>,
 ) -> Result<Option<&'a Value>, Fault>
     ensures { looked result ≡ rules.read globals.now threads.now.thread name.now }
 {
-    match named(globals, threads, name) {
+    match named(globals, threads, name, number) {
         None => Ok(None),
         Some(Value::Pointer(frame, to)) => look_at(globals, threads, *frame, to),
         Some(value) => Ok(Some(value)),
@@ -95,27 +109,28 @@ pub fn assign<P: Copy>(
         let asks = is_pointer (rules.named globals.old threads.old.thread name.now) in
         Writes asks rule globals.old globals.new threads.old threads.new result }
 {
-    match assigned(globals, threads, name) {
+    match assigned(globals, threads, name, None) {
         Ok(variable) => write(globals, threads, variable, value),
         Err(fault) => Err(fault),
     }
 }
 
-/// The variable that is written where something is assigned to a name: what has that name, or what the pointer leads to that it
-/// holds. The errors are those of `assign`.
+/// The variable that is written where something is assigned to a name, which may have a number: what has that name, or what the
+/// pointer leads to that it holds. The errors are those of `assign`.
 pub fn assigned<'a, P: Copy>(
     globals: &Globals,
     threads: &Threads<P>,
     name: &'a str,
+    number: Option<usize>,
 ) -> Result<Variable<'a>, Fault>
     ensures { LeadsTo globals.now threads.now.thread name.now result }
 {
-    if let Some(value) = globals.get(name) {
-        return assigned_in(globals, threads, 0, name, value);
+    if let Some(value) = globals.get_at(name, number) {
+        return assigned_in(globals, threads, 0, name, number, value);
     }
     let frame = threads.top().frames();
     match threads.temp(frame, name) {
-        Some(value) => assigned_in(globals, threads, frame, name, value),
+        Some(value) => assigned_in(globals, threads, frame, name, None, value),
         None => Err(Fault::NoTemp),
     }
 }
@@ -126,6 +141,7 @@ fn assigned_in<'a, P: Copy>(
     threads: &Threads<P>,
     frame: usize,
     name: &'a str,
+    number: Option<usize>,
     value: &Value,
 ) -> Result<Variable<'a>, Fault>
     requires named { rules.named globals.now threads.now.thread name.now ≡ Some value.now }
@@ -138,7 +154,7 @@ fn assigned_in<'a, P: Copy>(
         Value::Pointer(frame, to) => pointed(globals, threads, *frame, to),
         _ => Ok(Variable {
             frame,
-            name: Name::Given(name),
+            name: Name::Given(name, number),
         }),
     }
 }
@@ -189,7 +205,7 @@ fn write<P: Copy>(
     ensures memory { OnErr result (is_some (held_by globals.old threads.old.thread variable.entry) ≡ false) }
 {
     if variable.frame == 0 {
-        globals.put(variable.name.as_str(), value)?;
+        globals.put_at(variable.name.as_str(), variable.name.number(), value)?;
         return Ok(());
     }
     threads.set_temp(variable.frame, variable.name.as_str(), value)
@@ -212,16 +228,21 @@ pub fn declare<P: Copy>(
 {
     match kept(globals, threads, value) {
         Ok(value) => {
-            let variable = declared(threads, scope, name);
+            let variable = declared(threads, scope, name, None);
             write(globals, threads, variable, value)
         }
         Err(fault) => Err(fault),
     }
 }
 
-/// The variable that is written where a name is declared in a scope, whether it is there or not: a global, or a temporary of the
-/// current frame. Takes no memory.
-pub fn declared<'a, P: Copy>(threads: &Threads<P>, scope: Scope, name: &'a str) -> Variable<'a>
+/// The variable that is written where a name, which may have a number, is declared in a scope, whether it is there or not: a
+/// global, or a temporary of the current frame. Takes no memory.
+pub fn declared<'a, P: Copy>(
+    threads: &Threads<P>,
+    scope: Scope,
+    name: &'a str,
+    number: Option<usize>,
+) -> Variable<'a>
     ensures within { result.frame ≤ frame_count threads.now.thread }
     ensures variable { (globals : Values) → Declares globals threads.now.thread scope name.now result }
 {
@@ -231,7 +252,7 @@ pub fn declared<'a, P: Copy>(threads: &Threads<P>, scope: Scope, name: &'a str) 
     };
     Variable {
         frame,
-        name: Name::Given(name),
+        name: Name::Given(name, number),
     }
 }
 

@@ -8,8 +8,8 @@ use Rattle.ink_vars.proofs.changes.Changes.note.Goals as goal
 pub returns-then-is_marked-clause-ok : goal.returns-then-is_marked-clause-ok
 returns-then-is_marked-clause-ok c =
     same_noted c.args.name.now c.args.globals.now c.args.self.now
-    (noted_is_marked c.self.inside.marked.items c.deref.result.now c.self.inside.noted.items c.args.self.now c.number_of-number.result (number_of c.args.name.now c.args.globals.now) c.is_marked.result
-    c.self.invariant c.self.view_is c.deref.ensures.value c.number_of-number.ensures c.is_marked.ensures ∙ c.if-is_marked.true)
+    (noted_is_marked c.self.inside.marked.items c.deref.result.now c.self.inside.noted.items c.args.self.now c.number_at-place.result (number_of c.args.name.now c.args.globals.now) c.is_marked.result
+    c.self.invariant c.self.view_is c.deref.ensures.value c.number_at-place.ensures c.is_marked.ensures ∙ c.if-is_marked.true)
 
 pub returns-then-is_marked-clause-stored : goal.returns-then-is_marked-clause-stored
 returns-then-is_marked-clause-stored c start value tracks =
@@ -19,28 +19,28 @@ returns-then-is_marked-clause-stored c start value tracks =
 pub returns-in_err-value-clause-memory : goal.returns-in_err-value-clause-memory
 returns-in_err-value-clause-memory c =
     on_error c.from_residual.result (none_of (noted_at (number_of c.args.name.now c.args.globals.now) c.args.self.now)
-    (noted_is_marked c.self.inside.marked.items c.deref.result.now c.self.inside.noted.items c.args.self.now c.number_of-number.result (number_of c.args.name.now c.args.globals.now) c.is_marked.result
-    c.self.invariant c.self.view_is c.deref.ensures.value c.number_of-number.ensures c.is_marked.ensures ∙ c.if-is_marked.false))
+    (noted_is_marked c.self.inside.marked.items c.deref.result.now c.self.inside.noted.items c.args.self.now c.number_at-place.result (number_of c.args.name.now c.args.globals.now) c.is_marked.result
+    c.self.invariant c.self.view_is c.deref.ensures.value c.number_at-place.ensures c.is_marked.ensures ∙ c.if-is_marked.false))
 
 pub add-requires : goal.add-requires
 add-requires c =
-    none_of (noted_at c.number_of-number.result c.args.self.now)
-    (noted_is_marked c.self.inside.marked.items c.deref.result.now c.self.inside.noted.items c.args.self.now c.number_of-number.result c.number_of-number.result c.is_marked.result
+    none_of (noted_at c.number_at-place.result c.args.self.now)
+    (noted_is_marked c.self.inside.marked.items c.deref.result.now c.self.inside.noted.items c.args.self.now c.number_at-place.result c.number_at-place.result c.is_marked.result
     c.self.invariant c.self.view_is c.deref.ensures.value refl c.is_marked.ensures ∙ c.if-is_marked.false)
 
 pub returns-clause-memory : goal.returns-clause-memory
 returns-clause-memory c =
     on_error c.add.result (none_of (noted_at (number_of c.args.name.now c.args.globals.now) c.args.self.now)
-    (noted_is_marked c.self.inside.marked.items c.deref.result.now c.self.inside.noted.items c.args.self.now c.number_of-number.result (number_of c.args.name.now c.args.globals.now) c.is_marked.result
-    c.self.invariant c.self.view_is c.deref.ensures.value c.number_of-number.ensures c.is_marked.ensures ∙ c.if-is_marked.false))
+    (noted_is_marked c.self.inside.marked.items c.deref.result.now c.self.inside.noted.items c.args.self.now c.number_at-place.result (number_of c.args.name.now c.args.globals.now) c.is_marked.result
+    c.self.invariant c.self.view_is c.deref.ensures.value c.number_at-place.ensures c.is_marked.ensures ∙ c.if-is_marked.false))
 
 pub returns-clause-ok : goal.returns-clause-ok
 returns-clause-ok c =
     let unmarked : is_some (noted_at (number_of c.args.name.now c.args.globals.now) c.args.self.now) ≡ false =
-    noted_is_marked c.self.inside.marked.items c.deref.result.now c.self.inside.noted.items c.args.self.now c.number_of-number.result (number_of c.args.name.now c.args.globals.now) c.is_marked.result
-    c.self.invariant c.self.view_is c.deref.ensures.value c.number_of-number.ensures c.is_marked.ensures ∙ c.if-is_marked.false in
+    noted_is_marked c.self.inside.marked.items c.deref.result.now c.self.inside.noted.items c.args.self.now c.number_at-place.result (number_of c.args.name.now c.args.globals.now) c.is_marked.result
+    c.self.invariant c.self.view_is c.deref.ensures.value c.number_at-place.ensures c.is_marked.ensures ∙ c.if-is_marked.false in
     on_ok_weaker c.add.result
-    (λ is. is ∙ more_noted c.args.name.now c.args.globals.now c.args.self.now c.number_of-number.result c.in_ok-value.value c.number_of-number.ensures (c.in_ok-value.ensures ∙ c.get.ensures) unmarked)
+    (λ is. is ∙ more_noted c.args.name.now c.args.globals.now c.args.self.now c.number_at-place.result c.in_ok-value.value c.number_at-place.ensures (c.in_ok-value.ensures ∙ c.get_at.ensures) unmarked)
     c.add.ensures.ok
 
 pub returns-clause-stored : goal.returns-clause-stored
