@@ -81,10 +81,11 @@ pub(crate) fn variable(leaf: &Leaf) -> Option<&str>
     ensures { option_map (λ name. name.now) result ≡ rules.variable_name leaf.now }
 {
     match leaf {
-        Leaf::Variable(name) | Leaf::Assign(name) | Leaf::AssignTemp(name) | Leaf::Declare(name) => {
-            Some(name.as_str())
-        }
-        Leaf::Divert { to, .. } | Leaf::Call { to, .. } | Leaf::Tunnel { to, .. } => destination(to),
+        Leaf::Variable(name) | Leaf::Assign(name) | Leaf::AssignTemp(name) | Leaf::Declare(name) =>
+            { Some(name.as_str()) }
+        Leaf::Divert { to, .. } | Leaf::Call { to, .. } | Leaf::Tunnel { to, .. } => destination(
+            to,
+        ),
         _ => None,
     }
 }

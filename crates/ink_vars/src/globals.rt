@@ -183,12 +183,7 @@ impl Globals {
     }
 
     // As `replace`, by a name and its number.
-    fn replace_at(
-        &mut self,
-        name: &str,
-        number: Option<usize>,
-        value: Value,
-    ) -> Result<(), Value>
+    fn replace_at(&mut self, name: &str, number: Option<usize>, value: Value) -> Result<(), Value>
         ensures found { is_ok result ≡ is_some (stored name.now self.old) }
         ensures ok { OnOk result (self.new ≡ store name.now value self.old) }
         ensures err { IfErr result (λ handed_back. handed_back ≡ value) }
@@ -204,12 +199,7 @@ impl Globals {
     }
 
     // As `add`, and the slot of the number leads there.
-    fn add_at(
-        &mut self,
-        name: &str,
-        number: Option<usize>,
-        value: Value,
-    ) -> Result<(), AllocError>
+    fn add_at(&mut self, name: &str, number: Option<usize>, value: Value) -> Result<(), AllocError>
         ensures ok { OnOk result (self.new ≡ store name.now value self.old) }
         ensures err { OnErr result (self.new ≡ self.old) }
     {

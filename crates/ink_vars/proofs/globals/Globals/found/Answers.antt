@@ -14,8 +14,7 @@ returns-then-eq c =
     let value = c.in_ok-key.value.now in
     let entry : slice_get entries index ≡ Some (key, value) = sym c.in_ok-key.ensures.entry in
     let same : string_bytes key ≡ c.args.name.now =
-    sym c.as_str.ensures.value ∙ (bytes_eq-Decides c.as_str.result.now c.args.name.now).0 (sym c.eq.ensures ∙ c.if-eq.true) in
-    (
+    sym c.as_str.ensures.value ∙ (bytes_eq-Decides c.as_str.result.now c.args.name.now).0 (sym c.eq.ensures ∙ c.if-eq.true) in (
       first_at entries index (key, value) c.len.ensures.unique entry ∙ ap (λ name. number_of name (values_of entries)) same ∙ ap (number_of c.args.name.now) c.self.view_is,
-      stored_at entries index (key, value) c.len.ensures.unique entry ∙ ap (λ name. stored name (values_of entries)) same ∙ ap (stored c.args.name.now) c.self.view_is
+      stored_at entries index (key, value) c.len.ensures.unique entry ∙ ap (λ name. stored name (values_of entries)) same ∙ ap (stored c.args.name.now) c.self.view_is,
     )
