@@ -86,7 +86,7 @@ pub(crate) fn destination(
             }),
             None => Err(Fault::BadTarget),
         },
-        Destination::Variable(name) => landing_in(story, globals, threads, name.as_str()),
+        Destination::Variable(name) => landing_in(story, here, globals, threads, name.as_str()),
     }
 }
 
@@ -94,13 +94,14 @@ pub(crate) fn destination(
 /// where it is no target, or the target leads nowhere.
 fn landing_in(
     story: &Story,
+    here: Spot,
     globals: &Globals,
     threads: &Threads<Spot>,
     name: &str,
 ) -> Result<Landing, Fault>
     ensures { let s = story_tree story.now in led_as s result ≡ rules.led_by s (read globals.now threads.now.thread name.now) }
 {
-    match look(globals, threads, name) {
+    match look(globals, threads, name, number_of(story, here)) {
         Ok(Some(value)) => landing_by(story, value).ok_or(Fault::BadTarget),
         Ok(None) => Err(Fault::BadTarget),
         Err(fault) => Err(fault),
@@ -127,6 +128,12 @@ pub(crate) fn landing_on(story: &Story, path: &Path) -> Option<Landing>
         place,
         enters: ends_in_index(path.parts.as_slice()),
     })
+}
+
+/// The number of the variable that the content at a place reads or assigns, or declares as a global. A global is found by it
+/// without a hash, and is the same whatever it is.
+pub(crate) fn number_of(story: &Story, here: Spot) -> Option<usize> {
+    story.variable(story.tree().node(here)?)
 }
 
 /// Where the written path of the content at a place leads.

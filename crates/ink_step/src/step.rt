@@ -30,7 +30,7 @@ ghost use Rattle.ink_tree.specs.Kept.{leaf_in};
 ghost use Rattle.ink_tree.specs.Nodes.{place_of};
 ghost use Rattle.ink_vars.specs.Changes.{Tracks};
 
-use crate::diverting::divert;
+use crate::diverting::{divert, number_of};
 use crate::evaluating::{begin_eval, duplicate, end_eval, operate, pop, push_target, push_value};
 use crate::external::{External, external_in, would_call};
 use crate::flow::{StepEnd, done, end, fork, give_back, land, move_on};
@@ -162,8 +162,9 @@ impl Machine {
     {
         match transfer {
             Transfer::Store(name, value) => {
-                self.changes.note(&self.globals, name.as_str())?;
-                self.globals.put(name.as_str(), value)?;
+                let number = name.number();
+                self.changes.note(&self.globals, name.as_str(), number)?;
+                self.globals.put_at(name.as_str(), number, value)?;
                 Ok(end)
             }
             _ => Ok(end),
@@ -271,6 +272,7 @@ impl Machine {
                 &mut self.threads,
                 Scope::Global,
                 name,
+                number_of(story, here),
             ),
             Leaf::DeclareTemp(name) => declare(
                 &mut self.stack,
@@ -278,12 +280,14 @@ impl Machine {
                 &mut self.threads,
                 Scope::Temporary,
                 name,
+                None,
             ),
             Leaf::Assign(name) | Leaf::AssignTemp(name) => assign(
                 &mut self.stack,
                 &self.globals,
                 &mut self.threads,
                 name,
+                number_of(story, here),
             ),
             Leaf::Variable(name) => moving(push_variable(
                 self.alloc,
@@ -291,6 +295,7 @@ impl Machine {
                 &self.globals,
                 &self.threads,
                 name,
+                number_of(story, here),
             )),
             Leaf::Pointer(name, frame) => moving(push_pointer(
                 &mut self.stack,

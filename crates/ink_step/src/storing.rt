@@ -22,22 +22,23 @@ use ink_model::{Fault, Scope, Shared, Text, Value};
 use ink_stack::Threads;
 use ink_tree::Spot;
 use ink_value::EvalStack;
-use ink_vars::{Globals, Variable, assigned, declared, kept, point, read};
+use ink_vars::{Globals, Variable, assigned, declared, kept, point, read_at};
 use std::alloc::Global;
 
-/// What a variable is read as is pushed. `BadPointer` where the pointer that it holds leads nowhere.
+/// What a variable is read as is pushed; its name may have a number. `BadPointer` where the pointer that it holds leads nowhere.
 pub(crate) fn push_variable(
     alloc: Global,
     stack: &mut EvalStack,
     globals: &Globals,
     threads: &Threads<Spot>,
     name: &Shared<Text>,
+    number: Option<usize>,
 ) -> Result<(), Fault>
     ensures { (s : StoryTree) (rest : Rest) (evaluating : Bool) (fresh : Option ℕ) (page : Page)
         → let seen = seen_by s threads.now rest in Changes (is_ok (rules.read globals.now seen.thread name.now))
         (effects.push_variable name.now seen (fields evaluating fresh stack.old.items page globals.now)) (fields evaluating fresh stack.new.items page globals.now) result }
 {
-    match read(alloc, globals, threads, name.as_str()) {
+    match read_at(alloc, globals, threads, name.as_str(), number) {
         Ok(value) => push(stack, value),
         Err(fault) => Err(fault),
     }
@@ -73,6 +74,7 @@ pub(crate) fn declare<'a>(
     threads: &mut Threads<Spot>,
     scope: Scope,
     name: &'a Shared<Text>,
+    number: Option<usize>,
 ) -> Result<Transfer<'a>, Fault>
     ensures effect { (s : StoryTree) (rest : Rest) (evaluating : Bool) (fresh : Option ℕ) (page : Page)
         → let seen = seen_by s threads.old rest in Performs s (on_popped (popped stack.old.items) (declare_asks globals.now seen.thread scope name.now))
@@ -86,7 +88,7 @@ pub(crate) fn declare<'a>(
     };
     match kept(globals, threads, value) {
         Ok(value) => {
-            let variable = declared(threads, scope, name.as_str());
+            let variable = declared(threads, scope, name.as_str(), number);
             store(threads, variable, value)
         }
         Err(fault) => Err(fault),
@@ -100,6 +102,7 @@ pub(crate) fn assign<'a>(
     globals: &Globals,
     threads: &mut Threads<Spot>,
     name: &'a Shared<Text>,
+    number: Option<usize>,
 ) -> Result<Transfer<'a>, Fault>
     ensures effect { (s : StoryTree) (rest : Rest) (evaluating : Bool) (fresh : Option ℕ) (page : Page)
         → let seen = seen_by s threads.old rest in Performs s (on_popped (popped stack.old.items) (assign_asks globals.now seen.thread name.now))
@@ -111,7 +114,7 @@ pub(crate) fn assign<'a>(
     let Some(value) = top(stack) else {
         return Err(Fault::StackEmpty);
     };
-    match assigned(globals, threads, name.as_str()) {
+    match assigned(globals, threads, name.as_str(), number) {
         Ok(variable) => store(threads, variable, value),
         Err(fault) => Err(fault),
     }
