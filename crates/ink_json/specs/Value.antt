@@ -2,7 +2,7 @@
 use Rattle.std.specs.Prelude.{◌≡◌, ℕ, List, [], ◌∷◌}
 use Rattle.std.specs.Borrow.{Bor}
 use Rattle.json.specs.Token.{Token}
-use Rattle.serde_json.specs.Data.{Num, Data, null, boolean, number, string, array, object, Items, no_items, item, Members, no_members, member}
+use Rattle.serde_json.specs.Data.{Data, null, boolean, number, string, array, object, Items, no_items, Members, no_members, member}
 use Rattle.ink_json.specs.declared.value.Kind.{Kind}
 use Rattle.ink_json.specs.declared.value.Kind.TheVariants as kinds
 use Rattle.ink_json.specs.declared.value.Items.{Items as ItemsLeft}

@@ -7,7 +7,7 @@ use Rattle.ink_model.specs.View.{view, trees_view, keyed_view}
 use Rattle.ink_json.specs.Reading.{is_whole}
 use Rattle.ink_json.specs.Size.{items_size}
 use Rattle.ink_json.specs.Value.{json_data, items_left, Entry, members_data}
-use Rattle.ink_json.proofs.Containers.{size_positive, keyed_takes, by_takes, container_takes, container_stops, container_stops_late, container_read, keyed_is, keyed_members, members_within, last_within, entry_within, element_goes, element_stops, elements_end, trees_front, pushed_front, next_key, after_key, own_key, own_key_faults, key_stops, key_goes, key_put}
+use Rattle.ink_json.proofs.Containers.{size_positive, keyed_takes, by_takes, container_takes, container_stops, container_stops_late, container_read, keyed_is, keyed_members, last_within, entry_within, element_goes, element_stops, elements_end, trees_front, pushed_front, next_key, after_key, own_key, own_key_faults, key_stops, key_goes, key_put}
 use Rattle.ink_json.proofs.container.+content.Goals as goal
 
 pub read_container-returns-in_err-content : goal.read_container-returns-in_err-content
