@@ -10,3 +10,4 @@ pub mod Width
 pub mod Conditions
 pub mod Spelled
 pub mod Shapes
+pub mod Counts

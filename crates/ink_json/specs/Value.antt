@@ -1,8 +1,8 @@
 -- The data of values that stand in a tape.
-use Rattle.std.specs.Prelude.{◌≡◌, ℕ, List, [], ◌∷◌}
+use Rattle.std.specs.Prelude.{◌≡◌, ℕ, suc, List, [], ◌∷◌}
 use Rattle.std.specs.Borrow.{Bor}
 use Rattle.json.specs.Token.{Token}
-use Rattle.serde_json.specs.Data.{Data, null, boolean, number, string, array, object, Items, no_items, Members, no_members, member}
+use Rattle.serde_json.specs.Data.{Data, null, boolean, number, string, array, object, Items, no_items, item, Members, no_members, member}
 use Rattle.ink_json.specs.declared.value.Kind.{Kind}
 use Rattle.ink_json.specs.declared.value.Kind.TheVariants as kinds
 use Rattle.ink_json.specs.declared.value.Items.{Items as ItemsLeft}
@@ -20,6 +20,10 @@ items_of (number n) = no_items
 items_of (string s) = no_items
 items_of (array ds) = ds
 items_of (object ms) = no_items
+
+abbrev pub items_count : Items → ℕ
+items_count no_items = 0
+items_count (item d ds) = suc (items_count ds)
 
 -- the items that the tokens begin with, up to a closing bracket
 abbrev pub items_at : List Token → Items

@@ -80,7 +80,7 @@ pub(crate) fn read_container(
         content,
         names,
         last,
-    } = read_elements(alloc, first, items, nesting)?;
+    } = read_elements(alloc, array.len().saturating_sub(1), first, items, nesting)?;
     let named = read_last(alloc, &last, nesting, &names)?;
     let name = copy_name(alloc, own.name)?;
     let container = containing(alloc, name, own.flags, content, named)?;
@@ -106,10 +106,11 @@ fn containing(
     Ok(Content::Container(Box::new(alloc, inside)?))
 }
 
-/// The content that stands in a list, which is all elements but the last.
+/// The content that stands in a list, which is all elements but the last. There is room for as much content from the start.
 #[cycle(content)]
 fn read_elements<'t, 'a>(
     alloc: Global,
+    room: usize,
     first: Value<'t, 'a>,
     items: Items<'t, 'a>,
     nesting: usize,
@@ -122,7 +123,7 @@ fn read_elements<'t, 'a>(
     ensures last { IfOk result (λ x. own_after (json_data first.entry) (items_left items.entry) ≡ json_data x.last) }
     ensures err { IfErr result (λ e. IsFirst e (faults_inside 21 nesting 0 [] (item (json_data first.entry) (items_left items.entry)))) }
 {
-    let mut content = Vec::new(alloc);
+    let mut content = Vec::with_capacity(alloc, room)?;
     let mut names = BTreeSet::new(alloc);
     let mut here = first;
     let mut left = items;

@@ -1,6 +1,6 @@
 //! The values of a text of JSON, which stand in a tape.
 
-ghost use Rattle.std.specs.Prelude.{◌≡◌, ◌<◌, ◌∷◌, true, false, map, length, Some, None, option_map, option_and_then, is_some, MatchOption, IfOk, OnSome};
+ghost use Rattle.std.specs.Prelude.{◌≡◌, ◌<◌, ◌^◌, ◌∷◌, true, false, map, length, Some, None, option_map, option_and_then, is_some, MatchOption, IfOk, OnSome};
 ghost use Rattle.json.specs.Tape.{node_token};
 ghost use Rattle.json.specs.Token.{begin_array};
 ghost use Rattle.serde_json.specs.Data.{no_items, item};
@@ -80,7 +80,8 @@ fn are_sound(nodes: &[Node<'_>]) -> bool
 }
 
 impl<'t, 'a> Value<'t, 'a> {
-    ghost use Rattle.ink_json.specs.Value.{json_data, IsKind, items_left, members_of, members_data};
+    ghost use Rattle.ink_json.specs.Value.{json_data, IsKind, items_left, items_of, items_count, members_of, members_data};
+    ghost use Rattle.ink_json.specs.Size.{items_size};
 
     /// What it is.
     pub(crate) fn kind(&self) -> Kind<'t, 'a>
@@ -165,6 +166,20 @@ impl<'t, 'a> Value<'t, 'a> {
             Some(rest) => Some(Items { rest }),
             None => None,
         }
+    }
+
+    /// How many items it has; none where it is no array.
+    pub(crate) fn len(&self) -> usize
+        requires { items_size (items_of (json_data self.now)) < 2 ^ 32 }
+        ensures { result ≡ items_count (items_of (json_data self.now)) }
+    {
+        let mut count = 0;
+        if let Some(mut items) = self.items() {
+            while let Some(_) = items.next() {
+                count += 1;
+            }
+        }
+        count
     }
 
     /// The last item, where it is an array.

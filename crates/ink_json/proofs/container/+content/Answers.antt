@@ -72,7 +72,7 @@ read_elements-returns-in_err-read_element-clause-err t c =
     let l = c.loop-next in
     let names = l.invariant.names in
     let same = names.2 ∙ ap (λ ds. faults_inside 21 c.args.nesting l.index names.0 (item (json_data l.here) ds)) c.in-Some.ensures.value in
-    let p = err_from_is_err_and c.from_residual.result c.from_residual.ensures.1 in
+    let p = err_from_is_err_and c.from_residual-in_err-read_element.result c.from_residual-in_err-read_element.ensures.1 in
     let fails = rw (c.is_misnamed-misnamed.ensures names.0 names.1) at c.in_err-read_element.ensures in
     rw (p.1, p.2) (element_stops 21 c.args.nesting l.index (json_data l.here) (json_data c.in-Some.next) (items_left c.next.new.self) names.0 _ same c.in_err-read_element.field-0.0 fails)
 
