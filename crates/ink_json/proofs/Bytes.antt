@@ -1,25 +1,31 @@
 -- From bytes to the value of their JSON, and from it to the root.
-use Rattle.std.proofs.Common.{◌≡◌, ℕ, ◌+◌, ◌<◌, ◌≤◌, List, [], ◌∷◌, length, Bool, true, false, Option, Some, None, ok_or, Result, Ok, Err, IsUtf8, IsTrue, ◌↔◌, Ordering, Less, Equal, Greater, nat_cmp, refl, sym, ap, ◌∙◌, arith}
+use Rattle.std.proofs.Common.{◌≡◌, ℕ, ◌+◌, ◌<◌, ◌≤◌, List, [], ◌∷◌, length, Bool, true, false, ◌==◌, Option, Some, None, Result, Ok, Err, IsSome, if◌then◌else◌, IsUtf8, Ordering, Less, Equal, Greater, nat_cmp, refl, sym, ap, ◌∙◌, arith}
+use Rattle.std.proofs.lemmas.Bool.{eqb-true, eqb-false}
 use Rattle.std.proofs.lemmas.Str.{IsUtf8-from_is_utf8, is_utf8-from_IsUtf8}
 use Rattle.std.specs.Cmp.Lexicographic.{slice_cmp}
 use Rattle.std.specs.Ordering.{match_ordering}
 use Rattle.std.specs.Str.{is_utf8}
+use Rattle.json.specs.Token.{Token}
+use Rattle.json.specs.Lex.{tokens}
+use Rattle.json.specs.Json.{Json, document}
+use Rattle.json.specs.declared.error.Error.{Error}
+use Rattle.json.specs.declared.error.Error.TheVariants as errors
+use Rattle.json.specs.declared.tape.TheConstants.{MAX_LEN}
 use Rattle.serde_json.specs.Data.{Data, null, boolean, number, string, array, object, Members, no_members, member}
 use Rattle.serde_json.specs.Find.{get, get_member}
 use Rattle.serde_json.specs.Read.{read}
-use Rattle.serde_json.specs.View.{members_view}
 use Rattle.serde_json.proofs.OnLiterals.{serde_json_on_literals}
-use Rattle.serde_json.proofs.Views.{Entry}
-use Rattle.ink_model.specs.Bytes.{is_filled}
 use Rattle.ink_model.specs.declared.limits.TheConstants.{MAX_STORY}
-use Rattle.ink_model.specs.Grammar.{here, json, unmarked, of_json, of_value, story, is_blank_object}
+use Rattle.ink_model.specs.Grammar.{here, json, unmarked, of_json, story}
 use Rattle.ink_model.specs.declared.fault.Cause.TheVariants.{NotJson}
 use Rattle.ink_model.specs.declared.fault.Failure.{Failure}
 use Rattle.ink_model.specs.declared.fault.Failure.TheVariants.{OutOfMemory, Refused}
 use Rattle.ink_model.specs.declared.fault.ReadRefusal.{ReadRefusal}
-use Rattle.ink_json.specs.Reading.{is_parsable, is_parsed, FailsOr, Reads, ReadsOr}
+use Rattle.ink_json.specs.Reading.{is_parsable, is_parsed, unparsed, FailsOr, Reads, ReadsOr}
 use Rattle.ink_json.specs.Size.{size, members_size}
+use Rattle.ink_json.specs.Spelled.{are_sound, data_of}
 use Rattle.ink_json.proofs.Size.{read_size}
+use Rattle.ink_json.proofs.Spelled.{there, text_read, text_refused, text_unsound, spelled_data}
 use Rattle.ink_json.proofs.Conditions.{not_above}
 
 -- ---- text and JSON
@@ -28,61 +34,77 @@ not_text : (bytes : List ℕ) (b : Bool) → is_utf8 bytes ≡ b → (IsUtf8 byt
 not_text bytes true e bad = absurd (bad (IsUtf8-from_is_utf8 bytes e))
 not_text bytes false e bad = rw e refl
 
-pub json_none : (bytes : List ℕ) → (IsUtf8 bytes → ⊥) → ok_or (json bytes) (here NotJson) ≡ Err (here NotJson)
-json_none bytes bad = ap (λ o. ok_or o (here NotJson)) (not_text bytes (is_utf8 bytes) refl bad)
+pub no_text : (bytes : List ℕ) → (IsUtf8 bytes → ⊥) → of_json (json bytes) ≡ Err (here NotJson)
+no_text bytes bad = ap of_json (not_text bytes (is_utf8 bytes) refl bad)
 
-pub json_some : (bytes text : List ℕ) (d : Data) → text ≡ bytes → IsUtf8 bytes → read text ≡ Some d → ok_or (json bytes) (here NotJson) ≡ Ok d
-json_some bytes text d same utf8 is =
-    let e = is_utf8-from_IsUtf8 bytes utf8 in
-    let found : read bytes ≡ Some d = ap read (sym same) ∙ is in
-    rw (e, found) refl
+text_json : (bytes text : List ℕ) → text ≡ bytes → IsUtf8 bytes → json bytes ≡ read text
+text_json bytes text same utf8 = let e = is_utf8-from_IsUtf8 bytes utf8 in rw e (ap read (sym same))
 
--- text of which there is a byte
-pub parsable : (bytes text : List ℕ) → text ≡ bytes → IsUtf8 bytes → 0 < length text → is_parsable bytes ≡ true
-parsable [] text same utf8 some = absurd (omega (arith, ap length same))
-parsable (c ∷ cs) text same utf8 some = let e = is_utf8-from_IsUtf8 (c ∷ cs) utf8 in rw e refl
+pub no_json : (bytes text : List ℕ) → text ≡ bytes → IsUtf8 bytes → read text ≡ None → of_json (json bytes) ≡ Err (here NotJson)
+no_json bytes text same utf8 none = ap of_json (text_json bytes text same utf8 ∙ none)
 
 nothing_read : read [] ≡ None
 unfolding serde_json_on_literals
 nothing_read = refl
 
-read_text : (bytes : List ℕ) (d : Data) → read bytes ≡ Some d → is_filled bytes ≡ true
-read_text [] d e = absurd (cc nothing_read)
-read_text (c ∷ cs) d e = refl
+nothing : (text : List ℕ) → length text ≡ 0 → read text ≡ None
+nothing [] e = nothing_read
+nothing (c ∷ cs) e = absurd (omega (arith, e))
 
-json_text : (bytes : List ℕ) (b : Bool) (d : Data) → is_utf8 bytes ≡ b → json bytes ≡ Some d → is_parsable bytes ≡ true
-json_text bytes true d e is = let found : read bytes ≡ Some d = rw e at is in rw (e, read_text bytes d found) refl
-json_text bytes false d e is = let none : None ≡ Some d = rw e at is in absurd cc
+pub empty : (text : List ℕ) (b : Bool) → b ≡ (length text == 0) → b ≡ true → read text ≡ None
+empty text b e is = nothing text (eqb-true (length text) 0 (sym e ∙ is))
 
-pub json_size : (bytes text : List ℕ) (d : Data) → text ≡ bytes → read text ≡ Some d → size d ≤ length bytes + 1
-json_size bytes text d same is = omega (arith, read_size text d is, ap length same)
+filled : (text : List ℕ) (b : Bool) → b ≡ (length text == 0) → b ≡ false → 0 < length text
+filled [] b e is = absurd (eqb-false (length {A = ℕ} []) 0 (sym e ∙ is) refl)
+filled (c ∷ cs) b e is = omega arith
+
+-- text of which there is a byte
+pub parsable : (bytes text : List ℕ) (b : Bool) → text ≡ bytes → IsUtf8 bytes → b ≡ (length text == 0) → b ≡ false → is_parsable bytes ≡ true
+parsable [] text b same utf8 e is = absurd (omega (arith, filled text b e is, ap length same))
+parsable (c ∷ cs) text b same utf8 e is = let h = is_utf8-from_IsUtf8 (c ∷ cs) utf8 in rw h refl
+
+-- ---- the tape of a text
+
+-- what a tape of text holds, where it is sound
+abbrev pub held : List Token → Option Data
+held ts = if are_sound 0 ts then Some (data_of ts) else None
+
+held_when : (ts : List Token) (b : Bool) → are_sound 0 ts ≡ b → held ts ≡ (if b then Some (data_of ts) else None)
+held_when ts b e = ap (λ sound. if sound then Some (data_of ts) else None) e
+
+held_is : (text : List ℕ) (j : Json) (b : Bool) → document text ≡ Some j → are_sound 0 (tokens text) ≡ b → held (tokens text) ≡ read text
+held_is text j true is e =
+    let found = text_read text j is e in
+    held_when (tokens text) true e ∙ ap Some (spelled_data (tokens text) found.0 found.2) ∙ sym found.1
+held_is text j false is e = held_when (tokens text) false e ∙ sym (text_unsound text e)
+
+pub tape_json : (bytes text : List ℕ) (tape : List Token) → text ≡ bytes → IsUtf8 bytes → tape ≡ tokens text → IsSome (document text) → held tape ≡ json bytes
+tape_json bytes text tape same utf8 all is = let j = there (document text) is in ap held all ∙ held_is text j.0 _ j.1 refl ∙ sym (text_json bytes text same utf8)
+
+pub tape_size : (text : List ℕ) (tape : List Token) → tape ≡ tokens text → IsSome (document text) → are_sound 0 tape ≡ true → size (data_of tape) ≤ length text + 1
+tape_size text tape all is e =
+    let j = there (document text) is in
+    let found = text_read text j.0 j.1 (ap (are_sound 0) (sym all) ∙ e) in
+    let same : data_of tape ≡ found.0 = ap data_of all ∙ spelled_data (tokens text) found.0 found.2 in
+    omega (arith, read_size text found.0 found.1, ap size same)
+
+-- where a text could not be parsed
+pub stopped : {A : Type 0} (bytes text : List ℕ) (e : Error) (r : Result A Error) → text ≡ bytes → IsUtf8 bytes → is_parsable bytes ≡ true → length bytes ≤ MAX_STORY
+    → r ≡ Err e → (r ≡ Err errors.Invalid → document text ≡ None) → (r ≡ Err errors.TooLong → MAX_LEN < length text) → (r ≡ Err errors.DuplicateKey → ⊥)
+    → FailsOr (is_parsable bytes) (unparsed e) (of_json (json bytes))
+stopped bytes text errors.Invalid r same utf8 some short is invalid long never = no_json bytes text same utf8 (text_refused text (invalid is))
+stopped bytes text errors.OutOfMemory r same utf8 some short is invalid long never = some
+stopped bytes text errors.TooLong r same utf8 some short is invalid long never = absurd (omega (arith, long is, short, ap length same))
+stopped bytes text errors.DuplicateKey r same utf8 some short is invalid long never = absurd (never is)
 
 -- ---- the file
 
-found : (o : Option Data) (d : Data) → ok_or o (here NotJson) ≡ Ok d → o ≡ Some d
-found None d e = absurd cc
-found (Some x) d e = cc
-
-pub story_is : (bytes : List ℕ) (d : Data) → length bytes ≤ MAX_STORY → ok_or (json (unmarked bytes)) (here NotJson) ≡ Ok d → story bytes ≡ of_value d
+pub story_is : (bytes : List ℕ) → length bytes ≤ MAX_STORY → story bytes ≡ of_json (json (unmarked bytes))
 unfolding story
-story_is bytes d h e = let short = not_above MAX_STORY (length bytes) h in let is = found (json (unmarked bytes)) d e in rw (short, is) refl
+story_is bytes h = rw (not_above MAX_STORY (length bytes) h) refl
 
--- bytes in which a value was found were parsed
-pub parsed : (bytes : List ℕ) (d : Data) → length bytes ≤ MAX_STORY → ok_or (json (unmarked bytes)) (here NotJson) ≡ Ok d → is_parsed bytes ≡ true
-parsed bytes d h e =
-    let short = not_above MAX_STORY (length bytes) h in
-    let text = json_text (unmarked bytes) (is_utf8 (unmarked bytes)) d refl (found (json (unmarked bytes)) d e) in
-    rw (short, text) refl
-
-not_json : (o : Option Data) (r : ReadRefusal) → ok_or o (here NotJson) ≡ Err r → of_json o ≡ Err r
-not_json None r e = let same : here NotJson ≡ r = cc in ap Err same
-not_json (Some d) r e = absurd cc
-
--- where no value is found, there is no story
-pub no_story : (bytes : List ℕ) (e : Failure ReadRefusal) → length bytes ≤ MAX_STORY → FailsOr (is_parsable (unmarked bytes)) e (ok_or (json (unmarked bytes)) (here NotJson)) → FailsOr (is_parsed bytes) e (story bytes)
-unfolding story
-no_story bytes OutOfMemory h stops = rw (not_above MAX_STORY (length bytes) h) stops
-no_story bytes (Refused r) h stops = rw (not_above MAX_STORY (length bytes) h) (not_json (json (unmarked bytes)) r stops)
+pub parsed_is : (bytes : List ℕ) → length bytes ≤ MAX_STORY → is_parsed bytes ≡ is_parsable (unmarked bytes)
+parsed_is bytes h = rw (not_above MAX_STORY (length bytes) h) refl
 
 -- where memory may be refused anyhow
 pub reads_or : {X A : Type 0} (may : Bool) (view : X → A) (result : Result X (Failure ReadRefusal)) (read : Result A ReadRefusal) → may ≡ true → Reads view result read → ReadsOr may view result read
@@ -108,9 +130,3 @@ get_size k (number n) e is = absurd cc
 get_size k (string s) e is = absurd cc
 get_size k (array ds) e is = absurd cc
 get_size k (object ms) e is = omega (arith, member_size k ms e (sym is))
-
-pub blank : (es : List Entry) (b : Bool) → (IsTrue b ↔ (length es ≡ 0)) → b ≡ is_blank_object (Some (object (members_view es)))
-blank [] true h = refl
-blank [] false h = h.1 refl
-blank (e ∷ es) true h = let never : length (e ∷ es) ≡ 0 = h.0 refl in absurd (omega arith)
-blank (e ∷ es) false h = refl

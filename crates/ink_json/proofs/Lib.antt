@@ -8,3 +8,6 @@ pub mod Containers
 pub mod Bytes
 pub mod Width
 pub mod Conditions
+pub mod Spelled
+pub mod Shapes
+pub mod Counts

@@ -1,7 +1,7 @@
 -- The heads of an object, by which it is read.
 use Rattle.std.specs.Prelude.{◌≡◌, ◌≤◌, ℕ, List, [], ◌∷◌, ◌++◌, length, Bool, Result}
 use Rattle.serde_json.specs.Data.{Data}
-use Rattle.serde_json.specs.View.{view}
+use Rattle.ink_json.specs.Value.{json_data}
 use Rattle.ink_model.specs.Leaves.{read_jump, read_external, read_choice, read_plain, read_pointer, read_store}
 use Rattle.ink_model.specs.declared.content.Destination.{Destination}
 use Rattle.ink_model.specs.declared.content.Leaf.{Leaf}
@@ -45,7 +45,7 @@ reading (heads.Store scope) = read_store (declares scope) (assigns scope)
 -- how many readings an object has, and where it is one, by which head
 abbrev pub Counts : Found → Data → List (Result Leaf Cause) → Type 0
 Counts Nothing d rs = rs ≡ []
-Counts (One head value) d rs = rs ≡ reading head d (view value.now) ∷ []
+Counts (One head value) d rs = rs ≡ reading head d (json_data value) ∷ []
 Counts Several d rs = 2 ≤ length rs
 
 -- what was found after these readings too

@@ -1,19 +1,21 @@
 -- What reading functions return, beside the definition of the story that bytes spell.
-use Rattle.std.specs.Prelude.{◌≡◌, ℕ, List, [], ◌∷◌, length, Bool, true, false, not, ◌&&◌, nat_lt, bytes_eq, Option, Some, None, is_some, if◌then◌else◌, Result, Ok, Err}
+use Rattle.std.specs.Prelude.{◌≡◌, ℕ, List, [], ◌∷◌, length, Bool, true, false, not, ◌&&◌, nat_lt, bytes_eq, Option, is_some, if◌then◌else◌, Result, Ok, Err}
 use Rattle.std.specs.Borrow.{Bor}
 use Rattle.std.specs.BTreeSet.{BTreeSet, contains_by}
 use Rattle.std.specs.Cmp.Lexicographic.{slice_cmp}
 use Rattle.std.specs.List.{list_any}
 use Rattle.std.specs.Ordering.{nat_cmp, match_ordering}
 use Rattle.std.specs.Str.{is_utf8}
+use Rattle.json.specs.declared.error.Error.{Error}
+use Rattle.json.specs.declared.error.Error.TheVariants as errors
 use Rattle.serde_json.specs.Data.{Data}
 use Rattle.serde_json.specs.Find.{as_array}
 use Rattle.ink_model.specs.Bytes.{is_filled}
-use Rattle.ink_model.specs.Grammar.{here, under, unmarked, is_last, are_flags, member_of, flags_key, faults, faults_keyed}
+use Rattle.ink_model.specs.Grammar.{here, under, unmarked, is_last, are_flags, member_of, flags_key, faults}
 use Rattle.ink_model.specs.Tree.{StoryTree, Keyed, no_keys, key}
 use Rattle.ink_model.specs.declared.limits.TheConstants.{MAX_STORY}
 use Rattle.ink_model.specs.declared.fault.Cause.{Cause}
-use Rattle.ink_model.specs.declared.fault.Cause.TheVariants.{Shape}
+use Rattle.ink_model.specs.declared.fault.Cause.TheVariants.{NotJson, Shape}
 use Rattle.ink_model.specs.declared.fault.Failure.{Failure}
 use Rattle.ink_model.specs.declared.fault.Failure.TheVariants.{OutOfMemory, Refused}
 use Rattle.ink_model.specs.declared.fault.ReadRefusal.{ReadRefusal}
@@ -26,6 +28,13 @@ is_parsable bytes = is_utf8 bytes && is_filled bytes
 -- The bytes are parsed as JSON, which takes memory: they are within the limit, and those behind the byte order mark are text.
 abbrev pub is_parsed : List ℕ → Bool
 is_parsed bytes = not (nat_lt MAX_STORY (length bytes)) && is_parsable (unmarked bytes)
+
+-- why a text could not be parsed
+abbrev pub unparsed : Error → Failure ReadRefusal
+unparsed errors.Invalid = Refused (here NotJson)
+unparsed errors.OutOfMemory = OutOfMemory
+unparsed errors.TooLong = Refused (here NotJson)
+unparsed errors.DuplicateKey = Refused (here NotJson)
 
 -- a place is not the very place
 abbrev pub has_parts : List Part → Bool
@@ -78,11 +87,6 @@ Holds names taken = (q : List ℕ) → contains_by (λ k. slice_cmp nat_cmp q k.
 -- a container's last element is one, and gives no flags but such
 abbrev pub is_whole : Option Data → Bool
 is_whole last = is_last last && are_flags (member_of flags_key last)
-
--- what is wrong with the containers that a last element gives by key
-abbrev pub faults_last : ℕ → ℕ → List (List ℕ) → Option Data → List ReadRefusal
-faults_last version nesting taken None = []
-faults_last version nesting taken (Some d) = faults_keyed version nesting taken d
 
 -- what is wrong with what stands at a key
 abbrev pub faults_named : ℕ → ℕ → Bool → Data → List ReadRefusal

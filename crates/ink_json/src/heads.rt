@@ -1,12 +1,12 @@
 //! The heads of an object, which say what it is.
 
 ghost use Rattle.std.specs.Prelude.{◌++◌};
-ghost use Rattle.serde_json.specs.View.{view as json_view};
+ghost use Rattle.ink_json.specs.Value.{json_data};
 ghost use Rattle.ink_model.specs.Leaves.{by_head, jump_readings, value_readings, store_readings};
 ghost use Rattle.ink_json.specs.Heads.{Counts, Adds, reading};
 
 use crate::readings::{Jump, Scope};
-use serde_json::Value;
+use crate::value::Value;
 
 /// The key that says what an object is.
 #[derive(Clone, Copy)]
@@ -22,16 +22,16 @@ pub(crate) enum Head {
 }
 
 /// The heads that were found in an object; where it is one, with its value.
-#[derive(Clone, Copy)]
-pub(crate) enum Found<'v> {
+#[derive(Drop)]
+pub(crate) enum Found<'t, 'a> {
     Nothing,
-    One(Head, &'v Value),
+    One(Head, Value<'t, 'a>),
     Several,
 }
 
 /// The heads of an object.
-pub(crate) fn heads(object: &Value) -> Found<'_>
-    ensures { Counts result (json_view object.now) (jump_readings (json_view object.now) ++ (value_readings (json_view object.now) ++ store_readings (json_view object.now))) }
+pub(crate) fn heads<'t, 'a>(object: &Value<'t, 'a>) -> Found<'t, 'a>
+    ensures { Counts result (json_data object.now) (jump_readings (json_data object.now) ++ (value_readings (json_data object.now) ++ store_readings (json_data object.now))) }
 {
     let found = Found::Nothing;
     let found = add_jumps(found, object);
@@ -40,8 +40,8 @@ pub(crate) fn heads(object: &Value) -> Found<'_>
 }
 
 #[tactic(auto, unfolding(ink_model::specs::Leaves::jump_readings))]
-fn add_jumps<'v>(found: Found<'v>, object: &'v Value) -> Found<'v>
-    ensures { Adds jump_readings found.entry (json_view object.now) result }
+fn add_jumps<'t, 'a>(found: Found<'t, 'a>, object: &Value<'t, 'a>) -> Found<'t, 'a>
+    ensures { Adds jump_readings found.entry (json_data object.now) result }
 {
     let found = add(found, object, "->", Head::Jump(Jump::Divert));
     let found = add(found, object, "f()", Head::Jump(Jump::Call));
@@ -51,8 +51,8 @@ fn add_jumps<'v>(found: Found<'v>, object: &'v Value) -> Found<'v>
 }
 
 #[tactic(auto, unfolding(ink_model::specs::Leaves::value_readings))]
-fn add_values<'v>(found: Found<'v>, object: &'v Value) -> Found<'v>
-    ensures { Adds value_readings found.entry (json_view object.now) result }
+fn add_values<'t, 'a>(found: Found<'t, 'a>, object: &Value<'t, 'a>) -> Found<'t, 'a>
+    ensures { Adds value_readings found.entry (json_data object.now) result }
 {
     let found = add(found, object, "^->", Head::Target);
     let found = add(found, object, "^var", Head::Pointer);
@@ -61,16 +61,16 @@ fn add_values<'v>(found: Found<'v>, object: &'v Value) -> Found<'v>
 }
 
 #[tactic(auto, unfolding(ink_model::specs::Leaves::store_readings))]
-fn add_stores<'v>(found: Found<'v>, object: &'v Value) -> Found<'v>
-    ensures { Adds store_readings found.entry (json_view object.now) result }
+fn add_stores<'t, 'a>(found: Found<'t, 'a>, object: &Value<'t, 'a>) -> Found<'t, 'a>
+    ensures { Adds store_readings found.entry (json_data object.now) result }
 {
     let found = add(found, object, "VAR=", Head::Store(Scope::Global));
     add(found, object, "temp=", Head::Store(Scope::Temporary))
 }
 
 /// The heads found before, and this one where the object has it.
-fn add<'v>(found: Found<'v>, object: &'v Value, key: &str, head: Head) -> Found<'v>
-    ensures { Adds (by_head key.now (reading head)) found.entry (json_view object.now) result }
+fn add<'t, 'a>(found: Found<'t, 'a>, object: &Value<'t, 'a>, key: &str, head: Head) -> Found<'t, 'a>
+    ensures { Adds (by_head key.now (reading head)) found.entry (json_data object.now) result }
 {
     let Some(value) = object.get(key) else {
         return found;

@@ -8,12 +8,14 @@ mod heads;
 mod leaf;
 mod limits;
 mod names;
+mod number;
 mod object;
 mod options;
 mod own;
 mod reading;
 mod readings;
 mod story;
+mod value;
 mod word;
 
 pub use reading::read_story;

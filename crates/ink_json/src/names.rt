@@ -1,18 +1,18 @@
 //! The names given in a container so far.
 
 ghost use Rattle.std.specs.Prelude.{◌≡◌, ℕ, List, OnOk, option_map};
-ghost use Rattle.serde_json.specs.View.{view as json_view};
+ghost use Rattle.ink_json.specs.Value.{json_data};
 ghost use Rattle.ink_model.specs.Grammar.{is_taken, with_name, is_misnamed};
 ghost use Rattle.ink_json.specs.Reading.{Holds};
 
 use crate::own::{has_name, name_of};
-use serde_json::Value;
+use crate::value::Value;
 use std::alloc::AllocError;
 use std::collections::BTreeSet;
 
 /// Whether content may not stand in a list by its name: it is no text, or was given before.
-pub(crate) fn is_misnamed(names: &BTreeSet<&str>, value: &Value) -> bool
-    ensures { (taken : List (List ℕ)) → Holds names.now taken → result ≡ is_misnamed taken (json_view value.now) }
+pub(crate) fn is_misnamed(names: &BTreeSet<&str>, value: &Value<'_, '_>) -> bool
+    ensures { (taken : List (List ℕ)) → Holds names.now taken → result ≡ is_misnamed taken (json_data value.now) }
 {
     !has_name(value) || is_taken(names, name_of(value))
 }

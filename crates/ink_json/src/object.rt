@@ -1,7 +1,7 @@
 //! Reading an object, which is a leaf.
 
 ghost use Rattle.std.specs.Prelude.{◌≡◌};
-ghost use Rattle.serde_json.specs.View.{view as json_view};
+ghost use Rattle.ink_json.specs.Value.{json_data};
 ghost use Rattle.ink_model.specs.Leaves.{object_leaf, is_beyond};
 ghost use Rattle.ink_json.specs.Reading.{Reads, placed};
 ghost use Rattle.ink_json.specs.Heads.{reading};
@@ -12,34 +12,39 @@ use crate::readings::{
     read_choice, read_count, read_external, read_jump, read_pointer, read_store, read_target,
     read_variable,
 };
+use crate::value::Value;
 use ink_model::{Cause, Leaf};
-use serde_json::Value;
 use std::alloc::Global;
 
 /// The leaf that an object is: it has exactly one head, and none of content that is not supported.
 #[tactic(auto, unfolding(ink_model::specs::Leaves::object_leaf))]
-pub(crate) fn read_object_leaf(alloc: Global, object: &Value) -> Result<Leaf, ReadFailure>
-    ensures { Reads (λ l. l) result (placed (object_leaf (json_view object.now))) }
+pub(crate) fn read_object_leaf(alloc: Global, object: &Value<'_, '_>) -> Result<Leaf, ReadFailure>
+    ensures { Reads (λ l. l) result (placed (object_leaf (json_data object.now))) }
 {
     if is_beyond(object) {
         return Err(refused(alloc, Cause::Unsupported));
     }
     match heads(object) {
-        Found::One(head, value) => read_by(alloc, head, object, value),
+        Found::One(head, value) => read_by(alloc, head, object, &value),
         Found::Nothing | Found::Several => Err(refused(alloc, Cause::Shape)),
     }
 }
 
 /// Whether an object has a head of content that is not supported.
-fn is_beyond(object: &Value) -> bool
-    ensures { result ≡ is_beyond (json_view object.now) }
+fn is_beyond(object: &Value<'_, '_>) -> bool
+    ensures { result ≡ is_beyond (json_data object.now) }
 {
     object.get("list").is_some() || object.get("#").is_some()
 }
 
 /// The leaf that an object is by this head, which has this value.
-fn read_by(alloc: Global, head: Head, object: &Value, value: &Value) -> Result<Leaf, ReadFailure>
-    ensures { Reads (λ l. l) result (placed (reading head (json_view object.now) (json_view value.now))) }
+fn read_by(
+    alloc: Global,
+    head: Head,
+    object: &Value<'_, '_>,
+    value: &Value<'_, '_>,
+) -> Result<Leaf, ReadFailure>
+    ensures { Reads (λ l. l) result (placed (reading head (json_data object.now) (json_data value.now))) }
 {
     match head {
         Head::Jump(jump) => read_jump(alloc, object, value, jump),

@@ -1,20 +1,22 @@
 //! Reading a story.
 
-ghost use Rattle.std.specs.Prelude.{◌≡◌, ◌⊎◌, ◌≤◌, ◌<◌, ◌+◌, ◌^◌, true, length, IfOk, IfErr, Ok, Err, Some, option_map, ok_or, codes};
+ghost use Rattle.std.specs.Prelude.{◌≡◌, ◌⊎◌, ◌≤◌, ◌<◌, ◌^◌, true, length, IfOk, IfErr, Ok, Err, Some, None, codes, if◌then◌else◌};
 ghost use Rattle.serde_json.specs.Find.{get};
-ghost use Rattle.serde_json.specs.View.{view as json_view};
 ghost use Rattle.ink_model.specs.Leaves.{whole};
-ghost use Rattle.ink_model.specs.Grammar.{here, story, unmarked, json, of_value, root_of, is_blank_object, is_version};
+ghost use Rattle.ink_model.specs.Grammar.{here, story, unmarked, json, of_json, of_value, root_of, is_blank_object, is_version};
 ghost use Rattle.ink_model.specs.View.{view};
 ghost use Rattle.ink_json.specs.Reading.{Reads, ReadsOr, is_parsable, is_parsed};
 ghost use Rattle.ink_json.specs.Size.{size};
+ghost use Rattle.ink_json.specs.Spelled.{are_sound, data_of};
 ghost use Rattle.ink_json.specs.Story.{tree};
+ghost use Rattle.ink_json.specs.Value.{json_data};
 
 use crate::container::read_container;
-use crate::error::{ReadFailure, refused};
+use crate::error::{ReadFailure, refused, unparsed};
 use crate::story::RawStory;
+use crate::value::{Kind, Value, root};
 use ink_model::{Cause, Content, Failure, MAX_STORY, ReadRefusal};
-use serde_json::Value;
+use json::{Scratch, Tape};
 use std::alloc::Global;
 
 /// The version of the format that is read.
@@ -42,8 +44,7 @@ fn read_root_of(alloc: Global, bytes: &[u8]) -> Result<Content, ReadFailure>
     if bytes.len() > MAX_STORY {
         return Err(refused(alloc, Cause::Limit));
     }
-    let value = read_json(alloc, without_mark(bytes))?;
-    read_value(alloc, &value)
+    read_json(alloc, without_mark(bytes))
 }
 
 /// The bytes without the byte order mark.
@@ -57,25 +58,39 @@ fn without_mark(bytes: &[u8]) -> &[u8]
     }
 }
 
-/// The value that bytes are in JSON. It is made of no more values than there are bytes, and one.
-fn read_json(alloc: Global, bytes: &[u8]) -> Result<Value, ReadFailure>
-    ensures value { ReadsOr (is_parsable bytes.now) json_view result (ok_or (json bytes.now) (here Cause.NotJson)) }
-    ensures small { IfOk result (λ v. size (json_view v) ≤ length bytes.now + 1) }
+/// The root of the story that bytes are in JSON. Their tape, and what it is made with, are gone once the root is read.
+fn read_json(alloc: Global, bytes: &[u8]) -> Result<Content, ReadFailure>
+    requires { length bytes.now ≤ MAX_STORY }
+    ensures { ReadsOr (is_parsable bytes.now) view result (of_json (json bytes.now)) }
 {
     let Ok(text) = str::from_utf8(bytes) else {
         return Err(refused(alloc, Cause::NotJson));
     };
-    match Value::from_str(alloc, text) {
-        Ok(value) => Ok(value),
-        Err(error) if error.is_memory() => Err(Failure::OutOfMemory),
-        Err(_) => Err(refused(alloc, Cause::NotJson)),
+    if text.is_empty() {
+        return Err(refused(alloc, Cause::NotJson));
+    }
+    let mut scratch = Scratch::new(alloc);
+    match Tape::parse(text, &mut scratch, Vec::new(alloc)) {
+        Ok(tape) => read_tape(alloc, &tape),
+        Err(error) => Err(unparsed(alloc, error)),
+    }
+}
+
+/// The root of the story that a tape holds.
+fn read_tape(alloc: Global, tape: &Tape<'_>) -> Result<Content, ReadFailure>
+    requires { are_sound 0 tape.now ≡ true → size (data_of tape.now) < 2 ^ 32 }
+    ensures { Reads view result (of_json (if are_sound 0 tape.now then Some (data_of tape.now) else None)) }
+{
+    match root(tape) {
+        Some(value) => read_value(alloc, &value),
+        None => Err(refused(alloc, Cause::NotJson)),
     }
 }
 
 /// The root of the story that a value is.
-fn read_value(alloc: Global, value: &Value) -> Result<Content, ReadFailure>
-    requires { size (json_view value.now) < 2 ^ 32 }
-    ensures { Reads view result (of_value (json_view value.now)) }
+fn read_value(alloc: Global, value: &Value<'_, '_>) -> Result<Content, ReadFailure>
+    requires { size (json_data value.now) < 2 ^ 32 }
+    ensures { Reads view result (of_value (json_data value.now)) }
 {
     if !value.is_object() {
         return Err(refused(alloc, Cause::Shape));
@@ -87,23 +102,23 @@ fn read_value(alloc: Global, value: &Value) -> Result<Content, ReadFailure>
         return Err(refused(alloc, Cause::Unsupported));
     }
     match value.get("root") {
-        Some(root) => read_root(alloc, root),
+        Some(root) => read_root(alloc, &root),
         None => Err(refused(alloc, Cause::Shape)),
     }
 }
 
-fn read_root(alloc: Global, root: &Value) -> Result<Content, ReadFailure>
-    requires { size (json_view root.now) < 2 ^ 32 }
-    ensures { Reads view result (root_of 21 (Some (json_view root.now))) }
+fn read_root(alloc: Global, root: &Value<'_, '_>) -> Result<Content, ReadFailure>
+    requires { size (json_data root.now) < 2 ^ 32 }
+    ensures { Reads view result (root_of 21 (Some (json_data root.now))) }
 {
-    match root {
-        Value::Array(items) => read_container(alloc, items, 1, false, false),
+    match root.kind() {
+        Kind::Array(items) => read_container(alloc, root, items, 1, false, false),
         _ => Err(refused(alloc, Cause::Shape)),
     }
 }
 
-fn has_version(value: &Value) -> bool
-    ensures { result ≡ is_version (whole (get (codes "inkVersion") (json_view value.now))) }
+fn has_version(value: &Value<'_, '_>) -> bool
+    ensures { result ≡ is_version (whole (get (codes "inkVersion") (json_data value.now))) }
 {
     match value.get("inkVersion") {
         Some(version) => version.as_u64() == Some(VERSION),
@@ -112,21 +127,11 @@ fn has_version(value: &Value) -> bool
 }
 
 /// Whether the story declares no lists.
-fn has_no_lists(value: &Value) -> bool
-    ensures { result ≡ is_blank_object (get (codes "listDefs") (json_view value.now)) }
+fn has_no_lists(value: &Value<'_, '_>) -> bool
+    ensures { result ≡ is_blank_object (get (codes "listDefs") (json_data value.now)) }
 {
     match value.get("listDefs") {
-        Some(lists) => is_blank(lists),
+        Some(lists) => lists.is_blank(),
         None => true,
-    }
-}
-
-/// Whether a value is an object without members.
-fn is_blank(value: &Value) -> bool
-    ensures { result ≡ is_blank_object (Some (json_view value.now)) }
-{
-    match value {
-        Value::Object(members) => members.is_empty(),
-        _ => false,
     }
 }

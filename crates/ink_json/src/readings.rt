@@ -2,7 +2,7 @@
 
 ghost use Rattle.std.specs.Prelude.{◌≡◌, List, ℕ, if◌then◌else◌, IfOk};
 ghost use Rattle.serde_json.specs.Find.{as_str};
-ghost use Rattle.serde_json.specs.View.{view as json_view};
+ghost use Rattle.ink_json.specs.Value.{json_data};
 ghost use Rattle.ink_model.specs.Leaves.{read_jump, read_external, read_choice, plain_leaf, read_pointer, read_store, pointer_to, pointer_frame};
 ghost use Rattle.ink_model.specs.declared.content.Leaf.{Leaf};
 ghost use Rattle.ink_json.specs.Heads.{jumps, declares, assigns};
@@ -11,8 +11,8 @@ ghost use Rattle.ink_json.specs.Reading.{Reads, placed};
 use crate::error::{ReadFailure, refused};
 use crate::limits::MOST;
 use crate::options::{frame, is_on, whole_or};
+use crate::value::Value;
 use ink_model::{Cause, Destination, Leaf, Shared, Text};
-use serde_json::Value;
 use std::alloc::{AllocError, Global};
 
 /// The flags of a choice that gives none.
@@ -36,11 +36,11 @@ pub(crate) enum Scope {
 /// A jump, which may pop a condition.
 pub(crate) fn read_jump(
     alloc: Global,
-    object: &Value,
-    head: &Value,
+    object: &Value<'_, '_>,
+    head: &Value<'_, '_>,
     jump: Jump,
 ) -> Result<Leaf, ReadFailure>
-    ensures { Reads (λ l. l) result (placed (read_jump (jumps jump) (json_view object.now) (json_view head.now))) }
+    ensures { Reads (λ l. l) result (placed (read_jump (jumps jump) (json_data object.now) (json_data head.now))) }
 {
     let (Some(target), Some(by_variable), Some(conditional)) = (
         head.as_str(),
@@ -71,10 +71,10 @@ fn jump_leaf(jump: Jump, to: Destination, conditional: bool) -> Leaf
 /// A call of an external function.
 pub(crate) fn read_external(
     alloc: Global,
-    object: &Value,
-    head: &Value,
+    object: &Value<'_, '_>,
+    head: &Value<'_, '_>,
 ) -> Result<Leaf, ReadFailure>
-    ensures { Reads (λ l. l) result (placed (read_external (json_view object.now) (json_view head.now))) }
+    ensures { Reads (λ l. l) result (placed (read_external (json_data object.now) (json_data head.now))) }
 {
     let (Some(name), Some(arguments), Some(conditional)) = (
         head.as_str(),
@@ -93,8 +93,12 @@ pub(crate) fn read_external(
     })
 }
 
-pub(crate) fn read_choice(alloc: Global, object: &Value, head: &Value) -> Result<Leaf, ReadFailure>
-    ensures { Reads (λ l. l) result (placed (read_choice (json_view object.now) (json_view head.now))) }
+pub(crate) fn read_choice(
+    alloc: Global,
+    object: &Value<'_, '_>,
+    head: &Value<'_, '_>,
+) -> Result<Leaf, ReadFailure>
+    ensures { Reads (λ l. l) result (placed (read_choice (json_data object.now) (json_data head.now))) }
 {
     match (head.as_str(), whole_or(DEFAULT_FLAGS, object.get("flg"))) {
         (Some(target), Some(flags)) if flags < 32 => Ok(Leaf::Choice {
@@ -106,8 +110,12 @@ pub(crate) fn read_choice(alloc: Global, object: &Value, head: &Value) -> Result
 }
 
 /// A pointer to a variable. Frames are -1, 0 and above.
-pub(crate) fn read_pointer(alloc: Global, object: &Value, head: &Value) -> Result<Leaf, ReadFailure>
-    ensures { Reads (λ l. l) result (placed (read_pointer (json_view object.now) (json_view head.now))) }
+pub(crate) fn read_pointer(
+    alloc: Global,
+    object: &Value<'_, '_>,
+    head: &Value<'_, '_>,
+) -> Result<Leaf, ReadFailure>
+    ensures { Reads (λ l. l) result (placed (read_pointer (json_data object.now) (json_data head.now))) }
 {
     match (head.as_str(), frame(object.get("ci"))) {
         (Some(name), Some(frame)) => point(alloc, name, frame),
@@ -131,11 +139,11 @@ fn point(alloc: Global, name: &str, frame: i128) -> Result<Leaf, ReadFailure>
 /// A variable stored to, which is declared, or assigned where it is there already.
 pub(crate) fn read_store(
     alloc: Global,
-    object: &Value,
-    head: &Value,
+    object: &Value<'_, '_>,
+    head: &Value<'_, '_>,
     scope: Scope,
 ) -> Result<Leaf, ReadFailure>
-    ensures { Reads (λ l. l) result (placed (read_store (declares scope) (assigns scope) (json_view object.now) (json_view head.now))) }
+    ensures { Reads (λ l. l) result (placed (read_store (declares scope) (assigns scope) (json_data object.now) (json_data head.now))) }
 {
     let (Some(name), Some(again)) = (head.as_str(), is_on(object.get("re"))) else {
         return Err(refused(alloc, Cause::Shape));
@@ -154,20 +162,20 @@ fn store_leaf(scope: Scope, again: bool, name: Shared<Text>) -> Leaf
     }
 }
 
-pub(crate) fn read_target(alloc: Global, head: &Value) -> Result<Leaf, ReadFailure>
-    ensures { Reads (λ l. l) result (placed (plain_leaf Leaf.Target (as_str (json_view head.now)))) }
+pub(crate) fn read_target(alloc: Global, head: &Value<'_, '_>) -> Result<Leaf, ReadFailure>
+    ensures { Reads (λ l. l) result (placed (plain_leaf Leaf.Target (as_str (json_data head.now)))) }
 {
     Ok(Leaf::Target(read_name(alloc, head)?))
 }
 
-pub(crate) fn read_variable(alloc: Global, head: &Value) -> Result<Leaf, ReadFailure>
-    ensures { Reads (λ l. l) result (placed (plain_leaf Leaf.Variable (as_str (json_view head.now)))) }
+pub(crate) fn read_variable(alloc: Global, head: &Value<'_, '_>) -> Result<Leaf, ReadFailure>
+    ensures { Reads (λ l. l) result (placed (plain_leaf Leaf.Variable (as_str (json_data head.now)))) }
 {
     Ok(Leaf::Variable(read_name(alloc, head)?))
 }
 
-pub(crate) fn read_count(alloc: Global, head: &Value) -> Result<Leaf, ReadFailure>
-    ensures { Reads (λ l. l) result (placed (plain_leaf Leaf.Count (as_str (json_view head.now)))) }
+pub(crate) fn read_count(alloc: Global, head: &Value<'_, '_>) -> Result<Leaf, ReadFailure>
+    ensures { Reads (λ l. l) result (placed (plain_leaf Leaf.Count (as_str (json_data head.now)))) }
 {
     Ok(Leaf::Count(read_name(alloc, head)?))
 }
@@ -180,8 +188,8 @@ pub(crate) fn shared_text(alloc: Global, text: &str) -> Result<Shared<Text>, All
 }
 
 /// The name or the path that a head has for its value.
-fn read_name(alloc: Global, head: &Value) -> Result<Shared<Text>, ReadFailure>
-    ensures { (make : List ℕ → Leaf) → Reads make result (placed (plain_leaf make (as_str (json_view head.now)))) }
+fn read_name(alloc: Global, head: &Value<'_, '_>) -> Result<Shared<Text>, ReadFailure>
+    ensures { (make : List ℕ → Leaf) → Reads make result (placed (plain_leaf make (as_str (json_data head.now)))) }
 {
     match head.as_str() {
         Some(name) => Ok(shared_text(alloc, name)?),

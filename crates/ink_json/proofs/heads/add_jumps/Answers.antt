@@ -1,5 +1,5 @@
 use Rattle.std.proofs.Common.{◌≡◌, List, ◌++◌, append_assoc, refl, subst}
-use Rattle.serde_json.specs.View.{view}
+use Rattle.ink_json.specs.Value.{json_data}
 use Rattle.ink_model.specs.Leaves.{jump_readings}
 use Rattle.ink_json.specs.Heads.{Counts}
 use Rattle.ink_json.proofs.heads.add_jumps.Goals as goal
@@ -11,4 +11,4 @@ pub returns : goal.returns
 unfolding jump_readings
 returns c = λ rs h.
     let counted = c.add.ensures _ (c.add-found-4.ensures _ (c.add-found-3.ensures _ (c.add-found-2.ensures _ (c.add-found.ensures rs h)))) in
-    subst (Counts c.add.result (view c.args.object.now)) (one_by_one rs _ _ _ _ _) counted
+    subst (Counts c.add.result (json_data c.args.object.now)) (one_by_one rs _ _ _ _ _) counted

@@ -1,16 +1,38 @@
-use Rattle.std.proofs.Common.{rules}
-use Rattle.serde_json.specs.View.{view}
-use Rattle.ink_json.proofs.Bytes.{json_none, json_some, json_size, parsable}
+use Rattle.std.proofs.Common.{length, ap, subst, arith}
+use Rattle.ink_model.specs.View.{view}
+use Rattle.ink_model.specs.Grammar.{of_json}
+use Rattle.ink_json.specs.Reading.{Reads, is_parsable}
+use Rattle.ink_json.proofs.Bytes.{no_text, no_json, empty, parsable, reads_or, tape_json, tape_size, stopped}
 use Rattle.ink_json.proofs.reading.read_json.Goals as goal
 
-pub returns-in_default-clause-value : goal.returns-in_default-clause-value
-returns-in_default-clause-value c = rw c.refused.ensures (json_none c.args.bytes.now c.in_default.ensures.cases.0)
+pub returns-in_default : goal.returns-in_default
+returns-in_default c = rw c.refused.ensures (no_text c.args.bytes.now c.in_default.ensures.cases.0)
 
-pub returns-in-Ok-from_str-clause-value : goal.returns-in-Ok-from_str-clause-value
-returns-in-Ok-from_str-clause-value c = json_some c.args.bytes.now c.in-Ok.text.now (view c.in-Ok-from_str.value) c.in-Ok.ensures.cases.0 c.in-Ok.ensures.cases.1 c.in-Ok-from_str.ensures.ok
+pub returns-then-is_empty : goal.returns-then-is_empty
+returns-then-is_empty c =
+    let text = c.in-Ok.text.now in
+    rw c.refused-then-is_empty.ensures (no_json c.args.bytes.now text c.in-Ok.ensures.cases.0 c.in-Ok.ensures.cases.1 (empty text c.is_empty.result c.is_empty.ensures c.if-is_empty.true))
 
-pub returns-in-Ok-from_str-clause-small : goal.returns-in-Ok-from_str-clause-small
-returns-in-Ok-from_str-clause-small c = json_size c.args.bytes.now c.in-Ok.text.now (view c.in-Ok-from_str.value) c.in-Ok.ensures.cases.0 c.in-Ok-from_str.ensures.ok
+pub read_tape-requires : goal.read_tape-requires
+read_tape-requires c sound =
+    let small = tape_size c.in-Ok.text.now c.in-Ok-parse.tape c.in-Ok-parse.ensures.ok.0 c.in-Ok-parse.ensures.ok.1 sound in
+    omega (arith, c.requires, ap length c.in-Ok.ensures.cases.0)
 
-pub returns-in-Err-clause-value : goal.returns-in-Err-clause-value
-returns-in-Err-clause-value c = parsable c.args.bytes.now c.in-Ok.text.now c.in-Ok.ensures.cases.0 c.in-Ok.ensures.cases.1 (c.in-Err.ensures.memory (search rules))
+pub returns-in-Ok-parse : goal.returns-in-Ok-parse
+returns-in-Ok-parse c =
+    let bytes = c.args.bytes.now in
+    let text = c.in-Ok.text.now in
+    let same = c.in-Ok.ensures.cases.0 in
+    let utf8 = c.in-Ok.ensures.cases.1 in
+    let some = parsable bytes text c.is_empty.result same utf8 c.is_empty.ensures c.if-is_empty.false in
+    let spelled = tape_json bytes text c.in-Ok-parse.tape same utf8 c.in-Ok-parse.ensures.ok.0 c.in-Ok-parse.ensures.ok.1 in
+    reads_or (is_parsable bytes) view c.read_tape.result _ some (subst (λ d. Reads view c.read_tape.result (of_json d)) spelled c.read_tape.ensures)
+
+pub returns : goal.returns
+returns c =
+    let bytes = c.args.bytes.now in
+    let text = c.in-Ok.text.now in
+    let same = c.in-Ok.ensures.cases.0 in
+    let utf8 = c.in-Ok.ensures.cases.1 in
+    let some = parsable bytes text c.is_empty.result same utf8 c.is_empty.ensures c.if-is_empty.false in
+    rw c.unparsed.ensures (stopped bytes text c.in-Err.error c.parse.result same utf8 some c.requires c.in-Err.is c.parse.ensures.invalid c.parse.ensures.too_long c.parse.ensures.never_duplicate)
