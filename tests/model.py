@@ -2,6 +2,8 @@
 """Plays random stories by a second, plain model of the rules in docs/, and compares what the program answers.
 
     tests/model.py [--runs N] [--seed N] [PROGRAM]      2,000 runs of ./inkplay unless other ones are named
+    tests/model.py --stories N [--seed N]               prints that many random stories, one a line: small ones that are accepted
+    tests/model.py --twins                              prints the stories that it reads as cases of a table of twins for inktest
 
 The model shares nothing with the program or its definitions. Prints the first runs that differ, and last how many do, with
 how many really played, and how many were left out since the model takes too long for them. The status is 0 only where none
@@ -12,6 +14,7 @@ import copy
 import json
 import os
 import random
+import re
 import subprocess
 import sys
 
@@ -279,19 +282,25 @@ def target(root, place, path):
     return place
 
 
+def written(content):
+    """The head and the text of the path that content has written; none where it has none."""
+    for head in ("->", "f()", "->t->", "^->", "CNT?", "*"):
+        if isinstance(content, dict) and head in content and not (head in ("->", "f()", "->t->") and content.get("var")):
+            return head, content[head]
+    return None
+
+
 def is_bad(root, place, content):
     """Whether content has a written path that does not lead where it has to."""
-    if not isinstance(content, dict):
+    if written(content) is None:
         return False
-    for head in ("->", "f()", "->t->", "^->", "CNT?", "*"):
-        if head in content and not content.get("var"):
-            path = path_of(content[head])
-            end = target(root, place, path)
-            if head == "CNT?" or (head == "*" and content.get("flg", 16) & 16):
-                there = None if end is None else found(root, end)
-                return not (isinstance(there, list) and own(there).get("#f", 0) & 1)
-            return end is None or (head == "^->" and path[0])
-    return False
+    head, text = written(content)
+    path = path_of(text)
+    end = target(root, place, path)
+    if head == "CNT?" or (head == "*" and content.get("flg", 16) & 16):
+        there = None if end is None else found(root, end)
+        return not (isinstance(there, list) and own(there).get("#f", 0) & 1)
+    return end is None or (head == "^->" and path[0])
 
 
 def refusal(root):
@@ -1407,6 +1416,53 @@ def random_commands(chance, root):
     return first + turns + rest
 
 
+# bytes of the stories that are printed
+LEAST_STORY, MOST_STORY = 200, 600
+
+
+def print_stories(count, seed):
+    """Prints random stories that are accepted and neither very short nor long."""
+    number = 0
+    while count:
+        story = random_story(random.Random("%d.%d" % (seed, number)))
+        text = json.dumps(story, ensure_ascii=False, separators=(",", ":"))
+        number += 1
+        if LEAST_STORY <= len(text.encode()) <= MOST_STORY and refusal(story["root"]) is None:
+            print(text)
+            count -= 1
+
+
+# how many paths inktest spells from each content, beside the written ones
+SPELLED = 9
+# the most pairs of two places, or of a path and a place, that it compares for one story
+MOST_PAIRS = 100000
+
+
+def some(items, others):
+    """How many of these items it pairs with others: all, or every k-th where there are too many pairs."""
+    return -(-items // (items * others // MOST_PAIRS + 1))
+
+
+def expanded(text):
+    """A line of a table with its forms in full: so many times a text, with the number of each."""
+    return re.sub("⟦(\\d+) ([^⟧]*)⟧", lambda form: "".join(form[2].replace("№", str(n)) for n in range(int(form[1]))), text)
+
+
+def twin_case(text):
+    """A story as a case of a table of twins: how much of it inktest compares, and that all of it is alike."""
+    root = json.loads(expanded(text))["root"]
+    contents = [found(root, place) for place in places(root)]
+    nodes = len(contents)
+    stands = nodes + sum(isinstance(content, list) for content in contents)
+    paths = some(sum(written(content) is not None for content in contents), nodes) + SPELLED
+    return "%s => %d nodes, %d landings, %d paths: alike" % (text, nodes, stands * (some(stands, stands) + 1), nodes * paths)
+
+
+def print_twins():
+    for line in sys.stdin.read().split("\n")[:-1]:
+        print(twin_case(line) if line.startswith("{") else line)
+
+
 def kind_of(wanted):
     """What a run shows: a refused story, one that cannot be opened, or whether something was played."""
     answers, error, _ = wanted
@@ -1421,8 +1477,14 @@ def main():
     parser = argparse.ArgumentParser()
     parser.add_argument("--runs", type=int, default=2000)
     parser.add_argument("--seed", type=int, default=1)
+    parser.add_argument("--stories", type=int)
+    parser.add_argument("--twins", action="store_true")
     parser.add_argument("program", nargs="?", default=os.path.join(top, "inkplay"))
     words = parser.parse_args()
+    if words.twins:
+        return print_twins()
+    if words.stories is not None:
+        return print_stories(words.stories, words.seed)
     differ = 0
     counts = dict.fromkeys(("played", "asked", "refused", "not opened", "left out"), 0)
     for number in range(words.runs):

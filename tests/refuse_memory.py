@@ -3,16 +3,18 @@
 libraries' public calls, which inktest makes.
 
     tests/refuse_memory.py [--seconds N] [--program PROGRAM] [TABLE..]
-        for inktest some 480 seconds; the program is ./inkplay's, the tables are crates/inktest/data/*, unless others are named
+        for inktest some 480 seconds; the program is ./inkplay's, the tables are those of crates/inktest/data but for the twins,
+        which say nothing of memory, unless others are named
 
 A small library, built here with cc and loaded in front of the C library, refuses the n-th request. For each story below n
 goes from 1 on until no request is left to refuse. Each run has to end as docs/PROTOCOL.md says: the named error for want of
 memory, or the same answers as with ample memory up to the command that found none, the fault OutOfMemory there, and what a
 broken player answers to the lines after it.
 
-Then inktest runs each table, and with each request that is refused a case holds, or it found no memory, or it stands behind
-such a case in what is asked of the same player. Where a table makes more requests than the time allows, every k-th is
-refused. Printed is how many of how many; the status is 0 only where all holds.
+Then inktest runs each table, and with each request that is refused a case holds, or it found no memory. Where want of memory
+is an answer (`short CALL`), that case may have another one, and so may those behind it of the same player. Where a table makes
+more requests than the time allows, every k-th is refused. Printed is how many of how many; the status is 0 only where all
+holds.
 """
 import argparse
 import json
@@ -300,35 +302,24 @@ def run_table(worker, table, shim, **env):
 
 
 def players_of(table):
-    """The lines of a table by players: a line with a story begins one; where there is none, each line has a player of its own."""
+    """The lines of a table by players."""
     with open(table, encoding="utf-8") as it:
-        lines = [line.rstrip("\n") for line in it if line.strip() and not line.startswith("//")]
-    players = []
-    for line in lines:
-        if line.startswith("= ") or not players or not any(it.startswith("= ") for it in lines):
-            players.append([])
-        players[-1].append(line)
-    return players
+        return [part.split("\n") for part in it.read().split("\n= ")[1:]]
 
 
-def is_short(line):
-    """Whether a line's answer tells of want of memory."""
-    return line.rpartition(" => ")[2].startswith("OutOfMemory")
-
-
-def are_excused(table, told, out_of_memory):
-    """Whether cases differ because a call found no memory: they are of one player, and one that found none is the first of them,
-    or stands before it. Such a call tells OutOfMemory with the events so far, or was refused where it broke the player before."""
-    differing = [line[len(table) + 2:].rpartition(": came ") for line in told]
+def are_excused(table, told):
+    """Whether cases differ because a call found no memory where that is an answer, too: they are of one player, and such a call is
+    the first of them or stands before it."""
+    differing = [line[len(table) + 2:].rpartition(": came ")[0] for line in told]
     for player in players_of(table):
         at, found = 0, []
-        for line, _, _ in differing:
+        for line in differing:
             if line not in player[at:]:
                 break
             found.append(player.index(line, at))
             at = found[-1] + 1
         if len(found) == len(differing):
-            return out_of_memory or "OutOfMemory" in differing[0][2].split() or any(is_short(line) for line in player[:found[0]])
+            return any(line.startswith("short ") for line in player[:found[0] + 1])
     return False
 
 
@@ -336,7 +327,7 @@ def is_held(worker, table, shim, n):
     """Whether no case fails where the n-th request is refused, but for want of memory."""
     status, lines, told = run_table(worker, table, shim, REFUSE=str(n))
     counts = HELD.fullmatch(lines[-1]) if lines else None
-    holds = counts is not None and (len(lines) == 1 or are_excused(table, lines[:-1], counts[1] is not None))
+    holds = counts is not None and (len(lines) == 1 or are_excused(table, lines[:-1]))
     if not holds:
         print("request %d of %s: status %d, %s" % (n, os.path.basename(table), status, " | ".join(lines)[:300]), flush=True)
     return holds and status in (0, 1) and told == "x"
@@ -367,7 +358,7 @@ def main():
     subprocess.run([os.path.join(toolchain.TOP, "inkplay")], input=(HELLO + "\n").encode(), check=True)  # built
     worker = toolchain.program("inktest", ["data/operators.txt"])
     data = os.path.join(toolchain.TOP, "crates/inktest/data")
-    tables = words.tables or [os.path.join(data, name) for name in sorted(os.listdir(data))]
+    tables = words.tables or [os.path.join(data, name) for name in sorted(os.listdir(data)) if not name.startswith("twins")]
     jobs = os.cpu_count() or 1
     with tempfile.TemporaryDirectory() as folder:
         shim = shim_in(folder)

@@ -4,7 +4,7 @@ use crate::answer::{Answer, NoAnswer, compared};
 use crate::expansion::expanded;
 use crate::table::{Kind, Table};
 use crate::tally::{Tally, Verdict};
-use crate::{boxes, operators, output, paths, reading, stories};
+use crate::{boxes, operators, output, paths, reading, stories, twins};
 use std::alloc::{AllocError, Global};
 
 /// Runs the cases of a table.
@@ -65,6 +65,7 @@ fn answer(alloc: Global, kind: Kind, story: &str, question: &str) -> Answer {
         Kind::Paths => paths::answer(alloc, question),
         Kind::Reading => reading::answer(alloc, question),
         Kind::Stories => stories::answer(alloc, story, question),
+        Kind::Twins => twins::answer(alloc, question),
         Kind::Players | Kind::Sessions => Err(NoAnswer::NoQuestion),
     }
 }

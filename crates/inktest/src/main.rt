@@ -17,10 +17,13 @@ mod paths;
 mod players;
 mod reading;
 mod sessions;
+mod spelling;
 mod stories;
 mod streams;
 mod table;
 mod tally;
+mod twin;
+mod twins;
 mod words;
 
 use std::alloc::Global;
@@ -32,7 +35,7 @@ use table::run_table;
 use tally::Tally;
 
 /// The tables that are read where none are named.
-const TABLES: [&str; 27] = [
+const TABLES: [&str; 30] = [
     "boxes.txt",
     "operators.txt",
     "operators_large.txt",
@@ -60,6 +63,9 @@ const TABLES: [&str; 27] = [
     "sessions_variables.txt",
     "stories.txt",
     "stories_large.txt",
+    "twins.txt",
+    "twins_large.txt",
+    "twins_random.txt",
 ];
 
 fn main(rt: HostRuntime) -> ExitCode {

@@ -7,7 +7,7 @@
 //! - `restart`, `can_continue`, `get NAME`, `set NAME VALUE`, `visits PATH`, `choose N`, `jump PATH`
 //! - `turn NAME DEED..`, `pure NAME DEED`, `watch NAME`, `unbind NAME`, `unwatch NAME`: what is handed back, or `nothing`. A deed
 //!   is a value, `refuses` or `short`, which finds no memory; a watcher does not with `watch NAME short`
-//! - `short CALL`: that call, of which want of memory is an answer
+//! - `short CALL`: `through`, `restart` or `set`, of which want of memory is an answer, with the events until then
 //!
 //! A fault or a refusal is told by its name. Events stand behind an answer: `roll(6)=4@0` is a call and what it gave, `roll(6)!@0`
 //! one that was refused, and `gold:7@1` a new value that was told. What is handed back is told with what it noted. Where memory is
@@ -27,12 +27,15 @@ use crate::words::{encode, given_of, show_given, show_value, shown_value, value_
 use ink_check::{Story, check};
 use ink_host::{Called, Seen};
 use ink_json::read_story;
-use ink_model::{Event, Given, Halt, Passage, Refusal, Seq, Shared, Text, Value};
+use ink_model::{Event, Fault, Given, Halt, Passage, Refusal, Seq, Shared, Text, Value};
 use ink_player::{Bound, Desk, OpenFault, PlayEnd, PlayFault, Player, open_story};
 use std::alloc::{AllocError, Global};
 
 /// A player with the objects of tables.
 type TestPlayer = Player<Constant, Script, Witness>;
+
+/// What a call gives that tells watchers.
+pub(crate) type Outcome = Result<Seq<Event>, Halt>;
 
 /// A story, and the calls of its player.
 #[derive(Clone, Copy)]
@@ -125,19 +128,8 @@ fn verdict(
         return compared(alloc, opened(alloc, story), wanted);
     }
     match call.strip_prefix("short ") {
-        Some(call) => {
-            let answer = shortly(alloc, said(alloc, player, call));
-            compared(alloc, answer, wanted)
-        }
+        Some(call) => compared(alloc, said_shortly(alloc, player, call), wanted),
         None => compared(alloc, said(alloc, player, call), wanted),
-    }
-}
-
-/// Want of memory is an answer.
-fn shortly(alloc: Global, answer: Answer) -> Answer {
-    match answer {
-        Err(NoAnswer::OutOfMemory) => text(alloc, "OutOfMemory"),
-        answer => answer,
     }
 }
 
@@ -211,7 +203,7 @@ fn said(alloc: Global, player: &mut TestPlayer, call: &str) -> Answer
             },
         ),
         "get" => got(alloc, player, rest),
-        "set" => set(alloc, player, rest),
+        "set" => done(alloc, set(alloc, player, rest)?),
         "visits" => visits(alloc, player, rest),
         "choices" => choices(alloc, player),
         "choose" => choose(alloc, player, rest),
@@ -300,13 +292,48 @@ fn landed(alloc: Global, outcome: Result<(), Refusal>) -> Answer {
     }
 }
 
-fn set(alloc: Global, player: &mut TestPlayer, rest: &str) -> Answer
+fn set(alloc: Global, player: &mut TestPlayer, rest: &str) -> Result<Outcome, NoAnswer>
     requires { Idle rests (desk_of player.old) }
     ensures { Idle rests (desk_of player.new) }
 {
     let (name, value) = first_word(rest);
     let value = given_of(value_of(alloc, value)?)?;
-    done(alloc, player.set(name, value))
+    Ok(player.set(name, value))
+}
+
+/// What a call says that may find no memory, which is an answer here.
+fn said_shortly(alloc: Global, player: &mut TestPlayer, call: &str) -> Answer
+    requires { Idle rests (desk_of player.old) }
+    ensures { Idle rests (desk_of player.new) }
+{
+    let (word, rest) = first_word(call);
+    match word {
+        "through" => match player.through() {
+            Err(halt) => fell_short(alloc, halt),
+            outcome => passage(alloc, outcome),
+        },
+        "restart" => done_shortly(alloc, player.restart()),
+        "set" => done_shortly(alloc, set(alloc, player, rest)?),
+        _ => Err(NoAnswer::NoQuestion),
+    }
+}
+
+fn done_shortly(alloc: Global, outcome: Outcome) -> Answer {
+    match outcome {
+        Err(halt) => fell_short(alloc, halt),
+        outcome => done(alloc, outcome),
+    }
+}
+
+/// Want of memory, with the events until then.
+fn fell_short(alloc: Global, halt: Halt) -> Answer {
+    match halt {
+        Halt::Fault { fault, events } => faulted(alloc, fault, events.as_slice()),
+        Halt::Refused(refusal) => match NoAnswer::from(refusal) {
+            NoAnswer::OutOfMemory => text(alloc, Fault::OutOfMemory.name()),
+            why => Err(why),
+        },
+    }
 }
 
 // ---- objects
@@ -404,7 +431,7 @@ fn shown_watcher(alloc: Global, watcher: Option<Witness>) -> Answer {
 
 // ---- events
 
-pub(crate) fn done(alloc: Global, outcome: Result<Seq<Event>, Halt>) -> Answer {
+pub(crate) fn done(alloc: Global, outcome: Outcome) -> Answer {
     match outcome {
         Ok(events) => {
             let mut said = String::from_str(alloc, "done")?;
@@ -415,16 +442,20 @@ pub(crate) fn done(alloc: Global, outcome: Result<Seq<Event>, Halt>) -> Answer {
     }
 }
 
-/// A fault, with its events.
+/// A fault, with its events. After want of memory there is no answer.
 fn halted(alloc: Global, halt: Halt) -> Answer {
     match halt {
-        Halt::Fault { fault, events } if !events.as_slice().is_empty() => {
-            let mut said = String::from_str(alloc, fault.name())?;
-            show_events(alloc, &mut said, events.as_slice())?;
-            Ok(said)
+        Halt::Fault { fault, events } if fault != Fault::OutOfMemory => {
+            faulted(alloc, fault, events.as_slice())
         }
         halt => Err(NoAnswer::from(halt)),
     }
+}
+
+fn faulted(alloc: Global, fault: Fault, events: &[Event]) -> Answer {
+    let mut said = String::from_str(alloc, fault.name())?;
+    show_events(alloc, &mut said, events)?;
+    Ok(said)
 }
 
 fn show_events(alloc: Global, said: &mut String, events: &[Event]) -> Result<(), AllocError> {

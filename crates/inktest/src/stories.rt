@@ -21,11 +21,12 @@ const MOST_TOLD: usize = 20;
 /// - `entered PLACE PLACE`: the containers that a landing at the second enters, coming from the first, which may be
 ///   `nowhere`; only their number, if they are more than 20
 /// - `resolve PLACE PATH`: where a path of the content there leads
-/// - `first PLACE`: where a step there performs, and the content
+/// - `first PLACE`: where a step there performs, and the content; `first_leaf PLACE`: the same with the content only where it
+///   holds no other
 /// - `number NODE`, `holder NODE`, `inside NODE`, `leaf NODE`: a node's own number, the container that holds it, the first
 ///   content in it, and the content where it holds no other
 /// - `target NODE`: where the written path of a content leads; `counted NODE`: the container whose visits it asks for;
-///   `pushed NODE`: the path that it pushes
+///   `pushed NODE`: the path that it pushes; `variable NODE`: the number of its variable
 ///
 /// A node is a number, a spot a node, and behind a colon perhaps an index.
 pub(crate) fn answer(alloc: Global, story: &str, question: &str) -> Answer {
@@ -37,6 +38,7 @@ pub(crate) fn answer(alloc: Global, story: &str, question: &str) -> Answer {
         "target" => target(alloc, &check(alloc, raw)?, rest),
         "counted" => counted_container(alloc, &check(alloc, raw)?, rest),
         "pushed" => pushed(alloc, &check(alloc, raw)?, rest),
+        "variable" => variable(alloc, &check(alloc, raw)?, rest),
         _ => of_tree(alloc, &Tree::build(alloc, raw)?, word, rest),
     }
 }
@@ -48,6 +50,13 @@ fn content_at(alloc: Global, raw: &RawStory, place: &str) -> Answer {
 
 fn target(alloc: Global, story: &Story, node: &str) -> Answer {
     shown_target(alloc, story.tree(), story.target(node_of(node)?))
+}
+
+fn variable(alloc: Global, story: &Story, node: &str) -> Answer {
+    match story.variable(node_of(node)?) {
+        Some(number) => counted(alloc, number),
+        None => text(alloc, "none"),
+    }
 }
 
 fn counted_container(alloc: Global, story: &Story, node: &str) -> Answer {
@@ -104,6 +113,7 @@ fn of_place(alloc: Global, tree: &Tree, word: &str, spot: Option<Spot>) -> Answe
         ("land", Some(spot)) => shown_place(alloc, tree, tree.land(spot)),
         ("next", Some(spot)) => shown_target(alloc, tree, tree.next(spot)),
         ("first", Some(spot)) => first(alloc, tree, spot),
+        ("first_leaf", Some(spot)) => first_leaf(alloc, tree, spot),
         _ => Err(NoAnswer::NoQuestion),
     }
 }
@@ -180,9 +190,18 @@ fn shown_target(alloc: Global, tree: &Tree, spot: Option<Spot>) -> Answer {
 
 fn first(alloc: Global, tree: &Tree, spot: Spot) -> Answer {
     let (spot, content) = tree.first_content(spot);
+    standing(alloc, tree, spot, shown_content(alloc, content))
+}
+
+fn first_leaf(alloc: Global, tree: &Tree, spot: Spot) -> Answer {
+    let (spot, leaf) = tree.first_leaf(spot);
+    standing(alloc, tree, spot, shown_leaf(alloc, leaf))
+}
+
+/// A place, and what stands there.
+fn standing(alloc: Global, tree: &Tree, spot: Spot, content: Answer) -> Answer {
     let mut answer = shown_place(alloc, tree, spot)?;
-    let content = shown_content(alloc, content)?;
-    append(&mut answer, content.as_str())?;
+    append(&mut answer, content?.as_str())?;
     Ok(answer)
 }
 

@@ -27,10 +27,11 @@ pub(crate) enum Kind {
     Reading,
     Sessions,
     Stories,
+    Twins,
 }
 
 /// How the names of files begin, and the kinds that this tells.
-const KINDS: [(&str, Kind); 8] = [
+const KINDS: [(&str, Kind); 9] = [
     ("boxes", Kind::Boxes),
     ("operators", Kind::Operators),
     ("output", Kind::Output),
@@ -39,6 +40,7 @@ const KINDS: [(&str, Kind); 8] = [
     ("reading", Kind::Reading),
     ("sessions", Kind::Sessions),
     ("stories", Kind::Stories),
+    ("twins", Kind::Twins),
 ];
 
 /// Reads a file and runs its cases. A file that is no table, or that can't be read, is a case that fails.
