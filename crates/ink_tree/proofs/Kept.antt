@@ -12,7 +12,7 @@ use Rattle.ink_model.specs.Places.{places}
 use Rattle.ink_model.specs.Tree.{StoryTree, leaf, container, no_trees, tree, at, down, width}
 use Rattle.ink_model.specs.declared.place.Part.{Part}
 use Rattle.ink_model.specs.declared.place.Part.TheVariants.{Index, Name}
-use Rattle.ink_tree.specs.Kept.{AreLinked, IsLinked, Keeps, KeepsAll, KeepsAt, StartsBehind, first_inside, way_to}
+use Rattle.ink_tree.specs.Kept.{AreLinked, IsLinked, Keeps, KeepsAll, KeepsAt, StartsBehind, behind_of, first_inside, way_to}
 use Rattle.ink_tree.specs.Nodes.{Finds, IsNode, MayBeNode, index_part, node_place, place_of}
 use Rattle.ink_tree.specs.Walks.{GoesIn}
 use Rattle.ink_tree.specs.declared.node.Link.{Link}
@@ -221,6 +221,6 @@ module _ (s : StoryTree) (ns : List Node) (many : length ns ≡ length (places s
 
   -- a content is around another, by their numbers
   pub around_by_number : (p q : List Part) (m n : NodeId) (k : Node) (low : Bool) → Finds s p (Some m) → Finds s q (Some n) → k ≡ get_or ns m.number k
-      → nat_le m.number n.number ≡ low → (low && nat_lt n.number k.behind) ≡ is_around p q
+      → nat_le m.number n.number ≡ low → (low && nat_lt n.number (behind_of m.number k.held)) ≡ is_around p q
   around_by_number p q m n k low is_m is_n got e =
-      sym ((λ i. is_around (sym is_m.1 i) (sym is_n.1 i)) ∙ (kept_at m k is_m.0 got).1 n is_n.0 ∙ ap (λ b. b && nat_lt n.number k.behind) e)
+      sym ((λ i. is_around (sym is_m.1 i) (sym is_n.1 i)) ∙ (kept_at m k is_m.0 got).1 n is_n.0 ∙ ap (λ b. b && nat_lt n.number (behind_of m.number k.held)) e)

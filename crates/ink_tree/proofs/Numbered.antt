@@ -10,9 +10,10 @@ use Rattle.ink_model.specs.Entered.{flags_at, is_around}
 use Rattle.ink_model.specs.declared.content.Content as contents
 use Rattle.ink_model.specs.declared.place.Part.{Part}
 use Rattle.ink_model.specs.declared.place.Part.TheVariants.{Index, Name}
-use Rattle.ink_tree.specs.Kept.{Keeps, KeepsAll, KeepsAt, Spans, kept_leaf, leaf_in, nodes_of, nodes_from, nodes_by_key, way_to}
+use Rattle.ink_tree.specs.Kept.{Keeps, KeepsAll, KeepsAt, Spans, kept_flags, kept_leaf, kept_width, leaf_in, nodes_of, nodes_from, nodes_by_key, way_to}
 use Rattle.ink_tree.specs.Numbers.{node_place, IsNode}
 use Rattle.ink_tree.specs.Order.{keys_rise, keys_rise_in, keys_rise_by_key, is_below}
+use Rattle.ink_tree.specs.declared.node.Held.TheVariants.{Inside, Whole}
 use Rattle.ink_tree.specs.declared.node.Node.{Node}
 use Rattle.ink_tree.specs.declared.spot.NodeId.{NodeId}
 use Rattle.ink_tree.proofs.Absent.{absent, got_place, lacks}
@@ -113,7 +114,7 @@ module _ (s : StoryTree) where
   placed n p is = ap (λ o. unwrap_or o []) is ∙ append-nil p
 
   keeps : (n : ℕ) (p : List Part) (t : StoryTree) (k : Node) → slice_get (places s) n ≡ Some (p ++ []) → at s p ≡ Some t → IsNode s k.holder → way_to s k.holder k.last ≡ p
-      → k.width ≡ width (Some t) → k.flags ≡ flags_at (Some t) → kept_leaf k.leaf ≡ leaf_in (Some t) → Keeps s (node_place s (record { number = n })) k
+      → kept_width k.held ≡ width (Some t) → kept_flags k.held ≡ flags_at (Some t) → kept_leaf k.held ≡ leaf_in (Some t) → Keeps s (node_place s (record { number = n })) k
   keeps n p t k is stands inside way wide flags held =
       subst (λ q. Keeps s q k) (sym (placed n p is))
       (inside, way, wide ∙ sym (ap width stands), flags ∙ sym (ap flags_at stands), held ∙ sym (ap leaf_in stands))
@@ -177,7 +178,7 @@ module _ (s : StoryTree) where
       hold : (n : ℕ) (h : NodeId) (x : Option Part) (p : List Part) (t : StoryTree) → IsNode s h → way_to s h x ≡ p → at s p ≡ Some t → Sits n p (places t) → keys_rise t ≡ true
           → Each n (nodes_of n h x t)
       hold n h x p (leaf l) inside way stands sits rise =
-          let node : Node = record { leaf = Some (contents.Leaf l); holder = h; last = x; width = 0; flags = 0; behind = n + 1 } in
+          let node : Node = record { held = Whole (contents.Leaf l); holder = h; last = x } in
           ((keeps n p (leaf l) node sits.0 stands inside way refl refl (ap (λ o. leaf_in (Some o)) (leaf_seen l)), spans whole n p (leaf l) stands sits (n + 1) (placed n p sits.0) refl, λ some. absurd (omega arith)), tt)
       hold n h x p (container name flags content named) inside way stands sits rise =
           let own : NodeId = record { number = n } in
@@ -188,7 +189,7 @@ module _ (s : StoryTree) where
           let m = n + 1 + length elements in
           let s' = container name flags content named in
           let inside_it = elements ++ nodes_by_key m own named in
-          let node : Node = record { leaf = None; holder = h; last = x; width = count content; flags = flags; behind = n + 1 + length inside_it } in
+          let node : Node = record { held = Inside (count content) flags (n + 1 + length inside_it); holder = h; last = x } in
           let total : suc (length inside_it) ≡ length (places s') = many n h x s' in
           let next : n + 1 ≡ suc n = omega arith in
           let rest = subst (λ k. Sits k p (places_from 0 content ++ places_by_key named)) (sym next) sits.1 in (

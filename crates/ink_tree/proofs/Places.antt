@@ -16,6 +16,7 @@ use Rattle.ink_model.specs.declared.content.Content.{Content, Container, the_lem
 use Rattle.ink_model.specs.declared.place.Part.TheVariants.{Index, Name}
 use Rattle.ink_tree.specs.Kept.{nodes_of, nodes_from, nodes_by_key}
 use Rattle.ink_tree.specs.Order.{keys_rise, keys_rise_in, keys_rise_by_key, is_below}
+use Rattle.ink_tree.specs.declared.node.Held.TheVariants as held
 use Rattle.ink_tree.specs.declared.node.Node.{Node}
 use Rattle.ink_tree.specs.declared.spot.NodeId.{NodeId}
 
@@ -49,14 +50,14 @@ got_at : (before inside : List Node) (own d : Node) → get_or (before ++ own �
 got_at [] inside own d = refl
 got_at (n ∷ before) inside own d = got_at before inside own d
 
-abbrev Ending : Node → ℕ → Node
-Ending n b = record { leaf = n.leaf; holder = n.holder; last = n.last; width = n.width; flags = n.flags; behind = b }
+abbrev Ending : ℕ → ℕ → Node → ℕ → Node
+Ending width flags n b = record { held = held.Inside width flags b; holder = n.holder; last = n.last }
 
-pub closed : (ns before inside : List Node) (own x : Node) (i b : ℕ) → ns ≡ before ++ own ∷ inside → i ≡ length before → x ≡ get_or ns i x → b ≡ length ns
-    → slice_set ns i (Ending x b) ≡ before ++ Ending own (length ns) ∷ inside
-closed ns before inside own x i b is number at_it long =
+pub closed : (width flags : ℕ) (ns before inside : List Node) (own x : Node) (i b : ℕ) → ns ≡ before ++ own ∷ inside → i ≡ length before → x ≡ get_or ns i x → b ≡ length ns
+    → slice_set ns i (Ending width flags x b) ≡ before ++ Ending width flags own (length ns) ∷ inside
+closed width flags ns before inside own x i b is number at_it long =
     let same : x ≡ own = at_it ∙ (λ j. get_or (is j) (number j) x) ∙ got_at before inside own x in
-    (λ j. slice_set (is j) (number j) (Ending (same j) (long j))) ∙ set_at before inside own (Ending own (length ns))
+    (λ j. slice_set (is j) (number j) (Ending width flags (same j) (long j))) ∙ set_at before inside own (Ending width flags own (length ns))
 
 -- ---- containers
 

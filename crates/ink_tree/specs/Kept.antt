@@ -7,11 +7,12 @@ use Rattle.ink_model.specs.Place.{next_place}
 use Rattle.ink_model.specs.Tree.{StoryTree, leaf, container, Trees, no_trees, tree, Keyed, no_keys, key, at, count, width}
 use Rattle.ink_model.specs.View.{view}
 use Rattle.ink_model.specs.declared.content.Content as contents
-use Rattle.ink_model.specs.declared.content.Content.{Content}
 use Rattle.ink_model.specs.declared.content.Leaf.{Leaf}
 use Rattle.ink_model.specs.declared.place.Part.{Part}
 use Rattle.ink_model.specs.declared.place.Part.TheVariants.{Index, Name}
 use Rattle.ink_tree.specs.Numbers.{node_place, IsNode}
+use Rattle.ink_tree.specs.declared.node.Held.{Held}
+use Rattle.ink_tree.specs.declared.node.Held.TheVariants.{Inside, Whole}
 use Rattle.ink_tree.specs.declared.node.Link.{Link}
 use Rattle.ink_tree.specs.declared.node.Node.{Node}
 use Rattle.ink_tree.specs.declared.spot.NodeId.{NodeId}
@@ -22,8 +23,26 @@ leaf_in None = None
 leaf_in (Some (leaf l)) = Some l
 leaf_in (Some (container name flags content named)) = None
 
-abbrev pub kept_leaf : Option Content → Option Leaf
-kept_leaf o = leaf_in (option_map view o)
+-- ---- of a content itself
+
+abbrev pub kept_leaf : Held → Option Leaf
+kept_leaf (Whole c) = leaf_in (Some (view c))
+kept_leaf (Inside width flags behind) = None
+
+abbrev pub kept_width : Held → ℕ
+kept_width (Whole c) = 0
+kept_width (Inside width flags behind) = width
+
+abbrev pub kept_flags : Held → ℕ
+kept_flags (Whole c) = 0
+kept_flags (Inside width flags behind) = flags
+
+-- the number behind its own and those of all that is in it
+abbrev pub behind_of : ℕ → Held → ℕ
+behind_of i (Whole c) = i + 1
+behind_of i (Inside width flags behind) = behind
+
+-- ---- of all contents
 
 -- the place one part down from a node; without a part the root's
 abbrev pub way_to : StoryTree → NodeId → Option Part → List Part
@@ -32,7 +51,7 @@ way_to s holder (Some x) = node_place s holder ++ x ∷ []
 
 -- what is kept of the content at a place
 abbrev pub Keeps : StoryTree → List Part → Node → Type 0
-Keeps s p n = IsNode s n.holder × (way_to s n.holder n.last ≡ p) × (n.width ≡ width (at s p)) × (n.flags ≡ flags_at (at s p)) × (kept_leaf n.leaf ≡ leaf_in (at s p))
+Keeps s p n = IsNode s n.holder × (way_to s n.holder n.last ≡ p) × (kept_width n.held ≡ width (at s p)) × (kept_flags n.held ≡ flags_at (at s p)) × (kept_leaf n.held ≡ leaf_in (at s p))
 
 -- a content and all that is in it have the numbers from one on that are below another
 abbrev pub Spans : StoryTree → ℕ → ℕ → Type 0
@@ -44,7 +63,7 @@ StartsBehind s i w = 0 < w → node_place s (record { number = i + 1 }) ≡ node
 
 -- what is kept of the content of a number
 abbrev pub KeepsAt : StoryTree → ℕ → Node → Type 0
-KeepsAt s i n = Keeps s (node_place s (record { number = i })) n × Spans s i n.behind × StartsBehind s i n.width
+KeepsAt s i n = Keeps s (node_place s (record { number = i })) n × Spans s i (behind_of i n.held) × StartsBehind s i (kept_width n.held)
 
 -- what is kept of the contents of a story, in reading order
 abbrev pub KeepsAll : StoryTree → List Node → Type 0
@@ -52,13 +71,13 @@ KeepsAll s ns = (i : ℕ) (n : Node) → slice_get ns i ≡ Some n → KeepsAt s
 
 -- a container, and the nodes of what is in it
 abbrev pub around : ℕ → NodeId → Option Part → ℕ → ℕ → List Node → List Node
-around n holder last width flags inside = record { leaf = None; holder = holder; last = last; width = width; flags = flags; behind = n + 1 + length inside } ∷ inside
+around n holder last width flags inside = record { held = Inside width flags (n + 1 + length inside); holder = holder; last = last } ∷ inside
 
 abbrev mutual
   -- the nodes of content and of all that is in it, from this number on; what is around the content has a number, and a part leads to
   -- the content from there
   pub nodes_of : ℕ → NodeId → Option Part → StoryTree → List Node
-  nodes_of n holder last (leaf l) = record { leaf = Some (contents.Leaf l); holder = holder; last = last; width = 0; flags = 0; behind = n + 1 } ∷ []
+  nodes_of n holder last (leaf l) = record { held = Whole (contents.Leaf l); holder = holder; last = last } ∷ []
   nodes_of n holder last (container name flags content named) =
       around n holder last (count content) flags
       (nodes_from (n + 1) (record { number = n }) 0 content

@@ -38,7 +38,7 @@ impl Tree {
     {
         let container = self.own(container);
         let node = self.own(node);
-        let behind = self.nodes[container.number].behind;
-        container.number <= node.number && node.number < behind
+        let kept = &self.nodes[container.number];
+        container.number <= node.number && kept.ends_behind(container.number, node.number)
     }
 }

@@ -70,7 +70,7 @@ impl Tree {
             ≡ first_inside (story_tree self.now) (node_place (story_tree self.now) node) }
     {
         let own = self.own(node);
-        if self.nodes[own.number].width > 0 {
+        if self.nodes[own.number].width() > 0 {
             Some(NodeId {
                 number: own.number + 1,
             })

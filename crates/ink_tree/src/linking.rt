@@ -52,7 +52,7 @@ impl Tree {
         };
         match last {
             Key::Index(index) => {
-                if (index as usize) + 1 < self.kept(kept.holder).width as usize {
+                if (index as usize) + 1 < self.kept(kept.holder).width() as usize {
                     self.child_at(kept.holder, index + 1)
                 } else {
                     match link_at(links, kept.holder.number) {

@@ -7,12 +7,13 @@ ghost use Rattle.ink_model.specs.Narrow.{is_narrow, are_narrow, are_keyed_narrow
 ghost use Rattle.ink_model.specs.Tree.{count};
 ghost use Rattle.ink_model.specs.View.{view, trees_view, keyed_view};
 ghost use Rattle.ink_tree.specs.Kept.{nodes_of, nodes_from, nodes_by_key};
+ghost use Rattle.ink_tree.specs.declared.node.Held.TheVariants.{Inside};
 ghost use Rattle.ink_tree.specs.declared.node.Node.{Node};
 ghost use Rattle.ink_tree.specs.Order.{keys_rise, keys_rise_in, keys_rise_by_key};
 
 use crate::copying::copy_leaf;
 use crate::last::Last;
-use crate::node::Node;
+use crate::node::{Held, Node};
 use crate::spot::NodeId;
 use ink_json::RawStory;
 use ink_model::{Container, Content};
@@ -54,14 +55,10 @@ fn list_content(
         Content::Leaf(leaf) => {
             let leaf = copy_leaf(leaf)?;
             nodes.push(Node {
-                leaf: Some(Content::Leaf(leaf)),
+                held: Held::Whole(Content::Leaf(leaf)),
                 holder,
                 last,
-                width: 0,
-                flags: 0,
-                behind: 0,
             })?;
-            close(nodes, own);
             Ok(())
         }
         Content::Container(container) => {
@@ -71,17 +68,19 @@ fn list_content(
                 named,
                 ..
             } = &**container;
+            let width = content.len() as u32;
             nodes.push(Node {
-                leaf: None,
+                held: Held::Inside {
+                    width,
+                    flags: *flags,
+                    behind: 0,
+                },
                 holder,
                 last,
-                width: content.len() as u32,
-                flags: *flags,
-                behind: 0,
             })?;
             list_elements(alloc, nodes, own, content)?;
             list_named(alloc, nodes, own, named)?;
-            close(nodes, own);
+            close(nodes, own, width, *flags);
             Ok(())
         }
     }
@@ -127,12 +126,16 @@ fn list_named(
     Ok(())
 }
 
-/// All that is in a content is listed: the number behind it is the next one.
-fn close(nodes: &mut Vec<Node>, content: NodeId)
-    requires { content.number < length nodes.old.items }
-    ensures { (before : List Node) (own : Node) (inside : List Node) → nodes.old.items ≡ before ++ own ∷ inside → content.number ≡ length before
-        → nodes.new.items ≡ before ++ (record { leaf = own.leaf; holder = own.holder; last = own.last; width = own.width; flags = own.flags; behind = length nodes.old.items }) ∷ inside }
+/// All that is in a container is listed: the number behind it is the next one.
+fn close(nodes: &mut Vec<Node>, container: NodeId, width: u32, flags: u8)
+    requires { container.number < length nodes.old.items }
+    ensures { (before : List Node) (own : Node) (inside : List Node) → nodes.old.items ≡ before ++ own ∷ inside → container.number ≡ length before
+        → nodes.new.items ≡ before ++ (record { held = Inside width flags (length nodes.old.items); holder = own.holder; last = own.last }) ∷ inside }
 {
     let behind = nodes.len();
-    nodes[content.number].behind = behind;
+    nodes[container.number].held = Held::Inside {
+        width,
+        flags,
+        behind,
+    };
 }

@@ -93,7 +93,7 @@ impl Tree {
         let kept = self.kept(node);
         match kept.content() {
             Some(_) => false,
-            None => index <= kept.width,
+            None => index <= kept.width(),
         }
     }
 
@@ -122,7 +122,7 @@ impl Tree {
     pub(crate) fn child_at(&self, holder: NodeId, index: u32) -> Option<NodeId>
         ensures { Finds (story_tree self.now) (node_place (story_tree self.now) holder ++ Index index ∷ []) result }
     {
-        if index < self.kept(holder).width {
+        if index < self.kept(holder).width() {
             let number = self.children.at(holder.number, index as usize);
             self.near(number, holder, Key::Index(index))
         } else {
@@ -134,7 +134,7 @@ impl Tree {
     pub(crate) fn child_by_name(&self, holder: NodeId, name: &str) -> Option<NodeId>
         ensures { Finds (story_tree self.now) (node_place (story_tree self.now) holder ++ Name name.now ∷ []) result }
     {
-        let width = self.kept(holder).width as usize;
+        let width = self.kept(holder).width() as usize;
         let number = self.children.named(&self.nodes, holder.number, width, name);
         if self.is_child(number, holder, Key::Name(name)) {
             return Some(NodeId { number });

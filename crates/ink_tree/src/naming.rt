@@ -35,7 +35,7 @@ impl Tree {
     fn new_names(&self, holder: NodeId) -> Result<Option<Names>, AllocError>
         ensures { IfOk result (MayKeepNames (at (story_tree self.now) (node_place (story_tree self.now) holder))) }
     {
-        if self.kept(holder).width <= FEW {
+        if self.kept(holder).width() <= FEW {
             return Ok(None);
         }
         match self.inside(holder) {
@@ -76,7 +76,7 @@ impl Tree {
     fn look_through(&self, here: NodeId, name: &str) -> Option<u32>
         ensures { result ≡ listed_index name.now (at (story_tree self.now) (node_place (story_tree self.now) here)) }
     {
-        let _width = self.kept(here).width;
+        let _width = self.kept(here).width();
         index_in(self.inside(here)?, name)
     }
 }

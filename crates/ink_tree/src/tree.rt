@@ -226,7 +226,7 @@ impl Tree {
     pub fn flags(&self, node: NodeId) -> u8
         ensures { result ≡ flags_at (at (story_tree self.now) (node_place (story_tree self.now) node)) }
     {
-        self.kept(node).flags
+        self.kept(node).flags()
     }
 
     /// The knot of a name: the container of the root that has it as its key, or else the first in the root's list that gives

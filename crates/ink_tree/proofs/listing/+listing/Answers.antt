@@ -9,6 +9,7 @@ use Rattle.ink_model.specs.View.{view, trees_view, keyed_view}
 use Rattle.ink_model.specs.declared.place.Part.TheVariants.{Name}
 use Rattle.ink_tree.specs.Kept.{nodes_of, nodes_from, nodes_by_key}
 use Rattle.ink_tree.specs.Order.{keys_rise_by_key}
+use Rattle.ink_tree.specs.declared.node.Held.TheVariants.{Inside}
 use Rattle.ink_tree.specs.declared.node.Node.{Node}
 use Rattle.ink_tree.specs.declared.spot.NodeId.{NodeId}
 use Rattle.ink_tree.proofs.Places.{count_is, index_small, seen, inside_narrow, element_narrow, element_count, key_count, element_listed, element_rises, container_listed, key_listed, key_rises, keys_after, key_narrow, after_key}
@@ -69,11 +70,11 @@ list_named-loop-name-preserved t c =
       done = (l.invariant.done.0 ++ e ∷ [], after_key c.args.named.now.entries l.invariant.done.0 e es (l.invariant.done.1 ∙ ap (λ es. l.invariant.done.0 ++ es) steps));
     }
 
-pub list_content-overflow_cast-len : goal.list_content-overflow_cast-len
-list_content-overflow_cast-len t c =
+pub list_content-overflow_cast-width : goal.list_content-overflow_cast-width
+list_content-overflow_cast-width t c =
     let held = inside_narrow c.args.content.now _ _ c.in-Container.is c.deref.ensures c.requires.narrow in
     let small = index_small c.deref.result.now.content.items _ held.width in
-    omega (arith, c.len-in-Container.ensures, c.deref.result.now.content.ok.0)
+    omega (arith, c.len-width.ensures, c.deref.result.now.content.ok.0)
 
 pub list_elements-overflow_cast-index : goal.list_elements-overflow_cast-index
 list_elements-overflow_cast-index t c = let small = index_small c.args.elements.now.items _ c.requires.width in omega arith
@@ -86,8 +87,8 @@ list_content-returns-in_ok-list_named-in-Container-clause-lists t c =
     let ns = c.args.nodes.now.items in
     let own : NodeId = record { number = length ns } in
     let w = count (trees_view k.content.items) in
-    let wide : c.len-in-Container.result ≡ w = omega (arith, c.len-in-Container.ensures, k.content.ok.0, count_is k.content.items) in
-    let node : ℕ → ℕ → Node = λ w b. record { leaf = None; holder = c.args.holder; last = c.args.last; width = w; flags = k.flags; behind = b } in
+    let wide : c.len-width.result ≡ w = omega (arith, c.len-width.ensures, k.content.ok.0, count_is k.content.items) in
+    let node : ℕ → ℕ → Node = λ w b. record { held = Inside w k.flags b; holder = c.args.holder; last = c.args.last } in
     let number : c.len.result ≡ length ns = omega (arith, c.len.ensures, c.args.nodes.now.ok.0) in
     let elements : ℕ → List Node = λ n. nodes_from n own 0 (trees_view k.content.items) in
     let named : ℕ → List Node = λ n. nodes_by_key n own (keyed_view k.named.entries) in
@@ -100,4 +101,5 @@ list_content-returns-in_ok-list_named-in-Container-clause-lists t c =
     (c.in_ok-list_named-in-Container.ensures.lists
     ∙ ap (λ m. c.list_elements.new.nodes.items ++ nodes_by_key (length c.list_elements.new.nodes.items) (record { number = m }) (keyed_view k.named.entries)) number) in
     let long : length c.list_named.new.nodes.items ≡ length ns + 1 + length inside = omega (arith, ap length three, length-append ns (node w 0 ∷ inside)) in
-    c.close-in-Container.ensures ns (node w 0) inside three number ∙ ap (λ b. ns ++ node w b ∷ inside) long ∙ ap (λ x. ns ++ nodes_of (length ns) c.args.holder c.args.last x) (sym s)
+    c.close.ensures ns (node w 0) inside three number ∙ ap (λ v. ns ++ node v (length c.list_named.new.nodes.items) ∷ inside) wide
+    ∙ ap (λ b. ns ++ node w b ∷ inside) long ∙ ap (λ x. ns ++ nodes_of (length ns) c.args.holder c.args.last x) (sym s)

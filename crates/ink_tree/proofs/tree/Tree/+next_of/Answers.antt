@@ -4,12 +4,12 @@ use Rattle.ink_tree.specs.Order.{key_part}
 use Rattle.ink_tree.proofs.Kept.{led_by, led_by_none, linked_at, next_behind, next_beside, none_after_name, none_after_root}
 use Rattle.ink_tree.proofs.tree.Tree.+next_of.Goals as goal
 
-pub returns-then-index-kept : goal.returns-then-index-kept
-returns-then-index-kept t c =
+pub returns-then-index-width : goal.returns-then-index-width
+returns-then-index-width t c =
     let s = story_tree c.args.self.now in
     let k = c.kept-kept in
     next_beside s (node_place s c.args.node) k.result.now k.ensures (key_part c.in-Some.last) c.in-Index.index c.child_at.result
-    (sym c.key.ensures ∙ ap (option_map key_part) c.in-Some.is) (ap key_part c.in-Index.is) (omega (arith, c.kept.ensures.2, c.if-index-kept.true)) c.child_at.ensures
+    (sym c.key.ensures ∙ ap (option_map key_part) c.in-Some.is) (ap key_part c.in-Index.is) (omega (arith, c.kept.ensures.2, c.if-index-width.true)) c.child_at.ensures
 
 pub returns-in-Some-link_at : goal.returns-in-Some-link_at
 returns-in-Some-link_at t c =
@@ -18,7 +18,7 @@ returns-in-Some-link_at t c =
     ap (option_map (node_place s)) c.next.ensures
     ∙ linked_at s c.args.links.now.items k.result.now.holder.number c.in-Some-link_at.around.now c.requires c.in-Some-link_at.ensures
     ∙ next_behind s (node_place s c.args.node) k.result.now k.ensures (key_part c.in-Some.last) c.in-Index.index
-    (sym c.key.ensures ∙ ap (option_map key_part) c.in-Some.is) (ap key_part c.in-Index.is) (omega (arith, c.kept.ensures.2, c.if-index-kept.false))
+    (sym c.key.ensures ∙ ap (option_map key_part) c.in-Some.is) (ap key_part c.in-Index.is) (omega (arith, c.kept.ensures.2, c.if-index-width.false))
 
 pub returns-in-None : goal.returns-in-None
 returns-in-None t c =
@@ -26,7 +26,7 @@ returns-in-None t c =
     let k = c.kept-kept in
     c.next_of.ensures
     ∙ next_behind s (node_place s c.args.node) k.result.now k.ensures (key_part c.in-Some.last) c.in-Index.index
-    (sym c.key.ensures ∙ ap (option_map key_part) c.in-Some.is) (ap key_part c.in-Index.is) (omega (arith, c.kept.ensures.2, c.if-index-kept.false))
+    (sym c.key.ensures ∙ ap (option_map key_part) c.in-Some.is) (ap key_part c.in-Index.is) (omega (arith, c.kept.ensures.2, c.if-index-width.false))
 
 pub returns-in-Name : goal.returns-in-Name
 returns-in-Name t c =

@@ -10,7 +10,8 @@ returns-then-container-node c =
     let s = story_tree t in
     let a = c.own-container in
     let q = c.own-node in
-    around_by_number s t.nodes.items t.many t.kept (node_place s c.args.container) (node_place s c.args.node) a.result q.result c.index.result.now true a.ensures q.ensures c.index.ensures
+    c.ends_behind.ensures
+    ∙ around_by_number s t.nodes.items t.many t.kept (node_place s c.args.container) (node_place s c.args.node) a.result q.result c.index-kept.result.now true a.ensures q.ensures c.index-kept.ensures
     (grind (arith, nat_tests, c.if-container-node.true))
 
 pub returns-else-container-node : goal.returns-else-container-node
@@ -21,4 +22,4 @@ returns-else-container-node c =
     let q = c.own-node in
     let low : nat_le a.result.number q.result.number ≡ false = grind (arith, nat_tests, c.if-container-node.false) in
     low
-    ∙ around_by_number s t.nodes.items t.many t.kept (node_place s c.args.container) (node_place s c.args.node) a.result q.result c.index.result.now false a.ensures q.ensures c.index.ensures low
+    ∙ around_by_number s t.nodes.items t.many t.kept (node_place s c.args.container) (node_place s c.args.node) a.result q.result c.index-kept.result.now false a.ensures q.ensures c.index-kept.ensures low

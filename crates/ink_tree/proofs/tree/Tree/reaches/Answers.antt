@@ -9,5 +9,5 @@ pub returns-in-None : goal.returns-in-None
 returns-in-None c =
     let s = story_tree c.args.self.now in
     let k = c.kept-kept in
-    container_reaches (at s (node_place s c.args.node)) c.args.index k.result.now.width (node_stands s c.args.node c.args.self.now.rising)
-    (c.in-None.ensures ∙ ap (option_map leaf) k.ensures.4) k.ensures.2
+    container_reaches (at s (node_place s c.args.node)) c.args.index c.width.result (node_stands s c.args.node c.args.self.now.rising)
+    (c.in-None.ensures ∙ ap (option_map leaf) k.ensures.4) (c.width.ensures ∙ k.ensures.2)
