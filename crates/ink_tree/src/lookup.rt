@@ -1,6 +1,6 @@
 //! Nodes by number and by place.
 
-ghost use Rattle.std.specs.Prelude.{◌≡◌, ◌<◌, ◌^◌, ◌∷◌, [], ◌++◌, true, false, Some, option_map, reverse, length, slice_get};
+ghost use Rattle.std.specs.Prelude.{◌≡◌, ◌<◌, ◌∷◌, [], ◌++◌, true, false, Some, option_map, reverse, length, slice_get};
 ghost use Rattle.ink_model.specs.Path.{above};
 ghost use Rattle.ink_model.specs.Places.{places};
 ghost use Rattle.ink_model.specs.Tree.{at, down};

@@ -1,6 +1,6 @@
 //! The names that containers give themselves in a list.
 
-ghost use Rattle.std.specs.Prelude.{◌≡◌, ◌<◌, ◌^◌, List, ℕ, OnOk, IfOk, Some, None, option_map, bytes_eq, if◌then◌else◌};
+ghost use Rattle.std.specs.Prelude.{◌≡◌, ◌<◌, ◌^◌, List, ℕ, OnOk, IfOk, Some, None, bytes_eq, if◌then◌else◌};
 ghost use Rattle.ink_model.specs.Place.{named_index};
 ghost use Rattle.ink_model.specs.Tree.{width, count};
 ghost use Rattle.ink_model.specs.View.{view, trees_view};

@@ -2,7 +2,6 @@
 
 ghost use Rattle.std.specs.Prelude.{◌≡◌, option_map};
 ghost use Rattle.ink_model.specs.Path.{by_name, stepped, stepped_last, target, walked};
-ghost use Rattle.ink_model.specs.Tree.{at};
 ghost use Rattle.ink_model.specs.declared.place.Part.TheVariants.{Index};
 
 use crate::spot::{NodeId, Spot};

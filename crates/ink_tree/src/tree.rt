@@ -1,6 +1,6 @@
 //! A story's content by number.
 
-ghost use Rattle.std.specs.Prelude.{◌≡◌, length, Some, None, IfOk, IfErr, IsOk, IsSome, true, is_some, if◌then◌else◌, option_map, [], ◌∷◌, ◌++◌, ◌<◌, ◌^◌};
+ghost use Rattle.std.specs.Prelude.{◌≡◌, length, Some, None, IfOk, IfErr, IsOk, true, is_some, if◌then◌else◌, option_map, [], ◌∷◌, ◌++◌, ◌<◌, ◌^◌};
 ghost use Rattle.ink_json.specs.Story.{tree};
 ghost use Rattle.ink_model.specs.Entered.{flags_at};
 ghost use Rattle.ink_model.specs.Grammar.{here, IsSpelled};

@@ -1,4 +1,4 @@
-use Rattle.std.proofs.Common.{◌≡◌, ◌+◌, true, string_cmp, subst, [], ◌∷◌, ◌++◌, ap, sym, length, List, ℕ, ◌∙◌, Some, None, arith}
+use Rattle.std.proofs.Common.{◌≡◌, ◌+◌, true, string_cmp, subst, [], ◌∷◌, ◌++◌, ap, sym, length, List, ℕ, ◌∙◌, Some, arith}
 use Rattle.std.proofs.lemmas.List.{length-append}
 use Rattle.std.specs.List.Sorted.{IsStrictlySortedBy}
 use Rattle.std.specs.Map.{keys_of}

@@ -1,5 +1,4 @@
 use Rattle.std.proofs.Common.{◌∙◌, ap, refl, arith}
-use Rattle.ink_model.specs.Tree.{at, width}
 use Rattle.ink_tree.specs.Kept.{first_inside, kept_width}
 use Rattle.ink_tree.specs.Nodes.{story_tree, node_place}
 use Rattle.ink_tree.proofs.Kept.{first_behind, kept_at, none_inside}
