@@ -93,8 +93,8 @@ pub fn serve_story<S: Source, T: Sink, P: PureFn, F: TurnFn, O: Watcher>(
 
 /// Reads a story, checks its paths, and opens it (docs/PROTOCOL.md, "Playing").
 ///
-/// Errors: `Story`, where the story is refused as by `read_story` and `check`. `Start`, where its declarations fault, or where they run to a step that asks for memory and gets none.
-/// The desk is handed back.
+/// Errors: `Story`, where the story is refused as by `read_story` and `check`. `Start`, where its declarations fault, or where they
+/// run to a step that asks for memory and gets none. The desk is handed back.
 pub fn open_story<P: PureFn, F: TurnFn, O: Watcher>(
     alloc: Global,
     line: &[u8],

@@ -141,8 +141,8 @@ impl Machine {
     }
 
     /// Flow goes down from its place to the first content that holds no other by index, and enters the containers on the way. And
-    /// that content, none for an empty container, and where nothing stands there. The one error is a refused request for memory, which is made only for a
-    /// container that is entered for the first time.
+    /// that content, none for an empty container, and where nothing stands there. The one error is a refused request for memory,
+    /// which is made only for a container that is entered for the first time.
     pub(crate) fn go_in<'a>(
         &mut self,
         tree: &'a Tree,
