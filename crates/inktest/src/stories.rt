@@ -35,10 +35,9 @@ pub(crate) fn answer(alloc: Global, story: &str, question: &str) -> Answer {
     let raw = read_story(alloc, story.as_slice())?;
     match word {
         "at" => content_at(alloc, &raw, rest),
-        "target" => target(alloc, &check(alloc, raw)?, rest),
-        "counted" => counted_container(alloc, &check(alloc, raw)?, rest),
-        "pushed" => pushed(alloc, &check(alloc, raw)?, rest),
-        "variable" => variable(alloc, &check(alloc, raw)?, rest),
+        "target" | "counted" | "pushed" | "variable" => {
+            of_story(alloc, &check(alloc, raw)?, word, rest)
+        }
         _ => of_tree(alloc, &Tree::build(alloc, raw)?, word, rest),
     }
 }
@@ -46,6 +45,15 @@ pub(crate) fn answer(alloc: Global, story: &str, question: &str) -> Answer {
 fn content_at(alloc: Global, raw: &RawStory, place: &str) -> Answer {
     let parts = parts_of(alloc, place)?;
     shown_content(alloc, raw.at(parts.as_slice()))
+}
+
+fn of_story(alloc: Global, story: &Story, word: &str, node: &str) -> Answer {
+    match word {
+        "target" => target(alloc, story, node),
+        "counted" => counted_container(alloc, story, node),
+        "pushed" => pushed(alloc, story, node),
+        _ => variable(alloc, story, node),
+    }
 }
 
 fn target(alloc: Global, story: &Story, node: &str) -> Answer {
