@@ -297,10 +297,10 @@ fn ended(alloc: Global, end: Option<PlayFault>) -> Answer {
 
 /// The first line that is not the one that is wanted there.
 fn first_other<'b>(came: &'b [u8], wanted: &[u8]) -> &'b str {
-    let mut wanted = str::from_utf8(wanted).unwrap_or("").lines();
-    for line in str::from_utf8(came).unwrap_or("no text").lines() {
+    let mut wanted = wanted.split(|byte| *byte == b'\n');
+    for line in came.split(|byte| *byte == b'\n') {
         if wanted.next() != Some(line) {
-            return line;
+            return str::from_utf8(line).unwrap_or("no text");
         }
     }
     ""
