@@ -33,13 +33,22 @@ pub(crate) fn answer(alloc: Global, story: &str, question: &str) -> Answer {
     let (word, rest) = first_word(question);
     let story = expanded(alloc, story)?;
     let raw = read_story(alloc, story.as_slice())?;
-    match word {
-        "at" => content_at(alloc, &raw, rest),
-        "target" | "counted" | "pushed" | "variable" => {
-            of_story(alloc, &check(alloc, raw)?, word, rest)
-        }
-        _ => of_tree(alloc, &Tree::build(alloc, raw)?, word, rest),
+    asked(alloc, raw, word, rest)
+}
+
+fn asked(alloc: Global, raw: RawStory, word: &str, rest: &str) -> Answer {
+    if word == "at" {
+        return content_at(alloc, &raw, rest);
     }
+    if is_of_story(word) {
+        return of_story(alloc, &check(alloc, raw)?, word, rest);
+    }
+    of_tree(alloc, &Tree::build(alloc, raw)?, word, rest)
+}
+
+/// Whether a question asks for what is kept of checked content.
+fn is_of_story(word: &str) -> bool {
+    matches!(word, "target" | "counted" | "pushed" | "variable")
 }
 
 fn content_at(alloc: Global, raw: &RawStory, place: &str) -> Answer {
