@@ -84,10 +84,14 @@ KeepsChoices s e old new = map (map_choice (place_of s)) new ≡ offered_by e (m
 abbrev pub Keeps : StoryTree → Effect → ThreadsOf Spot → ThreadsOf Spot → Type 0
 Keeps s e old new = map_threads (place_of s) new ≡ on_top (mode_in new.thread.frame.evaluating) (on_top (stored_by e) (map_threads (place_of s) old))
 
--- flow goes on after what was done without a fault
+-- flow goes where a transfer says after what was done without a fault
+abbrev pub leading : Result (Unit {0}) Fault → Transfer → Result Transfer Fault
+leading (Ok u) to = Ok to
+leading (Err f) to = Err f
+
+-- it goes on
 abbrev pub moving : Result (Unit {0}) Fault → Result Transfer Fault
-moving (Ok u) = Ok transfer.Next
-moving (Err f) = Err f
+moving outcome = leading outcome transfer.Next
 
 -- the same of what may have written a text
 abbrev pub after_text : Result Bool Fault → Result Transfer Fault

@@ -20,7 +20,7 @@ ghost use Rattle.ink_model.specs.Threads.{frame_count};
 ghost use Rattle.ink_model.specs.Tree.{StoryTree, at, leaf};
 ghost use Rattle.ink_model.specs.declared.host.Event.{Event as Happening};
 ghost use Rattle.ink_model.specs.declared.limits.TheConstants.{MAX_FRAMES};
-ghost use Rattle.ink_step.specs.Performs.{Keeps, KeepsChoices, Performs, landing_of, storing_in, unstored};
+ghost use Rattle.ink_step.specs.Performs.{Keeps, KeepsChoices, Performs, landing_of, leading, storing_in, unstored};
 ghost use Rattle.ink_step.specs.External.{call_of, external_in};
 ghost use Rattle.ink_step.specs.Steps.{StepEnds, StepMakes, Steps, wants};
 ghost use Rattle.ink_step.specs.Words.{config_of};
@@ -40,7 +40,7 @@ use crate::offering::{offer, push_choice_count};
 use crate::questions::{push_count, push_read_count, push_turn, push_turns, push_visit};
 use crate::sections::{begin_string, begin_tag, end_string, end_tag};
 use crate::storing::{assign, declare, push_pointer, push_variable};
-use crate::transfer::{Landing, Transfer, after_text, moving};
+use crate::transfer::{Landing, Transfer, after_text, lead};
 use crate::writing::{output_top, write_glue, write_newline, write_text};
 use crate::{external, flow};
 use ink_check::Story;
@@ -124,7 +124,8 @@ impl Machine {
             StepEnds ((content_asks s b p stands (context_of c) (fields_of c) || move_asks s e c) || following_asks s (moved s e c)) (following s (moved s e c)) self.old.globals (config_of s self.new) result }
         ensures tracks { (start : Values) → Tracks start self.old.changes self.old.globals → Tracks start self.new.changes self.new.globals }
     {
-        let transfer = self.perform(story, here, found)?;
+        let mut transfer = Transfer::Next;
+        self.perform(story, here, found, &mut transfer)?;
         self.finish(story, transfer)
     }
 
@@ -171,17 +172,20 @@ impl Machine {
         }
     }
 
-    /// Performs what was found at a place: an empty container, or nothing, is passed over.
+    /// Performs what was found at a place: an empty container, or nothing, is passed over. Flow goes on, but for content that
+    /// sets where it goes.
     fn perform<'a>(
         &mut self,
         story: &Story,
         here: Spot,
         found: Option<&'a Leaf>,
-    ) -> Result<Transfer<'a>, Fault>
+        transfer: &mut Transfer<'a>,
+    ) -> Result<(), Fault>
+        requires on { transfer.old ≡ Transfer.Next }
         requires stands { let s = story_tree story.now in option_map (λ l. l.now) found ≡ leaf_in (at s (place_of s here)) }
         requires other { external_in (option_map (λ l. leaf l.now) found) ≡ None }
         ensures effect { (b : Bound) → let s = story_tree story.now in let p = place_of s here in let stands = option_map (λ l. leaf l.now) found.entry in let c = config_of s self.old in
-            Performs s (content_asks s b p stands (context_of c) (fields_of c)) (effect s b p stands (context_of c) (fields_of c)) (fields_of (config_of s self.new)) result }
+            Performs s (content_asks s b p stands (context_of c) (fields_of c)) (effect s b p stands (context_of c) (fields_of c)) (fields_of (config_of s self.new)) (leading result transfer.new) }
         ensures threads { (b : Bound) → let s = story_tree story.now in let stands = option_map (λ l. leaf l.now) found.entry in let c = config_of s self.old in
             OnOk result (Keeps s (effect s b (place_of s here) stands (context_of c) (fields_of c)) self.old.threads self.new.threads) }
         ensures choices { (b : Bound) → let s = story_tree story.now in let stands = option_map (λ l. leaf l.now) found.entry in let c = config_of s self.old in
@@ -193,8 +197,8 @@ impl Machine {
         ensures changes { self.new.changes ≡ self.old.changes }
     {
         match found {
-            None => Ok(Transfer::Next),
-            Some(content) => self.perform_leaf(story, here, content),
+            None => Ok(()),
+            Some(content) => self.perform_leaf(story, here, content, transfer),
         }
     }
 
@@ -204,11 +208,13 @@ impl Machine {
         story: &Story,
         here: Spot,
         content: &'a Leaf,
-    ) -> Result<Transfer<'a>, Fault>
+        transfer: &mut Transfer<'a>,
+    ) -> Result<(), Fault>
+        requires on { transfer.old ≡ Transfer.Next }
         requires stands { let s = story_tree story.now in at s (place_of s here) ≡ Some (leaf content.now) }
         requires other { external_in (Some (leaf content.now)) ≡ None }
         ensures effect { (b : Bound) → let s = story_tree story.now in let p = place_of s here in let c = config_of s self.old in
-            Performs s (leaf_asks s b p (context_of c) content.now (fields_of c)) (leaf_effect s b p (context_of c) content.now (fields_of c)) (fields_of (config_of s self.new)) result }
+            Performs s (leaf_asks s b p (context_of c) content.now (fields_of c)) (leaf_effect s b p (context_of c) content.now (fields_of c)) (fields_of (config_of s self.new)) (leading result transfer.new) }
         ensures threads { (b : Bound) → let s = story_tree story.now in let c = config_of s self.old in
             OnOk result (Keeps s (leaf_effect s b (place_of s here) (context_of c) content.now (fields_of c)) self.old.threads self.new.threads) }
         ensures choices { (b : Bound) → let s = story_tree story.now in let c = config_of s self.old in
@@ -222,116 +228,111 @@ impl Machine {
         let evaluating = self.threads.is_evaluating();
         let fresh = self.threads.fresh_depth();
         match content {
-            Leaf::Text(text) => after_text(write_text(
-                &mut self.stack,
-                &mut self.output,
-                evaluating,
-                fresh,
-                text,
-            )),
-            Leaf::Newline => moving(write_newline(
+            Leaf::Text(text) => after_text(
+                transfer,
+                write_text(&mut self.stack, &mut self.output, evaluating, fresh, text),
+            ),
+            Leaf::Newline => write_newline(
                 self.alloc,
                 &mut self.stack,
                 &mut self.output,
                 evaluating,
                 fresh,
-            )),
-            Leaf::Glue => moving(write_glue(&mut self.output, evaluating)),
-            Leaf::Int(number) => moving(push_value(
-                &mut self.stack,
-                evaluating,
-                Value::Int(*number),
-            )),
-            Leaf::Bool(truth) => moving(push_value(
-                &mut self.stack,
-                evaluating,
-                Value::Bool(*truth),
-            )),
-            Leaf::Void => moving(push_value(&mut self.stack, evaluating, Value::Void)),
-            Leaf::Target(text) => moving(push_target(
-                story,
-                here,
-                &mut self.stack,
-                evaluating,
-                text,
-            )),
-            Leaf::Control(control) => self.perform_control(story, here, *control),
-            Leaf::Op(operator) => moving(operate(self.alloc, &mut self.stack, *operator)),
-            Leaf::Divert { to, conditional } => divert(
-                story,
-                here,
-                to,
-                *conditional,
-                &mut self.stack,
-                &self.globals,
-                &self.threads,
             ),
-            Leaf::Declare(name) => declare(
-                &mut self.stack,
-                &self.globals,
-                &mut self.threads,
-                Scope::Global,
-                name,
-                number_of(story, here),
+            Leaf::Glue => write_glue(&mut self.output, evaluating),
+            Leaf::Int(number) => push_value(&mut self.stack, evaluating, Value::Int(*number)),
+            Leaf::Bool(truth) => push_value(&mut self.stack, evaluating, Value::Bool(*truth)),
+            Leaf::Void => push_value(&mut self.stack, evaluating, Value::Void),
+            Leaf::Target(text) => push_target(story, here, &mut self.stack, evaluating, text),
+            Leaf::Control(control) => self.perform_control(story, here, *control, transfer),
+            Leaf::Op(operator) => operate(self.alloc, &mut self.stack, *operator),
+            Leaf::Divert { to, conditional } => lead(
+                transfer,
+                divert(
+                    story,
+                    here,
+                    to,
+                    *conditional,
+                    &mut self.stack,
+                    &self.globals,
+                    &self.threads,
+                ),
             ),
-            Leaf::DeclareTemp(name) => declare(
-                &mut self.stack,
-                &self.globals,
-                &mut self.threads,
-                Scope::Temporary,
-                name,
-                None,
+            Leaf::Declare(name) => lead(
+                transfer,
+                declare(
+                    &mut self.stack,
+                    &self.globals,
+                    &mut self.threads,
+                    Scope::Global,
+                    name,
+                    number_of(story, here),
+                ),
             ),
-            Leaf::Assign(name) | Leaf::AssignTemp(name) => assign(
-                &mut self.stack,
-                &self.globals,
-                &mut self.threads,
-                name,
-                number_of(story, here),
+            Leaf::DeclareTemp(name) => lead(
+                transfer,
+                declare(
+                    &mut self.stack,
+                    &self.globals,
+                    &mut self.threads,
+                    Scope::Temporary,
+                    name,
+                    None,
+                ),
             ),
-            Leaf::Variable(name) => moving(push_variable(
+            Leaf::Assign(name) | Leaf::AssignTemp(name) => lead(
+                transfer,
+                assign(
+                    &mut self.stack,
+                    &self.globals,
+                    &mut self.threads,
+                    name,
+                    number_of(story, here),
+                ),
+            ),
+            Leaf::Variable(name) => push_variable(
                 self.alloc,
                 &mut self.stack,
                 &self.globals,
                 &self.threads,
                 name,
                 number_of(story, here),
-            )),
-            Leaf::Pointer(name, frame) => moving(push_pointer(
+            ),
+            Leaf::Pointer(name, frame) => push_pointer(
                 &mut self.stack,
                 &self.threads,
                 evaluating,
                 name,
                 *frame,
-            )),
-            Leaf::Count(path) => moving(push_count(
-                story,
-                here,
-                &self.counts,
-                &mut self.stack,
-                path,
-            )),
-            Leaf::Call { to, conditional } => call(
-                story,
-                here,
-                FrameKind::Function,
-                to,
-                *conditional,
-                &mut self.stack,
-                &self.globals,
-                &self.threads,
             ),
-            Leaf::Tunnel { to, conditional } => call(
-                story,
-                here,
-                FrameKind::Tunnel,
-                to,
-                *conditional,
-                &mut self.stack,
-                &self.globals,
-                &self.threads,
+            Leaf::Count(path) => push_count(story, here, &self.counts, &mut self.stack, path),
+            Leaf::Call { to, conditional } => lead(
+                transfer,
+                call(
+                    story,
+                    here,
+                    FrameKind::Function,
+                    to,
+                    *conditional,
+                    &mut self.stack,
+                    &self.globals,
+                    &self.threads,
+                ),
             ),
-            Leaf::Choice { target, flags } => moving(offer(
+            Leaf::Tunnel { to, conditional } => lead(
+                transfer,
+                call(
+                    story,
+                    here,
+                    FrameKind::Tunnel,
+                    to,
+                    *conditional,
+                    &mut self.stack,
+                    &self.globals,
+                    &self.threads,
+                ),
+            ),
+            Leaf::Choice { target, flags } => offer(
                 self.alloc,
                 story,
                 here,
@@ -341,19 +342,21 @@ impl Machine {
                 &self.threads,
                 &mut self.choices,
                 target,
-            )),
+            ),
             Leaf::External { .. } => unreachable!(),
         }
     }
 
-    fn perform_control<'a>(
+    fn perform_control(
         &mut self,
         story: &Story,
         here: Spot,
         control: Control,
-    ) -> Result<Transfer<'a>, Fault>
+        transfer: &mut Transfer<'_>,
+    ) -> Result<(), Fault>
+        requires { transfer.old ≡ Transfer.Next }
         ensures effect { let s = story_tree story.now in let p = place_of s here in let c = config_of s self.old in
-            Performs s (control_asks s p (context_of c) control (fields_of c)) (control_effect s p (context_of c) control (fields_of c)) (fields_of (config_of s self.new)) result }
+            Performs s (control_asks s p (context_of c) control (fields_of c)) (control_effect s p (context_of c) control (fields_of c)) (fields_of (config_of s self.new)) (leading result transfer.new) }
         ensures choices { self.new.choices ≡ self.old.choices }
         ensures turn { self.new.turn ≡ self.old.turn }
         ensures counts { self.new.counts ≡ self.old.counts }
@@ -364,34 +367,33 @@ impl Machine {
     {
         let mut evaluating = self.threads.is_evaluating();
         let fresh = self.threads.fresh_depth();
-        let transfer = match control {
-            Control::BeginEval => moving(begin_eval(&mut evaluating)),
-            Control::EndEval => moving(end_eval(&mut evaluating)),
-            Control::Out => after_text(output_top(&mut self.stack, &mut self.output, fresh)),
-            Control::Pop => moving(pop(&mut self.stack)),
-            Control::Duplicate => moving(duplicate(self.alloc, &mut self.stack)),
-            Control::Nop => Ok(Transfer::Next),
-            Control::BeginString => moving(begin_string(&mut self.output, &mut evaluating)),
-            Control::EndString => moving(end_string(
-                &mut self.stack,
-                &mut self.output,
-                &mut evaluating,
-            )),
-            Control::BeginTag => moving(begin_tag(&mut self.stack, &mut self.output)),
-            Control::EndTag => moving(end_tag(&mut self.stack, &mut self.output)),
-            Control::Done => Ok(Transfer::Done),
-            Control::End => Ok(Transfer::End),
-            Control::Return => Ok(Transfer::Return(FrameKind::Function, None)),
-            Control::ReturnTunnel => return_tunnel(story, &mut self.stack),
-            Control::Thread => Ok(Transfer::Fork),
-            Control::Turn => moving(push_turn(&mut self.stack, self.turn)),
-            Control::Turns => moving(push_turns(story, &self.counts, &mut self.stack, self.turn)),
-            Control::ReadCount => moving(push_read_count(story, &self.counts, &mut self.stack)),
-            Control::Visit => moving(push_visit(story, here, &self.counts, &mut self.stack)),
-            Control::ChoiceCount => moving(push_choice_count(&mut self.stack, &self.choices)),
+        let outcome = match control {
+            Control::BeginEval => begin_eval(&mut evaluating),
+            Control::EndEval => end_eval(&mut evaluating),
+            Control::Out => after_text(
+                transfer,
+                output_top(&mut self.stack, &mut self.output, fresh),
+            ),
+            Control::Pop => pop(&mut self.stack),
+            Control::Duplicate => duplicate(self.alloc, &mut self.stack),
+            Control::Nop => Ok(()),
+            Control::BeginString => begin_string(&mut self.output, &mut evaluating),
+            Control::EndString => end_string(&mut self.stack, &mut self.output, &mut evaluating),
+            Control::BeginTag => begin_tag(&mut self.stack, &mut self.output),
+            Control::EndTag => end_tag(&mut self.stack, &mut self.output),
+            Control::Done => lead(transfer, Ok(Transfer::Done)),
+            Control::End => lead(transfer, Ok(Transfer::End)),
+            Control::Return => lead(transfer, Ok(Transfer::Return(FrameKind::Function, None))),
+            Control::ReturnTunnel => lead(transfer, return_tunnel(story, &mut self.stack)),
+            Control::Thread => lead(transfer, Ok(Transfer::Fork)),
+            Control::Turn => push_turn(&mut self.stack, self.turn),
+            Control::Turns => push_turns(story, &self.counts, &mut self.stack, self.turn),
+            Control::ReadCount => push_read_count(story, &self.counts, &mut self.stack),
+            Control::Visit => push_visit(story, here, &self.counts, &mut self.stack),
+            Control::ChoiceCount => push_choice_count(&mut self.stack, &self.choices),
         };
         self.threads.set_mode(evaluating);
-        transfer
+        outcome
     }
 
     /// Flow goes where a content sends it. Temporaries that the content stores are set already, and what it offers is offered; a

@@ -1,7 +1,7 @@
 //! How flow goes on from a content.
 
 ghost use Rattle.std.specs.Prelude.{◌≡◌};
-ghost use Rattle.ink_step.specs.Performs.{after_text, moving};
+ghost use Rattle.ink_step.specs.Performs.{after_text, leading, moving};
 
 use ink_model::{Fault, FrameKind, Value};
 use ink_tree::Spot;
@@ -46,13 +46,27 @@ pub(crate) fn moving<'a>(outcome: Result<(), Fault>) -> Result<Transfer<'a>, Fau
     Ok(Transfer::Next)
 }
 
-/// The same after a content that tells whether it has written a text.
-pub(crate) fn after_text<'a>(outcome: Result<bool, Fault>) -> Result<Transfer<'a>, Fault>
-    ensures { result ≡ after_text outcome }
+/// Flow goes where a content leads that was performed without a fault.
+pub(crate) fn lead<'a>(
+    transfer: &mut Transfer<'a>,
+    outcome: Result<Transfer<'a>, Fault>,
+) -> Result<(), Fault>
+    ensures { leading result transfer.new ≡ outcome.entry }
 {
-    match outcome {
-        Ok(true) => Ok(Transfer::Wrote),
-        Ok(false) => Ok(Transfer::Next),
-        Err(fault) => Err(fault),
+    *transfer = outcome?;
+    Ok(())
+}
+
+/// The same after a content that tells whether it has written a text.
+pub(crate) fn after_text(
+    transfer: &mut Transfer<'_>,
+    outcome: Result<bool, Fault>,
+) -> Result<(), Fault>
+    requires { transfer.old ≡ Transfer.Next }
+    ensures { leading result transfer.new ≡ after_text outcome }
+{
+    if outcome? {
+        *transfer = Transfer::Wrote;
     }
+    Ok(())
 }

@@ -14,8 +14,8 @@ use Rattle.ink_step.proofs.Stopping.{broke}
 use Rattle.ink_step.proofs.machine.Machine.act.Goals as goal
 use Rattle.ink_tree.specs.Nodes.{place_of}
 
-pub returns-in_err-transfer-clause-ends : goal.returns-in_err-transfer-clause-ends
-returns-in_err-transfer-clause-ends c b =
+pub returns-in_err-perform-clause-ends : goal.returns-in_err-perform-clause-ends
+returns-in_err-perform-clause-ends c b =
     let s = story_tree c.args.story.now in
     let p = place_of s c.args.here in
     let before = config_of s c.args.self.now in
@@ -23,9 +23,9 @@ returns-in_err-transfer-clause-ends c b =
     let asking = content_asks s b p found (context_of before) (fields_of before) in
     let e = effect s b p found (context_of before) (fields_of before) in
     let new = config_of s c.perform.new.self in
-    let is : c.from_residual.result ≡ Err c.in_err-transfer.field-0.0 = search rules in
+    let is : c.from_residual.result ≡ Err c.in_err-perform.field-0.0 = search rules in
     subst (λ r. StepEnds ((asking || move_asks s e before) || following_asks s (move s e before)) (following s (move s e before)) before.shared.globals new r) (sym is)
-    (broke s _ (move s e before) _ new _ (ends_unperformed s asking _ e _ before new before.shared.globals _ (c.in_err-transfer.ensures.effect b) c.in_err-transfer.ensures.globals))
+    (broke s _ (move s e before) _ new _ (ends_unperformed s asking _ e _ before new before.shared.globals _ (c.in_err-perform.ensures.effect b) c.in_err-perform.ensures.globals))
 
 pub returns-clause-ends : goal.returns-clause-ends
 returns-clause-ends c b =
@@ -34,6 +34,6 @@ returns-clause-ends c b =
     let old = c.args.self.now in
     let before = config_of s old in
     let found = option_map (λ x. leaf x.now) c.args.found in
-    let performs = c.in_ok-transfer.ensures in
+    let performs = c.in_ok-perform.ensures in
     c.finish.ensures.ends old (content_asks s b p found (context_of before) (fields_of before)) (effect s b p found (context_of before) (fields_of before)) (performs.effect b) (performs.threads b) (performs.choices b)
     performs.safe performs.counts performs.turn performs.globals

@@ -4,7 +4,7 @@ use Rattle.ink_model.specs.Effect.{context_of, fields_of}
 use Rattle.ink_model.specs.Memory.{content_asks}
 use Rattle.ink_model.specs.Step.{effect}
 use Rattle.ink_model.specs.Tree.{leaf}
-use Rattle.ink_step.specs.Performs.{Keeps, KeepsChoices, Performs}
+use Rattle.ink_step.specs.Performs.{Keeps, KeepsChoices, Performs, leading}
 use Rattle.ink_step.specs.Words.{config_of}
 use Rattle.ink_step.proofs.machine.Machine.perform.Goals as goal
 use Rattle.ink_step.proofs.machine.Machine.perform.Goals.{In-Some}
@@ -21,7 +21,7 @@ returns-in-Some-clause-effect c b =
     let machine = c.args.self.now in
     let seen = context_of (config_of s machine) in
     let old = fields_of (config_of s machine) in
-    subst (λ o. Performs s (content_asks s b p o seen old) (effect s b p o seen old) (fields_of (config_of s c.perform_leaf.new.self)) c.perform_leaf.result) (sym (leaf_found (goal.at.returns-in-Some-clause-effect c).In-Some)) (c.perform_leaf.ensures.effect b)
+    subst (λ o. Performs s (content_asks s b p o seen old) (effect s b p o seen old) (fields_of (config_of s c.perform_leaf.new.self)) (leading c.perform_leaf.result c.perform_leaf.new.transfer)) (sym (leaf_found (goal.at.returns-in-Some-clause-effect c).In-Some)) (c.perform_leaf.ensures.effect b)
 
 pub returns-in-Some-clause-threads : goal.returns-in-Some-clause-threads
 returns-in-Some-clause-threads c b =

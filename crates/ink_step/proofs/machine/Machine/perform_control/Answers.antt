@@ -10,35 +10,36 @@ returns-clause-effect c =
     let s = story_tree c.args.story.now in
     let old = c.args.self.now in
     let f = fields_of (config_of s old) in
+    let on = c.requires in
     elim c.match-control.branch [
-      | in-BeginEval w ↦ search rules
-      | in-EndEval w ↦ search rules
-      | in-Out w ↦ search rules
-      | in-Pop w ↦ search rules
-      | in-Duplicate w ↦ search rules
-      | in-Nop w ↦ search rules
-      | in-BeginString w ↦ search rules
-      | in-EndString w ↦ search rules
-      | in-BeginTag w ↦ search rules
-      | in-EndTag w ↦ search rules
-      | in-Done w ↦ search rules
-      | in-End w ↦ search rules
-      | in-Return w ↦ search rules
-      | in-ReturnTunnel w ↦ search rules
-      | in-Thread w ↦ search rules
+      | in-BeginEval w ↦ search (rules, on)
+      | in-EndEval w ↦ search (rules, on)
+      | in-Out w ↦ search (rules, on)
+      | in-Pop w ↦ search (rules, on)
+      | in-Duplicate w ↦ search (rules, on)
+      | in-Nop w ↦ search (rules, on)
+      | in-BeginString w ↦ search (rules, on)
+      | in-EndString w ↦ search (rules, on)
+      | in-BeginTag w ↦ search (rules, on)
+      | in-EndTag w ↦ search (rules, on)
+      | in-Done w ↦ search (rules, on)
+      | in-End w ↦ search (rules, on)
+      | in-Return w ↦ search (rules, on)
+      | in-ReturnTunnel w ↦ search (rules, on)
+      | in-Thread w ↦ search (rules, on)
       | in-Turn w ↦
-          let pushed = w.push_turn.ensures s old.threads (rest_of old) f.evaluating f.fresh f.page f.globals s in
-          search (rules, pushed)
+          let pushed = w.push_turn-outcome.ensures s old.threads (rest_of old) f.evaluating f.fresh f.page f.globals s in
+          search (rules, pushed, on)
       | in-Turns w ↦
-          let pushed = w.push_turns.ensures old.threads (rest_of old) f.evaluating f.fresh f.page f.globals s in
-          search (rules, pushed)
+          let pushed = w.push_turns-outcome.ensures old.threads (rest_of old) f.evaluating f.fresh f.page f.globals s in
+          search (rules, pushed, on)
       | in-ReadCount w ↦
-          let pushed = w.push_read_count.ensures old.threads (rest_of old) f.evaluating f.fresh f.page f.globals s in
-          search (rules, pushed)
+          let pushed = w.push_read_count-outcome.ensures old.threads (rest_of old) f.evaluating f.fresh f.page f.globals s in
+          search (rules, pushed, on)
       | in-Visit w ↦
-          let pushed = w.push_visit.ensures old.threads (rest_of old) f.evaluating f.fresh f.page f.globals s in
-          search (rules, pushed)
+          let pushed = w.push_visit-outcome.ensures old.threads (rest_of old) f.evaluating f.fresh f.page f.globals s in
+          search (rules, pushed, on)
       | in-ChoiceCount w ↦
-          let pushed = w.push_choice_count.ensures s old.threads (rest_of old) f.evaluating f.fresh f.page f.globals s in
-          search (rules, pushed)
+          let pushed = w.push_choice_count-outcome.ensures s old.threads (rest_of old) f.evaluating f.fresh f.page f.globals s in
+          search (rules, pushed, on)
     ]

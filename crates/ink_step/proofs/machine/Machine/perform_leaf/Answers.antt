@@ -1,4 +1,4 @@
-use Rattle.std.proofs.Common.{◌≡◌, ◌∙◌, List, OnOk, Result, Some, ap, inl, inr, of_z, rules, subst, sym, to_z, to_z-of_z, w32}
+use Rattle.std.proofs.Common.{◌≡◌, ◌∙◌, List, Ok, Err, OnOk, Result, Some, ap, inl, inr, of_z, rules, subst, sym, to_z, to_z-of_z, w32}
 use Rattle.ink_check.specs.Words.{story_tree}
 use Rattle.ink_model.specs.Effect.{Fields, context_of, fields_of}
 use Rattle.ink_model.specs.Frames.{ThreadsOf}
@@ -10,12 +10,11 @@ use Rattle.ink_model.specs.declared.content.Leaf.{Leaf}
 use Rattle.ink_model.specs.declared.content.Leaf.TheVariants as leaves
 use Rattle.ink_model.specs.declared.fault.Fault.{Fault}
 use Rattle.ink_model.specs.declared.place.Part.{Part}
-use Rattle.ink_step.specs.Performs.{Keeps, KeepsChoices, Performs, moving}
+use Rattle.ink_step.specs.Performs.{Keeps, KeepsChoices, Performs, leading}
 use Rattle.ink_step.specs.Words.{config_of, rest_of}
 use Rattle.ink_step.specs.declared.machine.Machine.{Machine}
 use Rattle.ink_step.specs.declared.transfer.Transfer.{Transfer}
 use Rattle.ink_step.proofs.Landings.{leaf_landing}
-use Rattle.ink_step.proofs.Offered.{moved_ok}
 use Rattle.ink_step.proofs.Stored.{fields_kept}
 use Rattle.ink_step.proofs.Unstored.{control_keeps, when_ok}
 use Rattle.ink_step.proofs.machine.Machine.perform_leaf.Goals as goal
@@ -29,25 +28,27 @@ module _ (s : StoryTree) (b : Bound) (p : List Part) (machine : Machine) where
   abbrev Does : Leaf → Fields → Result Transfer Fault → Type 0
   Does l new r = let c = config_of s machine in Performs s (leaf_asks s b p (context_of c) l (fields_of c)) (leaf_effect s b p (context_of c) l (fields_of c)) new r
 
-  does : (l k : Leaf) (new : Fields) (r : Result Transfer Fault) → l ≡ k → Does k new r → Does l new r
-  does l k new r is h = subst (λ x. Does x new r) (sym is) h
-
-  -- flow moves on after it
-  does_moving : (l k : Leaf) (new : Fields) (u : Result (Unit {0}) Fault) (r : Result Transfer Fault) → l ≡ k → r ≡ moving u → Does k new (moving u) → Does l new r
-  does_moving l k new u r is moves h = does l k new r is (subst (Does k new) (sym moves) h)
+  does : (l k : Leaf) (new : Fields) (led r : Result Transfer Fault) → l ≡ k → led ≡ r → Does k new r → Does l new led
+  does l k new led r is leads h = subst (λ x. Does x new led) (sym is) (subst (Does k new) (sym leads) h)
 
   -- it leaves a thread of which only temporaries are others
-  does_storing : (l k : Leaf) (threads : ThreadsOf Spot) (stack : Stack) (r : Result Transfer Fault) → l ≡ k
+  does_storing : (l k : Leaf) (threads : ThreadsOf Spot) (stack : Stack) (led r : Result Transfer Fault) → l ≡ k → led ≡ r
       → threads.thread.frame ≡ record machine.threads.thread.frame { temps = threads.thread.frame.temps }
-      → Does k (record (fields_of (config_of s machine)) { stack = stack.items }) r → Does l (fields_of (config_of s (record machine { threads = threads; stack = stack }))) r
-  does_storing l k threads stack r is kept h =
-      does l k _ r is (subst (λ f. Does k f r) (fields_kept machine.threads threads stack.items machine.output.page machine.globals kept) h)
+      → Does k (record (fields_of (config_of s machine)) { stack = stack.items }) r → Does l (fields_of (config_of s (record machine { threads = threads; stack = stack }))) led
+  does_storing l k threads stack led r is leads kept h =
+      does l k _ led r is leads (subst (λ f. Does k f r) (fields_kept machine.threads threads stack.items machine.output.page machine.globals kept) h)
 
-  abbrev KeptBy : Leaf → ThreadsOf Spot → Result Transfer Fault → Type 0
-  KeptBy l threads r = let c = config_of s machine in OnOk r (Keeps s (leaf_effect s b p (context_of c) l (fields_of c)) machine.threads threads)
+  module _ {A : Type 0} where
+    abbrev KeptBy : Leaf → ThreadsOf Spot → Result A Fault → Type 0
+    KeptBy l threads r = let c = config_of s machine in OnOk r (Keeps s (leaf_effect s b p (context_of c) l (fields_of c)) machine.threads threads)
 
-  keeps : (l k : Leaf) (threads : ThreadsOf Spot) (r : Result Transfer Fault) → l ≡ k → KeptBy k threads r → KeptBy l threads r
-  keeps l k threads r is h = subst (λ x. KeptBy x threads r) (sym is) h
+    keeps : (l k : Leaf) (threads : ThreadsOf Spot) (r : Result A Fault) → l ≡ k → KeptBy k threads r → KeptBy l threads r
+    keeps l k threads r is h = subst (λ x. KeptBy x threads r) (sym is) h
+
+-- a transfer is set where there is no fault
+led_ok : (u : Result (Unit {0}) Fault) (to : Transfer) (r : Result Transfer Fault) (B : Type 0) → leading u to ≡ r → OnOk r B → OnOk u B
+led_ok (Ok u) to r B leads h = subst (λ r. OnOk r B) (sym leads) h
+led_ok (Err f) to r B leads h = tt
 
 -- ---- each content
 
@@ -74,31 +75,31 @@ pub returns-in-Divert-clause-effect : goal.returns-in-Divert-clause-effect
 returns-in-Divert-clause-effect c b =
     let s = story_tree c.args.story.now in
     let machine = c.args.self.now in
-    does s b (place_of s c.args.here) machine _ _ _ _ c.in-Divert.is (c.divert.ensures _ _ _ (rest_of machine))
+    does s b (place_of s c.args.here) machine _ _ _ _ _ c.in-Divert.is c.lead.ensures (c.divert.ensures _ _ _ (rest_of machine))
 
 pub returns-in-Call-clause-effect : goal.returns-in-Call-clause-effect
 returns-in-Call-clause-effect c b =
     let s = story_tree c.args.story.now in
     let machine = c.args.self.now in
-    does s b (place_of s c.args.here) machine _ _ _ _ c.in-Call.is (c.call.ensures _ _ _ (rest_of machine))
+    does s b (place_of s c.args.here) machine _ _ _ _ _ c.in-Call.is c.lead-in-Call.ensures (c.call.ensures _ _ _ (rest_of machine))
 
 pub returns-in-Tunnel-clause-effect : goal.returns-in-Tunnel-clause-effect
 returns-in-Tunnel-clause-effect c b =
     let s = story_tree c.args.story.now in
     let machine = c.args.self.now in
-    does s b (place_of s c.args.here) machine _ _ _ _ c.in-Tunnel.is (c.call-in-Tunnel.ensures _ _ _ (rest_of machine))
+    does s b (place_of s c.args.here) machine _ _ _ _ _ c.in-Tunnel.is c.lead-in-Tunnel.ensures (c.call-in-Tunnel.ensures _ _ _ (rest_of machine))
 
 pub returns-in-Count-clause-effect : goal.returns-in-Count-clause-effect
 returns-in-Count-clause-effect c b =
     let s = story_tree c.args.story.now in
     let machine = c.args.self.now in
-    does_moving s b (place_of s c.args.here) machine _ _ _ _ _ c.in-Count.is c.moving-in-Count.ensures (c.push_count.ensures machine.threads (rest_of machine) _ _ _ _ s)
+    does s b (place_of s c.args.here) machine _ _ _ _ _ c.in-Count.is (ap (leading c.push_count.result) c.requires.on) (c.push_count.ensures machine.threads (rest_of machine) _ _ _ _ s)
 
 pub returns-in-Variable-clause-effect : goal.returns-in-Variable-clause-effect
 returns-in-Variable-clause-effect c b =
     let s = story_tree c.args.story.now in
     let machine = c.args.self.now in
-    does_moving s b (place_of s c.args.here) machine _ _ _ _ _ c.in-Variable.is c.moving-in-Variable.ensures (c.push_variable.ensures s (rest_of machine) _ _ _ s)
+    does s b (place_of s c.args.here) machine _ _ _ _ _ c.in-Variable.is (ap (leading c.push_variable.result) c.requires.on) (c.push_variable.ensures s (rest_of machine) _ _ _ s)
 
 pub returns-in-Pointer-clause-effect : goal.returns-in-Pointer-clause-effect
 returns-in-Pointer-clause-effect c b =
@@ -107,31 +108,31 @@ returns-in-Pointer-clause-effect c b =
     let old = fields_of (config_of s machine) in
     let is : to_z w32 (of_z w32 c.in-Pointer.frame) ≡ c.in-Pointer.frame = search (rules, to_z-of_z) in
     let pushed = rw (is, c.is_evaluating-evaluating.ensures) at (c.push_pointer.ensures s (rest_of machine) old.fresh old.page old.globals s) in
-    does_moving s b (place_of s c.args.here) machine _ _ _ _ _ c.in-Pointer.is c.moving-in-Pointer.ensures pushed
+    does s b (place_of s c.args.here) machine _ _ _ _ _ c.in-Pointer.is (ap (leading c.push_pointer.result) c.requires.on) pushed
 
 pub returns-in-Declare-clause-effect : goal.returns-in-Declare-clause-effect
 returns-in-Declare-clause-effect c b =
     let s = story_tree c.args.story.now in
     let machine = c.args.self.now in
-    does_storing s b (place_of s c.args.here) machine _ _ c.declare.new.threads c.declare.new.stack _ c.in-Declare.is c.declare.ensures.frame (c.declare.ensures.effect s (rest_of machine) _ _ _)
+    does_storing s b (place_of s c.args.here) machine _ _ c.declare.new.threads c.declare.new.stack _ _ c.in-Declare.is c.lead-in-Declare.ensures c.declare.ensures.frame (c.declare.ensures.effect s (rest_of machine) _ _ _)
 
 pub returns-in-Declare-clause-threads : goal.returns-in-Declare-clause-threads
 returns-in-Declare-clause-threads c b =
     let s = story_tree c.args.story.now in
     let machine = c.args.self.now in
-    keeps s b (place_of s c.args.here) machine _ _ _ _ c.in-Declare.is (c.declare.ensures.threads s (rest_of machine) _ _ _)
+    keeps s b (place_of s c.args.here) machine _ _ _ _ c.in-Declare.is (led_ok _ _ _ _ c.lead-in-Declare.ensures (c.declare.ensures.threads s (rest_of machine) _ _ _))
 
 pub returns-in-DeclareTemp-clause-effect : goal.returns-in-DeclareTemp-clause-effect
 returns-in-DeclareTemp-clause-effect c b =
     let s = story_tree c.args.story.now in
     let machine = c.args.self.now in
-    does_storing s b (place_of s c.args.here) machine _ _ c.declare-in-DeclareTemp.new.threads c.declare-in-DeclareTemp.new.stack _ c.in-DeclareTemp.is c.declare-in-DeclareTemp.ensures.frame (c.declare-in-DeclareTemp.ensures.effect s (rest_of machine) _ _ _)
+    does_storing s b (place_of s c.args.here) machine _ _ c.declare-in-DeclareTemp.new.threads c.declare-in-DeclareTemp.new.stack _ _ c.in-DeclareTemp.is c.lead-in-DeclareTemp.ensures c.declare-in-DeclareTemp.ensures.frame (c.declare-in-DeclareTemp.ensures.effect s (rest_of machine) _ _ _)
 
 pub returns-in-DeclareTemp-clause-threads : goal.returns-in-DeclareTemp-clause-threads
 returns-in-DeclareTemp-clause-threads c b =
     let s = story_tree c.args.story.now in
     let machine = c.args.self.now in
-    keeps s b (place_of s c.args.here) machine _ _ _ _ c.in-DeclareTemp.is (c.declare-in-DeclareTemp.ensures.threads s (rest_of machine) _ _ _)
+    keeps s b (place_of s c.args.here) machine _ _ _ _ c.in-DeclareTemp.is (led_ok _ _ _ _ c.lead-in-DeclareTemp.ensures (c.declare-in-DeclareTemp.ensures.threads s (rest_of machine) _ _ _))
 
 pub returns-in-Assign-clause-effect : goal.returns-in-Assign-clause-effect
 returns-in-Assign-clause-effect c b =
@@ -141,8 +142,8 @@ returns-in-Assign-clause-effect c b =
     let threads = c.assign.new.threads in
     let stack = c.assign.new.stack in
     elim c.in-Assign.is [
-      | inl is ↦ does_storing s b p machine _ _ threads stack _ is c.assign.ensures.frame (c.assign.ensures.effect s (rest_of machine) _ _ _)
-      | inr is ↦ does_storing s b p machine _ _ threads stack _ is c.assign.ensures.frame (c.assign.ensures.effect s (rest_of machine) _ _ _)
+      | inl is ↦ does_storing s b p machine _ _ threads stack _ _ is c.lead-in-Assign.ensures c.assign.ensures.frame (c.assign.ensures.effect s (rest_of machine) _ _ _)
+      | inr is ↦ does_storing s b p machine _ _ threads stack _ _ is c.lead-in-Assign.ensures c.assign.ensures.frame (c.assign.ensures.effect s (rest_of machine) _ _ _)
     ]
 
 pub returns-in-Assign-clause-threads : goal.returns-in-Assign-clause-threads
@@ -151,15 +152,15 @@ returns-in-Assign-clause-threads c b =
     let p = place_of s c.args.here in
     let machine = c.args.self.now in
     elim c.in-Assign.is [
-      | inl is ↦ keeps s b p machine _ _ _ _ is (c.assign.ensures.threads s (rest_of machine) _ _ _)
-      | inr is ↦ keeps s b p machine _ _ _ _ is (c.assign.ensures.threads s (rest_of machine) _ _ _)
+      | inl is ↦ keeps s b p machine _ _ _ _ is (led_ok _ _ _ _ c.lead-in-Assign.ensures (c.assign.ensures.threads s (rest_of machine) _ _ _))
+      | inr is ↦ keeps s b p machine _ _ _ _ is (led_ok _ _ _ _ c.lead-in-Assign.ensures (c.assign.ensures.threads s (rest_of machine) _ _ _))
     ]
 
 pub returns-in-Choice-clause-effect : goal.returns-in-Choice-clause-effect
 returns-in-Choice-clause-effect c b =
     let s = story_tree c.args.story.now in
     let machine = c.args.self.now in
-    does_moving s b (place_of s c.args.here) machine _ _ _ _ _ c.in-Choice.is c.moving-in-Choice.ensures (c.offer.ensures.effect (rest_of machine) _ _ _ _ s)
+    does s b (place_of s c.args.here) machine _ _ _ _ _ c.in-Choice.is (ap (leading c.offer.result) c.requires.on) (c.offer.ensures.effect (rest_of machine) _ _ _ _ s)
 
 pub returns-in-Choice-clause-choices : goal.returns-in-Choice-clause-choices
 returns-in-Choice-clause-choices c b =
@@ -168,6 +169,5 @@ returns-in-Choice-clause-choices c b =
     let seen = context_of (config_of s c.args.self.now) in
     let old = fields_of (config_of s c.args.self.now) in
     let l = leaves.Choice c.in-Choice.target c.in-Choice.flags in
-    subst (λ l. OnOk c.moving-in-Choice.result (KeepsChoices s (leaf_effect s b p seen l old) c.args.self.now.choices c.offer.new.choices)) (sym c.in-Choice.is)
-    (subst (λ r. OnOk r (KeepsChoices s (leaf_effect s b p seen l old) c.args.self.now.choices c.offer.new.choices)) (sym c.moving-in-Choice.ensures)
-    (moved_ok c.offer.result _ (c.offer.ensures.choices (rest_of c.args.self.now) old.evaluating old.fresh old.page old.globals)))
+    subst (λ l. OnOk c.offer.result (KeepsChoices s (leaf_effect s b p seen l old) c.args.self.now.choices c.offer.new.choices)) (sym c.in-Choice.is)
+    (c.offer.ensures.choices (rest_of c.args.self.now) old.evaluating old.fresh old.page old.globals)
