@@ -21,18 +21,17 @@ use Rattle.ink_model.specs.declared.fault.Fault.TheVariants.{OutOfMemory}
 use Rattle.ink_model.specs.declared.frame.FrameKind.{FrameKind}
 use Rattle.ink_model.specs.declared.limits.TheConstants.{MAX_FRAMES}
 use Rattle.ink_model.specs.declared.place.Part.{Part}
-use Rattle.ink_model.specs.declared.value.Value.{Value}
 use Rattle.ink_step.specs.Performs.{Performs, landing_of, offered_by, stored_by, unstored}
 use Rattle.ink_step.specs.Reaches.{ReachesAs}
 use Rattle.ink_step.specs.Steps.{StepEnds}
 use Rattle.ink_step.specs.declared.flow.StepEnd.{StepEnd}
 use Rattle.ink_step.specs.declared.flow.StepEnd.TheVariants as ends
+use Rattle.ink_step.specs.declared.transfer.Assignment.{Assignment}
 use Rattle.ink_step.specs.declared.transfer.Landing.{Landing}
 use Rattle.ink_step.specs.declared.transfer.Transfer.TheVariants as transfer
 use Rattle.ink_step.proofs.Follows.{ends_more, or_first, or_more}
 use Rattle.ink_tree.specs.Kept.{leaf_in}
 use Rattle.ink_tree.specs.Nodes.{place_of}
-use Rattle.ink_vars.specs.declared.places.Name.{Name}
 
 -- flow goes on, or a fault comes
 abbrev pub IsGoing : {P : Type 0} → Reached P → Type 0
@@ -93,8 +92,8 @@ module _ (s : StoryTree) (asking : Bool) (c d : Configuration) (r : Result StepE
   goes_on (Offers cs f) h has offers go = subst (λ g. Follows (Offers cs g)) h (subst (λ ds. GoesOn asking (with_choices ds c)) offers go)
   goes_on e h has offers go = absurd h
 
-  module _ (name : Name) (v : Value) where
-    pub goes_storing : (e : Effect) → Performs s asking e (fields_of c) (Ok (transfer.Store name v)) → HasStored e
+  module _ (a : Assignment) where
+    pub goes_storing : (e : Effect) → Performs s asking e (fields_of c) (Ok (transfer.Store a)) → HasStored e
         → GoesOn asking c → Follows e
     goes_storing (Stores t f) h has go = subst (λ g. Follows (Stores t g)) (sym h.0) (subst (λ ts. GoesOn asking (with_threads ts c)) has go)
     goes_storing e h has go = absurd h

@@ -15,8 +15,9 @@ module _ (s : StoryTree) (asks : Bool) (new : Fields) where
   pub performed : (e : Effect) (so : Fields → Effect) (b : Bool) (r : Result Transfer Fault) → b ≡ true → Decides e so new (Ok b) → Performs s asks (so new) new r → Performs s asks e new r
   performed e so b r true_is h p = subst (λ d. Performs s asks d new r) (sym (subst (λ x. Decides e so new (Ok x)) true_is h)) p
 
-  pub passed : (e : Effect) (so : Fields → Effect) (b : Bool) → b ≡ false → Decides e so new (Ok b) → Performs s asks e new (Ok transfer.Next)
-  passed e so b false_is h = subst (λ d. Performs s asks d new (Ok transfer.Next)) (sym (subst (λ x. Decides e so new (Ok x)) false_is h)) refl
+  pub passed : (e : Effect) (so : Fields → Effect) (b : Bool) (to : Transfer) → to ≡ transfer.Next → b ≡ false → Decides e so new (Ok b) → Performs s asks e new (Ok to)
+  passed e so b to on false_is h =
+      subst (λ t. Performs s asks e new (Ok t)) (sym on) (subst (λ d. Performs s asks d new (Ok transfer.Next)) (sym (subst (λ x. Decides e so new (Ok x)) false_is h)) refl)
 
   -- ---- where content leads
 

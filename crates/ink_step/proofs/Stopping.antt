@@ -12,16 +12,15 @@ use Rattle.ink_model.specs.Tree.{StoryTree}
 use Rattle.ink_model.specs.declared.fault.Fault.{Fault}
 use Rattle.ink_model.specs.declared.fault.Fault.TheVariants.{OutOfMemory}
 use Rattle.ink_model.specs.declared.place.Part.{Part}
-use Rattle.ink_model.specs.declared.value.Value.{Value}
 use Rattle.ink_step.specs.Performs.{Performs, storing_in, unstored}
 use Rattle.ink_step.specs.Steps.{StepEnds}
 use Rattle.ink_step.specs.declared.flow.StepEnd.{StepEnd}
 use Rattle.ink_step.specs.declared.flow.StepEnd.TheVariants as ends
+use Rattle.ink_step.specs.declared.transfer.Assignment.{Assignment}
 use Rattle.ink_step.specs.declared.transfer.Transfer.{Transfer}
 use Rattle.ink_step.specs.declared.transfer.Transfer.TheVariants as transfer
 use Rattle.ink_step.proofs.Follows.{ends_short, or_first}
 use Rattle.ink_vars.specs.Words.{name_of}
-use Rattle.ink_vars.specs.declared.places.Name.{Name}
 
 module _ (s : StoryTree) where
   -- a fault that came before a choice is followed
@@ -80,21 +79,21 @@ module _ (s : StoryTree) where
     with_stored t k (Stop x) ends.Stopped new is h = ap (with_globals new) h ∙ ap (λ vs. with_globals vs x) is
     with_stored t k o end new is h = absurd h
 
-    module _ (name : Name) (v : Value) where
-      pub stores_it : (e : Effect) (o : Outcome) (end : StepEnd) (new : Values) → new ≡ store (name_of name) v c.shared.globals → Performs s asks e f (Ok (transfer.Store name v))
+    module _ (a : Assignment) where
+      pub stores_it : (e : Effect) (o : Outcome) (end : StepEnd) (new : Values) → new ≡ store (name_of a.name) a.value c.shared.globals → Performs s asks e f (Ok (transfer.Store a))
           → StepEnds whole o c.shared.globals c (Ok end) → StepEnds whole (storing_in e o) c.shared.globals (with_globals new c) (Ok end)
-      stores_it (Stores t k) o end new is p h = with_stored t k o end new (is ∙ ap (store (name_of name) v) (sym same) ∙ sym (ap (λ x. x.globals) p.0)) h
+      stores_it (Stores t k) o end new is p h = with_stored t k o end new (is ∙ ap (store (name_of a.name) a.value) (sym same) ∙ sym (ap (λ x. x.globals) p.0)) h
       stores_it e o end new is p h = absurd p
 
       pub stores_short : (allows : asks ≡ true → whole ≡ true) (e : Effect) (o : Outcome) (d : Configuration) → d.shared.globals ≡ c.shared.globals
-          → Performs s asks e f (Ok (transfer.Store name v)) → StepEnds whole (storing_in e o) c.shared.globals d (Err OutOfMemory)
+          → Performs s asks e f (Ok (transfer.Store a)) → StepEnds whole (storing_in e o) c.shared.globals d (Err OutOfMemory)
       stores_short allows (Stores t k) o d kept p = ends_short whole (storing_in (Stores t k) o) c.shared.globals d OutOfMemory (refl, allows p.1) kept
       stores_short allows e o d kept p = absurd p
 
     -- no global is stored
-    pub stores_none : (e : Effect) (o : Outcome) (end : StepEnd) (t : Transfer) → ((name : Name) (v : Value) → t ≢ transfer.Store name v) → Performs s asks e f (Ok t)
+    pub stores_none : (e : Effect) (o : Outcome) (end : StepEnd) (t : Transfer) → ((a : Assignment) → t ≢ transfer.Store a) → Performs s asks e f (Ok t)
         → StepEnds whole o c.shared.globals c (Ok end) → StepEnds whole (storing_in e o) c.shared.globals c (Ok end)
     stores_none (Stores t k) o end transfer.Next other p h = with_stored t k o end c.shared.globals (sym same ∙ ap (λ x. x.globals) p) h
-    stores_none (Stores t k) o end (transfer.Store name v) other p h = absurd (other name v refl)
+    stores_none (Stores t k) o end (transfer.Store a) other p h = absurd (other a refl)
     stores_none (Stores t k) o end u other p h = absurd p
     stores_none e o end t other p h = h

@@ -48,7 +48,7 @@ asks_renamed s globals t Temporary name = refl
 -- what is stored, where more asks for memory
 stored_more : (s : StoryTree) (less asks : Bool) (t : ThreadOf (List Part)) (f new : Fields) (result : Result Transfer Fault) → (less ≡ true → asks ≡ true)
     → Performs s less (Stores t f) new result → Performs s asks (Stores t f) new result
-stored_more s less asks t f new (Ok (transfer.Store name v)) so h = (h.0, so h.1)
+stored_more s less asks t f new (Ok (transfer.Store a)) so h = (h.0, so h.1)
 stored_more s less asks t f new (Err g) so h = (h.0, so h.1)
 stored_more s less asks t f new result so h = h
 
@@ -111,7 +111,7 @@ module _ (s : StoryTree) (ts : ThreadsOf Spot) (rest : Rest) (f : Fields) where
         subst (λ e. Performs s assigning_asks e (record f { stack = left }) result) (sym (assigns _ (leads.2 v)))
         (stored_more s _ assigning_asks (map_thread (place_of s) (with_variable f.globals ts.thread x v).1) _ _ result asking h)
 
-    pub assigns_keeping : (x : Variable) (new : ThreadsOf Spot) (result : Result Transfer Fault) → LeadsTo f.globals ts.thread name (Ok x)
+    pub assigns_keeping : (x : Variable) (new : ThreadsOf Spot) (result : Result (Unit {0}) Fault) → LeadsTo f.globals ts.thread name (Ok x)
         → OnOk result (new ≡ record ts { thread = (with_variable f.globals ts.thread x v).1 }) → OnOk result (Keeps s assigning ts new)
     assigns_keeping x new result leads = on_ok result _ _ (keeps assigning left x v new (assigns _ (leads.2 v)))
 
@@ -158,7 +158,7 @@ module _ (s : StoryTree) (ts : ThreadsOf Spot) (rest : Rest) (f : Fields) where
         subst (λ e. Performs s declaring_asks e (record f { stack = left }) result) (sym (wrote_there w x keeping there))
         (stored_more s _ declaring_asks (map_thread (place_of s) (with_variable f.globals ts.thread x w).1) _ _ result asking h)
 
-    pub declares_keeping : (w : Value) (x : Variable) (new : ThreadsOf Spot) (result : Result Transfer Fault) → HandsOut (is_pointer (Some v)) (kept f.globals ts.thread v) (Ok w)
+    pub declares_keeping : (w : Value) (x : Variable) (new : ThreadsOf Spot) (result : Result (Unit {0}) Fault) → HandsOut (is_pointer (Some v)) (kept f.globals ts.thread v) (Ok w)
         → Declares f.globals ts.thread scope name x → OnOk result (new ≡ record ts { thread = (with_variable f.globals ts.thread x w).1 }) → OnOk result (Keeps s declaring ts new)
     declares_keeping w x new result keeping there = on_ok result _ _ (keeps declaring left x w new (wrote_there w x keeping there))
 

@@ -43,7 +43,7 @@ abbrev pub Performs : StoryTree → Bool → Effect → Fields → Result Transf
 Performs s asks (Moves f) new (Ok transfer.Next) = new ≡ f
 Performs s asks (Moves f) new (Ok transfer.Wrote) = f ≡ with_text new
 Performs s asks (Stores t f) new (Ok transfer.Next) = new ≡ f
-Performs s asks (Stores t f) new (Ok (transfer.Store name v)) = (f ≡ record new { globals = store (name_of name) v new.globals }) × (asks ≡ true)
+Performs s asks (Stores t f) new (Ok (transfer.Store a)) = (f ≡ record new { globals = store (name_of a.name) a.value new.globals }) × (asks ≡ true)
 Performs s asks (Offers choices f) new (Ok transfer.Next) = new ≡ f
 Performs s asks (Lands l f) new (Ok (transfer.Land to)) = (l ≡ landing_of s to) × (new ≡ f)
 Performs s asks (Calls k l f) new (Ok (transfer.Call kind to)) = (k ≡ kind) × (l ≡ landing_of s to) × (new ≡ f)

@@ -10,7 +10,7 @@ ghost use Rattle.ink_model.specs.Step.Diverts.{divert, led_to, where_true};
 ghost use Rattle.ink_model.specs.Store.{Values};
 ghost use Rattle.ink_model.specs.Variables.{read};
 ghost use Rattle.ink_model.specs.declared.value.Value.TheVariants.{Target};
-ghost use Rattle.ink_step.specs.Performs.{Decides, Performs, fields, landing_of, led_as};
+ghost use Rattle.ink_step.specs.Performs.{Decides, Performs, fields, landing_of, leading, led_as};
 ghost use Rattle.ink_step.specs.Words.{Rest, seen_by};
 ghost use Rattle.ink_tree.specs.Nodes.{place_of};
 
@@ -27,7 +27,7 @@ const ROOT: NodeId = NodeId { number: 0 };
 
 /// Flow lands where a divert leads, `BadTarget` where that is nowhere, and before that `BadPointer` where its variable holds a
 /// pointer that leads nowhere. A condition is popped and looked at before all else; where it is false flow goes on.
-pub(crate) fn divert<'a>(
+pub(crate) fn divert(
     story: &Story,
     here: Spot,
     to: &Destination,
@@ -35,17 +35,22 @@ pub(crate) fn divert<'a>(
     stack: &mut EvalStack,
     globals: &Globals,
     threads: &Threads<Spot>,
-) -> Result<Transfer<'a>, Fault>
-    requires { let s = story_tree story.now in written_target s (place_of s here) ≡ lands_to s (place_of s here) to.now }
+    transfer: &mut Transfer<'_>,
+) -> Result<(), Fault>
+    requires on { transfer.old ≡ Transfer.Next }
+    requires path { let s = story_tree story.now in written_target s (place_of s here) ≡ lands_to s (place_of s here) to.now }
     ensures { let s = story_tree story.now in (evaluating : Bool) (fresh : Option ℕ) (page : Page) (rest : Rest)
-        → Performs s false (divert s (place_of s here) (seen_by s threads.now rest) to.now conditional (fields evaluating fresh stack.old.items page globals.now)) (fields evaluating fresh stack.new.items page globals.now) result }
+        → Performs s false (divert s (place_of s here) (seen_by s threads.now rest) to.now conditional (fields evaluating fresh stack.old.items page globals.now)) (fields evaluating fresh stack.new.items page globals.now) (leading result transfer.new) }
 {
     match is_wanted(conditional, stack) {
         Ok(true) => match destination(story, here, to, globals, threads) {
-            Ok(landing) => Ok(Transfer::Land(landing)),
+            Ok(landing) => {
+                *transfer = Transfer::Land(landing);
+                Ok(())
+            }
             Err(fault) => Err(fault),
         },
-        Ok(false) => Ok(Transfer::Next),
+        Ok(false) => Ok(()),
         Err(fault) => Err(fault),
     }
 }

@@ -45,6 +45,22 @@ pub(crate) fn move_on(
     ensures { let s = story_tree tree.now in let ts = map_threads (place_of s) threads.old in let w = written stack.old output.old in
         ReachesAs (moved_asks (next_place s) ts w) (moved_on (next_place s) ts w) (map_threads (place_of s) threads.new) (written stack.new output.new) result }
 {
+    if let Some(place) = next_of(tree, threads) {
+        return Ok(land(threads, place));
+    }
+    move_out(tree, threads, stack, output)
+}
+
+/// The same with the ends of frames and threads, of which most moves have none.
+fn move_out(
+    tree: &Tree,
+    threads: &mut Threads<Spot>,
+    stack: &mut EvalStack,
+    output: &mut Output,
+) -> Result<StepEnd, Fault>
+    ensures { let s = story_tree tree.now in let ts = map_threads (place_of s) threads.old in let w = written stack.old output.old in
+        ReachesAs (moved_asks (next_place s) ts w) (moved_on (next_place s) ts w) (map_threads (place_of s) threads.new) (written stack.new output.new) result }
+{
     loop {
         if let Some(place) = next_of(tree, threads) {
             return Ok(land(threads, place));

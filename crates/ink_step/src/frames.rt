@@ -6,7 +6,7 @@ ghost use Rattle.ink_model.specs.Acceptance.{lands_to, written_target};
 ghost use Rattle.ink_model.specs.Page.{Page};
 ghost use Rattle.ink_model.specs.Step.Calls.{call, return_tunnel};
 ghost use Rattle.ink_model.specs.Store.{Values};
-ghost use Rattle.ink_step.specs.Performs.{Performs, fields};
+ghost use Rattle.ink_step.specs.Performs.{Performs, fields, leading};
 ghost use Rattle.ink_step.specs.Words.{Rest, seen_by};
 ghost use Rattle.ink_tree.specs.Nodes.{place_of};
 
@@ -23,7 +23,7 @@ use ink_vars::Globals;
 /// Flow lands, in a frame of this kind, where a call or a tunnel leads, `BadTarget` where that is nowhere, and before that
 /// `BadPointer` where its variable holds a pointer that leads nowhere. A condition is popped and looked at before all else;
 /// where it is false flow goes on.
-pub(crate) fn call<'a>(
+pub(crate) fn call(
     story: &Story,
     here: Spot,
     kind: FrameKind,
@@ -32,31 +32,46 @@ pub(crate) fn call<'a>(
     stack: &mut EvalStack,
     globals: &Globals,
     threads: &Threads<Spot>,
-) -> Result<Transfer<'a>, Fault>
-    requires { let s = story_tree story.now in written_target s (place_of s here) ≡ lands_to s (place_of s here) to.now }
+    transfer: &mut Transfer<'_>,
+) -> Result<(), Fault>
+    requires on { transfer.old ≡ Transfer.Next }
+    requires path { let s = story_tree story.now in written_target s (place_of s here) ≡ lands_to s (place_of s here) to.now }
     ensures { let s = story_tree story.now in (evaluating : Bool) (fresh : Option ℕ) (page : Page) (rest : Rest)
-        → Performs s false (call kind s (place_of s here) (seen_by s threads.now rest) to.now conditional (fields evaluating fresh stack.old.items page globals.now)) (fields evaluating fresh stack.new.items page globals.now) result }
+        → Performs s false (call kind s (place_of s here) (seen_by s threads.now rest) to.now conditional (fields evaluating fresh stack.old.items page globals.now)) (fields evaluating fresh stack.new.items page globals.now) (leading result transfer.new) }
 {
     match is_wanted(conditional, stack) {
         Ok(true) => match destination(story, here, to, globals, threads) {
-            Ok(landing) => Ok(Transfer::Call(kind, landing)),
+            Ok(landing) => {
+                *transfer = Transfer::Call(kind, landing);
+                Ok(())
+            }
             Err(fault) => Err(fault),
         },
-        Ok(false) => Ok(Transfer::Next),
+        Ok(false) => Ok(()),
         Err(fault) => Err(fault),
     }
 }
 
 /// A tunnel goes back by what is popped: void leads to after its call, a target to the very place that it names. `StackEmpty`
 /// where nothing is there to be popped, `BadPop` for another value, `BadTarget` for a target that leads nowhere.
-pub(crate) fn return_tunnel<'a>(story: &Story, stack: &mut EvalStack) -> Result<Transfer<'a>, Fault>
+pub(crate) fn return_tunnel(
+    story: &Story,
+    stack: &mut EvalStack,
+    transfer: &mut Transfer<'_>,
+) -> Result<(), Fault>
     ensures { let s = story_tree story.now in (evaluating : Bool) (fresh : Option ℕ) (page : Page) (globals : Values)
-        → Performs s false (return_tunnel s (fields evaluating fresh stack.old.items page globals)) (fields evaluating fresh stack.new.items page globals) result }
+        → Performs s false (return_tunnel s (fields evaluating fresh stack.old.items page globals)) (fields evaluating fresh stack.new.items page globals) (leading result transfer.new) }
 {
     match top(stack) {
-        Some(Value::Void) => Ok(Transfer::Return(FrameKind::Tunnel, None)),
+        Some(Value::Void) => {
+            *transfer = Transfer::Return(FrameKind::Tunnel, None);
+            Ok(())
+        }
         Some(Value::Target(path)) => match landing_on(story, path.get()) {
-            Some(landing) => Ok(Transfer::Return(FrameKind::Tunnel, Some(landing))),
+            Some(landing) => {
+                *transfer = Transfer::Return(FrameKind::Tunnel, Some(landing));
+                Ok(())
+            }
             None => Err(Fault::BadTarget),
         },
         Some(_) => Err(Fault::BadPop),

@@ -40,13 +40,14 @@ use crate::offering::{offer, push_choice_count};
 use crate::questions::{push_count, push_read_count, push_turn, push_turns, push_visit};
 use crate::sections::{begin_string, begin_tag, end_string, end_tag};
 use crate::storing::{assign, declare, push_pointer, push_variable};
-use crate::transfer::{Landing, Transfer, after_text, lead};
+use crate::transfer::{Landing, Transfer, after_text};
 use crate::writing::{output_top, write_glue, write_newline, write_text};
 use crate::{external, flow};
 use ink_check::Story;
 use ink_host::{Desk, PureFn, TurnFn, Watcher};
 use ink_model::{Control, Fault, FrameKind, Leaf, Scope, Value};
 use ink_tree::Spot;
+use std::mem;
 
 impl Machine {
     /// One step: goes down to the first content, performs it and moves; where flow stops so, it may follow a choice. Where flow had
@@ -111,8 +112,14 @@ impl Machine {
         ensures watchers { desk.new.watchers ≡ desk.old.watchers }
         ensures tracks { (start : Values) → Tracks start self.old.changes self.old.globals → Tracks start self.new.changes self.new.globals }
     {
-        let transfer = external::call_external(story, call, &mut self.stack, &self.output, desk)?;
-        self.finish(story, transfer)
+        let mut transfer = external::call_external(
+            story,
+            call,
+            &mut self.stack,
+            &self.output,
+            desk,
+        )?;
+        self.finish(story, &mut transfer)
     }
 
     /// What stands where flow is has its effect, and flow moves; where it stops it may follow a choice.
@@ -126,17 +133,17 @@ impl Machine {
     {
         let mut transfer = Transfer::Next;
         self.perform(story, here, found, &mut transfer)?;
-        self.finish(story, transfer)
+        self.finish(story, &mut transfer)
     }
 
     /// After a content was performed flow goes where it sends it, and a global is stored.
-    fn finish(&mut self, story: &Story, transfer: Transfer<'_>) -> Result<StepEnd, Fault>
-        ensures ends { let s = story_tree story.now in (old : Before) (asks : Bool) (e : Effect) → Performs s asks e (fields_of (config_of s self.old)) (Ok transfer.entry) → Keeps s e old.threads self.old.threads → KeepsChoices s e old.choices self.old.choices
+    fn finish(&mut self, story: &Story, transfer: &mut Transfer<'_>) -> Result<StepEnd, Fault>
+        ensures ends { let s = story_tree story.now in (old : Before) (asks : Bool) (e : Effect) → Performs s asks e (fields_of (config_of s self.old)) (Ok transfer.old) → Keeps s e old.threads self.old.threads → KeepsChoices s e old.choices self.old.choices
             → self.old.safe ≡ old.safe → self.old.counts ≡ old.counts → self.old.turn ≡ old.turn → self.old.globals ≡ old.globals → let c = config_of s old in
             StepEnds ((asks || move_asks s e c) || following_asks s (moved s e c)) (following s (moved s e c)) old.globals (config_of s self.new) result }
         ensures tracks { (start : Values) → Tracks start self.old.changes self.old.globals → Tracks start self.new.changes self.new.globals }
     {
-        let end = self.go(story, &transfer)?;
+        let end = self.go(story, transfer)?;
         self.store(transfer, end)
     }
 
@@ -156,16 +163,17 @@ impl Machine {
 
     /// A global is stored, where a content hands one on, and the step ends so; what it was is noted before. The one error is
     /// `OutOfMemory` for a refused request for memory, which leaves the globals as they were.
-    fn store(&mut self, transfer: Transfer<'_>, end: StepEnd) -> Result<StepEnd, Fault>
+    fn store(&mut self, transfer: &mut Transfer<'_>, end: StepEnd) -> Result<StepEnd, Fault>
         ensures tracks { (start : Values) → Tracks start self.old.changes self.old.globals → Tracks start self.new.changes self.new.globals }
-        ensures stored { (s : StoryTree) (asks whole : Bool) (e : Effect) (f : Fields) (o : Outcome) → (asks ≡ true → whole ≡ true) → f.globals ≡ self.old.globals → Performs s asks e f (Ok transfer.entry)
+        ensures stored { (s : StoryTree) (asks whole : Bool) (e : Effect) (f : Fields) (o : Outcome) → (asks ≡ true → whole ≡ true) → f.globals ≡ self.old.globals → Performs s asks e f (Ok transfer.old)
             → StepEnds whole o self.old.globals (config_of s self.old) (Ok end) → StepEnds whole (storing_in e o) self.old.globals (config_of s self.new) result }
     {
         match transfer {
-            Transfer::Store(name, value) => {
-                let number = name.number();
-                self.changes.note(&self.globals, name.as_str(), number)?;
-                self.globals.put_at(name.as_str(), number, value)?;
+            Transfer::Store(to) => {
+                let number = to.name.number();
+                self.changes.note(&self.globals, to.name.as_str(), number)?;
+                let value = mem::replace(&mut to.value, Value::Void);
+                self.globals.put_at(to.name.as_str(), number, value)?;
                 Ok(end)
             }
             _ => Ok(end),
@@ -246,49 +254,41 @@ impl Machine {
             Leaf::Target(text) => push_target(story, here, &mut self.stack, evaluating, text),
             Leaf::Control(control) => self.perform_control(story, here, *control, transfer),
             Leaf::Op(operator) => operate(self.alloc, &mut self.stack, *operator),
-            Leaf::Divert { to, conditional } => lead(
+            Leaf::Divert { to, conditional } => divert(
+                story,
+                here,
+                to,
+                *conditional,
+                &mut self.stack,
+                &self.globals,
+                &self.threads,
                 transfer,
-                divert(
-                    story,
-                    here,
-                    to,
-                    *conditional,
-                    &mut self.stack,
-                    &self.globals,
-                    &self.threads,
-                ),
             ),
-            Leaf::Declare(name) => lead(
+            Leaf::Declare(name) => declare(
+                &mut self.stack,
+                &self.globals,
+                &mut self.threads,
+                Scope::Global,
+                name,
+                number_of(story, here),
                 transfer,
-                declare(
-                    &mut self.stack,
-                    &self.globals,
-                    &mut self.threads,
-                    Scope::Global,
-                    name,
-                    number_of(story, here),
-                ),
             ),
-            Leaf::DeclareTemp(name) => lead(
+            Leaf::DeclareTemp(name) => declare(
+                &mut self.stack,
+                &self.globals,
+                &mut self.threads,
+                Scope::Temporary,
+                name,
+                None,
                 transfer,
-                declare(
-                    &mut self.stack,
-                    &self.globals,
-                    &mut self.threads,
-                    Scope::Temporary,
-                    name,
-                    None,
-                ),
             ),
-            Leaf::Assign(name) | Leaf::AssignTemp(name) => lead(
+            Leaf::Assign(name) | Leaf::AssignTemp(name) => assign(
+                &mut self.stack,
+                &self.globals,
+                &mut self.threads,
+                name,
+                number_of(story, here),
                 transfer,
-                assign(
-                    &mut self.stack,
-                    &self.globals,
-                    &mut self.threads,
-                    name,
-                    number_of(story, here),
-                ),
             ),
             Leaf::Variable(name) => push_variable(
                 self.alloc,
@@ -306,31 +306,27 @@ impl Machine {
                 *frame,
             ),
             Leaf::Count(path) => push_count(story, here, &self.counts, &mut self.stack, path),
-            Leaf::Call { to, conditional } => lead(
+            Leaf::Call { to, conditional } => call(
+                story,
+                here,
+                FrameKind::Function,
+                to,
+                *conditional,
+                &mut self.stack,
+                &self.globals,
+                &self.threads,
                 transfer,
-                call(
-                    story,
-                    here,
-                    FrameKind::Function,
-                    to,
-                    *conditional,
-                    &mut self.stack,
-                    &self.globals,
-                    &self.threads,
-                ),
             ),
-            Leaf::Tunnel { to, conditional } => lead(
+            Leaf::Tunnel { to, conditional } => call(
+                story,
+                here,
+                FrameKind::Tunnel,
+                to,
+                *conditional,
+                &mut self.stack,
+                &self.globals,
+                &self.threads,
                 transfer,
-                call(
-                    story,
-                    here,
-                    FrameKind::Tunnel,
-                    to,
-                    *conditional,
-                    &mut self.stack,
-                    &self.globals,
-                    &self.threads,
-                ),
             ),
             Leaf::Choice { target, flags } => offer(
                 self.alloc,
@@ -381,11 +377,23 @@ impl Machine {
             Control::EndString => end_string(&mut self.stack, &mut self.output, &mut evaluating),
             Control::BeginTag => begin_tag(&mut self.stack, &mut self.output),
             Control::EndTag => end_tag(&mut self.stack, &mut self.output),
-            Control::Done => lead(transfer, Ok(Transfer::Done)),
-            Control::End => lead(transfer, Ok(Transfer::End)),
-            Control::Return => lead(transfer, Ok(Transfer::Return(FrameKind::Function, None))),
-            Control::ReturnTunnel => lead(transfer, return_tunnel(story, &mut self.stack)),
-            Control::Thread => lead(transfer, Ok(Transfer::Fork)),
+            Control::Done => {
+                *transfer = Transfer::Done;
+                Ok(())
+            }
+            Control::End => {
+                *transfer = Transfer::End;
+                Ok(())
+            }
+            Control::Return => {
+                *transfer = Transfer::Return(FrameKind::Function, None);
+                Ok(())
+            }
+            Control::ReturnTunnel => return_tunnel(story, &mut self.stack, transfer),
+            Control::Thread => {
+                *transfer = Transfer::Fork;
+                Ok(())
+            }
             Control::Turn => push_turn(&mut self.stack, self.turn),
             Control::Turns => push_turns(story, &self.counts, &mut self.stack, self.turn),
             Control::ReadCount => push_read_count(story, &self.counts, &mut self.stack),

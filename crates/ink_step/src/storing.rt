@@ -11,13 +11,13 @@ ghost use Rattle.ink_model.specs.Threads.{frame_count};
 ghost use Rattle.ink_model.specs.Tree.{StoryTree};
 ghost use Rattle.ink_model.specs.VariableMemory.{assign_asks, declare_asks, on_popped};
 ghost use Rattle.ink_model.specs.Variables as rules;
-ghost use Rattle.ink_step.specs.Performs.{Changes, Keeps, Performs, fields};
+ghost use Rattle.ink_step.specs.Performs.{Changes, Keeps, Performs, fields, leading};
 ghost use Rattle.ink_step.specs.Words.{Rest, seen_by};
 ghost use Rattle.ink_tree.specs.Nodes.{place_of};
 ghost use Rattle.ink_vars.specs.Words.{with_variable, writing_asks};
 
 use crate::operands::{push, top};
-use crate::transfer::Transfer;
+use crate::transfer::{Assignment, Transfer};
 use ink_model::{Fault, Scope, Shared, Text, Value};
 use ink_stack::Threads;
 use ink_tree::Spot;
@@ -75,10 +75,12 @@ pub(crate) fn declare<'a>(
     scope: Scope,
     name: &'a Shared<Text>,
     number: Option<usize>,
-) -> Result<Transfer<'a>, Fault>
+    transfer: &mut Transfer<'a>,
+) -> Result<(), Fault>
+    requires { transfer.old ≡ Transfer.Next }
     ensures effect { (s : StoryTree) (rest : Rest) (evaluating : Bool) (fresh : Option ℕ) (page : Page)
         → let seen = seen_by s threads.old rest in Performs s (on_popped (popped stack.old.items) (declare_asks globals.now seen.thread scope name.now))
-        (effects.declare scope name.now seen (fields evaluating fresh stack.old.items page globals.now)) (fields evaluating fresh stack.new.items page globals.now) result }
+        (effects.declare scope name.now seen (fields evaluating fresh stack.old.items page globals.now)) (fields evaluating fresh stack.new.items page globals.now) (leading result transfer.new) }
     ensures threads { (s : StoryTree) (rest : Rest) (evaluating : Bool) (fresh : Option ℕ) (page : Page)
         → OnOk result (Keeps s (effects.declare scope name.now (seen_by s threads.old rest) (fields evaluating fresh stack.old.items page globals.now)) threads.old threads.new) }
     ensures frame { threads.new.thread.frame ≡ record threads.old.thread.frame { temps = threads.new.thread.frame.temps } }
@@ -89,7 +91,7 @@ pub(crate) fn declare<'a>(
     match kept(globals, threads, value) {
         Ok(value) => {
             let variable = declared(threads, scope, name.as_str(), number);
-            store(threads, variable, value)
+            store(threads, variable, value, transfer)
         }
         Err(fault) => Err(fault),
     }
@@ -103,10 +105,12 @@ pub(crate) fn assign<'a>(
     threads: &mut Threads<Spot>,
     name: &'a Shared<Text>,
     number: Option<usize>,
-) -> Result<Transfer<'a>, Fault>
+    transfer: &mut Transfer<'a>,
+) -> Result<(), Fault>
+    requires { transfer.old ≡ Transfer.Next }
     ensures effect { (s : StoryTree) (rest : Rest) (evaluating : Bool) (fresh : Option ℕ) (page : Page)
         → let seen = seen_by s threads.old rest in Performs s (on_popped (popped stack.old.items) (assign_asks globals.now seen.thread name.now))
-        (effects.assign name.now seen (fields evaluating fresh stack.old.items page globals.now)) (fields evaluating fresh stack.new.items page globals.now) result }
+        (effects.assign name.now seen (fields evaluating fresh stack.old.items page globals.now)) (fields evaluating fresh stack.new.items page globals.now) (leading result transfer.new) }
     ensures threads { (s : StoryTree) (rest : Rest) (evaluating : Bool) (fresh : Option ℕ) (page : Page)
         → OnOk result (Keeps s (effects.assign name.now (seen_by s threads.old rest) (fields evaluating fresh stack.old.items page globals.now)) threads.old threads.new) }
     ensures frame { threads.new.thread.frame ≡ record threads.old.thread.frame { temps = threads.new.thread.frame.temps } }
@@ -115,7 +119,7 @@ pub(crate) fn assign<'a>(
         return Err(Fault::StackEmpty);
     };
     match assigned(globals, threads, name.as_str(), number) {
-        Ok(variable) => store(threads, variable, value),
+        Ok(variable) => store(threads, variable, value, transfer),
         Err(fault) => Err(fault),
     }
 }
@@ -126,16 +130,22 @@ fn store<'a>(
     threads: &mut Threads<Spot>,
     variable: Variable<'a>,
     value: Value,
-) -> Result<Transfer<'a>, Fault>
-    requires { variable.frame ≤ frame_count threads.old.thread }
+    transfer: &mut Transfer<'a>,
+) -> Result<(), Fault>
+    requires on { transfer.old ≡ Transfer.Next }
+    requires within { variable.frame ≤ frame_count threads.old.thread }
     ensures effect { (s : StoryTree) (f : Fields) → let w = with_variable f.globals threads.old.thread variable.entry value in
-        Performs s (writing_asks f.globals threads.old.thread variable.entry) (Stores (map_thread (place_of s) w.1) (record f { globals = w.0 })) f result }
+        Performs s (writing_asks f.globals threads.old.thread variable.entry) (Stores (map_thread (place_of s) w.1) (record f { globals = w.0 })) f (leading result transfer.new) }
     ensures threads { (globals : Values) → OnOk result (threads.new ≡ record threads.old { thread = (with_variable globals threads.old.thread variable.entry value).1 }) }
     ensures frame { threads.new.thread.frame ≡ record threads.old.thread.frame { temps = threads.new.thread.frame.temps } }
 {
     if variable.frame == 0 {
-        return Ok(Transfer::Store(variable.name, value));
+        *transfer = Transfer::Store(Assignment {
+            name: variable.name,
+            value,
+        });
+        return Ok(());
     }
     threads.set_temp(variable.frame, variable.name.as_str(), value)?;
-    Ok(Transfer::Next)
+    Ok(())
 }

@@ -14,6 +14,13 @@ pub(crate) struct Landing {
     pub enters: bool,
 }
 
+/// A value for the global of a name.
+#[derive(Drop)]
+pub(crate) struct Assignment<'a> {
+    pub name: Name<'a>,
+    pub value: Value,
+}
+
 /// Where flow goes once a content has been performed. A global that the content stores is stored last, after flow has
 /// moved and may have followed a choice: a fault on the way leaves the globals as they were.
 #[derive(Drop)]
@@ -22,8 +29,8 @@ pub(crate) enum Transfer<'a> {
     Next,
     /// On, after the content, which has written a text: freshness ends in the open section.
     Wrote,
-    /// On, after the content, which stores a value in the global of that name.
-    Store(Name<'a>, Value),
+    /// On, after the content, which stores a value in a global.
+    Store(Assignment<'a>),
     /// To another place.
     Land(Landing),
     /// To another place, in a frame of its own.
@@ -46,18 +53,7 @@ pub(crate) fn moving<'a>(outcome: Result<(), Fault>) -> Result<Transfer<'a>, Fau
     Ok(Transfer::Next)
 }
 
-/// Flow goes where a content leads that was performed without a fault.
-pub(crate) fn lead<'a>(
-    transfer: &mut Transfer<'a>,
-    outcome: Result<Transfer<'a>, Fault>,
-) -> Result<(), Fault>
-    ensures { leading result transfer.new ≡ outcome.entry }
-{
-    *transfer = outcome?;
-    Ok(())
-}
-
-/// The same after a content that tells whether it has written a text.
+/// Flow goes on after a content that tells whether it has written a text, which ends freshness.
 pub(crate) fn after_text(
     transfer: &mut Transfer<'_>,
     outcome: Result<bool, Fault>,

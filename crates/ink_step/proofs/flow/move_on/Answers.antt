@@ -1,7 +1,8 @@
-use Rattle.std.proofs.Common.{rules, Err, ◌≡◌, ◌∙◌, ap, sym, Ok}
+use Rattle.std.proofs.Common.{Ok, refl, sym}
+use Rattle.ink_model.specs.Frames.{map_threads}
+use Rattle.ink_model.specs.MoveMemory.{moved_asks}
 use Rattle.ink_model.specs.Place.{next_place}
-use Rattle.ink_model.specs.declared.frame.FrameKind.TheVariants.{Function}
-use Rattle.ink_step.proofs.Turns.{function_broke, function_ended, reached}
+use Rattle.ink_step.proofs.Turns.{reached}
 use Rattle.ink_step.proofs.flow.move_on.Goals as goal
 use Rattle.ink_step.specs.Reaches.{written}
 use Rattle.ink_tree.specs.Nodes.{place_of, story_tree}
@@ -9,20 +10,6 @@ use Rattle.ink_tree.specs.Nodes.{place_of, story_tree}
 pub returns-in-Some : goal.returns-in-Some
 returns-in-Some c =
     let s = story_tree c.args.tree.now in
-    let w = written c.loop-place.stack c.loop-place.output in
-    reached (place_of s) (next_place s) _ _ w c.loop-place.threads c.loop-place.invariant _ (place_of s c.in-Some.place) (sym c.in-Some.ensures) _ (Ok c.land.result) (c.land.ensures s w)
-
-pub loop-place-preserved-in-Continue-1 : goal.loop-place-preserved-in-Continue-1
-loop-place-preserved-in-Continue-1 c =
-    let s = story_tree c.args.tree.now in
-    let w = written c.loop-place.stack c.loop-place.output in
-    let kind : c.loop-place.threads.thread.frame.kind ≡ Function = ap (λ t. t.frame.kind) (sym c.top.ensures) ∙ sym c.in-Function.ensures in
-    function_ended (place_of s) (next_place s) _ _ w c.loop-place.threads c.loop-place.invariant (sym c.in_default.ensures) kind _ _ c.in_ok-end_function-in-Function.field-0 (c.in_ok-end_function-in-Function.ensures s)
-
-pub returns-in_err-end_function-in-Function : goal.returns-in_err-end_function-in-Function
-returns-in_err-end_function-in-Function c =
-    let s = story_tree c.args.tree.now in
-    let w = written c.loop-place.stack c.loop-place.output in
-    let kind : c.loop-place.threads.thread.frame.kind ≡ Function = ap (λ t. t.frame.kind) (sym c.top.ensures) ∙ sym c.in-Function.ensures in
-    let is : c.from_residual.result ≡ Err c.in_err-end_function-in-Function.field-0.0 = search rules in
-    rw is (function_broke (place_of s) (next_place s) _ _ w c.loop-place.threads c.loop-place.invariant (sym c.in_default.ensures) kind _ _ c.in_err-end_function-in-Function.field-0.0 _ _ (c.in_err-end_function-in-Function.ensures s))
+    let w = written c.args.stack.now c.args.output.now in
+    let ts = map_threads (place_of s) c.args.threads.now in
+    reached (place_of s) (next_place s) ts w w c.args.threads.now (record { same = refl; asks = λ h. h }) (moved_asks (next_place s) ts w) (place_of s c.in-Some.place) (sym c.in-Some.ensures) _ (Ok c.land.result) (c.land.ensures s w)

@@ -25,4 +25,4 @@ returns-in-Ok-false c evaluating fresh page rest =
     let s = story_tree c.args.story.now in
     let so = call_to c.args.kind s (place_of s c.args.here) (seen_by s c.args.threads.now rest) c.args.to.now in
     let new = fields evaluating fresh c.is_wanted.new.stack.items page c.args.globals.now in
-    passed s _ new _ so _ c.in-Ok-false.field-0-test (c.in-Ok-false.ensures evaluating fresh page c.args.globals.now so)
+    passed s _ new _ so _ _ c.requires.on c.in-Ok-false.field-0-test (c.in-Ok-false.ensures evaluating fresh page c.args.globals.now so)

@@ -1,11 +1,11 @@
-use Rattle.ink_step.specs.Performs.{fields}
+use Rattle.ink_step.specs.Performs.{fields, leading}
 use Rattle.ink_step.proofs.Stored.{declares_keeping, declares_nowhere, declares_there}
 use Rattle.ink_step.proofs.storing.declare.Goals as goal
 
 pub returns-in-Ok-clause-effect : goal.returns-in-Ok-clause-effect
 returns-in-Ok-clause-effect c s rest evaluating fresh page =
     let f = fields evaluating fresh c.args.stack.now.items page c.args.globals.now in
-    declares_there s c.args.threads.now rest f c.args.scope c.args.name.now c.top.new.stack.items c.in-Some.value c.in-Some.ensures c.in-Ok.value c.declared-variable.result c.store.result c.in-Ok.ensures
+    declares_there s c.args.threads.now rest f c.args.scope c.args.name.now c.top.new.stack.items c.in-Some.value c.in-Some.ensures c.in-Ok.value c.declared-variable.result (leading c.store.result c.store.new.transfer) c.in-Ok.ensures
     (rw c.as_str.ensures at (c.declared-variable.ensures.variable c.args.globals.now)) (c.store.ensures.effect s (record f { stack = c.top.new.stack.items }))
 
 pub returns-in-Ok-clause-threads : goal.returns-in-Ok-clause-threads

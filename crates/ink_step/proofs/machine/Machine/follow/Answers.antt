@@ -42,7 +42,7 @@ returns-in-Store-clause-ends c asks e h has offers =
     let s = story_tree c.args.story.now in
     let old = config_of s c.args.self.now in
     let new = config_of s c.go_on-in-Store.new.self in
-    goes_storing s asks old new c.go_on-in-Store.result _ _ e (subst (λ t. Performs s asks e (fields_of old) (Ok t)) c.in-Store.is h) has
+    goes_storing s asks old new c.go_on-in-Store.result _ e (subst (λ t. Performs s asks e (fields_of old) (Ok t)) c.in-Store.is h) has
     (ends_more asks _ (going (moved_on (next_place s)) old) _ new c.go_on-in-Store.result c.go_on-in-Store.ensures.ends)
 
 pub returns-in-Land-clause-ends : goal.returns-in-Land-clause-ends

@@ -1,4 +1,4 @@
-use Rattle.std.proofs.Common.{◌≡◌, ◌∙◌, List, Ok, Err, OnOk, Result, Some, ap, inl, inr, of_z, rules, subst, sym, to_z, to_z-of_z, w32}
+use Rattle.std.proofs.Common.{◌≡◌, ◌∙◌, List, OnOk, Result, Some, ap, inl, inr, of_z, refl, rules, subst, sym, to_z, to_z-of_z, w32}
 use Rattle.ink_check.specs.Words.{story_tree}
 use Rattle.ink_model.specs.Effect.{Fields, context_of, fields_of}
 use Rattle.ink_model.specs.Frames.{ThreadsOf}
@@ -45,21 +45,16 @@ module _ (s : StoryTree) (b : Bound) (p : List Part) (machine : Machine) where
     keeps : (l k : Leaf) (threads : ThreadsOf Spot) (r : Result A Fault) → l ≡ k → KeptBy k threads r → KeptBy l threads r
     keeps l k threads r is h = subst (λ x. KeptBy x threads r) (sym is) h
 
--- a transfer is set where there is no fault
-led_ok : (u : Result (Unit {0}) Fault) (to : Transfer) (r : Result Transfer Fault) (B : Type 0) → leading u to ≡ r → OnOk r B → OnOk u B
-led_ok (Ok u) to r B leads h = subst (λ r. OnOk r B) (sym leads) h
-led_ok (Err f) to r B leads h = tt
-
 -- ---- each content
 
-pub divert-requires : goal.divert-requires
-divert-requires c = leaf_landing (story_tree c.args.story.now) (place_of (story_tree c.args.story.now) c.args.here) _ (c.requires.stands ∙ ap (λ l. Some (leaf l)) c.in-Divert.is)
+pub divert-requires-clause-path : goal.divert-requires-clause-path
+divert-requires-clause-path c = leaf_landing (story_tree c.args.story.now) (place_of (story_tree c.args.story.now) c.args.here) _ (c.requires.stands ∙ ap (λ l. Some (leaf l)) c.in-Divert.is)
 
-pub call-requires : goal.call-requires
-call-requires c = leaf_landing (story_tree c.args.story.now) (place_of (story_tree c.args.story.now) c.args.here) _ (c.requires.stands ∙ ap (λ l. Some (leaf l)) c.in-Call.is)
+pub call-requires-clause-path : goal.call-requires-clause-path
+call-requires-clause-path c = leaf_landing (story_tree c.args.story.now) (place_of (story_tree c.args.story.now) c.args.here) _ (c.requires.stands ∙ ap (λ l. Some (leaf l)) c.in-Call.is)
 
-pub call-requires-in-Tunnel : goal.call-requires-in-Tunnel
-call-requires-in-Tunnel c = leaf_landing (story_tree c.args.story.now) (place_of (story_tree c.args.story.now) c.args.here) _ (c.requires.stands ∙ ap (λ l. Some (leaf l)) c.in-Tunnel.is)
+pub call-requires-in-Tunnel-clause-path : goal.call-requires-in-Tunnel-clause-path
+call-requires-in-Tunnel-clause-path c = leaf_landing (story_tree c.args.story.now) (place_of (story_tree c.args.story.now) c.args.here) _ (c.requires.stands ∙ ap (λ l. Some (leaf l)) c.in-Tunnel.is)
 
 pub returns-in-Control-clause-threads : goal.returns-in-Control-clause-threads
 returns-in-Control-clause-threads c b =
@@ -75,19 +70,19 @@ pub returns-in-Divert-clause-effect : goal.returns-in-Divert-clause-effect
 returns-in-Divert-clause-effect c b =
     let s = story_tree c.args.story.now in
     let machine = c.args.self.now in
-    does s b (place_of s c.args.here) machine _ _ _ _ _ c.in-Divert.is c.lead.ensures (c.divert.ensures _ _ _ (rest_of machine))
+    does s b (place_of s c.args.here) machine _ _ _ _ _ c.in-Divert.is refl (c.divert.ensures _ _ _ (rest_of machine))
 
 pub returns-in-Call-clause-effect : goal.returns-in-Call-clause-effect
 returns-in-Call-clause-effect c b =
     let s = story_tree c.args.story.now in
     let machine = c.args.self.now in
-    does s b (place_of s c.args.here) machine _ _ _ _ _ c.in-Call.is c.lead-in-Call.ensures (c.call.ensures _ _ _ (rest_of machine))
+    does s b (place_of s c.args.here) machine _ _ _ _ _ c.in-Call.is refl (c.call.ensures _ _ _ (rest_of machine))
 
 pub returns-in-Tunnel-clause-effect : goal.returns-in-Tunnel-clause-effect
 returns-in-Tunnel-clause-effect c b =
     let s = story_tree c.args.story.now in
     let machine = c.args.self.now in
-    does s b (place_of s c.args.here) machine _ _ _ _ _ c.in-Tunnel.is c.lead-in-Tunnel.ensures (c.call-in-Tunnel.ensures _ _ _ (rest_of machine))
+    does s b (place_of s c.args.here) machine _ _ _ _ _ c.in-Tunnel.is refl (c.call-in-Tunnel.ensures _ _ _ (rest_of machine))
 
 pub returns-in-Count-clause-effect : goal.returns-in-Count-clause-effect
 returns-in-Count-clause-effect c b =
@@ -114,25 +109,25 @@ pub returns-in-Declare-clause-effect : goal.returns-in-Declare-clause-effect
 returns-in-Declare-clause-effect c b =
     let s = story_tree c.args.story.now in
     let machine = c.args.self.now in
-    does_storing s b (place_of s c.args.here) machine _ _ c.declare.new.threads c.declare.new.stack _ _ c.in-Declare.is c.lead-in-Declare.ensures c.declare.ensures.frame (c.declare.ensures.effect s (rest_of machine) _ _ _)
+    does_storing s b (place_of s c.args.here) machine _ _ c.declare.new.threads c.declare.new.stack _ _ c.in-Declare.is refl c.declare.ensures.frame (c.declare.ensures.effect s (rest_of machine) _ _ _)
 
 pub returns-in-Declare-clause-threads : goal.returns-in-Declare-clause-threads
 returns-in-Declare-clause-threads c b =
     let s = story_tree c.args.story.now in
     let machine = c.args.self.now in
-    keeps s b (place_of s c.args.here) machine _ _ _ _ c.in-Declare.is (led_ok _ _ _ _ c.lead-in-Declare.ensures (c.declare.ensures.threads s (rest_of machine) _ _ _))
+    keeps s b (place_of s c.args.here) machine _ _ _ _ c.in-Declare.is (c.declare.ensures.threads s (rest_of machine) _ _ _)
 
 pub returns-in-DeclareTemp-clause-effect : goal.returns-in-DeclareTemp-clause-effect
 returns-in-DeclareTemp-clause-effect c b =
     let s = story_tree c.args.story.now in
     let machine = c.args.self.now in
-    does_storing s b (place_of s c.args.here) machine _ _ c.declare-in-DeclareTemp.new.threads c.declare-in-DeclareTemp.new.stack _ _ c.in-DeclareTemp.is c.lead-in-DeclareTemp.ensures c.declare-in-DeclareTemp.ensures.frame (c.declare-in-DeclareTemp.ensures.effect s (rest_of machine) _ _ _)
+    does_storing s b (place_of s c.args.here) machine _ _ c.declare-in-DeclareTemp.new.threads c.declare-in-DeclareTemp.new.stack _ _ c.in-DeclareTemp.is refl c.declare-in-DeclareTemp.ensures.frame (c.declare-in-DeclareTemp.ensures.effect s (rest_of machine) _ _ _)
 
 pub returns-in-DeclareTemp-clause-threads : goal.returns-in-DeclareTemp-clause-threads
 returns-in-DeclareTemp-clause-threads c b =
     let s = story_tree c.args.story.now in
     let machine = c.args.self.now in
-    keeps s b (place_of s c.args.here) machine _ _ _ _ c.in-DeclareTemp.is (led_ok _ _ _ _ c.lead-in-DeclareTemp.ensures (c.declare-in-DeclareTemp.ensures.threads s (rest_of machine) _ _ _))
+    keeps s b (place_of s c.args.here) machine _ _ _ _ c.in-DeclareTemp.is (c.declare-in-DeclareTemp.ensures.threads s (rest_of machine) _ _ _)
 
 pub returns-in-Assign-clause-effect : goal.returns-in-Assign-clause-effect
 returns-in-Assign-clause-effect c b =
@@ -142,8 +137,8 @@ returns-in-Assign-clause-effect c b =
     let threads = c.assign.new.threads in
     let stack = c.assign.new.stack in
     elim c.in-Assign.is [
-      | inl is ↦ does_storing s b p machine _ _ threads stack _ _ is c.lead-in-Assign.ensures c.assign.ensures.frame (c.assign.ensures.effect s (rest_of machine) _ _ _)
-      | inr is ↦ does_storing s b p machine _ _ threads stack _ _ is c.lead-in-Assign.ensures c.assign.ensures.frame (c.assign.ensures.effect s (rest_of machine) _ _ _)
+      | inl is ↦ does_storing s b p machine _ _ threads stack _ _ is refl c.assign.ensures.frame (c.assign.ensures.effect s (rest_of machine) _ _ _)
+      | inr is ↦ does_storing s b p machine _ _ threads stack _ _ is refl c.assign.ensures.frame (c.assign.ensures.effect s (rest_of machine) _ _ _)
     ]
 
 pub returns-in-Assign-clause-threads : goal.returns-in-Assign-clause-threads
@@ -152,8 +147,8 @@ returns-in-Assign-clause-threads c b =
     let p = place_of s c.args.here in
     let machine = c.args.self.now in
     elim c.in-Assign.is [
-      | inl is ↦ keeps s b p machine _ _ _ _ is (led_ok _ _ _ _ c.lead-in-Assign.ensures (c.assign.ensures.threads s (rest_of machine) _ _ _))
-      | inr is ↦ keeps s b p machine _ _ _ _ is (led_ok _ _ _ _ c.lead-in-Assign.ensures (c.assign.ensures.threads s (rest_of machine) _ _ _))
+      | inl is ↦ keeps s b p machine _ _ _ _ is (c.assign.ensures.threads s (rest_of machine) _ _ _)
+      | inr is ↦ keeps s b p machine _ _ _ _ is (c.assign.ensures.threads s (rest_of machine) _ _ _)
     ]
 
 pub returns-in-Choice-clause-effect : goal.returns-in-Choice-clause-effect

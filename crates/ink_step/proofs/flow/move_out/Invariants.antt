@@ -1,7 +1,7 @@
 use Rattle.ink_model.specs.Frames.{map_threads}
 use Rattle.ink_model.specs.Place.{next_place}
 use Rattle.ink_step.proofs.Turns.{OnTheWay, all_frames}
-use Rattle.ink_step.proofs.flow.move_on.Given as goal
+use Rattle.ink_step.proofs.flow.move_out.Given as goal
 use Rattle.ink_step.specs.Reaches.{written}
 use Rattle.ink_tree.specs.Nodes.{place_of, story_tree}
 
