@@ -22,6 +22,7 @@ use std::alloc::AllocError;
 impl Machine {
     /// Flow has stopped. Where there are choices and none is visible it goes on where the first of them leads, in the same turn.
     /// The one error is a refused request for memory, which is made only for a container that is entered for the first time.
+    #[inline(never)]
     pub(crate) fn follow_default(&mut self, story: &Story) -> Result<StepEnd, Fault>
         ensures ends { let s = story_tree story.now in let c = config_of s self.old in let choice = default_choice c.flow.choices in
             StepEnds (default_asks s choice c) (stopped_by s choice c) self.old.globals (config_of s self.new) result }

@@ -45,6 +45,7 @@ pub(crate) fn turns_since(
 
 // A container is entered in a turn, as at its start. The one error is a refused request for memory, which is made only for a row
 // that is not there.
+#[inline(never)]
 fn enter(tree: &Tree, counts: &mut Counts, container: NodeId, turn: Turn) -> Result<(), Fault>
     ensures ok { let s = story_tree tree.now in let q = node_place s container in
         OnOk result (counts_in s counts.new ≡ rules.visited place_order q (flags_at (at s q)) true turn (counts_in s counts.old)) }
@@ -57,6 +58,7 @@ fn enter(tree: &Tree, counts: &mut Counts, container: NodeId, turn: Turn) -> Res
 
 // The containers on the way down from a content are entered, to the first content that holds no other by index, which is given;
 // an empty container is entered too, and none is given. The one error is a refused request for memory.
+#[inline(always)]
 fn enter_passed<'a>(
     tree: &'a Tree,
     counts: &mut Counts,
@@ -143,6 +145,7 @@ impl Machine {
     /// Flow goes down from its place to the first content that holds no other by index, and enters the containers on the way. And
     /// that content, none for an empty container, and where nothing stands there. The one error is a refused request for memory,
     /// which is made only for a container that is entered for the first time.
+    #[inline(always)]
     pub(crate) fn go_in<'a>(
         &mut self,
         tree: &'a Tree,

@@ -25,6 +25,7 @@ use ink_value::EvalStack;
 use std::alloc::{AllocError, Global};
 
 /// A value is pushed in evaluation mode, and does nothing outside it.
+#[inline(always)]
 pub(crate) fn push_value(stack: &mut EvalStack, evaluating: bool, value: Value) -> Result<(), Fault>
     ensures { (fresh : Option ℕ) (page : Page) (globals : Values)
         → Changes evaluating (push_value value (fields evaluating fresh stack.old.items page globals)) (fields evaluating fresh stack.new.items page globals) result }
@@ -36,6 +37,7 @@ pub(crate) fn push_value(stack: &mut EvalStack, evaluating: bool, value: Value) 
 }
 
 /// The path that a content spells is pushed in evaluation mode. Outside it nothing is done.
+#[inline(never)]
 pub(crate) fn push_target(
     story: &Story,
     here: Spot,
@@ -112,6 +114,7 @@ pub(crate) fn duplicate(alloc: Global, stack: &mut EvalStack) -> Result<(), Faul
 }
 
 /// What an operator makes of the values on top is pushed in their place.
+#[inline(always)]
 pub(crate) fn operate(alloc: Global, stack: &mut EvalStack, operator: Op) -> Result<(), Fault>
     ensures { (evaluating : Bool) (fresh : Option ℕ) (page : Page) (globals : Values)
         → Changes (operator_asks operator (taken (takes operator) stack.old.items [])) (operate operator (fields evaluating fresh stack.old.items page globals)) (fields evaluating fresh stack.new.items page globals) result }

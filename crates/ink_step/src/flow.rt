@@ -36,6 +36,7 @@ pub enum StepEnd {
 /// frame is the only one; `BadMode` where another number of strings and tags is open than at its call; `TooDeep` for more than
 /// 100,000 marks in the line or 10,000 values on the stack; `StopInString` for a stop while a string or a tag is open;
 /// `OutOfMemory` for a refused request for memory, which only the end of a function makes.
+#[inline(always)]
 pub(crate) fn move_on(
     tree: &Tree,
     threads: &mut Threads<Spot>,
@@ -52,6 +53,7 @@ pub(crate) fn move_on(
 }
 
 /// The same with the ends of frames and threads, of which most moves have none.
+#[inline(never)]
 fn move_out(
     tree: &Tree,
     threads: &mut Threads<Spot>,
@@ -78,6 +80,7 @@ fn move_out(
 }
 
 /// Flow goes to a place. Takes no memory.
+#[inline(always)]
 pub(crate) fn land(threads: &mut Threads<Spot>, place: Spot) -> StepEnd
     ensures { (s : StoryTree) (w : Written) → ReachesAs false (reach (place_of s place) (map_threads (place_of s) threads.old) w) (map_threads (place_of s) threads.new) w (Ok result) }
 {
@@ -125,6 +128,7 @@ pub(crate) fn give_back(
 
 /// Flow moves on, and then the thread that runs is there twice; where flow stops there is nothing to copy. The faults of moving
 /// on; `TooDeep` where there are 100 threads; `OutOfMemory` for a refused request for memory.
+#[inline(never)]
 pub(crate) fn fork(
     tree: &Tree,
     threads: &mut Threads<Spot>,
@@ -143,6 +147,7 @@ pub(crate) fn fork(
 
 /// The thread that runs is dropped, and the one below moves on, with the faults of moving on. The last thread stops where it is:
 /// `StopInString` while a string or a tag is open.
+#[inline(never)]
 pub(crate) fn done(
     tree: &Tree,
     threads: &mut Threads<Spot>,
@@ -160,6 +165,7 @@ pub(crate) fn done(
 }
 
 /// Flow stops, and of where it was nothing is left. `StopInString` while a string or a tag is open. Takes no memory.
+#[inline(never)]
 pub(crate) fn end(threads: &mut Threads<Spot>, output: &Output) -> Result<StepEnd, Fault>
     ensures { (s : StoryTree) (values : List Data) → let w : Written = record { stack = values; page = output.now.page } in ReachesAs false (halt (base_threads None) w) (map_threads (place_of s) threads.new) w result }
 {
@@ -179,6 +185,7 @@ fn stop(output: &Output) -> Result<StepEnd, Fault>
 }
 
 /// The place after the one where flow is; none where there is none, or flow has stopped.
+#[inline(always)]
 fn next_of(tree: &Tree, threads: &Threads<Spot>) -> Option<Spot>
     ensures { let s = story_tree tree.now in option_map (place_of s) result ≡ option_and_then (next_place s) (place_in (map_threads (place_of s) threads.now)) }
 {

@@ -23,6 +23,7 @@ use ink_vars::Globals;
 /// Flow lands, in a frame of this kind, where a call or a tunnel leads, `BadTarget` where that is nowhere, and before that
 /// `BadPointer` where its variable holds a pointer that leads nowhere. A condition is popped and looked at before all else;
 /// where it is false flow goes on.
+#[inline(never)]
 pub(crate) fn call(
     story: &Story,
     here: Spot,
@@ -54,6 +55,7 @@ pub(crate) fn call(
 
 /// A tunnel goes back by what is popped: void leads to after its call, a target to the very place that it names. `StackEmpty`
 /// where nothing is there to be popped, `BadPop` for another value, `BadTarget` for a target that leads nowhere.
+#[inline(never)]
 pub(crate) fn return_tunnel(
     story: &Story,
     stack: &mut EvalStack,

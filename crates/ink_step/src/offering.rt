@@ -31,6 +31,7 @@ use std::alloc::Global;
 /// A choice point pops what it is made of, and offers the choice behind the others, where it makes one. `BadTarget` where it
 /// leads nowhere; then the faults of what it pops, and of a text that is longer than a text may be (`ink_choice::make`); then
 /// `TooDeep` where there is no room. Memory is asked for only where a choice is made.
+#[inline(never)]
 pub(crate) fn offer(
     alloc: Global,
     story: &Story,

@@ -10,6 +10,7 @@ use std::alloc::Global;
 
 /// Puts a value on top. `TooDeep` where there is no room, `OutOfMemory` for a refused request for memory; nothing has changed
 /// then.
+#[inline(always)]
 pub(crate) fn push(stack: &mut EvalStack, value: Value) -> Result<(), Fault>
     ensures { Leaves (pushed value stack.old.items) stack.old.items stack.new.items result }
 {

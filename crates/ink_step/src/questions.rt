@@ -29,6 +29,7 @@ use ink_value::EvalStack;
 use ink_vars::{Counts, Turn};
 
 /// The visits of the container to which a content's path leads are pushed. `NotCounted` where they are not counted.
+#[inline(never)]
 pub(crate) fn push_count(
     story: &Story,
     here: Spot,

@@ -82,6 +82,7 @@ impl Machine {
     }
 
     // Whether the step from this place calls a turn function.
+    #[inline(never)]
     fn wants_call<P: PureFn, T: TurnFn, W: Watcher>(
         &self,
         story: &Story,
@@ -99,6 +100,7 @@ impl Machine {
     }
 
     /// A call has its effect, and flow moves; where it stops it may follow a choice.
+    #[inline(never)]
     fn act_external<P: PureFn, T: TurnFn, W: Watcher>(
         &mut self,
         story: &Story,
@@ -123,6 +125,7 @@ impl Machine {
     }
 
     /// What stands where flow is has its effect, and flow moves; where it stops it may follow a choice.
+    #[inline(always)]
     fn act(&mut self, story: &Story, here: Spot, found: Option<&Leaf>) -> Result<StepEnd, Fault>
         requires stands { let s = story_tree story.now in option_map (λ l. l.now) found ≡ leaf_in (at s (place_of s here)) }
         requires other { external_in (option_map (λ l. leaf l.now) found) ≡ None }
@@ -137,6 +140,7 @@ impl Machine {
     }
 
     /// After a content was performed flow goes where it sends it, and a global is stored.
+    #[inline(always)]
     fn finish(&mut self, story: &Story, transfer: &mut Transfer<'_>) -> Result<StepEnd, Fault>
         ensures ends { let s = story_tree story.now in (old : Before) (asks : Bool) (e : Effect) → Performs s asks e (fields_of (config_of s self.old)) (Ok transfer.old) → Keeps s e old.threads self.old.threads → KeepsChoices s e old.choices self.old.choices
             → self.old.safe ≡ old.safe → self.old.counts ≡ old.counts → self.old.turn ≡ old.turn → self.old.globals ≡ old.globals → let c = config_of s old in
@@ -148,6 +152,7 @@ impl Machine {
     }
 
     /// Flow goes where a content sends it; where it stops it may follow a choice. No global is stored yet.
+    #[inline(always)]
     fn go(&mut self, story: &Story, transfer: &Transfer<'_>) -> Result<StepEnd, Fault>
         ensures ends { let s = story_tree story.now in (asks : Bool) (e : Effect) → Performs s asks e (fields_of (config_of s self.old)) (Ok transfer.now) → Keeps s e self.old.threads self.old.threads → KeepsChoices s e self.old.choices self.old.choices
             → let o = moved s (unstored self.old.globals e) (config_of s self.old) in
@@ -163,6 +168,7 @@ impl Machine {
 
     /// A global is stored, where a content hands one on, and the step ends so; what it was is noted before. The one error is
     /// `OutOfMemory` for a refused request for memory, which leaves the globals as they were.
+    #[inline(always)]
     fn store(&mut self, transfer: &mut Transfer<'_>, end: StepEnd) -> Result<StepEnd, Fault>
         ensures tracks { (start : Values) → Tracks start self.old.changes self.old.globals → Tracks start self.new.changes self.new.globals }
         ensures stored { (s : StoryTree) (asks whole : Bool) (e : Effect) (f : Fields) (o : Outcome) → (asks ≡ true → whole ≡ true) → f.globals ≡ self.old.globals → Performs s asks e f (Ok transfer.old)
@@ -182,6 +188,7 @@ impl Machine {
 
     /// Performs what was found at a place: an empty container, or nothing, is passed over. Flow goes on, but for content that
     /// sets where it goes.
+    #[inline(always)]
     fn perform<'a>(
         &mut self,
         story: &Story,
@@ -211,6 +218,7 @@ impl Machine {
     }
 
     // What is bound is of no matter to content that is no call of an external function.
+    #[inline(always)]
     fn perform_leaf<'a>(
         &mut self,
         story: &Story,
@@ -343,6 +351,7 @@ impl Machine {
         }
     }
 
+    #[inline(always)]
     fn perform_control(
         &mut self,
         story: &Story,
@@ -406,6 +415,7 @@ impl Machine {
 
     /// Flow goes where a content sends it. Temporaries that the content stores are set already, and what it offers is offered; a
     /// global is stored after that.
+    #[inline(always)]
     fn follow(&mut self, story: &Story, transfer: &Transfer<'_>) -> Result<StepEnd, Fault>
         ensures ends { let s = story_tree story.now in (asks : Bool) (e : Effect) → Performs s asks e (fields_of (config_of s self.old)) (Ok transfer.now) → Keeps s e self.old.threads self.old.threads → KeepsChoices s e self.old.choices self.old.choices
             → StepEnds (asks || move_asks s e (config_of s self.old)) (moved s (unstored self.old.globals e) (config_of s self.old)) self.old.globals (config_of s self.new) result }
@@ -446,6 +456,7 @@ impl Machine {
     }
 
     /// Flow lands, which may enter containers around.
+    #[inline(never)]
     fn go_to(&mut self, story: &Story, to: Landing) -> Result<StepEnd, Fault>
         ensures ends { let s = story_tree story.now in let c = config_of s self.old in let how = reach (place_of s to.place) in
             StepEnds (landed_asks s to.enters c.shared.counts (how c.flow.threads (written_in c))) (landing s to.enters how c) self.old.globals (config_of s self.new) result }
@@ -458,6 +469,7 @@ impl Machine {
     }
 
     /// Flow lands in a frame of this kind, which may enter containers around.
+    #[inline(never)]
     fn go_into(&mut self, story: &Story, kind: FrameKind, to: Landing) -> Result<StepEnd, Fault>
         ensures ends { let s = story_tree story.now in let c = config_of s self.old in let how = called kind (place_of s to.place) in
             StepEnds (nat_lt (frame_count c.flow.threads.thread) MAX_FRAMES || landed_asks s to.enters c.shared.counts (how c.flow.threads (written_in c)))
@@ -471,6 +483,7 @@ impl Machine {
     }
 
     /// Flow comes back from a frame of this kind, to after its call, or to where it lands, which may enter containers around.
+    #[inline(never)]
     fn go_back(
         &mut self,
         story: &Story,
@@ -496,6 +509,7 @@ impl Machine {
     }
 
     /// Flow goes on after the content.
+    #[inline(always)]
     fn go_on(&mut self, story: &Story) -> Result<StepEnd, Fault>
         ensures ends { let s = story_tree story.now in let c = config_of s self.old in
             StepEnds (moved_asks (next_place s) c.flow.threads (written_in c)) (going (moved_on (next_place s)) c) self.old.globals (config_of s self.new) result }

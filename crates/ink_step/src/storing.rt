@@ -46,6 +46,7 @@ pub(crate) fn push_variable(
 
 /// A pointer is pushed in evaluation mode; where its frame is not known, that is found now. Outside evaluation mode nothing is
 /// done.
+#[inline(never)]
 pub(crate) fn push_pointer(
     stack: &mut EvalStack,
     threads: &Threads<Spot>,

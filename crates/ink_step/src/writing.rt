@@ -18,6 +18,7 @@ use std::alloc::Global;
 
 /// A text is pushed in evaluation mode, and written outside it. Whether a text was written.
 #[tactic(auto, unfolding(ink_model::specs::Value::printed))]
+#[inline(never)]
 pub(crate) fn write_text(
     stack: &mut EvalStack,
     output: &mut Output,
@@ -36,6 +37,7 @@ pub(crate) fn write_text(
 }
 
 /// A newline is pushed in evaluation mode, and written outside it.
+#[inline(never)]
 pub(crate) fn write_newline(
     alloc: Global,
     stack: &mut EvalStack,
@@ -53,6 +55,7 @@ pub(crate) fn write_newline(
 }
 
 /// Glue is written. It is no value: `BadMode` in evaluation mode.
+#[inline(never)]
 pub(crate) fn write_glue(output: &mut Output, evaluating: bool) -> Result<(), Fault>
     ensures { (fresh : Option ℕ) (stack : List Data) (globals : Values)
         → Changes (not evaluating) (write_glue (fields evaluating fresh stack output.old.page globals)) (fields evaluating fresh stack output.new.page globals) result }
@@ -64,6 +67,7 @@ pub(crate) fn write_glue(output: &mut Output, evaluating: bool) -> Result<(), Fa
 }
 
 /// The value on top is popped and its printed text written. On an empty stack nothing is done. Whether a text was written.
+#[inline(never)]
 pub(crate) fn output_top(
     stack: &mut EvalStack,
     output: &mut Output,

@@ -37,6 +37,7 @@ impl Tree {
     }
 
     /// The place after a place; none where flow stops. Takes no memory.
+    #[inline(always)]
     pub fn next(&self, spot: Spot) -> Option<Spot>
         ensures { option_map (place_of (story_tree self.now)) result ≡ next_place (story_tree self.now) (place_of (story_tree self.now) spot) }
     {
@@ -51,6 +52,7 @@ impl Tree {
     }
 
     // The content after a content.
+    #[inline(always)]
     fn next_node(&self, node: NodeId) -> Option<NodeId>
         ensures { option_map (node_place (story_tree self.now)) result ≡ next_place (story_tree self.now) (node_place (story_tree self.now) node) }
     {
@@ -61,6 +63,7 @@ impl Tree {
     }
 
     // The content after an index in a content.
+    #[inline(never)]
     fn next_at(&self, holder: NodeId, index: u32) -> Option<NodeId>
         ensures { option_map (node_place (story_tree self.now)) result
             ≡ next_place (story_tree self.now) (node_place (story_tree self.now) holder ++ Index index ∷ []) }

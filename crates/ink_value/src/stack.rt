@@ -56,6 +56,7 @@ impl EvalStack {
 
     /// Puts a value on top. `TooDeep` where 10,000 values are there; `OutOfMemory` for a refused request for memory. On an
     /// error nothing has changed.
+    #[inline(always)]
     pub fn push(&mut self, value: Value) -> Result<(), Fault>
         ensures ok { OnOk result (self.new.items ≡ self.old.items ++ value ∷ []) }
         ensures err { OnErr result (self.new.items ≡ self.old.items) }
