@@ -1,5 +1,5 @@
 -- A value that stands for a number has its number and its printed text as an operand.
-use Rattle.std.proofs.Common.{◌≡◌, ℕ, ℤ, List, Some, Result, Ok, refl}
+use Rattle.std.proofs.Common.{◌≡◌, ℕ, ℤ, pos, List, true, is_some, unwrap_or, Some, Result, Ok, refl}
 use Rattle.ink_model.specs.Operator.{operand, number, both, of_texts, of_two}
 use Rattle.ink_model.specs.Value.{printed}
 use Rattle.ink_model.specs.declared.fault.Fault.{Fault}
@@ -25,9 +25,25 @@ operand_number v z h = (as_number v z h).0
 pub printed_number : (v : Value) (z : ℤ) → number_of v ≡ Some z → printed v ≡ Ok (number_text v)
 printed_number v z h = (as_number v z h).1
 
+-- the same of a value that stands for some number
+counted : (v : Value) → is_some (number_of v) ≡ true → number_of v ≡ Some (unwrap_or (number_of v) (pos 0))
+counted (Int z) h = refl
+counted (Truth b) h = refl
+counted (Text t) h = absurd cc
+counted (Target p) h = absurd cc
+counted (Pointer i n) h = absurd cc
+counted Void h = absurd cc
+counted (Tag t) h = absurd cc
+
+pub operand_counted : (v : Value) → is_some (number_of v) ≡ true → operand v ≡ number (unwrap_or (number_of v) (pos 0)) (number_text v)
+operand_counted v h = operand_number v (unwrap_or (number_of v) (pos 0)) (counted v h)
+
+pub printed_counted : (v : Value) → is_some (number_of v) ≡ true → printed v ≡ Ok (number_text v)
+printed_counted v h = printed_number v (unwrap_or (number_of v) (pos 0)) (counted v h)
+
 -- a number before a text is printed
-pub text_before : (operator : Op) (v w : Value) (z : ℤ) (s t : List ℕ) (r : Result Value Fault) → number_of v ≡ Some z → printed v ≡ Ok s → w ≡ Text t
+pub text_before : (operator : Op) (v w : Value) (s t : List ℕ) (r : Result Value Fault) → is_some (number_of v) ≡ true → printed v ≡ Ok s → w ≡ Text t
     → Gives r (of_texts operator s t) → Gives r (of_two operator (both (operand v) (operand w)))
-text_before operator v w z s t r counted shown is_text h =
-    let same : s ≡ number_text v = cc (printed_number v z counted) in
-    rw (operand_number v z counted, is_text, ← same) h
+text_before operator v w s t r is_number shown is_text h =
+    let same : s ≡ number_text v = cc (printed_counted v is_number) in
+    rw (operand_counted v is_number, is_text, ← same) h

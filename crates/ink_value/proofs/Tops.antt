@@ -1,7 +1,7 @@
 -- The values at the top of a stack.
-use Rattle.std.proofs.Common.{◌≡◌, ◌≢◌, ◌∙◌, slice_set, ℕ, zero, suc, ◌+◌, ◌-◌, ◌<◌, ◌≤◌, true, false, ap, sym, subst, refl, inl, inr, List, [], ◌∷◌, ◌++◌, length, take, drop, Option, Some, None, option_map, option_and_then, Result, Ok, Err, arith}
-use Rattle.std.proofs.Math.Seq.{append_snoc, drop-length, take-length}
-use Rattle.std.proofs.lemmas.List.{append-nil, drop-append-le, length-drop, take-append-le}
+use Rattle.std.proofs.Common.{◌≡◌, ◌≢◌, ◌∙◌, slice_set, ℕ, zero, suc, ◌+◌, ◌-◌, ◌<◌, ◌≤◌, true, false, ap, sym, subst, refl, inl, inr, ◌⊎◌, List, [], ◌∷◌, ◌++◌, length, take, drop, Option, Some, None, option_map, option_and_then, Result, Ok, Err, arith}
+use Rattle.std.proofs.Math.Seq.{append_snoc, drop-length, take-length, take-suc-set}
+use Rattle.std.proofs.lemmas.List.{append-nil, drop-append-le, length-drop, length-set, length-take-le, take-append-drop, take-append-le, take_all}
 use Rattle.std.proofs.lemmas.Bool.{true_from_ne_false}
 use Rattle.ink_model.specs.Asks.{operator_asks}
 use Rattle.ink_model.specs.Joining.{makes_text}
@@ -12,6 +12,7 @@ use Rattle.ink_value.specs.Stack.{with_top}
 use Rattle.ink_model.specs.declared.fault.Fault.{Fault}
 use Rattle.ink_model.specs.declared.fault.Fault.TheVariants.{StackEmpty}
 use Rattle.ink_model.specs.declared.operator.Op.{Op}
+use Rattle.ink_model.specs.declared.operator.Op.TheVariants as op
 use Rattle.ink_model.specs.declared.value.Value.{Value}
 
 top_of : (vs : List Value) (v : Value) → popped (vs ++ v ∷ []) ≡ Some (v, vs)
@@ -49,6 +50,38 @@ taken_short (suc n) (w ∷ ws) above h =
     let few : length r.0 < n = omega (arith, r.3) in
     subst (λ xs. taken (suc n) xs above ≡ None) (sym r.2)
     (ap (option_and_then (λ t. taken n t.1 (t.0 ∷ above))) (top_of r.0 r.1) ∙ taken_short n r.0 (r.1 ∷ above) few)
+
+-- ---- what an operator makes stands where its first operand stood
+
+-- one operand is left
+abbrev pub LeavesOne : List Value → ℕ → List Value → Type 0
+LeavesOne vs below us = (length us ≡ suc below) × (take below us ≡ take below vs)
+
+pub left_by : (vs us : List Value) (below : ℕ) (v : Value) → LeavesOne vs below us → slice_set us below v ≡ take below vs ++ v ∷ []
+left_by vs us below v one =
+    let within : length (slice_set us below v) ≤ suc below = rw (length-set us below v) (omega (arith, one.0)) in
+    sym (take_all (suc below) (slice_set us below v) within) ∙ take-suc-set us below v (omega (arith, one.0)) ∙ ap (λ xs. xs ++ v ∷ []) one.1
+
+takes_few : (o : Op) → (takes o ≡ 1) ⊎ (takes o ≡ 2)
+takes_few op.Negate = inl refl
+takes_few op.Not = inl refl
+takes_few op.Floor = inl refl
+takes_few op.Ceiling = inl refl
+takes_few op.Int = inl refl
+takes_few o = inr refl
+
+pub leaves_it : (o : Op) (vs : List Value) (below : ℕ) → length vs ≡ below + takes o → length vs ≤ below + 1 → LeavesOne vs below vs
+leaves_it o vs below enough few = (elim (takes_few o) [ inl one ↦ omega (arith, one) | inr two ↦ omega (arith, two) ], refl)
+
+pub leaves_first : (o : Op) (vs us : List Value) (below : ℕ) → length vs ≡ below + takes o → below + 1 < length vs → us ≡ take (length vs - 1) vs → LeavesOne vs below us
+leaves_first o vs us below enough more is =
+    let two : length vs - 1 ≡ suc below = elim (takes_few o) [ inl one ↦ absurd (omega (arith, enough, more, one)) | inr two ↦ omega (arith, enough, two) ] in
+    let n = length vs - 1 in
+    let all : length (take n vs) ≡ n = length-take-le n vs (omega arith) in
+    let within : below ≤ length (take n vs) = omega (arith, all, two) in
+    let first : take below (take n vs) ≡ take below vs =
+    sym (take-append-le below (take n vs) (drop n vs) within) ∙ ap (take below) (take-append-drop n vs) in
+    (ap length is ∙ all ∙ two, ap (take below) is ∙ first)
 
 -- ---- an operator on the values on top
 

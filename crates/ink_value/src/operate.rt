@@ -1,6 +1,6 @@
 //! Operators on values.
 
-ghost use Rattle.std.specs.Prelude.{◌≡◌, ◌≢◌, ◌||◌, false, [], ◌∷◌, List, ℕ};
+ghost use Rattle.std.specs.Prelude.{◌≡◌, ◌≢◌, ◌||◌, false, true, is_some, None, Some, [], ◌∷◌, List, ℕ};
 ghost use Rattle.ink_model.specs.Joining.{is_number, is_text, joins, makes_text};
 ghost use Rattle.ink_model.specs.Memory.{Gives};
 ghost use Rattle.ink_model.specs.Operator as rules;
@@ -22,11 +22,13 @@ use std::alloc::Global;
 /// a number beside a text: never for values without a text, for comparisons of two texts, and where the answer is
 /// `BadOperands` or `Divide`.
 #[tactic(auto, unfolding(ink_model::specs::Operator::apply))]
+#[inline(always)]
 pub fn apply(alloc: Global, operator: Op, values: &[Value]) -> Result<Value, Fault>
     ensures result { Gives result (rules.apply operator values.now) }
     ensures memory { makes_text operator values.now ≡ false → result ≢ Err Fault.OutOfMemory }
 {
     match values {
+        [Value::Int(left), Value::Int(right)] => of_numbers(operator, *left, *right),
         [value] => of_one(operator, value),
         [left, right] => of_two(alloc, operator, left, right),
         _ => Err(Fault::BadOperands),
@@ -54,6 +56,7 @@ fn of_number(operator: Op, x: i32) -> Result<Value, Fault>
     }
 }
 
+#[inline(always)]
 fn of_two(alloc: Global, operator: Op, left: &Value, right: &Value) -> Result<Value, Fault>
     ensures result { Gives result (rules.of_two operator (both (operand left.now) (operand right.now))) }
     ensures memory { makes_text operator (left.now ∷ right.now ∷ []) ≡ false → result ≢ Err Fault.OutOfMemory }
@@ -68,6 +71,7 @@ fn of_two(alloc: Global, operator: Op, left: &Value, right: &Value) -> Result<Va
     }
 }
 
+#[inline(always)]
 fn number_of(value: &Value) -> Option<i32>
     ensures { result ≡ words.number_of value.now }
 {
@@ -79,7 +83,7 @@ fn number_of(value: &Value) -> Option<i32>
 }
 
 // A value that stands for a number, and any value.
-#[tactic(auto, using(crate::proofs::Operands::operand_number, crate::proofs::Operands::printed_number))]
+#[inline(always)]
 fn after_number(
     alloc: Global,
     operator: Op,
@@ -91,9 +95,21 @@ fn after_number(
     ensures result { Gives result (rules.of_two operator (both (operand left.now) (operand right.now))) }
     ensures memory { is_text right.now ≡ false → result ≢ Err Fault.OutOfMemory }
 {
-    if let Some(other) = number_of(right) {
-        return of_numbers(operator, number, other);
+    match number_of(right) {
+        Some(other) => of_numbers(operator, number, other),
+        None => before_text(alloc, operator, left, right),
     }
+}
+
+// A value that stands for a number, and one that stands for none.
+#[tactic(auto, using(crate::proofs::Operands::operand_counted, crate::proofs::Operands::printed_counted))]
+#[inline(never)]
+fn before_text(alloc: Global, operator: Op, left: &Value, right: &Value) -> Result<Value, Fault>
+    requires number { is_some (words.number_of left.now) ≡ true }
+    requires other { words.number_of right.now ≡ None }
+    ensures result { Gives result (rules.of_two operator (both (operand left.now) (operand right.now))) }
+    ensures memory { is_text right.now ≡ false → result ≢ Err Fault.OutOfMemory }
+{
     match right {
         Value::Text(text) if is_for_texts(operator) => {
             let left = printed(alloc, left)?;
@@ -105,6 +121,7 @@ fn after_number(
 
 // A text and any value.
 #[tactic(auto, unfolding(ink_model::specs::Value::printed))]
+#[inline(never)]
 fn after_text(alloc: Global, operator: Op, left: &str, right: &Value) -> Result<Value, Fault>
     ensures result { Gives result (rules.of_two operator (both (rules.words left.now) (operand right.now))) }
     ensures memory { joins operator (Value.Text left.now ∷ right.now ∷ []) || is_number right.now ≡ false → result ≢ Err Fault.OutOfMemory }
@@ -120,6 +137,7 @@ fn after_text(alloc: Global, operator: Op, left: &str, right: &Value) -> Result<
 }
 
 // A divert target and any value.
+#[inline(never)]
 fn after_target(operator: Op, left: &Path, right: &Value) -> Result<Value, Fault>
     ensures { result ≡ rules.of_two operator (both (rules.target left.now) (operand right.now)) }
 {

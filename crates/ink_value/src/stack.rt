@@ -1,6 +1,6 @@
 //! The evaluation stack.
 
-ghost use Rattle.std.specs.Prelude.{◌≡◌, ◌≢◌, ◌≤◌, ◌↔◌, ◌⊎◌, [], ◌∷◌, ◌++◌, true, Some, None, length, option_map, reverse, slice_get, OnOk, OnErr, IfOk, IfErr, MatchResult};
+ghost use Rattle.std.specs.Prelude.{◌≡◌, ◌≢◌, ◌<◌, ◌≤◌, vec_len, vec_capacity, ◌↔◌, ◌⊎◌, [], ◌∷◌, ◌++◌, true, Some, None, length, option_map, reverse, slice_get, take, ◌-◌, OnOk, OnErr, IfOk, IfErr, MatchResult};
 ghost use Rattle.ink_model.specs.Asks.{operator_asks};
 ghost use Rattle.ink_model.specs.Memory.{Leaves};
 ghost use Rattle.ink_model.specs.Operator as rules;
@@ -67,7 +67,10 @@ impl EvalStack {
         if self.items.len() >= MAX_STACK {
             return Err(Fault::TooDeep);
         }
-        self.items.push(value)?;
+        if self.items.len() == self.items.capacity() {
+            make_room(&mut self.items)?;
+        }
+        self.items.push_reserved(value);
         Ok(())
     }
 
@@ -139,12 +142,23 @@ impl EvalStack {
         };
         match apply(alloc, operator, &self.items[below..]) {
             Ok(value) => {
-                self.items.truncate(below);
-                self.items.push(value).unwrap();
+                if below + 1 < self.items.len() {
+                    self.drop_one();
+                }
+                self.items[below] = value;
                 Ok(())
             }
             Err(fault) => Err(fault),
         }
+    }
+
+    // The value on top goes.
+    #[inline(always)]
+    fn drop_one(&mut self)
+        requires { self.old.items ≢ [] }
+        ensures { self.new.items ≡ take (length self.old.items - 1) self.old.items }
+    {
+        self.items.pop();
     }
 
     /// How many values there are.
@@ -155,7 +169,21 @@ impl EvalStack {
     }
 }
 
+/// Makes room for one more value. `OutOfMemory` for a refused request for memory.
+#[cold]
+#[inline(never)]
+fn make_room(items: &mut Vec<Value>) -> Result<(), Fault>
+    ensures items { items.new.items ≡ items.old.items }
+    ensures len { vec_len items.new ≡ vec_len items.old }
+    ensures room { OnOk result (vec_len items.new < vec_capacity items.new) }
+    ensures fault { IfErr result (λ f. f ≡ Fault.OutOfMemory) }
+{
+    items.reserve(1)?;
+    Ok(())
+}
+
 /// How many values an operator takes.
+#[inline(always)]
 fn takes(operator: Op) -> usize
     ensures { result ≡ rules.takes operator }
 {
