@@ -1,9 +1,9 @@
 //! Which globals were assigned since a moment, and what they were then.
 
-ghost use Rattle.std.specs.Prelude.{◌≡◌, ◌==◌, ◌≢◌, ◌<◌, ◌++◌, ◌∷◌, ℕ, [], false, true, None, length, nat_eq, slice_get, slice_index_or, IfOk, OnOk, OnErr};
+ghost use Rattle.std.specs.Prelude.{◌≡◌, ◌==◌, ◌≢◌, ◌<◌, ◌⊎◌, ◌++◌, ◌∷◌, ℕ, [], false, true, None, is_some, length, nat_eq, slice_get, slice_index_or, IfOk, OnOk, OnErr};
 ghost use Rattle.std.specs.List.{IsDistinct};
 ghost use Rattle.std.specs.Option.{option_copied};
-ghost use Rattle.ink_model.specs.Store.{Values, store};
+ghost use Rattle.ink_model.specs.Store.{Values, store, stored};
 ghost use Rattle.ink_model.specs.declared.value.Value.{Value};
 ghost use Rattle.ink_vars.specs.Changes.{Marks, Tracks, changed_numbers, changed_to, noted_at, number_of, with_noted};
 
@@ -103,6 +103,31 @@ impl Changes {
         }
         let value = copied(self.alloc, globals.get_at(name, number))?;
         self.add(place, value)
+    }
+
+    /// Gives the global of a name, which may have a number, a value, and notes before what it was, where that was not noted
+    /// since the moment. The one error is a refused request for memory, which is made only for the first note of a global, and
+    /// for a new one, and leaves the globals as they were.
+    pub fn put(
+        &mut self,
+        globals: &mut Globals,
+        name: &str,
+        number: Option<usize>,
+        value: Value,
+    ) -> Result<(), AllocError>
+        ensures ok { OnOk result (globals.new ≡ store name.now value globals.old) }
+        ensures noted { OnOk result (self.new ≡ with_noted name.now globals.old self.old) }
+        ensures err { OnErr result (globals.new ≡ globals.old) }
+        ensures memory { OnErr result ((noted_at (number_of name.now globals.old) self.old ≡ None) ⊎ (is_some (stored name.now globals.old) ≡ false)) }
+        ensures tracks { (start : Values) → Tracks start self.old globals.old → Tracks start self.new globals.new }
+    {
+        if let Some((index, _)) = globals.found(name, number) {
+            if is_marked(&self.marked, index) {
+                return globals.put_over(index, name, number, value);
+            }
+        }
+        self.note(globals, name, number)?;
+        globals.put_at(name, number, value)
     }
 
     // Notes what the global of a number was, which has no mark yet.

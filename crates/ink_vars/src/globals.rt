@@ -1,6 +1,6 @@
 //! The globals of a running story.
 
-ghost use Rattle.std.specs.Prelude.{◌≡◌, ◌≢◌, ◌<◌, [], false, is_some, is_ok, length, option_map, slice_get, IfOk, IfErr, IfSome, OnOk, OnErr, Some};
+ghost use Rattle.std.specs.Prelude.{◌≡◌, ◌≢◌, ◌<◌, [], false, true, is_some, is_ok, length, option_map, slice_get, IfOk, IfErr, IfSome, OnOk, OnErr, Some};
 ghost use Rattle.ink_model.specs.Store.{stored, store};
 ghost use Rattle.ink_vars.specs.Changes.{number_of};
 ghost use Rattle.ink_vars.specs.Globals.{DifferInName};
@@ -68,6 +68,7 @@ impl Globals {
     }
 
     /// The same by a name and its number.
+    #[inline(always)]
     pub fn get_at(&self, name: &str, number: Option<usize>) -> Option<&Value>
         ensures { option_map (λ value. value.now) result ≡ stored name.now self.now }
     {
@@ -111,8 +112,9 @@ impl Globals {
         }
     }
 
-    // The global that the slot of a number leads to, with its index, where it has that name.
-    fn found(&self, name: &str, number: Option<usize>) -> Option<(usize, &Value)>
+    /// The global that the slot of a number leads to, with its index, where it has that name.
+    #[inline(always)]
+    pub(crate) fn found(&self, name: &str, number: Option<usize>) -> Option<(usize, &Value)>
         ensures { IfSome result (λ f. (f.0 ≡ number_of name.now self.now) × (Some f.1.now ≡ stored name.now self.now)) }
     {
         let index = *self.slots.get(number?)?;
@@ -196,6 +198,28 @@ impl Globals {
             }
         }
         self.replace(name, value)
+    }
+
+    /// As `put_at`, of a global that stands at an index.
+    #[inline(always)]
+    pub(crate) fn put_over(
+        &mut self,
+        index: usize,
+        name: &str,
+        number: Option<usize>,
+        value: Value,
+    ) -> Result<(), AllocError>
+        requires index { index ≡ number_of name.now self.old }
+        requires there { is_some (stored name.now self.old) ≡ true }
+        ensures ok { OnOk result (self.new ≡ store name.now value self.old) }
+        ensures err { OnErr result (self.new ≡ self.old) }
+        ensures memory { OnErr result (is_some (stored name.now self.old) ≡ false) }
+    {
+        if let Some(slot) = self.values.get_index_mut(index) {
+            *slot = value;
+            return Ok(());
+        }
+        self.put_at(name, number, value)
     }
 
     // As `add`, and the slot of the number leads there.

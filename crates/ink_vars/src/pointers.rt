@@ -8,6 +8,7 @@ use ink_model::{Shared, Text, Value};
 use ink_stack::Threads;
 
 /// The value of a name alone, which may have a number: that of the global, or else that of the top frame's temporary.
+#[inline(always)]
 pub(crate) fn named<'a, P: Copy>(
     globals: &'a Globals,
     threads: &'a Threads<P>,

@@ -32,6 +32,7 @@ pub fn read<P: Copy>(
 }
 
 /// The same by a name that may have a number.
+#[inline(always)]
 pub fn read_at<P: Copy>(
     alloc: Global,
     globals: &Globals,
@@ -50,6 +51,7 @@ pub fn read_at<P: Copy>(
 
 /// What a variable is read as, by a name that may have a number, without a copy; none where nothing has it, which reads 0. The
 /// one error is `BadPointer`, as of `read`. Takes no memory.
+#[inline(always)]
 pub fn look<'a, P: Copy>(
     globals: &'a Globals,
     threads: &'a Threads<P>,
@@ -66,6 +68,7 @@ pub fn look<'a, P: Copy>(
 }
 
 // What a pointer leads to.
+#[inline(never)]
 fn look_at<'a, P: Copy>(
     globals: &'a Globals,
     threads: &'a Threads<P>,
