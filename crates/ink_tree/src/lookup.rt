@@ -43,11 +43,17 @@ impl Tree {
     }
 
     /// What is kept of a node.
+    #[inline(always)]
     pub(crate) fn kept(&self, node: NodeId) -> &Node
         ensures { Keeps (story_tree self.now) (node_place (story_tree self.now) node) result.now }
     {
-        let own = self.own(node);
-        &self.nodes[own.number]
+        match self.nodes.get(node.number) {
+            Some(kept) => kept,
+            None => {
+                let root = self.own(node);
+                &self.nodes[root.number]
+            }
+        }
     }
 
     /// The container that holds a content, none for the root. Takes no memory.

@@ -111,7 +111,30 @@ impl Tree {
         }
     }
 
+    /// The content at a place, where it holds no other. Takes no memory.
+    #[inline(always)]
+    pub fn leaf_at(&self, spot: Spot) -> Option<&Leaf>
+        ensures { option_map (λ l. l.now) result ≡ leaf_in (at (story_tree self.now) (place_of (story_tree self.now) spot)) }
+    {
+        match spot.index {
+            Some(index) => self.leaf_in(spot.holder, index),
+            None => self.leaf(spot.holder),
+        }
+    }
+
+    // The same at an index in a content.
+    #[inline(never)]
+    fn leaf_in(&self, holder: NodeId, index: u32) -> Option<&Leaf>
+        ensures { option_map (λ l. l.now) result ≡ leaf_in (at (story_tree self.now) (node_place (story_tree self.now) holder ++ Index index ∷ [])) }
+    {
+        match self.child_at(holder, index) {
+            Some(node) => self.leaf(node),
+            None => None,
+        }
+    }
+
     /// The content of a node, where it holds no other. Takes no memory.
+    #[inline(always)]
     pub fn leaf(&self, node: NodeId) -> Option<&Leaf>
         ensures { option_map (λ l. l.now) result ≡ leaf_in (at (story_tree self.now) (node_place (story_tree self.now) node)) }
     {

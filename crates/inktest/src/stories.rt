@@ -22,7 +22,7 @@ const MOST_TOLD: usize = 20;
 ///   `nowhere`; only their number, if they are more than 20
 /// - `resolve PLACE PATH`: where a path of the content there leads
 /// - `first PLACE`: where a step there performs, and the content; `first_leaf PLACE`: the same with the content only where it
-///   holds no other
+///   holds no other; `leaf_at PLACE`: the content there, where it holds no other
 /// - `number NODE`, `holder NODE`, `inside NODE`, `leaf NODE`: a node's own number, the container that holds it, the first
 ///   content in it, and the content where it holds no other
 /// - `target NODE`: where the written path of a content leads; `counted NODE`: the container whose visits it asks for;
@@ -131,6 +131,7 @@ fn of_place(alloc: Global, tree: &Tree, word: &str, spot: Option<Spot>) -> Answe
         ("next", Some(spot)) => shown_target(alloc, tree, tree.next(spot)),
         ("first", Some(spot)) => first(alloc, tree, spot),
         ("first_leaf", Some(spot)) => first_leaf(alloc, tree, spot),
+        ("leaf_at", Some(spot)) => shown_leaf(alloc, tree.leaf_at(spot)),
         _ => Err(NoAnswer::NoQuestion),
     }
 }

@@ -312,6 +312,12 @@ impl Twins<'_> {
             self.alike(asked("content"), content, shown_content(alloc, raw.at(at)))?;
             self.alike_spots(asked("land"), Some(tree.land(spot)), Some(landed.parts()))?;
             self.alike_spots(asked("next"), tree.next(spot), parts_of(&next))?;
+            let leaf = shown_leaf(alloc, tree.leaf_at(spot));
+            self.alike(
+                asked("leaf_at"),
+                leaf,
+                shown_leaf(alloc, twin::leaf_at(raw, at)),
+            )?;
             self.compare_first(at, spot)?;
         }
         Ok(())
