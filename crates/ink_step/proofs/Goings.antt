@@ -1,5 +1,5 @@
 -- A step goes in: what a machine stands for then.
-use Rattle.std.proofs.Common.{◌≡◌, ◌∙◌, ap, sym, ℕ, List, [], ◌++◌, Some, None}
+use Rattle.std.proofs.Common.{◌≡◌, ◌∙◌, ap, refl, sym, ℕ, List, [], ◌++◌, Option, Some, None}
 use Rattle.std.proofs.lemmas.List.{append-nil}
 use Rattle.ink_model.specs.Configuration.{put_at, with_counts}
 use Rattle.ink_model.specs.Counts.{CountsOf}
@@ -7,11 +7,13 @@ use Rattle.ink_model.specs.Entered.{passed_at, passed_places}
 use Rattle.ink_model.specs.Frames.{ThreadsOf, on_top, put_in}
 use Rattle.ink_model.specs.Place.{entered, first_content_at}
 use Rattle.ink_model.specs.Step.{gone_in}
-use Rattle.ink_model.specs.Tree.{StoryTree, at}
+use Rattle.ink_model.specs.Tree.{StoryTree, leaf, container, at}
 use Rattle.ink_model.specs.Visits.{all_visited}
+use Rattle.ink_model.specs.declared.content.Leaf.{Leaf}
 use Rattle.ink_model.specs.declared.place.Part.{Part}
 use Rattle.ink_step.specs.Words.{config_of, counts_in}
 use Rattle.ink_step.specs.declared.machine.Machine.{Machine}
+use Rattle.ink_tree.specs.Kept.{leaf_in}
 use Rattle.ink_tree.specs.Nodes.{place_of}
 use Rattle.ink_tree.specs.declared.spot.Spot.{Spot}
 
@@ -34,3 +36,25 @@ module _ (s : StoryTree) (p : List Part) (nothing : at s p ≡ None) where
   pub passes_none : passed_places s p ≡ []
   unfolding passed_places
   passes_none = ap (passed_at p) nothing
+
+-- ---- where content stands that holds no other
+
+stands_alone : (o : Option StoryTree) (l : Leaf) → leaf_in o ≡ Some l → (first_content_at o ≡ []) × ((p : List Part) → passed_at p o ≡ [])
+stands_alone None l h = absurd cc
+stands_alone (Some (leaf k)) l h = (refl, λ p. refl)
+stands_alone (Some (container name flags content named)) l h = absurd cc
+
+module _ (s : StoryTree) (p : List Part) (l : Leaf) (stands : leaf_in (at s p) ≡ Some l) where
+  pub stays_in : p ≡ entered s p
+  unfolding entered
+  stays_in = sym (append-nil p) ∙ ap (λ ps. p ++ ps) (sym (stands_alone (at s p) l stands).0)
+
+  pub passes_no_container : passed_places s p ≡ []
+  unfolding passed_places
+  passes_no_container = (stands_alone (at s p) l stands).1 p
+
+  -- a machine that is there is as one that goes in
+  pub is_in : (m : Machine) (here : Spot) → m.threads.thread.frame.place ≡ Some here → place_of s here ≡ p → config_of s m ≡ gone_in s p (config_of s m)
+  is_in m here at_here at_place =
+      let same : m.threads ≡ on_top (put_in (Some here)) m.threads = ap (λ q. on_top (put_in q) m.threads) at_here in
+      went_in s p m here m.threads same m.counts (at_place ∙ stays_in) (ap (λ ps. all_visited s m.turn ps (counts_in s m.counts)) (sym passes_no_container))

@@ -31,6 +31,6 @@ pub mod Shows
 pub mod Chosen
 pub mod Unasked
 pub mod Makes
-pub mod Tracked
 pub mod Calls
 pub mod Asking
+pub mod Finished

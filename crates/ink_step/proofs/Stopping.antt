@@ -1,5 +1,5 @@
 -- Where flow stops it may follow a choice, and then a global is stored.
-use Rattle.std.proofs.Common.{◌≡◌, ◌≢◌, ◌∙◌, ◌||◌, ap, sym, refl, subst, inl, inr, List, Bool, true, Option, Some, None, Result, Ok, Err}
+use Rattle.std.proofs.Common.{◌≡◌, ◌≢◌, ◌∙◌, ◌||◌, ap, sym, refl, subst, inl, inr, List, Bool, Option, Some, None, Result, Ok, Err}
 use Rattle.ink_model.specs.Choosing.{default_asks, default_choice, following, following_asks, stopped_by}
 use Rattle.ink_model.specs.Configuration.{ChoiceOf, Configuration, with_globals}
 use Rattle.ink_model.specs.Effect.{Fields, Effect, Stores, with_fields, with_thread}
@@ -7,10 +7,9 @@ use Rattle.ink_model.specs.Flow.{Reached, Reaches, Halts, Breaks, moved_on}
 use Rattle.ink_model.specs.Frames.{ThreadOf}
 use Rattle.ink_model.specs.Move.{Outcome, Next, Stop, Faults, move, reached_in, written_in}
 use Rattle.ink_model.specs.Place.{next_place}
-use Rattle.ink_model.specs.Store.{Values, store}
+use Rattle.ink_model.specs.Store.{Values}
 use Rattle.ink_model.specs.Tree.{StoryTree}
 use Rattle.ink_model.specs.declared.fault.Fault.{Fault}
-use Rattle.ink_model.specs.declared.fault.Fault.TheVariants.{OutOfMemory}
 use Rattle.ink_model.specs.declared.place.Part.{Part}
 use Rattle.ink_step.specs.Performs.{Performs, storing_in, unstored}
 use Rattle.ink_step.specs.Steps.{StepEnds}
@@ -20,7 +19,6 @@ use Rattle.ink_step.specs.declared.transfer.Assignment.{Assignment}
 use Rattle.ink_step.specs.declared.transfer.Transfer.{Transfer}
 use Rattle.ink_step.specs.declared.transfer.Transfer.TheVariants as transfer
 use Rattle.ink_step.proofs.Follows.{ends_short, or_first}
-use Rattle.ink_vars.specs.Words.{name_of}
 
 module _ (s : StoryTree) where
   -- a fault that came before a choice is followed
@@ -78,17 +76,6 @@ module _ (s : StoryTree) where
     with_stored t k (Next x) ends.Went new is h = ap (with_globals new) h ∙ ap (λ vs. with_globals vs x) is
     with_stored t k (Stop x) ends.Stopped new is h = ap (with_globals new) h ∙ ap (λ vs. with_globals vs x) is
     with_stored t k o end new is h = absurd h
-
-    module _ (a : Assignment) where
-      pub stores_it : (e : Effect) (o : Outcome) (end : StepEnd) (new : Values) → new ≡ store (name_of a.name) a.value c.shared.globals → Performs s asks e f (Ok (transfer.Store a))
-          → StepEnds whole o c.shared.globals c (Ok end) → StepEnds whole (storing_in e o) c.shared.globals (with_globals new c) (Ok end)
-      stores_it (Stores t k) o end new is p h = with_stored t k o end new (is ∙ ap (store (name_of a.name) a.value) (sym same) ∙ sym (ap (λ x. x.globals) p.0)) h
-      stores_it e o end new is p h = absurd p
-
-      pub stores_short : (allows : asks ≡ true → whole ≡ true) (e : Effect) (o : Outcome) (d : Configuration) → d.shared.globals ≡ c.shared.globals
-          → Performs s asks e f (Ok (transfer.Store a)) → StepEnds whole (storing_in e o) c.shared.globals d (Err OutOfMemory)
-      stores_short allows (Stores t k) o d kept p = ends_short whole (storing_in (Stores t k) o) c.shared.globals d OutOfMemory (refl, allows p.1) kept
-      stores_short allows e o d kept p = absurd p
 
     -- no global is stored
     pub stores_none : (e : Effect) (o : Outcome) (end : StepEnd) (t : Transfer) → ((a : Assignment) → t ≢ transfer.Store a) → Performs s asks e f (Ok t)

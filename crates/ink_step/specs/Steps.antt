@@ -1,5 +1,5 @@
 -- How steps end, beside the definitions, and what opening and choosing come to.
-use Rattle.std.specs.Prelude.{◌≡◌, ℕ, List, [], ◌∷◌, ◌⊎◌, Bool, true, false, Option, Some, None, is_some, Result, Ok, Err}
+use Rattle.std.specs.Prelude.{◌≡◌, ⊤, ℕ, List, [], ◌∷◌, ◌⊎◌, Bool, true, false, Option, Some, None, is_some, Result, Ok, Err}
 use Rattle.ink_model.specs.Choosing.{chosen}
 use Rattle.ink_model.specs.Configuration.{ChoiceOf, Configuration}
 use Rattle.ink_model.specs.Events.{calls}
@@ -49,6 +49,12 @@ StepMakes s b n asks outcome es globals new result = (es ≡ []) × StepEnds ask
 abbrev pub Steps : Bool → StoryTree → Bound → ℕ → Bool → Outcome → List Event → Values → Configuration → Configuration → Result StepEnd Fault → Type 0
 Steps true s b n asks (Wants name arguments f d) es globals old new result = (result ≡ Ok ends.WantsCall) × (es ≡ []) × (new ≡ old)
 Steps quiet s b n asks outcome es globals old new result = StepMakes s b n asks outcome es globals new result
+
+-- A step that is taken only where its outcome wants no call ends so, if it is taken.
+abbrev pub Passes : Bool → Outcome → Values → Configuration → Result (Option StepEnd) Fault → Type 0
+Passes asks outcome globals new (Ok None) = ⊤
+Passes asks outcome globals new (Ok (Some end)) = (wants outcome ≡ false) × StepEnds asks outcome globals new (Ok end)
+Passes asks outcome globals new (Err f) = (wants outcome ≡ false) × StepEnds asks outcome globals new (Err f)
 
 -- A story does not open: its declarations fault, with these globals, or a step of theirs asks for memory and gets none.
 abbrev pub FailsToOpen : StoryTree → Fault → Values → Type 0

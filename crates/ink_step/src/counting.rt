@@ -151,6 +151,28 @@ impl Machine {
         tree: &'a Tree,
         place: Spot,
     ) -> Result<(Spot, Option<&'a Leaf>), Fault>
+        requires { self.old.threads.thread.frame.place ≡ Some place }
+        ensures here { let s = story_tree tree.now in IfOk result (λ r. place_of s r.0 ≡ entered s (place_of s place)) }
+        ensures found { let s = story_tree tree.now in IfOk result (λ r. option_map (λ l. l.now) r.1 ≡ leaf_in (at s (place_of s r.0))) }
+        ensures ok { let s = story_tree tree.now in OnOk result (config_of s self.new ≡ gone_in s (place_of s place) (config_of s self.old)) }
+        ensures fault { IfErr result (λ f. f ≡ Fault.OutOfMemory) }
+        ensures memory { let s = story_tree tree.now in OnErr result (going_in_asks s (place_of s place) (config_of s self.old) ≡ true) }
+        ensures globals { self.new.globals ≡ self.old.globals }
+        ensures changes { self.new.changes ≡ self.old.changes }
+    {
+        match tree.leaf_at(place) {
+            Some(leaf) => Ok((place, Some(leaf))),
+            None => self.go_down(tree, place),
+        }
+    }
+
+    /// The same where a container stands, or nothing.
+    #[inline(never)]
+    fn go_down<'a>(
+        &mut self,
+        tree: &'a Tree,
+        place: Spot,
+    ) -> Result<(Spot, Option<&'a Leaf>), Fault>
         ensures here { let s = story_tree tree.now in IfOk result (λ r. place_of s r.0 ≡ entered s (place_of s place)) }
         ensures found { let s = story_tree tree.now in IfOk result (λ r. option_map (λ l. l.now) r.1 ≡ leaf_in (at s (place_of s r.0))) }
         ensures ok { let s = story_tree tree.now in OnOk result (config_of s self.new ≡ gone_in s (place_of s place) (config_of s self.old)) }

@@ -1,6 +1,6 @@
 //! External functions: what a host has bound is called or asked, and what it has not bound is a knot (docs/HOST.md, "Calls").
 
-ghost use Rattle.std.specs.Prelude.{◌≡◌, ◌≤◌, ℕ, List, Bool, Option, Some, Ok, Err, IfOk, IfErr, true, false, length, option_map};
+ghost use Rattle.std.specs.Prelude.{◌≡◌, ◌≤◌, ℕ, List, Bool, Option, Some, Ok, Err, IfOk, IfErr, true, false, is_some, length, option_map};
 ghost use Rattle.std.specs.List.{list_all};
 ghost use Rattle.ink_check.specs.Words.{story_tree};
 ghost use Rattle.ink_host.specs.Desk.{Grew, answer_of, at, bound_by};
@@ -35,6 +35,14 @@ pub(crate) struct External<'a> {
     pub name: &'a str,
     pub arguments: usize,
     pub conditional: bool,
+}
+
+/// Whether content is a call of an external function.
+#[inline(always)]
+pub(crate) fn is_external(content: &Leaf) -> bool
+    ensures { result ≡ is_some (external_in (Some (leaf content.now))) }
+{
+    matches!(content, Leaf::External { .. })
 }
 
 /// The call that stands at a place, none where other content stands there, or nothing.

@@ -1,6 +1,6 @@
 //! Where flow goes among frames and threads (docs/FRAMES.md).
 
-ghost use Rattle.std.specs.Prelude.{◌≡◌, List, None, Ok, Err, false, nat_lt, if◌then◌else◌, option_map, option_and_then};
+ghost use Rattle.std.specs.Prelude.{◌≡◌, List, None, Some, Ok, Err, false, nat_lt, if◌then◌else◌, option_map, option_and_then};
 ghost use Rattle.ink_model.specs.Flow.{Written, called, depth_of, done, forked, halt, moved_on, reach, returned, void_for};
 ghost use Rattle.ink_model.specs.Frames.{base_threads, is_function, map_threads, place_in};
 ghost use Rattle.ink_model.specs.Memory.{Gives, leaving};
@@ -13,6 +13,7 @@ ghost use Rattle.ink_model.specs.Tree.{StoryTree};
 ghost use Rattle.ink_model.specs.declared.frame.FrameKind.TheVariants as kind;
 ghost use Rattle.ink_model.specs.declared.limits.TheConstants.{MAX_FRAMES};
 ghost use Rattle.ink_model.specs.declared.value.Value.{Value as Data};
+ghost use Rattle.ink_step.specs.declared.flow.StepEnd.TheVariants.{Went};
 ghost use Rattle.ink_step.specs.Reaches.{PassesAs, ReachesAs, ended, entered, left, left_asks, written};
 ghost use Rattle.ink_tree.specs.Nodes.{place_of, story_tree};
 
@@ -50,6 +51,16 @@ pub(crate) fn move_on(
         return Ok(land(threads, place));
     }
     move_out(tree, threads, stack, output)
+}
+
+/// The same where the place after is known. Takes no memory.
+#[inline(always)]
+pub(crate) fn move_to(tree: &Tree, threads: &mut Threads<Spot>, next: Spot)
+    requires { let s = story_tree tree.now in option_and_then (next_place s) (place_in (map_threads (place_of s) threads.old)) ≡ Some (place_of s next) }
+    ensures { (w : Written) → let s = story_tree tree.now in let ts = map_threads (place_of s) threads.old in
+        ReachesAs (moved_asks (next_place s) ts w) (moved_on (next_place s) ts w) (map_threads (place_of s) threads.new) w (Ok Went) }
+{
+    threads.go(Some(next));
 }
 
 /// The same with the ends of frames and threads, of which most moves have none.
@@ -186,7 +197,7 @@ fn stop(output: &Output) -> Result<StepEnd, Fault>
 
 /// The place after the one where flow is; none where there is none, or flow has stopped.
 #[inline(always)]
-fn next_of(tree: &Tree, threads: &Threads<Spot>) -> Option<Spot>
+pub(crate) fn next_of(tree: &Tree, threads: &Threads<Spot>) -> Option<Spot>
     ensures { let s = story_tree tree.now in option_map (place_of s) result ≡ option_and_then (next_place s) (place_in (map_threads (place_of s) threads.now)) }
 {
     match threads.place() {

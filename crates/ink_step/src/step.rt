@@ -1,13 +1,13 @@
 //! One step of the machine: enter, effect, move (docs/RUNNING.md, "Steps").
 
-ghost use Rattle.std.specs.Prelude.{◌≡◌, ◌||◌, Bool, List, true, None, Some, Ok, OnOk, is_some, nat_lt, option_map};
+ghost use Rattle.std.specs.Prelude.{◌≡◌, ◌||◌, Bool, List, true, None, Some, Ok, IfSome, OnOk, is_some, nat_lt, option_and_then, option_map};
 ghost use Rattle.ink_check.specs.Words.{story_tree};
 ghost use Rattle.ink_host.specs.Desk.{Grew, bound_by};
 ghost use Rattle.ink_model.specs.Asks.{external_asks};
 ghost use Rattle.ink_model.specs.Choosing.{following, following_asks};
 ghost use Rattle.ink_model.specs.Effect.{Effect, Fields, context_of, fields_of};
 ghost use Rattle.ink_model.specs.Flow.{called, moved_on, reach, returned};
-ghost use Rattle.ink_model.specs.Frames.{mode_in, on_top};
+ghost use Rattle.ink_model.specs.Frames.{map_threads, mode_in, on_top, place_in};
 ghost use Rattle.ink_model.specs.Host.{Bound};
 ghost use Rattle.ink_model.specs.Memory.{asks, content_asks, control_asks, leaf_asks};
 ghost use Rattle.ink_model.specs.Move.{Outcome, going, landing, may_enter, move as moved, place_to, written_in};
@@ -22,9 +22,9 @@ ghost use Rattle.ink_model.specs.declared.host.Event.{Event as Happening};
 ghost use Rattle.ink_model.specs.declared.limits.TheConstants.{MAX_FRAMES};
 ghost use Rattle.ink_step.specs.Performs.{Keeps, KeepsChoices, Performs, landing_of, leading, storing_in, unstored};
 ghost use Rattle.ink_step.specs.External.{call_of, external_in};
-ghost use Rattle.ink_step.specs.Steps.{StepEnds, StepMakes, Steps, wants};
+ghost use Rattle.ink_step.specs.Steps.{Passes, StepEnds, StepMakes, Steps, wants};
 ghost use Rattle.ink_step.specs.Words.{config_of};
-ghost use Rattle.ink_step.specs.declared.flow.StepEnd.TheVariants.{WantsCall};
+ghost use Rattle.ink_step.specs.declared.flow.StepEnd.TheVariants.{WantsCall, Went};
 ghost use Rattle.ink_step.specs.declared.machine.Machine.{Machine as Before};
 ghost use Rattle.ink_tree.specs.Kept.{leaf_in};
 ghost use Rattle.ink_tree.specs.Nodes.{place_of};
@@ -32,8 +32,8 @@ ghost use Rattle.ink_vars.specs.Changes.{Tracks};
 
 use crate::diverting::{divert, number_of};
 use crate::evaluating::{begin_eval, duplicate, end_eval, operate, pop, push_target, push_value};
-use crate::external::{External, external_in, would_call};
-use crate::flow::{StepEnd, done, end, fork, give_back, land, move_on};
+use crate::external::{External, external_in, is_external, would_call};
+use crate::flow::{StepEnd, done, end, fork, give_back, land, move_on, move_to, next_of};
 use crate::frames::{call, return_tunnel};
 use crate::machine::Machine;
 use crate::offering::{offer, push_choice_count};
@@ -55,6 +55,7 @@ impl Machine {
     /// to such a call answers `WantsCall` in its place, and machine and desk are as they were. The faults are those of the
     /// content (docs/RUNNING.md, "Steps"; docs/HOST.md, "Calls"), and `OutOfMemory` for a refused request for memory. After a
     /// fault the globals are as they were, and the machine is of no more use but for them.
+    #[inline(always)]
     pub fn step<P: PureFn, T: TurnFn, W: Watcher>(
         &mut self,
         story: &Story,
@@ -71,6 +72,29 @@ impl Machine {
         let Some(place) = self.threads.place() else {
             return Ok(StepEnd::Stopped);
         };
+        match self.pass(story, place)? {
+            Some(end) => Ok(end),
+            None => self.step_from(story, desk, quiet, place),
+        }
+    }
+
+    /// The step from a place where flow is, by the whole way: down to the first content, which may be a call.
+    #[inline(never)]
+    fn step_from<P: PureFn, T: TurnFn, W: Watcher>(
+        &mut self,
+        story: &Story,
+        desk: &mut Desk<P, T, W>,
+        quiet: bool,
+        place: Spot,
+    ) -> Result<StepEnd, Fault>
+        requires { self.old.threads.thread.frame.place ≡ Some place }
+        ensures step { let s = story_tree story.now in let b = bound_by P.meaning desk.old.functions in let c = config_of s self.old in
+            (es : List Happening) × Grew T.log W.log desk.old es desk.new × Steps quiet s b desk.old.next (asks s b c) (step s b c) es self.old.globals c (config_of s self.new) result }
+        ensures watchers { desk.new.watchers ≡ desk.old.watchers }
+        ensures machine { result ≡ Ok WantsCall → self.new ≡ self.old }
+        ensures desk { result ≡ Ok WantsCall → desk.new ≡ desk.old }
+        ensures tracks { (start : Values) → Tracks start self.old.changes self.old.globals → Tracks start self.new.changes self.new.globals }
+    {
         if quiet && self.wants_call(story, desk, place) {
             return Ok(StepEnd::WantsCall);
         }
@@ -78,6 +102,24 @@ impl Machine {
         match external_in(found) {
             Some(call) => self.act_external(story, desk, &call),
             None => self.act(story, here, found),
+        }
+    }
+
+    /// The step from a place where flow is, if content stands there that holds no other and calls nothing; none elsewhere, and
+    /// then nothing has changed. Most steps are of this kind.
+    #[inline(always)]
+    fn pass(&mut self, story: &Story, place: Spot) -> Result<Option<StepEnd>, Fault>
+        requires { self.old.threads.thread.frame.place ≡ Some place }
+        ensures passes { (b : Bound) → let s = story_tree story.now in let c = config_of s self.old in Passes (asks s b c) (step s b c) self.old.globals (config_of s self.new) result }
+        ensures kept { result ≡ Ok None → self.new ≡ self.old }
+        ensures tracks { (start : Values) → Tracks start self.old.changes self.old.globals → Tracks start self.new.changes self.new.globals }
+    {
+        match story.tree().leaf_at(place) {
+            Some(content) if !is_external(content) => {
+                let end = self.act(story, place, Some(content))?;
+                Ok(Some(end))
+            }
+            _ => Ok(None),
         }
     }
 
@@ -136,11 +178,39 @@ impl Machine {
     {
         let mut transfer = Transfer::Next;
         self.perform(story, here, found, &mut transfer)?;
-        self.finish(story, &mut transfer)
+        let Some(next) = self.next_after(story, &transfer) else {
+            return self.finish(story, &mut transfer);
+        };
+        self.go_to_next(story, next);
+        Ok(StepEnd::Went)
+    }
+
+    /// The place after the one where flow is, if there is one, and a content sends flow nowhere else.
+    #[inline(always)]
+    fn next_after(&self, story: &Story, transfer: &Transfer<'_>) -> Option<Spot>
+        ensures { let s = story_tree story.now in
+            IfSome result (λ next. (transfer.now ≡ Transfer.Next) × (option_and_then (next_place s) (place_in (map_threads (place_of s) self.now.threads)) ≡ Some (place_of s next))) }
+    {
+        match transfer {
+            Transfer::Next => next_of(story.tree(), &self.threads),
+            _ => None,
+        }
+    }
+
+    /// Flow goes on to the place after its own, which is known.
+    #[inline(always)]
+    fn go_to_next(&mut self, story: &Story, next: Spot)
+        requires { let s = story_tree story.now in option_and_then (next_place s) (place_in (map_threads (place_of s) self.old.threads)) ≡ Some (place_of s next) }
+        ensures ends { let s = story_tree story.now in let c = config_of s self.old in
+            StepEnds (moved_asks (next_place s) c.flow.threads (written_in c)) (going (moved_on (next_place s)) c) self.old.globals (config_of s self.new) (Ok Went) }
+        ensures globals { self.new.globals ≡ self.old.globals }
+        ensures changes { self.new.changes ≡ self.old.changes }
+    {
+        move_to(story.tree(), &mut self.threads, next);
     }
 
     /// After a content was performed flow goes where it sends it, and a global is stored.
-    #[inline(always)]
+    #[inline(never)]
     fn finish(&mut self, story: &Story, transfer: &mut Transfer<'_>) -> Result<StepEnd, Fault>
         ensures ends { let s = story_tree story.now in (old : Before) (asks : Bool) (e : Effect) → Performs s asks e (fields_of (config_of s self.old)) (Ok transfer.old) → Keeps s e old.threads self.old.threads → KeepsChoices s e old.choices self.old.choices
             → self.old.safe ≡ old.safe → self.old.counts ≡ old.counts → self.old.turn ≡ old.turn → self.old.globals ≡ old.globals → let c = config_of s old in
@@ -176,10 +246,10 @@ impl Machine {
     {
         match transfer {
             Transfer::Store(to) => {
-                let number = to.name.number();
-                self.changes.note(&self.globals, to.name.as_str(), number)?;
                 let value = mem::replace(&mut to.value, Value::Void);
-                self.globals.put_at(to.name.as_str(), number, value)?;
+                let number = to.name.number();
+                self.changes
+                    .put(&mut self.globals, to.name.as_str(), number, value)?;
                 Ok(end)
             }
             _ => Ok(end),
@@ -242,18 +312,23 @@ impl Machine {
         ensures changes { self.new.changes ≡ self.old.changes }
     {
         let evaluating = self.threads.is_evaluating();
-        let fresh = self.threads.fresh_depth();
         match content {
             Leaf::Text(text) => after_text(
                 transfer,
-                write_text(&mut self.stack, &mut self.output, evaluating, fresh, text),
+                write_text(
+                    &mut self.stack,
+                    &mut self.output,
+                    evaluating,
+                    self.threads.fresh_depth(),
+                    text,
+                ),
             ),
             Leaf::Newline => write_newline(
                 self.alloc,
                 &mut self.stack,
                 &mut self.output,
                 evaluating,
-                fresh,
+                self.threads.fresh_depth(),
             ),
             Leaf::Glue => write_glue(&mut self.output, evaluating),
             Leaf::Int(number) => push_value(&mut self.stack, evaluating, Value::Int(*number)),
@@ -371,13 +446,16 @@ impl Machine {
         ensures changes { self.new.changes ≡ self.old.changes }
     {
         let mut evaluating = self.threads.is_evaluating();
-        let fresh = self.threads.fresh_depth();
         let outcome = match control {
             Control::BeginEval => begin_eval(&mut evaluating),
             Control::EndEval => end_eval(&mut evaluating),
             Control::Out => after_text(
                 transfer,
-                output_top(&mut self.stack, &mut self.output, fresh),
+                output_top(
+                    &mut self.stack,
+                    &mut self.output,
+                    self.threads.fresh_depth(),
+                ),
             ),
             Control::Pop => pop(&mut self.stack),
             Control::Duplicate => duplicate(self.alloc, &mut self.stack),

@@ -1,4 +1,4 @@
-use Rattle.std.proofs.Common.{◌≡◌, ◌||◌, option_map, rules, sym, subst, Err}
+use Rattle.std.proofs.Common.{◌≡◌, ◌||◌, option_map, rules, sym, subst, Err, Ok}
 use Rattle.ink_check.specs.Words.{story_tree}
 use Rattle.ink_model.specs.Choosing.{following, following_asks}
 use Rattle.ink_model.specs.Effect.{context_of, fields_of}
@@ -9,6 +9,8 @@ use Rattle.ink_model.specs.Step.{effect}
 use Rattle.ink_model.specs.Tree.{leaf}
 use Rattle.ink_step.specs.Steps.{StepEnds}
 use Rattle.ink_step.specs.Words.{config_of}
+use Rattle.ink_step.specs.Performs.{Performs}
+use Rattle.ink_step.proofs.Finished.{finished}
 use Rattle.ink_step.proofs.Follows.{ends_unperformed}
 use Rattle.ink_step.proofs.Stopping.{broke}
 use Rattle.ink_step.proofs.machine.Machine.act.Goals as goal
@@ -29,6 +31,20 @@ returns-in_err-perform-clause-ends c b =
 
 pub returns-clause-ends : goal.returns-clause-ends
 returns-clause-ends c b =
+    let s = story_tree c.args.story.now in
+    let p = place_of s c.args.here in
+    let old = c.args.self.now in
+    let before = config_of s old in
+    let mid = c.perform.new.self in
+    let found = option_map (λ x. leaf x.now) c.args.found in
+    let asking = content_asks s b p found (context_of before) (fields_of before) in
+    let e = effect s b p found (context_of before) (fields_of before) in
+    let performs = c.in_ok-perform.ensures in
+    finished s old mid c.go_to_next.new.self performs.safe performs.counts performs.turn performs.globals c.go_to_next.ensures.globals asking e
+    (subst (λ t. Performs s asking e (fields_of (config_of s mid)) (Ok t)) c.in-Some.ensures.0 (performs.effect b)) (performs.threads b) (performs.choices b) c.go_to_next.ensures.ends
+
+pub returns-in_default-clause-ends : goal.returns-in_default-clause-ends
+returns-in_default-clause-ends c b =
     let s = story_tree c.args.story.now in
     let p = place_of s c.args.here in
     let old = c.args.self.now in

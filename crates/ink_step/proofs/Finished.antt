@@ -1,0 +1,95 @@
+-- A step at content that holds no other and calls nothing.
+use Rattle.std.proofs.Common.{◌≡◌, ◌∙◌, ◌||◌, ap, option_map, refl, subst, sym, ℕ, [], false, is_some, Bool, Option, Some, None, Result, Ok}
+use Rattle.ink_model.specs.Asks.{asks, going_in_asks}
+use Rattle.ink_model.specs.Choosing.{following, following_asks}
+use Rattle.ink_model.specs.Configuration.{Configuration, current_place}
+use Rattle.ink_model.specs.Effect.{Effect, fields_of}
+use Rattle.ink_model.specs.Flow.{moved_on}
+use Rattle.ink_model.specs.Host.{Bound}
+use Rattle.ink_model.specs.Move.{Outcome, Next, going, move, written_in}
+use Rattle.ink_model.specs.MoveMemory.{move_asks, moved_asks}
+use Rattle.ink_model.specs.Place.{next_place}
+use Rattle.ink_model.specs.Step.{step}
+use Rattle.ink_model.specs.Store.{Values}
+use Rattle.ink_model.specs.Tree.{StoryTree, leaf, container, at}
+use Rattle.ink_model.specs.declared.content.Leaf.{Leaf}
+use Rattle.ink_model.specs.declared.fault.Fault.{Fault}
+use Rattle.ink_step.specs.External.{Call, external_in}
+use Rattle.ink_step.specs.Performs.{Keeps, KeepsChoices, Performs, storing_in, unstored}
+use Rattle.ink_step.specs.Steps.{StepEnds, Steps, wants}
+use Rattle.ink_step.specs.Words.{config_of}
+use Rattle.ink_step.specs.declared.flow.StepEnd.{StepEnd}
+use Rattle.ink_step.specs.declared.flow.StepEnd.TheVariants as ends
+use Rattle.ink_step.specs.declared.machine.Machine.{Machine}
+use Rattle.ink_step.specs.declared.transfer.Transfer.TheVariants as transfer
+use Rattle.ink_step.proofs.Follows.{ends_after, ends_more, kept_stays, offered_stay}
+use Rattle.ink_step.proofs.Goings.{is_in, stays_in}
+use Rattle.ink_step.proofs.Landed.{Performing, ends_performed, goes_on}
+use Rattle.ink_step.proofs.Makes.{quieted, unmade, wants_none}
+use Rattle.ink_step.proofs.Stopping.{ends_stored, stores_none}
+use Rattle.ink_tree.specs.Kept.{leaf_in}
+use Rattle.ink_tree.specs.Nodes.{place_of}
+use Rattle.ink_tree.specs.declared.spot.Spot.{Spot}
+
+-- ---- flow is sent nowhere, and a place comes next
+
+-- where flow went on no choice is followed
+follows_none : (s : StoryTree) (asking : Bool) (o : Outcome) (globals : Values) (d : Configuration) → StepEnds asking o globals d (Ok ends.Went)
+    → StepEnds (asking || following_asks s o) (following s o) globals d (Ok ends.Went)
+follows_none s asking (Next c) globals d h = h
+follows_none s asking o globals d h = absurd h
+
+module _ (s : StoryTree) (old mid new : Machine) (safely : mid.safe ≡ old.safe) (counted : mid.counts ≡ old.counts) (turned : mid.turn ≡ old.turn) (same : mid.globals ≡ old.globals)
+    (kept : new.globals ≡ mid.globals) where
+  pub finished : (asking : Bool) (e : Effect) → Performs s asking e (fields_of (config_of s mid)) (Ok transfer.Next) → Keeps s e old.threads mid.threads → KeepsChoices s e old.choices mid.choices
+      → StepEnds (moved_asks (next_place s) (config_of s mid).flow.threads (written_in (config_of s mid))) (going (moved_on (next_place s)) (config_of s mid)) mid.globals (config_of s new) (Ok ends.Went)
+      → StepEnds ((asking || move_asks s e (config_of s old)) || following_asks s (move s e (config_of s old))) (following s (move s e (config_of s old))) old.globals (config_of s new) (Ok ends.Went)
+  finished asking e performs keeps offers went =
+      let before = config_of s old in
+      let during = config_of s mid in
+      let after = config_of s new in
+      let o = move s (unstored mid.globals e) during in
+      let whole = (asking || move_asks s e during) || following_asks s o in
+      let goes = goes_on s asking during after (Ok ends.Went) e performs (kept_stays s e old.threads mid.threads keeps) (offered_stay s e old.choices mid.choices offers)
+      (ends_more asking _ (going (moved_on (next_place s)) during) _ after (Ok ends.Went) went) in
+      let follows = follows_none s (asking || move_asks s e during) o mid.globals after goes in
+      let stores = stores_none s asking whole (fields_of during) after (sym kept) e (following s o) ends.Went transfer.Next (λ a is. absurd cc) performs
+      (subst (λ vs. StepEnds whole (following s o) vs after (Ok ends.Went)) (sym kept) follows) in
+      let stored = ends_stored s mid.globals during (asking || move_asks s e during) e mid.globals after (Ok ends.Went)
+      (subst (λ vs. StepEnds whole (storing_in e (following s o)) vs after (Ok ends.Went)) kept stores) in
+      let moved = ends_after s old mid safely counted turned asking e mid.globals after (Ok ends.Went) keeps offers stored in
+      subst (λ vs. StepEnds ((asking || move_asks s e before) || following_asks s (move s e before)) (following s (move s e before)) vs after (Ok ends.Went)) same moved
+
+-- ---- the whole step
+
+leaf_there : (o : Option StoryTree) (l : Leaf) → leaf_in o ≡ Some l → Some (leaf l) ≡ o
+leaf_there None l h = absurd cc
+leaf_there (Some (leaf k)) l h = (let is : k ≡ l = cc in ap (λ x. Some (leaf x)) (sym is))
+leaf_there (Some (container name flags content named)) l h = absurd cc
+
+module _ (s : StoryTree) (b : Bound) (machine new : Machine) (place : Spot) (l : Leaf) (at_place : machine.threads.thread.frame.place ≡ Some place)
+    (stands : leaf_in (at s (place_of s place)) ≡ Some l) (other : external_in (Some (leaf l)) ≡ None) where
+  -- what is performed at such content is what the step comes to, and it wants no call
+  pub passed : (r : Result StepEnd Fault) → Performing s b (λ asking o. StepEnds asking o machine.globals (config_of s new) r) (place_of s place) (Some (leaf l)) (config_of s machine)
+      → (wants (step s b (config_of s machine)) ≡ false)
+      × StepEnds (asks s b (config_of s machine)) (step s b (config_of s machine)) machine.globals (config_of s new) r
+  passed r performing =
+      let p = place_of s place in
+      let old = config_of s machine in
+      let d = config_of s new in
+      let at_p : current_place old ≡ Some p = ap (option_map (place_of s)) at_place in
+      let is = stays_in s p l stands in
+      let found = sym (ap (option_map leaf) stands) ∙ ap (λ q. option_map leaf (leaf_in (at s q))) is in (
+        sym (wants_none s b p old at_p (Some (leaf l)) found other),
+        ends_performed s b p old at_p (λ asking o. StepEnds asking o machine.globals d r) p (Some (leaf l)) old is (leaf_there (at s p) l stands) (is_in s p l stands machine place at_place refl)
+            (λ asking o. ends_more (going_in_asks s p old) asking o machine.globals d r) performing,
+      )
+
+pub not_external : (o : Option Call) → is_some o ≡ false → o ≡ None
+not_external None h = refl
+not_external (Some k) h = absurd cc
+
+-- a step that wants no call makes none, quiet or not
+pub steps_unmade : (quiet : Bool) (s : StoryTree) (b : Bound) (n : ℕ) (asking : Bool) (o : Outcome) (globals : Values) (old d : Configuration) (r : Result StepEnd Fault) → wants o ≡ false
+    → StepEnds asking o globals d r → Steps quiet s b n asking o [] globals old d r
+steps_unmade quiet s b n asking o globals old d r unwanted h = quieted s b n [] globals d old r quiet asking o (λ q. unwanted) (unmade s b n asking o globals d r unwanted h)
