@@ -40,6 +40,7 @@ impl Story {
 
     /// Where the written path of a content leads: the landing of a divert, a call, a tunnel or a choice, and the target of a
     /// value or a count; none for content without a written path. Takes no memory.
+    #[inline(always)]
     pub fn target(&self, node: NodeId) -> Option<Spot>
         ensures { option_map (nodes.place_of (story_tree self.now)) result
             ≡ written_target (story_tree self.now) (nodes.node_place (story_tree self.now) node) }
@@ -65,6 +66,7 @@ impl Story {
 
     /// The number of the variable that a content reads or assigns, or declares as a global: the index of its name among the
     /// story's names of variables, in order of their first occurrence; none for other content. Takes no memory.
+    #[inline(always)]
     pub fn variable(&self, node: NodeId) -> Option<usize>
         ensures { let s = story_tree self.now in result ≡ variable_number s (nodes.node_place s node) }
     {
@@ -72,6 +74,7 @@ impl Story {
     }
 
     // What the written path of a content comes to; a number beyond the story's content stands for the root.
+    #[inline(always)]
     fn link(&self, node: NodeId) -> Option<&Link>
         ensures target { let s = story_tree self.now in option_map (λ l. target_place s l.now) result ≡ Some (written_target s (nodes.node_place s node)) }
         ensures counted { let s = story_tree self.now in option_map (λ l. counted_place s l.now) result ≡ Some (counted_container s (nodes.node_place s node)) }
@@ -82,6 +85,7 @@ impl Story {
         self.entry(node).or(self.entry(root))
     }
 
+    #[inline(always)]
     fn entry(&self, node: NodeId) -> Option<&Link>
         ensures { option_map (λ l. l.now) result ≡ slice_get self.now.links.items node.number }
     {

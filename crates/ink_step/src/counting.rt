@@ -89,6 +89,7 @@ fn enter_passed<'a>(
 
 /// The containers around a place are entered in a turn where flow lands there from another place. The one error is a refused
 /// request for memory, which is made only for a row that is not there; nothing has changed then.
+#[inline(always)]
 pub(crate) fn enter_landed(
     tree: &Tree,
     counts: &mut Counts,
@@ -151,28 +152,6 @@ impl Machine {
         tree: &'a Tree,
         place: Spot,
     ) -> Result<(Spot, Option<&'a Leaf>), Fault>
-        requires { self.old.threads.thread.frame.place ≡ Some place }
-        ensures here { let s = story_tree tree.now in IfOk result (λ r. place_of s r.0 ≡ entered s (place_of s place)) }
-        ensures found { let s = story_tree tree.now in IfOk result (λ r. option_map (λ l. l.now) r.1 ≡ leaf_in (at s (place_of s r.0))) }
-        ensures ok { let s = story_tree tree.now in OnOk result (config_of s self.new ≡ gone_in s (place_of s place) (config_of s self.old)) }
-        ensures fault { IfErr result (λ f. f ≡ Fault.OutOfMemory) }
-        ensures memory { let s = story_tree tree.now in OnErr result (going_in_asks s (place_of s place) (config_of s self.old) ≡ true) }
-        ensures globals { self.new.globals ≡ self.old.globals }
-        ensures changes { self.new.changes ≡ self.old.changes }
-    {
-        match tree.leaf_at(place) {
-            Some(leaf) => Ok((place, Some(leaf))),
-            None => self.go_down(tree, place),
-        }
-    }
-
-    /// The same where a container stands, or nothing.
-    #[inline(never)]
-    fn go_down<'a>(
-        &mut self,
-        tree: &'a Tree,
-        place: Spot,
-    ) -> Result<(Spot, Option<&'a Leaf>), Fault>
         ensures here { let s = story_tree tree.now in IfOk result (λ r. place_of s r.0 ≡ entered s (place_of s place)) }
         ensures found { let s = story_tree tree.now in IfOk result (λ r. option_map (λ l. l.now) r.1 ≡ leaf_in (at s (place_of s r.0))) }
         ensures ok { let s = story_tree tree.now in OnOk result (config_of s self.new ≡ gone_in s (place_of s place) (config_of s self.old)) }
@@ -192,6 +171,7 @@ impl Machine {
 
     /// Flow has landed: the containers around are entered, where the landing enters any. The one error is a refused request for
     /// memory, which is made only for a container that is entered for the first time; nothing has changed then.
+    #[inline(always)]
     pub(crate) fn enter_around(&mut self, tree: &Tree, enters: bool) -> Result<(), Fault>
         ensures ok { let s = story_tree tree.now in OnOk result (config_of s self.new ≡ (if enters then entering_around s (config_of s self.old) else config_of s self.old)) }
         ensures fault { IfErr result (λ f. f ≡ Fault.OutOfMemory) }

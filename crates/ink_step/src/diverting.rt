@@ -27,6 +27,7 @@ const ROOT: NodeId = NodeId { number: 0 };
 
 /// Flow lands where a divert leads, `BadTarget` where that is nowhere, and before that `BadPointer` where its variable holds a
 /// pointer that leads nowhere. A condition is popped and looked at before all else; where it is false flow goes on.
+#[inline(always)]
 pub(crate) fn divert(
     story: &Story,
     here: Spot,
@@ -57,6 +58,7 @@ pub(crate) fn divert(
 
 /// Whether a content that may be conditional is performed: a condition is popped and looked at. `StackEmpty` where there is
 /// none, `BadOperands` where it is no truth.
+#[inline(always)]
 pub(crate) fn is_wanted(conditional: bool, stack: &mut EvalStack) -> Result<bool, Fault>
     ensures { (evaluating : Bool) (fresh : Option ℕ) (page : Page) (globals : Values) (so : Fields → Effect)
         → Decides (where_true conditional (fields evaluating fresh stack.old.items page globals) so) so (fields evaluating fresh stack.new.items page globals) result }
@@ -72,6 +74,7 @@ pub(crate) fn is_wanted(conditional: bool, stack: &mut EvalStack) -> Result<bool
 
 /// Where a divert, a call or a tunnel leads: by a written path, or by what a variable is read as. `BadTarget` where that is
 /// nowhere, and before that `BadPointer` where the variable holds a pointer that leads nowhere.
+#[inline(always)]
 pub(crate) fn destination(
     story: &Story,
     here: Spot,
@@ -97,6 +100,7 @@ pub(crate) fn destination(
 
 /// Where the target leads that a variable is read as. `BadPointer` where the pointer that it holds leads nowhere; `BadTarget`
 /// where it is no target, or the target leads nowhere.
+#[inline(never)]
 fn landing_in(
     story: &Story,
     here: Spot,
@@ -142,6 +146,7 @@ pub(crate) fn number_of(story: &Story, here: Spot) -> Option<usize> {
 }
 
 /// Where the written path of the content at a place leads.
+#[inline(always)]
 pub(crate) fn written_landing(story: &Story, here: Spot) -> Option<Spot>
     ensures { let s = story_tree story.now in option_map (place_of s) result ≡ written_target s (place_of s here) }
 {

@@ -534,7 +534,7 @@ impl Machine {
     }
 
     /// Flow lands, which may enter containers around.
-    #[inline(never)]
+    #[inline(always)]
     fn go_to(&mut self, story: &Story, to: Landing) -> Result<StepEnd, Fault>
         ensures ends { let s = story_tree story.now in let c = config_of s self.old in let how = reach (place_of s to.place) in
             StepEnds (landed_asks s to.enters c.shared.counts (how c.flow.threads (written_in c))) (landing s to.enters how c) self.old.globals (config_of s self.new) result }

@@ -45,6 +45,7 @@ impl Tree {
     }
 
     /// The walk upward from a landing place, which `next_entered` goes on. Takes no memory.
+    #[inline(always)]
     pub fn upward(&self, at: Spot) -> Upward
         ensures { (previous : Option (List Step)) → still_entered (story_tree self.now) previous result ≡ entered_places (story_tree self.now) previous (place_of (story_tree self.now) at) }
     {

@@ -1,20 +1,17 @@
-use Rattle.std.proofs.Common.{◌≡◌, Some, refl, rules}
-use Rattle.ink_model.specs.Tree.{at}
-use Rattle.ink_step.proofs.Goings.{is_in, stays_in}
+use Rattle.std.proofs.Common.{ap, sym}
+use Rattle.ink_model.specs.Visits.{all_visited}
+use Rattle.ink_step.specs.Words.{counts_in}
+use Rattle.ink_step.proofs.Goings.{goes_nowhere_in, passes_none, went_in}
 use Rattle.ink_step.proofs.machine.Machine.go_in.Goals as goal
-use Rattle.ink_tree.specs.Kept.{leaf_in}
 use Rattle.ink_tree.specs.Nodes.{place_of, story_tree}
 
-pub returns-in-Some-clause-here : goal.returns-in-Some-clause-here
-returns-in-Some-clause-here c =
-    let s = story_tree c.args.tree.now in
-    let p = place_of s c.args.place in
-    let stands : leaf_in (at s p) ≡ Some c.in-Some.leaf.now = search rules in
-    stays_in s p c.in-Some.leaf.now stands
+pub returns-in_default-clause-here : goal.returns-in_default-clause-here
+returns-in_default-clause-here c = let s = story_tree c.args.tree.now in goes_nowhere_in s (place_of s c.args.place) c.in_default.ensures
 
-pub returns-in-Some-clause-ok : goal.returns-in-Some-clause-ok
-returns-in-Some-clause-ok c =
+pub returns-in_default-clause-ok : goal.returns-in_default-clause-ok
+returns-in_default-clause-ok c =
     let s = story_tree c.args.tree.now in
     let p = place_of s c.args.place in
-    let stands : leaf_in (at s p) ≡ Some c.in-Some.leaf.now = search rules in
-    is_in s p c.in-Some.leaf.now stands c.args.self.now c.args.place c.requires refl
+    let machine = c.args.self.now in
+    went_in s p machine c.args.place c.put.new.self c.put.ensures machine.counts (goes_nowhere_in s p c.in_default.ensures)
+    (ap (λ ps. all_visited s machine.turn ps (counts_in s machine.counts)) (sym (passes_none s p c.in_default.ensures)))
