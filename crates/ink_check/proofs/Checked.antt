@@ -1,11 +1,12 @@
 -- What the check of a story comes to, place by place.
-use Rattle.std.proofs.Common.{◌≡◌, ℕ, suc, ◌+◌, ◌-◌, ◌<◌, Bool, true, false, List, [], ◌∷◌, ◌++◌, map, length, take, drop, refl, sym, ap, ◌∙◌, arith, Option, Some, None, Ok, Err}
+use Rattle.std.proofs.Common.{◌≡◌, ℕ, suc, ◌+◌, ◌-◌, ◌<◌, Bool, true, false, List, [], ◌∷◌, ◌++◌, get_or, map, length, take, drop, refl, sym, ap, ap₂, ◌∙◌, arith, Option, Some, None, Ok, Err}
 use Rattle.std.specs.Borrow.{Bor}
 use Rattle.std.specs.List.{filter, slice_get}
-use Rattle.std.specs.Option.{option_map, option_or, unwrap_or}
+use Rattle.std.specs.Option.{option_and_then, option_map, unwrap_or}
+use Rattle.std.proofs.Math.ListN.{get_or-map}
 use Rattle.std.proofs.Math.Seq.{drop-cons}
 use Rattle.std.proofs.lemmas.List.{map-append, take_more}
-use Rattle.std.proofs.lemmas.Option.{none-some, slice_get-map, unwrap_or-slice_get}
+use Rattle.std.proofs.lemmas.Option.{unwrap_or-slice_get}
 use Rattle.ink_model.specs.Acceptance.{accepted, bad_path, bad_places, good_content, has_bad_path}
 use Rattle.ink_model.specs.Path.{ends_in_index}
 use Rattle.ink_model.specs.Places.{places}
@@ -19,6 +20,7 @@ use Rattle.ink_tree.specs.declared.spot.NodeId.{NodeId}
 use Rattle.ink_check.specs.Names.{names, names_from, variable_of, with_variable}
 use Rattle.ink_check.specs.Outcome.{Follows, IsFirstBad}
 use Rattle.ink_check.specs.declared.link.Link.{Link}
+use Rattle.ink_check.specs.declared.link.Link.TheVariants.{Nothing}
 
 -- ---- a path's last component
 
@@ -92,12 +94,13 @@ names_next s n now new h is so_far =
 
 -- ---- links
 
-root_place : (s : StoryTree) → slice_get (places s) 0 ≡ Some []
-root_place (leaf l) = refl
-root_place (container name flags content named) = refl
+-- the root comes first
+first_said : {X : Type 0} (s : StoryTree) (said : List Part → X) (x : X) → get_or (map said (places s)) 0 x ≡ said []
+first_said (leaf l) said x = refl
+first_said (container name flags content named) said x = refl
 
 -- what is kept of each node's link, and what the definition says of its place
-module _ {X : Type 0} (s : StoryTree) (kept : Link → X) (said : List Part → X) where
+module _ {X : Type 0} (s : StoryTree) (kept : Link → Option X) (said : List Part → Option X) where
   pub link_next : (n : ℕ) (ls new : List Link) (l : Link) → n < length (places s) → kept l ≡ said (node_place s (node n)) → new ≡ ls ++ l ∷ []
       → map kept ls ≡ map said (take n (places s)) → map kept new ≡ map said (take (n + 1) (places s))
   link_next n ls new l h is more so_far =
@@ -109,22 +112,19 @@ module _ {X : Type 0} (s : StoryTree) (kept : Link → X) (said : List Part → 
       ∙ ap (map said) (sym (take_next (places s) n h))
 
   module _ (ls : List Link) (same : map kept ls ≡ map said (places s)) where
-    link_at : (n : ℕ) → option_map kept (slice_get ls n) ≡ option_map said (slice_get (places s) n)
-    link_at n = sym (slice_get-map kept ls n) ∙ ap (λ ps. slice_get ps n) same ∙ slice_get-map said (places s) n
+    first_link : kept (get_or ls 0 Nothing) ≡ said []
+    first_link = sym (get_or-map kept ls 0 Nothing) ∙ ap (λ xs. get_or xs 0 (kept Nothing)) same ∙ first_said s said (kept Nothing)
 
     -- of a node, or of the root where there is no node of that number
-    link_or : (a b : Option Link) (p : Option (List Part)) → option_map kept a ≡ option_map said p → option_map kept b ≡ Some (said [])
-        → option_map kept (option_or a b) ≡ Some (said (unwrap_or p []))
-    link_or None b None here root = root
-    link_or (Some l) b None here root = absurd (none-some _ (sym here))
-    link_or None b (Some p) here root = absurd (none-some _ here)
-    link_or (Some l) b (Some p) here root = here
+    link_of : (n : NodeId) → kept (get_or ls n.number (get_or ls 0 Nothing)) ≡ said (node_place s n)
+    link_of n =
+        sym (get_or-map kept ls n.number (get_or ls 0 Nothing))
+        ∙ ap₂ (λ xs x. get_or xs n.number x) same first_link
+        ∙ get_or-map said (places s) n.number []
+        ∙ ap said (sym (unwrap_or-slice_get (places s) n.number []))
 
-    pub link_of : (n : NodeId) → option_map kept (option_or (slice_get ls n.number) (slice_get ls 0)) ≡ Some (said (node_place s n))
-    link_of n = link_or (slice_get ls n.number) (slice_get ls 0) (slice_get (places s) n.number) (link_at n.number) (link_at 0 ∙ ap (option_map said) (root_place s))
-
--- of links that are lent
-pub lent : {X : Type 0} (kept : Link → X) (a b : Option (Bor Link)) → option_map (λ l. kept l.now) (option_or a b) ≡ option_map kept (option_or (option_map (λ l. l.now) a) (option_map (λ l. l.now) b))
-lent kept None None = refl
-lent kept None (Some l) = refl
-lent kept (Some l) b = refl
+    -- of a link that is lent, where it is something
+    pub lent_of : (n : NodeId) (found : Option (Bor Link)) → kept Nothing ≡ None
+        → unwrap_or (option_map (λ l. l.now) found) Nothing ≡ get_or ls n.number (get_or ls 0 Nothing) → option_and_then (λ l. kept l.now) found ≡ said (node_place s n)
+    lent_of n None none is = sym none ∙ ap kept is ∙ link_of n
+    lent_of n (Some l) none is = ap kept is ∙ link_of n

@@ -1,5 +1,5 @@
 -- What a written path is for, and what it comes to.
-use Rattle.std.specs.Prelude.{◌≡◌, ℕ, List, Bool, true, false, not, if◌then◌else◌, Option, Some, None, is_some}
+use Rattle.std.specs.Prelude.{◌≡◌, ℕ, ◌≤◌, List, ◌∷◌, All, length, map, slice_index_or, Bool, true, false, not, if◌then◌else◌, Option, Some, None, is_some}
 use Rattle.std.specs.Option.{option_map}
 use Rattle.ink_model.specs.Acceptance.{is_counted}
 use Rattle.ink_model.specs.Flags.{is_once_only}
@@ -118,3 +118,17 @@ IsLinkFor s u path p (Some l) = (is_good_for s u path p ≡ true) × (target_pla
 abbrev pub IsCountOf : StoryTree → List Part → List Part → Option Link → Type 0
 IsCountOf s p target None = is_counted s (Some p) ≡ false
 IsCountOf s p target (Some l) = (is_counted s (Some p) ≡ true) × (target_place s l ≡ Some target) × (counted_place s l ≡ Some p) × (pushed_of l ≡ None) × (number_of l ≡ None)
+
+-- ---- slots
+
+-- the link that a slot stands for: nothing at 0, else the one whose index is one less
+abbrev pub link_in : List Link → ℕ → Link
+link_in links slot = slice_index_or (Nothing ∷ links) slot Nothing
+
+-- the links that all slots stand for
+abbrev pub spread : List Link → List ℕ → List Link
+spread links slots = map (link_in links) slots
+
+-- each slot is 0 or that of a link, and there are not more links than slots
+abbrev pub AreSlots : List Link → List ℕ → Type 0
+AreSlots links slots = All (λ slot. slot ≤ length links) slots × (length links ≤ length slots)

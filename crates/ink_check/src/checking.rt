@@ -15,6 +15,7 @@ ghost use Rattle.ink_tree.specs.Nodes as nodes;
 
 use crate::forms::leaf_link;
 use crate::link::Link;
+use crate::links::Links;
 use crate::names::{Names, variable_names};
 use crate::story::Story;
 use ink_json::RawStory;
@@ -38,25 +39,26 @@ pub fn check(alloc: Global, raw: RawStory) -> Result<Story, ReadRefusal>
 }
 
 // What the paths of all content come to and the numbers of their variables, in reading order, or the first bad path.
-fn written_links(alloc: Global, tree: &Tree) -> Result<Vec<Link>, Failure<NodeId>>
+fn written_links(alloc: Global, tree: &Tree) -> Result<Links, Failure<NodeId>>
     ensures good { IfOk result (λ _. bad_places (nodes.story_tree tree.now) ≡ []) }
     ensures leading { let s = nodes.story_tree tree.now in
-        IfOk result (λ links. map (target_place s) links.items ≡ map (written_target s) (places s)) }
+        IfOk result (λ links. map (target_place s) links ≡ map (written_target s) (places s)) }
     ensures counting { let s = nodes.story_tree tree.now in
-        IfOk result (λ links. map (counted_place s) links.items ≡ map (counted_container s) (places s)) }
+        IfOk result (λ links. map (counted_place s) links ≡ map (counted_container s) (places s)) }
     ensures pushing { let s = nodes.story_tree tree.now in
-        IfOk result (λ links. map pushed_of links.items ≡ map (λ p. pushed_path (at s p)) (places s)) }
+        IfOk result (λ links. map pushed_of links ≡ map (λ p. pushed_path (at s p)) (places s)) }
     ensures numbering { let s = nodes.story_tree tree.now in
-        IfOk result (λ links. map number_of links.items ≡ map (variable_number s) (places s)) }
+        IfOk result (λ links. map number_of links ≡ map (variable_number s) (places s)) }
     ensures err { IfErr result (λ failure. IsFirstBad (nodes.story_tree tree.now) failure) }
 {
     let names = variable_names(alloc, tree)?;
-    let mut links = Vec::with_capacity(alloc, tree.len())?;
+    let mut links = Links::with_capacity(alloc, tree.len())?;
     for number in 0..tree.len() {
         let node = NodeId { number };
         let link = node_link(alloc, tree, &names, node)?;
-        links.push(link)?;
+        links = links.add(link)?;
     }
+    links.trim();
     Ok(links)
 }
 

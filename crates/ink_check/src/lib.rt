@@ -5,6 +5,7 @@ mod checking;
 mod forms;
 mod leading;
 mod link;
+mod links;
 mod names;
 mod story;
 

@@ -1,6 +1,6 @@
 //! Accepted stories (docs/STORY_FORMAT.md, "Paths").
 
-ghost use Rattle.std.specs.Prelude.{◌≡◌, Some, [], map, option_map, slice_get};
+ghost use Rattle.std.specs.Prelude.{◌≡◌, [], map, option_and_then, option_map};
 ghost use Rattle.ink_check.specs.Links.{counted_place, number_of, pushed_of, pushed_path, target_place};
 ghost use Rattle.ink_check.specs.Names.{variable_number};
 ghost use Rattle.ink_model.specs.Acceptance.{bad_places, counted_container, written_target};
@@ -10,6 +10,7 @@ ghost use Rattle.ink_model.specs.Tree.{at};
 ghost use Rattle.ink_tree.specs.Nodes as nodes;
 
 use crate::link::Link;
+use crate::links::Links;
 use ink_model::{Path, Shared};
 use ink_tree::{NodeId, Spot, Tree};
 
@@ -17,13 +18,13 @@ use ink_tree::{NodeId, Spot, Tree};
 #[derive(Drop)]
 pub struct Story {
     pub(crate) tree: Tree,
-    pub(crate) links: Vec<Link>,
+    pub(crate) links: Links,
     ghost good: { bad_places (nodes.story_tree tree) ≡ [] },
     ghost spelled: { IsSpelled (nodes.story_tree tree) },
-    ghost leading: { let s = nodes.story_tree tree in map (target_place s) links.items ≡ map (written_target s) (places s) },
-    ghost counting: { let s = nodes.story_tree tree in map (counted_place s) links.items ≡ map (counted_container s) (places s) },
-    ghost pushing: { let s = nodes.story_tree tree in map pushed_of links.items ≡ map (λ p. pushed_path (at s p)) (places s) },
-    ghost numbering: { let s = nodes.story_tree tree in map number_of links.items ≡ map (variable_number s) (places s) },
+    ghost leading: { let s = nodes.story_tree tree in map (target_place s) links ≡ map (written_target s) (places s) },
+    ghost counting: { let s = nodes.story_tree tree in map (counted_place s) links ≡ map (counted_container s) (places s) },
+    ghost pushing: { let s = nodes.story_tree tree in map pushed_of links ≡ map (λ p. pushed_path (at s p)) (places s) },
+    ghost numbering: { let s = nodes.story_tree tree in map number_of links ≡ map (variable_number s) (places s) },
 }
 
 impl Story {
@@ -73,22 +74,14 @@ impl Story {
         self.link(node)?.variable()
     }
 
-    // What the written path of a content comes to; a number beyond the story's content stands for the root.
+    // The link of a content, where it is something; a number beyond the story's content stands for the root.
     #[inline(always)]
     fn link(&self, node: NodeId) -> Option<&Link>
-        ensures target { let s = story_tree self.now in option_map (λ l. target_place s l.now) result ≡ Some (written_target s (nodes.node_place s node)) }
-        ensures counted { let s = story_tree self.now in option_map (λ l. counted_place s l.now) result ≡ Some (counted_container s (nodes.node_place s node)) }
-        ensures pushed { let s = story_tree self.now in option_map (λ l. pushed_of l.now) result ≡ Some (pushed_path (at s (nodes.node_place s node))) }
-        ensures number { let s = story_tree self.now in option_map (λ l. number_of l.now) result ≡ Some (variable_number s (nodes.node_place s node)) }
+        ensures target { let s = story_tree self.now in option_and_then (λ l. target_place s l.now) result ≡ written_target s (nodes.node_place s node) }
+        ensures counted { let s = story_tree self.now in option_and_then (λ l. counted_place s l.now) result ≡ counted_container s (nodes.node_place s node) }
+        ensures pushed { let s = story_tree self.now in option_and_then (λ l. pushed_of l.now) result ≡ pushed_path (at s (nodes.node_place s node)) }
+        ensures number { let s = story_tree self.now in option_and_then (λ l. number_of l.now) result ≡ variable_number s (nodes.node_place s node) }
     {
-        let root = NodeId { number: 0 };
-        self.entry(node).or(self.entry(root))
-    }
-
-    #[inline(always)]
-    fn entry(&self, node: NodeId) -> Option<&Link>
-        ensures { option_map (λ l. l.now) result ≡ slice_get self.now.links.items node.number }
-    {
-        self.links.get(node.number)
+        self.links.at(node.number)
     }
 }

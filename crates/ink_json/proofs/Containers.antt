@@ -1,29 +1,18 @@
 -- Reading content element by element and key by key, beside its faults and its tree.
-use Rattle.std.proofs.Common.{◌≡◌, ℕ, ◌+◌, ◌≤◌, List, [], ◌∷◌, ◌++◌, map, Bool, true, false, cond, Option, Some, None, Ok, Err, String, Global, Ordering, Less, Equal, Greater, string_bytes, string_cmp, nat_cmp, refl, sym, ap, subst, ◌∙◌, append_assoc, arith}
-use Rattle.std.proofs.lemmas.List.{map_push}
-use Rattle.std.proofs.lemmas.Cmp.{nat_list_cmp_total}
-use Rattle.std.specs.BTreeMap.{insert_entry}
-use Rattle.std.specs.List.{AllByRecursion}
-use Rattle.std.specs.List.Sorted.{IsStrictlySortedBy}
-use Rattle.std.specs.Map.{keys_of}
-use Rattle.std.specs.Cmp.Lexicographic.{slice_cmp}
-use Rattle.std.specs.Ordering.{match_ordering, ordering_reverse}
+use Rattle.std.proofs.Common.{◌≡◌, ℕ, ◌+◌, ◌≤◌, List, [], ◌∷◌, ◌++◌, map, Bool, true, false, cond, Option, Some, None, Ok, Err, refl, sym, ap, ◌∙◌, append_assoc, arith}
 use Rattle.serde_json.specs.Data.{Data, null, boolean, number, string, array, object, Items, no_items, item, Members, no_members, member}
 use Rattle.ink_json.specs.Value.{json_data, members_of, Entry, members_data}
-use Rattle.ink_model.specs.Tree.{StoryTree, container, Trees, no_trees, tree, Keyed, key}
-use Rattle.ink_model.specs.View.{view, trees_of, keyed_view}
+use Rattle.ink_model.specs.Tree.{StoryTree, container, Keyed}
 use Rattle.ink_model.specs.declared.limits.TheConstants.{MAX_NESTING}
 use Rattle.ink_model.specs.Grammar.{under, first, own, own_after, is_empty, is_last, are_flags, member_of, flags_key, flags_of, name_in, name_of, is_misnamed, is_taken, with_name, is_own, content, faults, faults_inside, faults_keyed, faults_by, tree_of, content_of, keyed_in, keyed_last, keyed_by}
-use Rattle.ink_model.specs.declared.content.Content.{Content}
 use Rattle.ink_model.specs.declared.fault.Failure.{Failure}
 use Rattle.ink_model.specs.declared.fault.Failure.TheVariants.{OutOfMemory, Refused}
 use Rattle.ink_model.specs.declared.fault.ReadRefusal.{ReadRefusal}
 use Rattle.ink_model.specs.declared.place.Part.{Part}
 use Rattle.ink_model.specs.declared.place.Part.TheVariants.{Index, Name}
-use Rattle.ink_json.specs.Reading.{takes_memory, Fails, IsFirst, is_whole, faults_named, put_key}
+use Rattle.ink_json.specs.Reading.{takes_memory, Fails, IsFirst, is_whole, faults_named}
 use Rattle.ink_json.specs.Size.{size, items_size, members_size}
 use Rattle.ink_json.proofs.Conditions.{both, not_above}
-use Rattle.ink_json.proofs.Shapes.{key_cmp}
 
 -- ---- sizes
 
@@ -128,45 +117,15 @@ pub container_stops : (version nesting : ℕ) (misnamed listed : Bool) (ds : Ite
 container_stops version nesting misnamed listed ds e h w m stops =
     rw (faults_are_inside version nesting misnamed ds h w m) (first_fails e (faults_inside version nesting 0 [] ds) (tree_of version listed (array ds)) (inside_takes version nesting 0 [] ds _) stops)
 
-pub fails_alike : {A B : Type 0} (e : Failure ReadRefusal) (fs : List ReadRefusal) (a : A) (b : B) → Fails e (first fs a) → Fails e (first fs b)
-fails_alike OutOfMemory [] a b h = refl
-fails_alike OutOfMemory (f ∷ fs) a b h = h
-fails_alike (Refused r) [] a b h = absurd cc
-fails_alike (Refused r) (f ∷ fs) a b h = cc
-
--- .. or among the containers by key
-pub container_stops_late : (version nesting : ℕ) (misnamed listed : Bool) (ds : Items) (last : Data) (taken : List (List ℕ)) (e : Failure ReadRefusal) → nesting ≤ MAX_NESTING → is_whole (own ds) ≡ true → misnamed ≡ false
-    → faults_inside version nesting 0 [] ds ≡ faults_keyed version nesting taken last
-    → Fails e (first (faults_keyed version nesting taken last) (keyed_last version last)) → Fails e (content version nesting misnamed listed (array ds))
-container_stops_late version nesting misnamed listed ds last taken e h w m same stops =
-    rw (faults_are_inside version nesting misnamed ds h w m, same) (fails_alike e (faults_keyed version nesting taken last) (keyed_last version last) (tree_of version listed (array ds)) stops)
-
 -- and is read where there is none
-pub container_read : (version nesting : ℕ) (misnamed listed : Bool) (ds : Items) (last : Data) (taken : List (List ℕ)) (name : Option (List ℕ)) (flags : ℕ) (inside : Trees) (keyed : Keyed) → nesting ≤ MAX_NESTING → is_whole (own ds) ≡ true → misnamed ≡ false
-    → keyed_in version ds ≡ keyed_last version last → faults_inside version nesting 0 [] ds ≡ faults_keyed version nesting taken last
-    → first (faults_keyed version nesting taken last) (keyed_last version last) ≡ Ok keyed
-    → name ≡ cond listed (name_in (own ds)) None → flags ≡ flags_of (own ds) → inside ≡ content_of version ds
-    → content version nesting misnamed listed (array ds) ≡ Ok (container name flags inside keyed)
-container_read version nesting misnamed listed ds last taken name flags inside keyed h w m l same read n f i =
-    let k = first_ok (faults_keyed version nesting taken last) (keyed_last version last) keyed read in
-    let none : faults version nesting misnamed (array ds) ≡ [] = faults_are_inside version nesting misnamed ds h w m ∙ same ∙ k.0 in
-    let keys : keyed_in version ds ≡ keyed = l ∙ k.1 in
-    ap (λ fs. first fs (tree_of version listed (array ds))) none ∙ rw (n, f, i, ← keys) refl
+pub container_read : (version nesting : ℕ) (misnamed listed : Bool) (ds : Items) (name : Option (List ℕ)) (flags : ℕ) → nesting ≤ MAX_NESTING → is_whole (own ds) ≡ true → misnamed ≡ false
+    → faults_inside version nesting 0 [] ds ≡ [] → name ≡ cond listed (name_in (own ds)) None → flags ≡ flags_of (own ds)
+    → content version nesting misnamed listed (array ds) ≡ Ok (container name flags (content_of version ds) (keyed_in version ds))
+container_read version nesting misnamed listed ds name flags h w m good n f =
+    let none : faults version nesting misnamed (array ds) ≡ [] = faults_are_inside version nesting misnamed ds h w m ∙ good in
+    ap (λ fs. first fs (tree_of version listed (array ds))) none ∙ rw (n, f) refl
 
 -- ---- the elements
-
--- trees in front of others
-abbrev pub trees_front : List StoryTree → Trees → Trees
-trees_front [] ts = ts
-trees_front (u ∷ us) ts = tree u (trees_front us ts)
-
-trees_front_none : (us : List StoryTree) → trees_front us no_trees ≡ trees_of us
-trees_front_none [] = refl
-trees_front_none (u ∷ us) = ap (tree u) (trees_front_none us)
-
-trees_front_push : (us : List StoryTree) (u : StoryTree) (ts : Trees) → trees_front (us ++ u ∷ []) ts ≡ trees_front us (tree u ts)
-trees_front_push [] u ts = refl
-trees_front_push (v ∷ us) u ts = ap (tree v) (trees_front_push us u ts)
 
 module _ (version nesting i : ℕ) (d e : Data) (ds : Items) (taken : List (List ℕ)) (all : List ReadRefusal) (same : all ≡ faults_inside version nesting i taken (item d (item e ds))) where
   -- one element more
@@ -178,14 +137,6 @@ module _ (version nesting i : ℕ) (d e : Data) (ds : Items) (taken : List (List
 
   pub element_stops : (error : Failure ReadRefusal) → Fails error (first (map (under (Index i)) (faults version (nesting + 1) (is_misnamed taken d) d)) (tree_of version true d)) → IsFirst error all
   element_stops error given = rw same (fails_first error _ _ (tree_of version true d) given)
-
-pub elements_end : (version : ℕ) (d : Data) (us : List StoryTree) (content : Trees) → content ≡ trees_front us (content_of version (item d no_items)) → trees_of us ≡ content
-elements_end version d us content e = sym (e ∙ trees_front_none us)
-
-pub pushed_front : (cs new : List Content) (c : Content) (all rest : Trees) → new ≡ cs ++ c ∷ [] → all ≡ trees_front (map view cs) (tree (view c) rest) → all ≡ trees_front (map view new) rest
-pushed_front cs new c all rest e f =
-    let there : map view new ≡ map view cs ++ view c ∷ [] = ap (map view) e ∙ map_push view cs c in
-    f ∙ sym (trees_front_push (map view cs) (view c) rest) ∙ ap (λ us. trees_front us rest) (sym there)
 
 -- ---- the containers by key
 
@@ -205,44 +156,6 @@ keyed_members version nesting taken (string s) = (refl, refl)
 keyed_members version nesting taken (array ds) = (refl, refl)
 keyed_members version nesting taken (object ms) = (refl, refl)
 
-abbrev Found : Type 0
-Found = String Global × Content
-
-keyed_view-match_ordering : (o : Ordering) (a b c : List Found) → keyed_view (match_ordering o a b c) ≡ match_ordering o (keyed_view a) (keyed_view b) (keyed_view c)
-keyed_view-match_ordering Less a b c = refl
-keyed_view-match_ordering Equal a b c = refl
-keyed_view-match_ordering Greater a b c = refl
-
-pub keyed_view-insert_entry : (es : List Found) (k : String Global) (c : Content) → keyed_view (insert_entry string_cmp es k c) ≡ put_key (string_bytes k) (view c) (keyed_view es)
-keyed_view-insert_entry [] k c = refl
-keyed_view-insert_entry (e ∷ es) k c = keyed_view-match_ordering (string_cmp k e.0) _ _ _ ∙ rw (keyed_view-insert_entry es k c)
-
-below_middle : (f : Entry) (es : List Entry) (e : Entry) (more : List Entry) → AllByRecursion (λ y. key_cmp f.0 y ≡ Less) (keys_of (es ++ e ∷ more)) → key_cmp f.0 e.0 ≡ Less
-below_middle f [] e more h = h.0
-below_middle f (x ∷ es) e more h = below_middle f es e more h.1
-
--- whatever the first key is
-first_key : (version : ℕ) (b : Bool) (k : List ℕ) (d : Data) (ms ns : Members) (f : Keyed → Keyed) → ((t : StoryTree) (ks : Keyed) → f (key k t ks) ≡ key k t (f ks)) → f (keyed_by version ms) ≡ keyed_by version ns
-    → f (cond b (keyed_by version ms) (key k (tree_of version false d) (keyed_by version ms))) ≡ cond b (keyed_by version ns) (key k (tree_of version false d) (keyed_by version ns))
-first_key version true k d ms ns f over rest = rest
-first_key version false k d ms ns f over rest = over _ _ ∙ ap (key k (tree_of version false d)) rest
-
--- a key above those before it goes last
-put_key_last : (version : ℕ) (done : List Entry) (e : Entry) (more : List Entry) → is_own e.0.now ≡ false → IsStrictlySortedBy key_cmp (keys_of (done ++ e ∷ more))
-    → put_key e.0.now (tree_of version false (json_data e.1)) (keyed_by version (members_data done)) ≡ keyed_by version (members_data (done ++ e ∷ []))
-unfolding IsStrictlySortedBy
-put_key_last version [] e more named h = rw named refl
-put_key_last version (f ∷ done) e more named h =
-    let above : slice_cmp nat_cmp e.0.now f.0.now ≡ Greater =
-    nat_list_cmp_total.antisymm e.0.now f.0.now ∙ ap ordering_reverse (below_middle f done e more h.0) in
-    first_key version (is_own f.0.now) f.0.now (json_data f.1) (members_data done) (members_data (done ++ e ∷ [])) (put_key e.0.now (tree_of version false (json_data e.1)))
-    (λ t ks. rw above refl) (put_key_last version done e more named h.1)
-
-own_key_last : (version : ℕ) (done : List Entry) (e : Entry) → is_own e.0.now ≡ true → keyed_by version (members_data done) ≡ keyed_by version (members_data (done ++ e ∷ []))
-own_key_last version [] e own = rw own refl
-own_key_last version (f ∷ done) e own =
-    first_key version (is_own f.0.now) f.0.now (json_data f.1) (members_data done) (members_data (done ++ e ∷ [])) (λ ks. ks) (λ t ks. refl) (own_key_last version done e own)
-
 -- one key more
 module _ (version nesting : ℕ) (e : Entry) (more : List Entry) (name : List ℕ) (misnamed : Bool) (is : name ≡ e.0.now) (named : is_own name ≡ false) where
   key_faults : (taken : List (List ℕ)) → misnamed ≡ is_taken taken (Some name)
@@ -260,19 +173,8 @@ module _ (version nesting : ℕ) (e : Entry) (more : List Entry) (name : List �
         let none = (first_ok _ (tree_of version false (json_data e.1)) read good).0 in
         same ∙ key_faults taken given ∙ ap (λ fs. fs ++ faults_by version nesting taken (members_data more)) none
 
-    pub key_put : (all done : List Entry) (keyed after : Keyed) → all ≡ done ++ e ∷ more → IsStrictlySortedBy key_cmp (keys_of all) → keyed ≡ keyed_by version (members_data done) → after ≡ put_key name read keyed
-        → after ≡ keyed_by version (members_data (done ++ e ∷ []))
-    key_put all done keyed after split sorted before put =
-        let tree = (first_ok _ (tree_of version false (json_data e.1)) read good).1 in
-        let own : is_own e.0.now ≡ false = ap is_own (sym is) ∙ named in
-        let ascends : IsStrictlySortedBy key_cmp (keys_of (done ++ e ∷ more)) = subst (λ es. IsStrictlySortedBy key_cmp (keys_of es)) split sorted in
-        put ∙ rw (is, before, ← tree) (put_key_last version done e more own ascends)
-
 pub own_key_faults : (version nesting : ℕ) (taken : List (List ℕ)) (e : Entry) (more : List Entry) (name : List ℕ) → name ≡ e.0.now → is_own name ≡ true → faults_by version nesting taken (members_data (e ∷ more)) ≡ faults_by version nesting taken (members_data more)
 own_key_faults version nesting taken e more name is own = let h : is_own e.0.now ≡ true = ap is_own (sym is) ∙ own in rw h refl
-
-pub own_key : (version : ℕ) (done : List Entry) (e : Entry) (name : List ℕ) → name ≡ e.0.now → is_own name ≡ true → keyed_by version (members_data done) ≡ keyed_by version (members_data (done ++ e ∷ []))
-own_key version done e name is own = own_key_last version done e (ap is_own (sym is) ∙ own)
 
 -- the next key
 pub next_key : (all done rest : List Entry) (e : Entry) (more : List Entry) → all ≡ done ++ rest → rest ≡ e ∷ more → all ≡ done ++ e ∷ more

@@ -1,4 +1,3 @@
-pub mod Trees
 pub mod Narrow
 pub mod Size
 pub mod Sets
@@ -11,3 +10,9 @@ pub mod Conditions
 pub mod Spelled
 pub mod Shapes
 pub mod Counts
+pub mod Root
+pub mod Rising
+pub mod Many
+pub mod Listing
+pub mod Downward
+pub mod Growing

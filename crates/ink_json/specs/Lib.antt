@@ -2,6 +2,10 @@ pub mod Story
 pub mod Size
 pub mod Reading
 pub mod Heads
+pub mod Descent
+pub mod Last
+pub mod Listing
+pub mod Order
 pub mod Spelled
 pub mod Number
 pub mod Value

@@ -4,7 +4,7 @@ use Rattle.std.specs.Borrow.{Bor}
 use Rattle.std.specs.BTreeSet.{BTreeSet, contains_by}
 use Rattle.std.specs.Cmp.Lexicographic.{slice_cmp}
 use Rattle.std.specs.List.{list_any}
-use Rattle.std.specs.Ordering.{nat_cmp, match_ordering}
+use Rattle.std.specs.Ordering.{nat_cmp}
 use Rattle.std.specs.Str.{is_utf8}
 use Rattle.json.specs.declared.error.Error.{Error}
 use Rattle.json.specs.declared.error.Error.TheVariants as errors
@@ -12,7 +12,6 @@ use Rattle.serde_json.specs.Data.{Data}
 use Rattle.serde_json.specs.Find.{as_array}
 use Rattle.ink_model.specs.Bytes.{is_filled}
 use Rattle.ink_model.specs.Grammar.{here, under, unmarked, is_last, are_flags, member_of, flags_key, faults}
-use Rattle.ink_model.specs.Tree.{StoryTree, Keyed, no_keys, key}
 use Rattle.ink_model.specs.declared.limits.TheConstants.{MAX_STORY}
 use Rattle.ink_model.specs.declared.fault.Cause.{Cause}
 use Rattle.ink_model.specs.declared.fault.Cause.TheVariants.{NotJson, Shape}
@@ -91,8 +90,3 @@ is_whole last = is_last last && are_flags (member_of flags_key last)
 -- what is wrong with what stands at a key
 abbrev pub faults_named : ℕ → ℕ → Bool → Data → List ReadRefusal
 faults_named version nesting misnamed d = if is_some (as_array d) then faults version nesting misnamed d else here Shape ∷ []
-
--- a container put at a key, in order
-abbrev pub put_key : List ℕ → StoryTree → Keyed → Keyed
-put_key k t no_keys = key k t no_keys
-put_key k t (key l u ks) = match_ordering (slice_cmp nat_cmp k l) (key k t (key l u ks)) (key l t ks) (key l u (put_key k t ks))

@@ -1,7 +1,7 @@
 -- The tree of a story that was read.
 use Rattle.ink_model.specs.Tree.{StoryTree}
-use Rattle.ink_model.specs.View.{view}
+use Rattle.ink_json.specs.Listing.{rebuilt}
 use Rattle.ink_json.specs.declared.story.RawStory.{RawStory}
 
 abbrev pub tree : RawStory → StoryTree
-tree s = view s.root
+tree s = rebuilt s.nodes.items

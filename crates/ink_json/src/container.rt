@@ -1,68 +1,118 @@
-//! Reading content.
+//! Reading content, into the list of a story's nodes.
 
-ghost use Rattle.std.specs.Prelude.{◌≡◌, ◌+◌, ◌≤◌, ◌<◌, ◌^◌, ℕ, List, [], IfOk, IfErr, OnOk, Some, map, true, false};
+ghost use Rattle.std.specs.Prelude.{◌≡◌, ◌+◌, ◌++◌, ◌≤◌, ◌<◌, ◌^◌, ℕ, List, [], length, IfOk, IfErr, OnOk, Some, Result, map, true, false};
+ghost use Rattle.std.specs.Result.{result_unwrap_or};
 ghost use Rattle.serde_json.specs.Data.{array as json_array, item};
-ghost use Rattle.ink_model.specs.Grammar.{content, content_of, tree_of, keyed_last, faults, faults_inside, faults_keyed, faults_by, keyed_by, first, under, own_after};
-ghost use Rattle.ink_model.specs.Tree.{container};
-ghost use Rattle.ink_model.specs.View.{view, trees_view, keyed_view};
+ghost use Rattle.ink_model.specs.Grammar.{content, content_of, tree_of, keyed_in, keyed_last, faults, faults_inside, faults_keyed, faults_by, keyed_by, first, leaf_faults, under, own_after};
+ghost use Rattle.ink_model.specs.Tree.{count, leaf};
+ghost use Rattle.ink_model.specs.View.{count_keys};
+ghost use Rattle.ink_model.specs.declared.fault.Cause.{Cause as Reason};
+ghost use Rattle.ink_model.specs.declared.content.Leaf.{Leaf as AnyLeaf};
 ghost use Rattle.ink_model.specs.declared.place.Part.TheVariants.{Index, Name};
-ghost use Rattle.ink_json.specs.Reading.{Reads, IsFirst, Holds, faults_named, put_key};
+ghost use Rattle.ink_json.specs.Listing.{Lists, ListsByKey, nodes_from, nodes_inside};
+ghost use Rattle.ink_json.specs.Reading.{Reads, IsFirst, Holds, faults_named, placed};
 ghost use Rattle.ink_json.specs.Size.{Fits, size, items_size, members_size};
 ghost use Rattle.ink_json.specs.Value.{json_data, items_left, members_data};
 
 use crate::error::{ReadFailure, at_index, at_name, refused};
-use crate::leaf::{read_number, read_object, read_string};
+use crate::last::Last;
+use crate::leaf::{read_number, read_string};
 use crate::names::{give, is_misnamed};
+use crate::node::Node;
+use crate::nodes::{close, open};
+use crate::object::read_object_leaf;
 use crate::own::{copy_name, is_own, name_of, read_own};
 use crate::value::{Items, Kind, Value};
-use ink_model::{Cause, Container, Content, Leaf, MAX_NESTING, Text};
-use std::alloc::{AllocError, Global};
+use ink_model::{Cause, Leaf, MAX_NESTING};
+use std::alloc::Global;
 use std::collections::{BTreeMap, BTreeSet};
 
-/// What stands in a list: the content and the names given there, and the last element.
+/// Where content stands that is read: in which container and by which part, how deep, whether in a list or by a key, and whether
+/// its name rules it out there.
 #[derive(Drop)]
-struct Inside<'t, 'a> {
-    content: Vec<Content>,
+pub(crate) struct Position {
+    pub holder: u32,
+    pub last: Last,
+    pub nesting: usize,
+    pub listed: bool,
+    pub misnamed: bool,
+}
+
+/// What was read of a list: how many contents stand there, the names given there, and the last element.
+#[derive(Drop)]
+struct Elements<'t, 'a> {
+    width: u32,
     names: BTreeSet<&'a str>,
     last: Value<'t, 'a>,
 }
 
-/// Content in list position, of this nesting, which may stand there by its name or may not.
+/// How much is in a container: contents by index, and containers by key.
+#[derive(Clone, Copy)]
+struct Inside {
+    width: u32,
+    keys: u32,
+}
+
+/// Content in list position.
 #[cycle(content)]
 fn read_content(
     alloc: Global,
+    nodes: &mut Vec<Node>,
     value: &Value<'_, '_>,
-    nesting: usize,
-    misnamed: bool,
-) -> Result<Content, ReadFailure>
-    requires { Fits nesting (json_data value.now) }
-    ensures { Reads view result (content 21 nesting misnamed true (json_data value.now)) }
+    position: Position,
+) -> Result<(), ReadFailure>
+    requires fits { Fits position.nesting (json_data value.now) }
+    requires room { length nodes.old.items + size (json_data value.now) < 2 ^ 32 }
+    ensures { Lists nodes.old.items nodes.new.items position.holder position.last result
+        (content 21 position.nesting position.misnamed position.listed (json_data value.now)) }
 {
     match value.kind() {
-        Kind::Array(items) => read_container(alloc, value, items, nesting, misnamed, true),
-        Kind::String(text) => read_string(alloc, text),
-        Kind::Bool(truth) => Ok(Content::Leaf(Leaf::Bool(truth))),
-        Kind::Number(number) => read_number(alloc, number),
-        Kind::Object => read_object(alloc, value),
+        Kind::Array(items) => read_container(alloc, nodes, value, items, position),
+        Kind::String(text) => list_leaf(nodes, position, read_string(alloc, text)),
+        Kind::Bool(truth) => list_leaf(nodes, position, Ok(Leaf::Bool(truth))),
+        Kind::Number(number) => list_leaf(nodes, position, read_number(alloc, number)),
+        Kind::Object => list_leaf(nodes, position, read_object_leaf(alloc, value)),
         Kind::Null => Err(refused(alloc, Cause::Shape)),
     }
 }
 
-/// A container of this nesting, which has these items; one in list position has the name that it gives itself.
+/// Content that holds no other, where it was read.
+fn list_leaf(
+    nodes: &mut Vec<Node>,
+    position: Position,
+    read: Result<Leaf, ReadFailure>,
+) -> Result<(), ReadFailure>
+    ensures { (leaf_or : Result AnyLeaf Reason) → Reads (λ l. l) read (placed leaf_or)
+        → Lists nodes.old.items nodes.new.items position.holder position.last result
+        (first (leaf_faults leaf_or) (leaf (result_unwrap_or leaf_or Leaf.Newline))) }
+{
+    let leaf = read?;
+    nodes.push(Node::leaf(position.holder, position.last, leaf))?;
+    Ok(())
+}
+
+/// A container that has these items; one in list position has the name that it gives itself.
 #[cycle(content)]
 pub(crate) fn read_container(
     alloc: Global,
+    nodes: &mut Vec<Node>,
     array: &Value<'_, '_>,
     items: Items<'_, '_>,
-    nesting: usize,
-    misnamed: bool,
-    listed: bool,
-) -> Result<Content, ReadFailure>
-    requires nests { nesting ≤ MAX_NESTING + 1 }
+    position: Position,
+) -> Result<(), ReadFailure>
+    requires nests { position.nesting ≤ MAX_NESTING + 1 }
     requires items { json_data array.now ≡ json_array (items_left items) }
-    requires small { items_size (items_left items) < 2 ^ 32 }
-    ensures { Reads view result (content 21 nesting misnamed listed (json_data array.now)) }
+    requires room { length nodes.old.items + items_size (items_left items) + 1 < 2 ^ 32 }
+    ensures { Lists nodes.old.items nodes.new.items position.holder position.last result
+        (content 21 position.nesting position.misnamed position.listed (json_data array.now)) }
 {
+    let Position {
+        holder,
+        last,
+        nesting,
+        listed,
+        misnamed,
+    } = position;
     if nesting > MAX_NESTING {
         return Err(refused(alloc, Cause::Limit));
     }
@@ -76,67 +126,73 @@ pub(crate) fn read_container(
     if misnamed {
         return Err(refused(alloc, Cause::Shape));
     }
-    let Inside {
-        content,
-        names,
-        last,
-    } = read_elements(alloc, array.len().saturating_sub(1), first, items, nesting)?;
-    let named = read_last(alloc, &last, nesting, &names)?;
     let name = copy_name(alloc, own.name)?;
-    let container = containing(alloc, name, own.flags, content, named)?;
-    Ok(container)
+    let number = nodes.len();
+    open(nodes, holder, last, name, own.flags)?;
+    let inside = read_inside(alloc, nodes, number as u32, first, items, nesting)?;
+    close(nodes, number, inside.width, inside.keys);
+    Ok(())
 }
 
-/// A container of what was read.
-fn containing(
-    alloc: Global,
-    name: Option<Text>,
-    flags: u8,
-    content: Vec<Content>,
-    named: BTreeMap<String, Content>,
-) -> Result<Content, AllocError>
-    ensures { IfOk result (λ c. view c ≡ container name flags (trees_view content.items) (keyed_view named.entries)) }
-{
-    let inside = Container {
-        name,
-        flags,
-        content,
-        named,
-    };
-    Ok(Content::Container(Box::new(alloc, inside)?))
-}
-
-/// The content that stands in a list, which is all elements but the last. There is room for as much content from the start.
+/// What is in a container: its elements, and then its containers by key.
 #[cycle(content)]
-fn read_elements<'t, 'a>(
+fn read_inside<'t, 'a>(
     alloc: Global,
-    room: usize,
+    nodes: &mut Vec<Node>,
+    number: u32,
     first: Value<'t, 'a>,
     items: Items<'t, 'a>,
     nesting: usize,
-) -> Result<Inside<'t, 'a>, ReadFailure>
+) -> Result<Inside, ReadFailure>
     requires nests { nesting ≤ MAX_NESTING }
-    requires small { items_size (item (json_data first) (items_left items)) < 2 ^ 32 }
-    ensures content { IfOk result (λ x. trees_view x.content.items ≡ content_of 21 (item (json_data first.entry) (items_left items.entry))) }
+    requires room { length nodes.old.items + items_size (item (json_data first) (items_left items)) < 2 ^ 32 }
+    ensures width { IfOk result (λ x. x.width ≡ count (content_of 21 (item (json_data first.entry) (items_left items.entry)))) }
+    ensures keys { IfOk result (λ x. x.keys ≡ count_keys (keyed_in 21 (item (json_data first.entry) (items_left items.entry)))) }
+    ensures nodes { OnOk result (nodes.new.items ≡ nodes.old.items ++ nodes_inside (length nodes.old.items) number
+        (content_of 21 (item (json_data first.entry) (items_left items.entry))) (keyed_in 21 (item (json_data first.entry) (items_left items.entry)))) }
+    ensures good { OnOk result (faults_inside 21 nesting 0 [] (item (json_data first.entry) (items_left items.entry)) ≡ []) }
+    ensures err { IfErr result (λ e. IsFirst e (faults_inside 21 nesting 0 [] (item (json_data first.entry) (items_left items.entry)))) }
+{
+    let Elements { width, names, last } = read_elements(
+        alloc, nodes, number, first, items, nesting,
+    )?;
+    let keys = read_last(alloc, nodes, number, &last, nesting, &names)?;
+    Ok(Inside { width, keys })
+}
+
+/// The content that stands in a list, which is all elements but the last.
+#[cycle(content)]
+fn read_elements<'t, 'a>(
+    alloc: Global,
+    nodes: &mut Vec<Node>,
+    number: u32,
+    first: Value<'t, 'a>,
+    items: Items<'t, 'a>,
+    nesting: usize,
+) -> Result<Elements<'t, 'a>, ReadFailure>
+    requires nests { nesting ≤ MAX_NESTING }
+    requires room { length nodes.old.items + items_size (item (json_data first) (items_left items)) < 2 ^ 32 }
+    ensures nodes { OnOk result (nodes.new.items ≡ nodes.old.items
+        ++ nodes_from (length nodes.old.items) number 0 (content_of 21 (item (json_data first.entry) (items_left items.entry)))) }
+    ensures width { IfOk result (λ x. x.width ≡ count (content_of 21 (item (json_data first.entry) (items_left items.entry)))) }
     ensures names { IfOk result (λ x. (taken : List (List ℕ)) × Holds x.names taken
         × (faults_inside 21 nesting 0 [] (item (json_data first.entry) (items_left items.entry)) ≡ faults_keyed 21 nesting taken (json_data x.last))) }
     ensures last { IfOk result (λ x. own_after (json_data first.entry) (items_left items.entry) ≡ json_data x.last) }
     ensures err { IfErr result (λ e. IsFirst e (faults_inside 21 nesting 0 [] (item (json_data first.entry) (items_left items.entry)))) }
 {
-    let mut content = Vec::with_capacity(alloc, room)?;
     let mut names = BTreeSet::new(alloc);
     let mut here = first;
     let mut left = items;
     let mut index = 0;
     while let Some(next) = left.next() {
         let misnamed = is_misnamed(&names, &here);
-        content.push(read_element(alloc, &here, index, nesting + 1, misnamed)?)?;
+        read_element(alloc, nodes, number, &here, index, nesting + 1, misnamed)?;
         give(&mut names, name_of(&here))?;
         here = next;
         index += 1;
     }
-    Ok(Inside {
-        content,
+    Ok(Elements {
+        width: index,
         names,
         last: here,
     })
@@ -146,95 +202,121 @@ fn read_elements<'t, 'a>(
 #[cycle(content)]
 fn read_element(
     alloc: Global,
+    nodes: &mut Vec<Node>,
+    number: u32,
     value: &Value<'_, '_>,
     index: u32,
     nesting: usize,
     misnamed: bool,
-) -> Result<Content, ReadFailure>
-    requires { Fits nesting (json_data value.now) }
-    ensures { Reads view result
+) -> Result<(), ReadFailure>
+    requires fits { Fits nesting (json_data value.now) }
+    requires room { length nodes.old.items + size (json_data value.now) < 2 ^ 32 }
+    ensures { Lists nodes.old.items nodes.new.items number (Some (Index index)) result
         (first (map (under (Index index)) (faults 21 nesting misnamed (json_data value.now))) (tree_of 21 true (json_data value.now))) }
 {
-    match read_content(alloc, value, nesting, misnamed) {
-        Ok(content) => Ok(content),
+    let position = Position {
+        holder: number,
+        last: Last::index(index),
+        nesting,
+        listed: true,
+        misnamed,
+    };
+    match read_content(alloc, nodes, value, position) {
+        Ok(()) => Ok(()),
         Err(error) => Err(at_index(error, index)),
     }
 }
 
-/// The containers by key, which the last element gives.
+/// The containers by key, which the last element gives; how many they are.
 #[cycle(content)]
 fn read_last(
     alloc: Global,
+    nodes: &mut Vec<Node>,
+    number: u32,
     last: &Value<'_, '_>,
     nesting: usize,
     names: &BTreeSet<&str>,
-) -> Result<BTreeMap<String, Content>, ReadFailure>
+) -> Result<u32, ReadFailure>
     requires nests { nesting ≤ MAX_NESTING }
-    requires small { size (json_data last.now) < 2 ^ 32 }
-    ensures { (taken : List (List ℕ)) → Holds names.now taken → Reads (λ m. keyed_view m.entries) result
+    requires room { length nodes.old.items + size (json_data last.now) < 2 ^ 32 }
+    ensures { (taken : List (List ℕ)) → Holds names.now taken → ListsByKey nodes.old.items nodes.new.items number result
         (first (faults_keyed 21 nesting taken (json_data last.now)) (keyed_last 21 (json_data last.now))) }
 {
     let keys = last.members(alloc)?;
-    read_keyed(alloc, &keys, nesting, names)
+    read_keyed(alloc, nodes, number, &keys, nesting, names)
 }
 
-/// The containers by key, in the order of the keys.
+/// The containers by key, in the order of the keys; how many they are.
 #[cycle(content)]
 fn read_keyed(
     alloc: Global,
+    nodes: &mut Vec<Node>,
+    number: u32,
     keys: &BTreeMap<&str, Value<'_, '_>>,
     nesting: usize,
     names: &BTreeSet<&str>,
-) -> Result<BTreeMap<String, Content>, ReadFailure>
+) -> Result<u32, ReadFailure>
     requires nests { nesting ≤ MAX_NESTING }
-    requires small { members_size (members_data keys.now.entries) < 2 ^ 32 }
-    ensures { (taken : List (List ℕ)) → Holds names.now taken → Reads (λ m. keyed_view m.entries) result
+    requires room { length nodes.old.items + members_size (members_data keys.now.entries) < 2 ^ 32 }
+    ensures { (taken : List (List ℕ)) → Holds names.now taken → ListsByKey nodes.old.items nodes.new.items number result
         (first (faults_by 21 nesting taken (members_data keys.now.entries)) (keyed_by 21 (members_data keys.now.entries))) }
 {
-    let mut named = BTreeMap::new(alloc);
+    let mut count = 0;
     for (key, value) in keys.iter() {
         let name = *key;
         if !is_own(name) {
             let misnamed = names.contains(name);
-            let container = read_named(alloc, name, value, nesting + 1, misnamed)?;
-            put(alloc, &mut named, name, container)?;
+            read_named(alloc, nodes, number, name, value, nesting + 1, misnamed)?;
+            count += 1;
         }
     }
-    Ok(named)
+    Ok(count)
 }
 
 /// The container at a key.
 #[cycle(content)]
 fn read_named(
     alloc: Global,
+    nodes: &mut Vec<Node>,
+    number: u32,
     key: &str,
     value: &Value<'_, '_>,
     nesting: usize,
     misnamed: bool,
-) -> Result<Content, ReadFailure>
-    requires { Fits nesting (json_data value.now) }
-    ensures { Reads view result
+) -> Result<(), ReadFailure>
+    requires fits { Fits nesting (json_data value.now) }
+    requires room { length nodes.old.items + size (json_data value.now) < 2 ^ 32 }
+    ensures { Lists nodes.old.items nodes.new.items number (Some (Name key.now)) result
         (first (map (under (Name key.now)) (faults_named 21 nesting misnamed (json_data value.now))) (tree_of 21 false (json_data value.now))) }
 {
-    let read = match value.kind() {
-        Kind::Array(items) => read_container(alloc, value, items, nesting, misnamed, false),
-        _ => Err(refused(alloc, Cause::Shape)),
+    let position = Position {
+        holder: number,
+        last: Last::name(alloc, key)?,
+        nesting,
+        listed: false,
+        misnamed,
     };
-    match read {
-        Ok(content) => Ok(content),
+    match read_only_container(alloc, nodes, value, position) {
+        Ok(()) => Ok(()),
         Err(error) => Err(at_name(alloc, error, key)),
     }
 }
 
-fn put(
+/// Content, which has to be a container.
+#[cycle(content)]
+fn read_only_container(
     alloc: Global,
-    named: &mut BTreeMap<String, Content>,
-    key: &str,
-    container: Content,
-) -> Result<(), AllocError>
-    ensures { OnOk result (keyed_view named.new.entries ≡ put_key key.now (view container) (keyed_view named.old.entries)) }
+    nodes: &mut Vec<Node>,
+    value: &Value<'_, '_>,
+    position: Position,
+) -> Result<(), ReadFailure>
+    requires fits { Fits position.nesting (json_data value.now) }
+    requires room { length nodes.old.items + size (json_data value.now) < 2 ^ 32 }
+    ensures { Lists nodes.old.items nodes.new.items position.holder position.last result
+        (first (faults_named 21 position.nesting position.misnamed (json_data value.now)) (tree_of 21 position.listed (json_data value.now))) }
 {
-    let key = String::from_str(alloc, key)?;
-    named.insert(key, container)?;
-    Ok(())
+    match value.kind() {
+        Kind::Array(items) => read_container(alloc, nodes, value, items, position),
+        _ => Err(refused(alloc, Cause::Shape)),
+    }
 }

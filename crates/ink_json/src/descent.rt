@@ -1,38 +1,48 @@
-//! One part down in raw content.
+//! Down in the list of a story's nodes.
 
-ghost use Rattle.std.specs.Prelude.{◌≡◌, option_map};
-ghost use Rattle.ink_model.specs.Tree.{down, nth, by_key};
-ghost use Rattle.ink_model.specs.View.{view, trees_view, keyed_view};
+ghost use Rattle.std.specs.Prelude.{◌≡◌, IfSome, option_map};
+ghost use Rattle.ink_model.specs.Tree.{down};
+ghost use Rattle.ink_json.specs.Descent.{tree_at, Stands, size_of, leads};
+ghost use Rattle.ink_json.specs.Order.{key_part};
 
-use ink_model::{Content, Part};
-use std::collections::BTreeMap;
+use crate::key::{Key, compare_parts};
+use crate::node::Node;
+use ink_model::Content;
 
-/// What stands one part down, none where nothing does.
-pub(crate) fn step<'c>(here: &'c Content, part: &Part) -> Option<&'c Content>
-    ensures { option_map (λ c. view c.now) result ≡ down part.now (view here.now) }
+/// The number of what stands one part down from the content of a number; none where nothing does.
+pub(crate) fn child(nodes: &[Node], number: usize, part: Key<'_>) -> Option<usize>
+    requires { Stands nodes.now number }
+    ensures found { option_map (tree_at nodes.now) result ≡ down (key_part part.entry) (tree_at nodes.now number) }
+    ensures stands { IfSome result (Stands nodes.now) }
 {
-    match here {
-        Content::Leaf(_) => None,
-        Content::Container(container) => match part {
-            Part::Index(index) => by_index(&container.content, *index),
-            Part::Name(name) => by_name(&container.named, name.as_str()),
-        },
+    let end = number + size(&nodes[number]);
+    let mut next = number + 1;
+    while next < end {
+        let node = &nodes[next];
+        if is_at(node, part) {
+            return Some(next);
+        }
+        next += size(node);
+    }
+    None
+}
+
+// How many nodes there are of the content of a node and all that is in it.
+fn size(node: &Node) -> usize
+    ensures { result ≡ size_of node.now.content }
+{
+    match &node.content {
+        Content::Leaf(_) => 1,
+        Content::Container(container) => container.size as usize,
     }
 }
 
-fn by_index(content: &Vec<Content>, index: u32) -> Option<&Content>
-    ensures { option_map (λ c. view c.now) result ≡ nth index (trees_view content.now.items) }
+// Whether a part leads to the content of a node from the one around it.
+fn is_at(node: &Node, part: Key<'_>) -> bool
+    ensures { result ≡ leads (key_part part.entry) node.now.last }
 {
-    let index = index as usize;
-    if index < content.len() {
-        Some(&content[index])
-    } else {
-        None
+    match node.last.key() {
+        Some(last) => compare_parts(part, last).is_eq(),
+        None => false,
     }
-}
-
-fn by_name<'c>(named: &'c BTreeMap<String, Content>, name: &str) -> Option<&'c Content>
-    ensures { option_map (λ c. view c.now) result ≡ by_key name.now (keyed_view named.now.entries) }
-{
-    named.get(name)
 }

@@ -1,56 +1,23 @@
 //! Reading content that holds no other.
 
 ghost use Rattle.std.specs.Prelude.{length, nat_lt, Ok, Err, if◌then◌else◌, ok_or};
-ghost use Rattle.std.specs.Result.{result_unwrap_or};
 ghost use Rattle.serde_json.specs.Find.{as_integer};
 ghost use Rattle.ink_json.specs.Number.{num};
-ghost use Rattle.ink_json.specs.Value.{json_data};
 ghost use Rattle.ink_model.specs.Word.{word};
-ghost use Rattle.ink_model.specs.Leaves.{string_leaf, integer_leaf, object_leaf};
-ghost use Rattle.ink_model.specs.Grammar.{leaf_faults, first};
-ghost use Rattle.ink_model.specs.Tree.{leaf};
-ghost use Rattle.ink_model.specs.View.{view};
+ghost use Rattle.ink_model.specs.Leaves.{string_leaf, integer_leaf};
 ghost use Rattle.ink_json.specs.Reading.{Reads, placed};
 
 use crate::error::{ReadFailure, refused};
 use crate::limits::{LEAST, MOST};
 use crate::number::Number;
-use crate::object::read_object_leaf;
 use crate::readings::shared_text;
-use crate::value::Value;
 use crate::word::word_leaf;
-use ink_model::{Cause, Content, Leaf, MAX_TEXT};
+use ink_model::{Cause, Leaf, MAX_TEXT};
 use std::alloc::Global;
 
-/// The content that a string is.
-pub(crate) fn read_string(alloc: Global, text: &str) -> Result<Content, ReadFailure>
-    ensures { Reads view result
-        (first (leaf_faults (string_leaf text.now)) (leaf (result_unwrap_or (string_leaf text.now) Leaf.Newline))) }
-{
-    let leaf = read_leaf(alloc, text)?;
-    Ok(Content::Leaf(leaf))
-}
-
-/// The content that a number is.
-pub(crate) fn read_number(alloc: Global, number: Number) -> Result<Content, ReadFailure>
-    ensures { Reads view result
-        (first (leaf_faults (integer_leaf (as_integer (num number)))) (leaf (result_unwrap_or (integer_leaf (as_integer (num number))) Leaf.Newline))) }
-{
-    let leaf = read_integer(alloc, number)?;
-    Ok(Content::Leaf(leaf))
-}
-
-/// The content that an object is.
-pub(crate) fn read_object(alloc: Global, object: &Value<'_, '_>) -> Result<Content, ReadFailure>
-    ensures { Reads view result
-        (first (leaf_faults (object_leaf (json_data object.now))) (leaf (result_unwrap_or (object_leaf (json_data object.now)) Leaf.Newline))) }
-{
-    let leaf = read_object_leaf(alloc, object)?;
-    Ok(Content::Leaf(leaf))
-}
-
+/// The leaf that a string is.
 #[tactic(auto, unfolding(ink_model::specs::Leaves::string_leaf))]
-fn read_leaf(alloc: Global, text: &str) -> Result<Leaf, ReadFailure>
+pub(crate) fn read_string(alloc: Global, text: &str) -> Result<Leaf, ReadFailure>
     ensures { Reads (λ l. l) result (placed (string_leaf text.now)) }
 {
     match text.strip_prefix('^') {
@@ -78,7 +45,8 @@ fn read_word(alloc: Global, text: &str) -> Result<Leaf, ReadFailure>
     }
 }
 
-fn read_integer(alloc: Global, number: Number) -> Result<Leaf, ReadFailure>
+/// The leaf that a number is.
+pub(crate) fn read_number(alloc: Global, number: Number) -> Result<Leaf, ReadFailure>
     ensures { Reads (λ l. l) result (placed (integer_leaf (as_integer (num number)))) }
 {
     match number.as_i128() {

@@ -4,18 +4,20 @@ ghost use Rattle.std.specs.Prelude.{◌≡◌, ◌⊎◌, ◌≤◌, ◌<◌, �
 ghost use Rattle.serde_json.specs.Find.{get};
 ghost use Rattle.ink_model.specs.Leaves.{whole};
 ghost use Rattle.ink_model.specs.Grammar.{here, story, unmarked, json, of_json, of_value, root_of, is_blank_object, is_version};
-ghost use Rattle.ink_model.specs.View.{view};
+ghost use Rattle.ink_json.specs.Listing.{IsListed, rebuilt};
 ghost use Rattle.ink_json.specs.Reading.{Reads, ReadsOr, is_parsable, is_parsed};
 ghost use Rattle.ink_json.specs.Size.{size};
 ghost use Rattle.ink_json.specs.Spelled.{are_sound, data_of};
 ghost use Rattle.ink_json.specs.Story.{tree};
 ghost use Rattle.ink_json.specs.Value.{json_data};
 
-use crate::container::read_container;
+use crate::container::{Position, read_container};
 use crate::error::{ReadFailure, refused, unparsed};
+use crate::last::Last;
+use crate::node::Node;
 use crate::story::RawStory;
 use crate::value::{Kind, Value, root};
-use ink_model::{Cause, Content, Failure, MAX_STORY, ReadRefusal};
+use ink_model::{Cause, Failure, MAX_STORY, ReadRefusal};
 use json::{Scratch, Tape};
 use std::alloc::Global;
 
@@ -30,16 +32,17 @@ pub fn read_story(alloc: Global, bytes: &[u8]) -> Result<RawStory, ReadRefusal>
     ensures ok { IfOk result (λ s. story bytes.now ≡ Ok (tree s)) }
     ensures err { IfErr result (λ r. ((r ≡ here Cause.OutOfMemory) × (is_parsed bytes.now ≡ true)) ⊎ (story bytes.now ≡ Err r)) }
 {
-    match read_root_of(alloc, bytes) {
-        Ok(root) => Ok(RawStory { root }),
+    match read_nodes(alloc, bytes) {
+        Ok(nodes) => Ok(RawStory { nodes }),
         Err(Failure::Refused(refusal)) => Err(refusal),
         Err(Failure::OutOfMemory) => Err(ReadRefusal::at_root(alloc, Cause::OutOfMemory)),
     }
 }
 
 #[tactic(auto, unfolding(ink_model::specs::Grammar::story))]
-fn read_root_of(alloc: Global, bytes: &[u8]) -> Result<Content, ReadFailure>
-    ensures { ReadsOr (is_parsed bytes.now) view result (story bytes.now) }
+fn read_nodes(alloc: Global, bytes: &[u8]) -> Result<Vec<Node>, ReadFailure>
+    ensures reads { ReadsOr (is_parsed bytes.now) (λ ns. rebuilt ns.items) result (story bytes.now) }
+    ensures listed { IfOk result (λ ns. IsListed ns.items) }
 {
     if bytes.len() > MAX_STORY {
         return Err(refused(alloc, Cause::Limit));
@@ -58,10 +61,11 @@ fn without_mark(bytes: &[u8]) -> &[u8]
     }
 }
 
-/// The root of the story that bytes are in JSON. Their tape, and what it is made with, are gone once the root is read.
-fn read_json(alloc: Global, bytes: &[u8]) -> Result<Content, ReadFailure>
+/// The nodes of the story that bytes are in JSON. Their tape, and what it is made with, are gone once the story is read.
+fn read_json(alloc: Global, bytes: &[u8]) -> Result<Vec<Node>, ReadFailure>
     requires { length bytes.now ≤ MAX_STORY }
-    ensures { ReadsOr (is_parsable bytes.now) view result (of_json (json bytes.now)) }
+    ensures reads { ReadsOr (is_parsable bytes.now) (λ ns. rebuilt ns.items) result (of_json (json bytes.now)) }
+    ensures listed { IfOk result (λ ns. IsListed ns.items) }
 {
     let Ok(text) = str::from_utf8(bytes) else {
         return Err(refused(alloc, Cause::NotJson));
@@ -76,10 +80,11 @@ fn read_json(alloc: Global, bytes: &[u8]) -> Result<Content, ReadFailure>
     }
 }
 
-/// The root of the story that a tape holds.
-fn read_tape(alloc: Global, tape: &Tape<'_>) -> Result<Content, ReadFailure>
+/// The nodes of the story that a tape holds.
+fn read_tape(alloc: Global, tape: &Tape<'_>) -> Result<Vec<Node>, ReadFailure>
     requires { are_sound 0 tape.now ≡ true → size (data_of tape.now) < 2 ^ 32 }
-    ensures { Reads view result (of_json (if are_sound 0 tape.now then Some (data_of tape.now) else None)) }
+    ensures reads { Reads (λ ns. rebuilt ns.items) result (of_json (if are_sound 0 tape.now then Some (data_of tape.now) else None)) }
+    ensures listed { IfOk result (λ ns. IsListed ns.items) }
 {
     match root(tape) {
         Some(value) => read_value(alloc, &value),
@@ -87,10 +92,11 @@ fn read_tape(alloc: Global, tape: &Tape<'_>) -> Result<Content, ReadFailure>
     }
 }
 
-/// The root of the story that a value is.
-fn read_value(alloc: Global, value: &Value<'_, '_>) -> Result<Content, ReadFailure>
+/// The nodes of the story that a value is.
+fn read_value(alloc: Global, value: &Value<'_, '_>) -> Result<Vec<Node>, ReadFailure>
     requires { size (json_data value.now) < 2 ^ 32 }
-    ensures { Reads view result (of_value (json_data value.now)) }
+    ensures reads { Reads (λ ns. rebuilt ns.items) result (of_value (json_data value.now)) }
+    ensures listed { IfOk result (λ ns. IsListed ns.items) }
 {
     if !value.is_object() {
         return Err(refused(alloc, Cause::Shape));
@@ -107,12 +113,24 @@ fn read_value(alloc: Global, value: &Value<'_, '_>) -> Result<Content, ReadFailu
     }
 }
 
-fn read_root(alloc: Global, root: &Value<'_, '_>) -> Result<Content, ReadFailure>
+fn read_root(alloc: Global, root: &Value<'_, '_>) -> Result<Vec<Node>, ReadFailure>
     requires { size (json_data root.now) < 2 ^ 32 }
-    ensures { Reads view result (root_of 21 (Some (json_data root.now))) }
+    ensures reads { Reads (λ ns. rebuilt ns.items) result (root_of 21 (Some (json_data root.now))) }
+    ensures listed { IfOk result (λ ns. IsListed ns.items) }
 {
     match root.kind() {
-        Kind::Array(items) => read_container(alloc, root, items, 1, false, false),
+        Kind::Array(items) => {
+            let mut nodes = Vec::new(alloc);
+            let position = Position {
+                holder: 0,
+                last: Last::none(),
+                nesting: 1,
+                listed: false,
+                misnamed: false,
+            };
+            read_container(alloc, &mut nodes, root, items, position)?;
+            Ok(nodes)
+        }
         _ => Err(refused(alloc, Cause::Shape)),
     }
 }

@@ -1,9 +1,8 @@
-//! Raw content, as it was read.
+//! Content, as it was read.
 
 use crate::operator::Op;
 use crate::shared::Shared;
 use crate::text::Text;
-use std::collections::BTreeMap;
 
 /// A command of the story (docs/STORY_FORMAT.md, "Content"; what each does: docs/RUNNING.md). `Return` is that of
 /// a function; `Turns` are those since a target was entered.
@@ -82,22 +81,22 @@ pub enum Leaf {
     },
 }
 
-/// Content: a leaf, or a container with what is in it.
+/// Content by itself: a leaf, or a container without what is in it, which stands at places of its own.
 #[derive(Drop)]
-#[cycle(content)]
 pub enum Content {
     Leaf(Leaf),
-    Container(Box<Container>),
+    Container(Container),
 }
 
-/// A container: the content in it by index, and the containers given by key. `name` is the name that a container in list
-/// position has beside its index; flags 1, 2 and 4 say that visits are counted, that turns are noted, and that only entry at the
-/// start counts.
+/// A container by itself: how many contents it holds by index (`width`), how many containers by key (`keys`), and how many
+/// contents there are in all, itself and what is in them included (`size`). `name` is the name that a container in list position
+/// has beside its index; flags 1, 2 and 4 say that visits are counted, that turns are noted, and that only entry at the start
+/// counts.
 #[derive(Drop)]
-#[cycle(content)]
 pub struct Container {
-    pub name: Option<Text>,
+    pub name: Option<Shared<Text>>,
+    pub width: u32,
+    pub keys: u32,
+    pub size: u32,
     pub flags: u8,
-    pub content: Vec<Content>,
-    pub named: BTreeMap<String, Content>,
 }

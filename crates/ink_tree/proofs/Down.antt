@@ -1,16 +1,17 @@
 -- Contents one part down, and the numbers of those that stand there.
-use Rattle.std.proofs.Common.{◌≡◌, ◌∙◌, ap, sym, refl, ℕ, ◌+◌, ◌<◌, ◌≤◌, List, [], ◌∷◌, ◌++◌, length, take, drop, get_or, true, false, true≢false, nat_le, Option, Some, None, is_some, is_eq, option_map, option_and_then, Ordering, Less, Equal, Greater, arith}
+use Rattle.std.proofs.Common.{◌≡◌, ◌∙◌, ap, sym, refl, ℕ, ◌+◌, ◌<◌, ◌≤◌, List, [], ◌∷◌, ◌++◌, length, take, drop, get_or, true, false, true≢false, Option, Some, None, is_some, is_eq, option_map, option_and_then, Ordering, Less, Equal, Greater, arith}
 use Rattle.std.proofs.lemmas.Cmp.{tied_itself}
 use Rattle.std.proofs.lemmas.List.{length-append, take_more, take-append-drop}
-use Rattle.std.proofs.lemmas.Option.{none-some}
-use Rattle.ink_model.specs.Tree.{StoryTree, leaf, container, at, width}
+use Rattle.ink_json.specs.Order.{key_part, keys_rise, part_order}
+use Rattle.ink_json.specs.declared.key.Key.{Key}
+use Rattle.ink_json.specs.declared.node.Node.{Node}
+use Rattle.ink_model.specs.Places.{places}
+use Rattle.ink_model.specs.Tree.{StoryTree, at, width}
 use Rattle.ink_model.specs.declared.place.Part.{Part}
 use Rattle.ink_model.specs.declared.place.Part.TheVariants.{Index}
-use Rattle.ink_tree.specs.Contents.{reaches_in}
-use Rattle.ink_tree.specs.Kept.{Keeps, leaf_in}
-use Rattle.ink_tree.specs.Nodes.{node_place, IsNode}
-use Rattle.ink_tree.specs.Order.{keys_rise, part_order}
-use Rattle.ink_tree.specs.declared.node.Node.{Node}
+use Rattle.ink_tree.specs.Gaps.{LeadsTo}
+use Rattle.ink_tree.specs.Kept.{Keeps}
+use Rattle.ink_tree.specs.Nodes.{node_place, Finds, IsNode}
 use Rattle.ink_tree.specs.declared.spot.NodeId.{NodeId}
 use Rattle.ink_tree.proofs.Absent.{one_node}
 use Rattle.ink_tree.proofs.Kept.{led_by, led_by_none}
@@ -42,27 +43,38 @@ last_same (a ∷ p) (b ∷ q) x y e =
 
 -- ---- the node of a number
 
-module _ (s : StoryTree) (m : ℕ) (k : Node) (own : NodeId) (q : List Part) (is : node_place s own ≡ q) (keeps : Keeps s (node_place s (record { number = m })) k) where
-  pub stands_under : (x y : Part) → k.last ≡ Some x → k.holder.number ≡ own.number → x ≡ y → node_place s (record { number = m }) ≡ q ++ y ∷ []
-  stands_under x y last same part =
-      led_by s (node_place s (record { number = m })) k keeps x last
-      ∙ (λ i. (ap (λ j. node_place s (record { number = j })) same ∙ is) i ++ part i ∷ [])
-
-  -- at another part
-  pub other_part : (x y : Part) → k.last ≡ Some x → (x ≡ y → ⊥) → node_place s (record { number = m }) ≡ q ++ y ∷ [] → ⊥
-  other_part x y last other e =
-      other (last_same (node_place s k.holder) q x y (sym (led_by s (node_place s (record { number = m })) k keeps x last) ∙ e)).1
-
-  -- under another
-  pub other_holder : (x y : Part) → keys_rise s ≡ true → IsNode s own → k.last ≡ Some x → (k.holder.number ≡ own.number → ⊥) → node_place s (record { number = m }) ≡ q ++ y ∷ [] → ⊥
-  other_holder x y rise node last other e =
-      other (one_node s k.holder own rise keeps.0 node
-      ((last_same (node_place s k.holder) q x y (sym (led_by s (node_place s (record { number = m })) k keeps x last) ∙ e)).0 ∙ sym is))
-
-  -- the root
-  pub under_none : (y : Part) → k.last ≡ None → node_place s (record { number = m }) ≡ q ++ y ∷ [] → ⊥
+module _ (s : StoryTree) (m : ℕ) (n : Node) (own : NodeId) (q : List Part) (is : node_place s own ≡ q) (keeps : Keeps s (node_place s (record { number = m })) n) where
+  -- the root stands under nothing
+  under_none : (y : Part) → n.last ≡ None → node_place s (record { number = m }) ≡ q ++ y ∷ [] → ⊥
   under_none y last e =
-      absurd (omega (arith, ap length (sym (led_by_none s (node_place s (record { number = m })) k keeps last) ∙ e), length-append q (y ∷ [])))
+      absurd (omega (arith, ap length (sym (led_by_none s (node_place s (record { number = m })) n keeps last) ∙ e), length-append q (y ∷ [])))
+
+  -- it stands under the content around it
+  pub leads : (k : Option Key) → option_map key_part k ≡ n.last → n.holder ≡ own.number → m < length (places s) → LeadsTo s q m k
+  leads None last same within = λ x _. under_none x (sym last)
+  leads (Some k) last same within = (
+    within,
+    led_by s (node_place s (record { number = m })) n keeps (key_part k) (sym last) ∙ (λ i. (ap (λ j. node_place s (record { number = j })) same ∙ is) i ++ key_part k ∷ []),
+  )
+
+  under_other : (o : Option Part) (y : Part) → keys_rise s ≡ true → IsNode s own → o ≡ n.last → (n.holder ≡ own.number → ⊥) → node_place s (record { number = m }) ≡ q ++ y ∷ [] → ⊥
+  under_other None y rise node last other e = under_none y (sym last) e
+  under_other (Some x) y rise node last other e =
+      other (one_node s (record { number = n.holder }) own rise keeps.0 node
+      ((last_same (node_place s (record { number = n.holder })) q x y (sym (led_by s (node_place s (record { number = m })) n keeps x (sym last)) ∙ e)).0 ∙ sym is))
+
+  -- and under no other
+  pub leads_not : keys_rise s ≡ true → IsNode s own → (n.holder ≡ own.number → ⊥) → LeadsTo s q m None
+  leads_not rise node other = λ y _. under_other n.last y rise node refl other
+
+-- ---- one part down, at a key
+
+module _ (s : StoryTree) (q : List Part) (m : ℕ) (k : Key) (leads : LeadsTo s q m (Some k)) where
+  pub stands_at : (y : Part) → key_part k ≡ y → Finds s (q ++ y ∷ []) (Some (record { number = m }))
+  stands_at y same = (leads.0, leads.1 ∙ ap (λ x. q ++ x ∷ []) same)
+
+  pub stands_not_at : (y : Part) → (key_part k ≡ y → ⊥) → node_place s (record { number = m }) ≡ q ++ y ∷ [] → ⊥
+  stands_not_at y other e = other (last_same q q (key_part k) y (sym leads.1 ∙ e)).1
 
 -- ---- where nothing stands
 
@@ -82,10 +94,3 @@ pub missing_before : (s : StoryTree) (ps : List Part) (i : ℕ) (p : List Part) 
 missing_before s ps i p x y within is front part none =
     let some : p ++ x ∷ [] ≡ take (i + 1) ps = (λ j. front j ++ (part ∙ is) j ∷ []) ∙ sym (take_more ps i y within) in
     ap (at s) (sym (take-append-drop (i + 1) ps) ∙ ap (λ l. l ++ drop (i + 1) ps) (sym some)) ∙ none_beyond s (p ++ x ∷ []) (drop (i + 1) ps) none
-
--- ---- containers
-
-pub container_reaches : (o : Option StoryTree) (i w : ℕ) → is_some o ≡ true → None ≡ option_map leaf (leaf_in o) → w ≡ width o → nat_le i w ≡ reaches_in o i
-container_reaches None i w some none wide = absurd (true≢false (sym some))
-container_reaches (Some (leaf l)) i w some none wide = absurd (none-some (leaf l) none)
-container_reaches (Some (container name flags content named)) i w some none wide = ap (nat_le i) wide

@@ -1,11 +1,18 @@
 -- Names that lead to the first container of the name.
-use Rattle.std.proofs.Common.{◌≡◌, ◌∙◌, ap, sym, refl, ℕ, List, [], inl, inr, rules, true, false, bytes_eq, if◌then◌else◌, Option, Some, None}
+use Rattle.std.proofs.Common.{◌≡◌, ◌∙◌, ap, sym, refl, ℕ, zero, suc, ◌+◌, ◌<◌, ◌≤◌, List, [], ◌∷◌, ◌++◌, inl, inr, rules, Bool, true, false, true≢false, bytes_eq, cond, if◌then◌else◌, Option, Some, None, is_some, option_and_then, arith}
 use Rattle.std.proofs.lemmas.Bool.{cases_Bool, cond-true, cond-false}
-use Rattle.std.proofs.lemmas.Option.{none-some}
+use Rattle.std.proofs.lemmas.Option.{none-some, same_Some}
 use Rattle.std.proofs.lemmas.Slice.Eq.{bytes_eq-Decides}
 use Rattle.std.specs.Map.{update}
-use Rattle.ink_model.specs.Tree.{StoryTree}
-use Rattle.ink_tree.specs.Names.{AreNamed, first_of}
+use Rattle.ink_model.specs.Path.{listed_index}
+use Rattle.ink_model.specs.Place.{is_named, named_index}
+use Rattle.ink_model.specs.Tree.{StoryTree, leaf, container, Trees, no_trees, tree, nth, down, at, width, count}
+use Rattle.ink_model.specs.declared.place.Part.{Part}
+use Rattle.ink_model.specs.declared.place.Part.TheVariants.{Index}
+use Rattle.ink_tree.specs.Contents.{name_in}
+use Rattle.ink_tree.specs.Names.{AreNamed, first_of, given}
+use Rattle.ink_tree.proofs.Further.{below}
+use Rattle.ink_tree.proofs.Standing.{index_stands}
 
 first_alone : (o : Option ℕ) → o ≡ first_of o None
 first_alone None = refl
@@ -28,3 +35,91 @@ name_put f own name i none =
 
 pub none_named : (s : StoryTree) → AreNamed s []
 none_named s = λ i l e. absurd (none-some l e)
+
+-- ---- a list, from an index on
+
+-- what is left behind so many contents
+abbrev rest : ℕ → Trees → Trees
+rest i no_trees = no_trees
+rest zero (tree t ts) = tree t ts
+rest (suc i) (tree t ts) = rest i ts
+
+-- the first container from an index on that gives itself a name
+abbrev pub named_from : List ℕ → ℕ → Option StoryTree → Option ℕ
+named_from name i None = None
+named_from name i (Some (leaf l)) = None
+named_from name i (Some (container own flags content named)) = named_index name i (rest i content)
+
+whole : (ts : Trees) → rest 0 ts ≡ ts
+whole no_trees = refl
+whole (tree t ts) = refl
+
+pub from_start : (name : List ℕ) (o : Option StoryTree) → named_from name 0 o ≡ listed_index name o
+from_start name None = refl
+from_start name (Some (leaf l)) = refl
+from_start name (Some (container own flags content named)) = ap (named_index name 0) (whole content)
+
+none_left : (i : ℕ) (ts : Trees) → count ts ≤ i → rest i ts ≡ no_trees
+none_left i no_trees h = refl
+none_left zero (tree t ts) h = absurd (omega arith)
+none_left (suc i) (tree t ts) h = none_left i ts (omega arith)
+
+pub from_end : (name : List ℕ) (i : ℕ) (o : Option StoryTree) → width o ≤ i → None ≡ named_from name i o
+from_end name i None h = refl
+from_end name i (Some (leaf l)) h = refl
+from_end name i (Some (container own flags content named)) h = sym (ap (named_index name i) (none_left i content h))
+
+one_left : (i : ℕ) (ts : Trees) (t : StoryTree) → nth i ts ≡ Some t → rest i ts ≡ tree t (rest (suc i) ts)
+one_left i no_trees t e = absurd (none-some t e)
+one_left zero (tree u ts) t e = (λ j. tree (same_Some u t e j) (sym (whole ts) j))
+one_left (suc i) (tree u ts) t e = one_left i ts t e
+
+one_named : (name : List ℕ) (i : ℕ) (t : StoryTree) (ts : Trees) → named_index name i (tree t ts) ≡ cond (is_named name (name_in (Some t))) (Some i) (named_index name (i + 1) ts)
+one_named name i (leaf l) ts = refl
+one_named name i (container own flags content named) ts = refl
+
+-- by the content at that index
+one_on : (name : List ℕ) (i : ℕ) (o : Option StoryTree) (t : StoryTree) → option_and_then (down (Index i)) o ≡ Some t
+    → named_from name i o ≡ cond (is_named name (name_in (Some t))) (Some i) (named_from name (i + 1) o)
+one_on name i None t e = absurd (none-some t e)
+one_on name i (Some (leaf l)) t e = absurd (none-some t e)
+one_on name i (Some (container own flags content named)) t e =
+    let next : suc i ≡ i + 1 = omega arith in
+    ap (named_index name i) (one_left i content t e) ∙ one_named name i t (rest (suc i) content)
+    ∙ ap (λ k. cond (is_named name (name_in (Some t))) (Some i) (named_index name (i + 1) (rest k content))) next
+
+found : (o : Option StoryTree) → is_some o ≡ true → (t : StoryTree) × (o ≡ Some t)
+found None h = absurd (true≢false (sym h))
+found (Some t) h = (t, refl)
+
+module _ (s : StoryTree) (p : List Part) (name : List ℕ) (i : ℕ) (h : i < width (at s p)) (own : Option (List ℕ)) (is : own ≡ name_in (at s (p ++ Index i ∷ []))) where
+  from_next : named_from name i (at s p) ≡ cond (is_named name own) (Some i) (named_from name (i + 1) (at s p))
+  from_next =
+      let (t, there) = found (at s (p ++ Index i ∷ [])) (index_stands s p i h) in
+      one_on name i (at s p) t (below s p (Index i) (at s p) refl ∙ there)
+      ∙ ap (λ n. cond (is_named name n) (Some i) (named_from name (i + 1) (at s p))) (sym (is ∙ ap name_in there))
+
+  pub from_named : is_named name own ≡ true → Some i ≡ named_from name i (at s p)
+  from_named b = sym (from_next ∙ ap (λ b. cond b (Some i) (named_from name (i + 1) (at s p))) b)
+
+  pub from_other : is_named name own ≡ false → named_from name (i + 1) (at s p) ≡ named_from name i (at s p)
+  from_other b = sym (from_next ∙ ap (λ b. cond b (Some i) (named_from name (i + 1) (at s p))) b)
+
+  chosen : (b : Bool) (first last : Option ℕ) → first_of first (cond b (Some i) last) ≡ first_of (first_of first (cond b (Some i) None)) last
+  chosen true None last = refl
+  chosen true (Some j) last = refl
+  chosen false None last = refl
+  chosen false (Some j) last = refl
+
+  -- the names so far lead to the first, or else the list from here on does
+  pub names_next : (old new : Option ℕ) (whole : Option ℕ) → first_of old (named_from name i (at s p)) ≡ whole → new ≡ first_of old (given name i own)
+      → first_of new (named_from name (i + 1) (at s p)) ≡ whole
+  names_next old new whole before more =
+      ap (λ o. first_of o (named_from name (i + 1) (at s p))) more ∙ sym (chosen (is_named name own) old (named_from name (i + 1) (at s p)))
+      ∙ ap (first_of old) (sym from_next) ∙ before
+
+pub names_start : (name : List ℕ) (old : Option ℕ) (o : Option StoryTree) → old ≡ None → first_of old (named_from name 0 o) ≡ listed_index name o
+names_start name old o is = ap (λ n. first_of n (named_from name 0 o)) is ∙ from_start name o
+
+pub names_end : (name : List ℕ) (all : Option ℕ) (i : ℕ) (o : Option StoryTree) → first_of all (named_from name i o) ≡ listed_index name o → width o ≤ i → all ≡ listed_index name o
+names_end name all i o is past = first_alone all ∙ ap (first_of all) (from_end name i o past) ∙ is

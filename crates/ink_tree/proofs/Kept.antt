@@ -5,6 +5,7 @@ use Rattle.std.proofs.lemmas.List.{append-nil, length-append, length-reverse}
 use Rattle.std.proofs.lemmas.Bool.{cases_lt}
 use Rattle.std.proofs.lemmas.Option.{cond_some, none-some, same_Some, slice_get_past, slice_get_read}
 use Rattle.std.specs.Option.{unwrap_or}
+use Rattle.ink_json.specs.declared.node.Node.{Node}
 use Rattle.ink_model.specs.Entered.{is_around, listed_if, passed_at, passed_places}
 use Rattle.ink_model.specs.Path.{is_container}
 use Rattle.ink_model.specs.Place.{entered, first_content_at, landed, next_place, next_upwards}
@@ -12,11 +13,10 @@ use Rattle.ink_model.specs.Places.{places}
 use Rattle.ink_model.specs.Tree.{StoryTree, leaf, container, no_trees, tree, at, down, width}
 use Rattle.ink_model.specs.declared.place.Part.{Part}
 use Rattle.ink_model.specs.declared.place.Part.TheVariants.{Index, Name}
-use Rattle.ink_tree.specs.Kept.{AreLinked, IsLinked, Keeps, KeepsAll, KeepsAt, StartsBehind, behind_of, first_inside, way_to}
+use Rattle.ink_tree.specs.Kept.{AreLinked, IsLinked, Keeps, KeepsAll, KeepsAt, Spans, first_inside, way_to}
 use Rattle.ink_tree.specs.Nodes.{Finds, IsNode, MayBeNode, index_part, node_place, place_of}
 use Rattle.ink_tree.specs.Walks.{GoesIn}
-use Rattle.ink_tree.specs.declared.node.Link.{Link}
-use Rattle.ink_tree.specs.declared.node.Node.{Node}
+use Rattle.ink_tree.specs.declared.link.Link.{Link}
 use Rattle.ink_tree.specs.declared.spot.NodeId.{NodeId}
 use Rattle.ink_tree.specs.declared.spot.Spot.{Spot}
 use Rattle.ink_tree.proofs.Further.{below}
@@ -29,22 +29,16 @@ pub some_place : (s : StoryTree) → 0 < length (places s)
 some_place (leaf l) = omega arith
 some_place (container name flags content named) = omega arith
 
+nowhere : (s : StoryTree) (n : NodeId) → length (places s) ≤ n.number → node_place s n ≡ []
+nowhere s n past = ap (λ o. unwrap_or o []) (slice_get_past (places s) n.number past)
+
 -- a number beyond the story's content stands for the root
 pub root_for : (s : StoryTree) (n : NodeId) → length (places s) ≤ n.number → Finds s (node_place s n) (Some (record { number = 0 }))
-root_for s n past = (some_place s, root_place s ∙ sym (ap (λ o. unwrap_or o []) (slice_get_past (places s) n.number past)))
+root_for s n past = (some_place s, root_place s ∙ sym (nowhere s n past))
 
 -- ---- the first content by index
 
 module _ (s : StoryTree) (p : List Part) where
-  -- it comes right behind the content, where there is one
-  pub first_behind : (n : NodeId) (w : ℕ) → node_place s n ≡ p → w ≡ width (at s p) → 0 < w → StartsBehind s n.number w
-      → Some (node_place s (record { number = n.number + 1 })) ≡ first_inside s p
-  first_behind n w is wide some starts =
-      let any : nat_lt 0 (width (at s p)) ≡ true = grind (arith, nat_tests) in ap Some (starts some ∙ ap (λ q. q ++ Index 0 ∷ []) is) ∙ rw any refl
-
-  pub none_inside : (w : ℕ) → w ≡ width (at s p) → w ≤ 0 → None ≡ first_inside s p
-  none_inside w wide none = let empty : nat_lt 0 (width (at s p)) ≡ false = grind (arith, nat_tests) in rw empty refl
-
   first_at : (q : List Part) → Some q ≡ first_inside s p → (0 < width (at s p)) × (p ++ Index 0 ∷ [] ≡ q)
   first_at q e =
       let (any, same) = cond_some (nat_lt 0 (width (at s p))) (p ++ Index 0 ∷ []) q (sym e) in
@@ -55,9 +49,7 @@ under_is_node : (s : StoryTree) (n : NodeId) (p : List Part) (x : Part) → p ++
 under_is_node s n p x e =
     elim (cases_lt n.number (length (places s))) [
       | inl below ↦ below
-      | inr past ↦
-          let nowhere : node_place s n ≡ [] = ap (λ o. unwrap_or o []) (slice_get_past (places s) n.number past) in
-          absurd (omega (arith, sym (length-append p (x ∷ [])), ap length e, ap length nowhere))
+      | inr past ↦ absurd (omega (arith, sym (length-append p (x ∷ [])), ap length e, ap length (nowhere s n past)))
     ]
 
 pub first_is_node : (s : StoryTree) (p : List Part) (r : Option NodeId) → option_map (node_place s) r ≡ first_inside s p → MayBeNode s r
@@ -184,15 +176,18 @@ module _ (s : StoryTree) where
       comes_later (nat_lt (i + 1) (width (at s (reverse up)))) (reverse (Index (i + 1) ∷ up)) (next_upwards s up) (omega (arith, length-reverse (Index (i + 1) ∷ up)))
       (never_back up) e
 
-  pub after_root : (p : List Part) (n : NodeId) → Some (node_place s n) ≡ next_place s p → 0 < n.number
+  root_not_after : (p : List Part) (n : NodeId) → Some (node_place s n) ≡ next_place s p → node_place s n ≡ [] → ⊥
   unfolding next_place
-  after_root p n e =
-      elim (cases_lt 0 n.number) [
-        | inl later ↦ later
-        | inr root ↦
-            let zeroth : n.number ≡ 0 = omega arith in
-            absurd (never_back (reverse p) (sym e ∙ ap (λ i. Some (node_place s (record { number = i }))) zeroth ∙ ap Some (root_place s)))
-      ]
+  root_not_after p n e root = never_back (reverse p) (sym e ∙ ap Some root)
+
+  pub after_root : (p : List Part) (n : NodeId) → Some (node_place s n) ≡ next_place s p → (0 < n.number) × IsNode s n
+  after_root p n e = (
+    elim (cases_lt 0 n.number) [
+      | inl later ↦ later
+      | inr root ↦ let zeroth : n.number ≡ 0 = omega arith in absurd (root_not_after p n e (ap (λ i. node_place s (record { number = i })) zeroth ∙ root_place s))
+    ],
+    elim (cases_lt n.number (length (places s))) [ inl within ↦ within | inr past ↦ absurd (root_not_after p n e (nowhere s n past)) ],
+  )
 
 -- what is linked at a number
 pub linked_at : (s : StoryTree) (ls : List Link) (i : ℕ) (l : Link) → AreLinked s ls → Some l ≡ slice_get ls i → IsLinked s (node_place s (record { number = i })) l
@@ -201,26 +196,29 @@ linked_at s ls i l all is = all i l (sym is)
 -- ---- what is kept of a node
 
 module _ (s : StoryTree) (p : List Part) (n : Node) (k : Keeps s p n) where
-  pub led_by : (x : Part) → n.last ≡ Some x → p ≡ node_place s n.holder ++ x ∷ []
+  pub led_by : (x : Part) → n.last ≡ Some x → p ≡ node_place s (record { number = n.holder }) ++ x ∷ []
   led_by x is = sym k.1 ∙ ap (way_to s n.holder) is
 
   pub led_by_none : n.last ≡ None → p ≡ []
   led_by_none is = sym k.1 ∙ ap (way_to s n.holder) is
 
-  -- by index: beside it, or behind the last one what follows the container
-  pub next_beside : (x : Part) (i : ℕ) (r : Option NodeId) → n.last ≡ Some x → x ≡ Index i → i + 1 < width (at s (node_place s n.holder))
-      → Finds s (node_place s n.holder ++ Index (i + 1) ∷ []) r → option_map (node_place s) r ≡ next_place s p
-  next_beside x i r is part below f = next_found s (node_place s n.holder) (node_place s n.holder) i r refl below f ∙ ap (next_place s) (sym (led_by (Index i) (is ∙ ap (λ y. Some y) part)))
+module _ (s : StoryTree) (p up : List Part) (x : Part) (i : ℕ) (is : p ≡ up ++ x ∷ []) (part : x ≡ Index i) where
+  here : up ++ Index i ∷ [] ≡ p
+  here = sym (is ∙ ap (λ y. up ++ y ∷ []) part)
 
-  pub next_behind : (x : Part) (i : ℕ) → n.last ≡ Some x → x ≡ Index i → width (at s (node_place s n.holder)) ≤ i + 1 → next_place s (node_place s n.holder) ≡ next_place s p
-  next_behind x i is part past = next_outside s (node_place s n.holder) i past ∙ ap (next_place s) (sym (led_by (Index i) (is ∙ ap (λ y. Some y) part)))
+  -- by index: beside it, or behind the last one what follows the container
+  pub next_beside : (r : Option NodeId) → i + 1 < width (at s up) → Finds s (up ++ Index (i + 1) ∷ []) r → option_map (node_place s) r ≡ next_place s p
+  next_beside r below f = next_found s up up i r refl below f ∙ ap (next_place s) here
+
+  pub next_behind : width (at s up) ≤ i + 1 → next_place s up ≡ next_place s p
+  next_behind past = next_outside s up i past ∙ ap (next_place s) here
 
 module _ (s : StoryTree) (ns : List Node) (many : length ns ≡ length (places s)) (all : KeepsAll s ns) where
   pub kept_at : (n : NodeId) (k : Node) → IsNode s n → k ≡ get_or ns n.number k → KeepsAt s n.number k
   kept_at n k is got = all n.number k (slice_get_read ns (length ns) n.number k refl (omega arith) got)
 
-  -- a content is around another, by their numbers
-  pub around_by_number : (p q : List Part) (m n : NodeId) (k : Node) (low : Bool) → Finds s p (Some m) → Finds s q (Some n) → k ≡ get_or ns m.number k
-      → nat_le m.number n.number ≡ low → (low && nat_lt n.number (behind_of m.number k.held)) ≡ is_around p q
-  around_by_number p q m n k low is_m is_n got e =
-      sym ((λ i. is_around (sym is_m.1 i) (sym is_n.1 i)) ∙ (kept_at m k is_m.0 got).1 n is_n.0 ∙ ap (λ b. b && nat_lt n.number (behind_of m.number k.held)) e)
+-- a content is around another, by their numbers
+pub around_by_number : (s : StoryTree) (p q : List Part) (m n : NodeId) (b : ℕ) (low : Bool) → Finds s p (Some m) → Finds s q (Some n) → Spans s m.number b
+    → nat_le m.number n.number ≡ low → (low && nat_lt n.number b) ≡ is_around p q
+around_by_number s p q m n b low is_m is_n spans e =
+    sym ((λ i. is_around (sym is_m.1 i) (sym is_n.1 i)) ∙ spans n is_n.0 ∙ ap (λ l. l && nat_lt n.number b) e)

@@ -7,7 +7,6 @@ pub mod Stepping
 pub mod Next
 pub mod Prefixes
 pub mod Entering
-pub mod Places
 pub mod Rising
 pub mod Absent
 pub mod Spots
@@ -15,6 +14,7 @@ pub mod Knots
 pub mod Further
 pub mod Kept
 pub mod Numbered
-pub mod Leaves
+pub mod Contents
 pub mod Down
+pub mod Gaps
 pub mod Firsts

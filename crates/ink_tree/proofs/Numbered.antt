@@ -1,20 +1,20 @@
 -- What is kept of the contents of a story is what stands at their places.
-use Rattle.std.proofs.Common.{◌≡◌, ◌∙◌, inl, inr, ap, sym, refl, subst, ℕ, zero, suc, ◌+◌, ◌<◌, ◌≤◌, List, [], ◌∷◌, ◌++◌, length, map, true, false, true≢false, ◌&&◌, nat_le, nat_lt, Option, Some, None, is_some, option_and_then, slice_get, unwrap_or, append_assoc, arith}
+use Rattle.std.proofs.Common.{◌≡◌, ◌∙◌, inl, inr, ap, sym, refl, subst, ℕ, zero, suc, ◌+◌, ◌<◌, ◌≤◌, List, [], ◌∷◌, ◌++◌, length, map, true, false, true≢false, ◌&&◌, nat_le, nat_lt, Option, Some, None, is_some, option_and_then, option_map, slice_get, unwrap_or, append_assoc, arith}
 use Rattle.std.proofs.lemmas.Bool.{cases_lt, and_parts}
 use Rattle.std.proofs.lemmas.Bool.Decides.{nat_tests}
 use Rattle.std.proofs.lemmas.List.{append-nil, length-append, length-map}
 use Rattle.std.proofs.lemmas.Option.{none-some, same_Some, slice_get_within}
+use Rattle.ink_json.specs.Listing.{nodes_of, nodes_from, nodes_by_key, own_node, story_nodes}
+use Rattle.ink_json.specs.Order.{keys_rise, keys_rise_in, keys_rise_by_key, is_below}
+use Rattle.ink_json.specs.declared.node.Node.{Node}
 use Rattle.ink_model.specs.Places.{places, places_from, places_by_key}
-use Rattle.ink_model.specs.Tree.{StoryTree, leaf, container, Trees, no_trees, tree, Keyed, no_keys, key, nth, by_key, at, count, width}
-use Rattle.ink_model.specs.Entered.{flags_at, is_around}
-use Rattle.ink_model.specs.declared.content.Content as contents
+use Rattle.ink_model.specs.Tree.{StoryTree, leaf, container, Trees, no_trees, tree, Keyed, no_keys, key, nth, by_key, at, count}
+use Rattle.ink_model.specs.Entered.{is_around}
+use Rattle.ink_model.specs.View.{own_content}
 use Rattle.ink_model.specs.declared.place.Part.{Part}
 use Rattle.ink_model.specs.declared.place.Part.TheVariants.{Index, Name}
-use Rattle.ink_tree.specs.Kept.{Keeps, KeepsAll, KeepsAt, Spans, kept_flags, kept_leaf, kept_width, leaf_in, nodes_of, nodes_from, nodes_by_key, way_to}
+use Rattle.ink_tree.specs.Kept.{Keeps, KeepsAll, KeepsAt, Spans, way_to}
 use Rattle.ink_tree.specs.Numbers.{node_place, IsNode}
-use Rattle.ink_tree.specs.Order.{keys_rise, keys_rise_in, keys_rise_by_key, is_below}
-use Rattle.ink_tree.specs.declared.node.Held.TheVariants.{Inside, Whole}
-use Rattle.ink_tree.specs.declared.node.Node.{Node}
 use Rattle.ink_tree.specs.declared.spot.NodeId.{NodeId}
 use Rattle.ink_tree.proofs.Absent.{absent, got_place, lacks}
 use Rattle.ink_tree.proofs.Further.{below}
@@ -22,22 +22,20 @@ use Rattle.ink_tree.proofs.Kept.{some_place}
 use Rattle.ink_tree.proofs.Prefixes.{around_below, below_around, not_around}
 use Rattle.ink_tree.proofs.Rising.{one_number}
 use Rattle.ink_tree.proofs.Standing.{at_append}
-use Rattle.ink_tree.proofs.Leaves.{leaf_seen}
 use Rattle.ink_tree.proofs.Nodes.{at_its_key, further, node_stands}
 
 -- ---- as many as there are places
 
 mutual
-  pub many : (n : ℕ) (h : NodeId) (x : Option Part) (t : StoryTree) → length (nodes_of n h x t) ≡ length (places t)
+  many : (n h : ℕ) (x : Option Part) (t : StoryTree) → length (nodes_of n h x t) ≡ length (places t)
   many n h x (leaf l) = refl
   many n h x (container name flags content named) =
-      let own : NodeId = record { number = n } in
-      let inside = nodes_from (n + 1) own 0 content in
-      let by_keys = nodes_by_key (n + 1 + length inside) own named in
-      ap suc (length-append inside by_keys ∙ (λ i. many_from (n + 1) own 0 content i + many_by_key (n + 1 + length inside) own named i)
+      let inside = nodes_from (n + 1) n 0 content in
+      let by_keys = nodes_by_key (n + 1 + length inside) n named in
+      ap suc (length-append inside by_keys ∙ (λ i. many_from (n + 1) n 0 content i + many_by_key (n + 1 + length inside) n named i)
       ∙ sym (length-append (places_from 0 content) (places_by_key named)))
 
-  many_from : (n : ℕ) (h : NodeId) (i : ℕ) (ts : Trees) → length (nodes_from n h i ts) ≡ length (places_from i ts)
+  many_from : (n h i : ℕ) (ts : Trees) → length (nodes_from n h i ts) ≡ length (places_from i ts)
   many_from n h i no_trees = refl
   many_from n h i (tree t ts) =
       let first = nodes_of n h (Some (Index i)) t in
@@ -45,7 +43,7 @@ mutual
       ∙ (λ j. (many n h (Some (Index i)) t ∙ sym (length-map (places t) (λ p. Index i ∷ p))) j + many_from (n + length first) h (i + 1) ts j)
       ∙ sym (length-append (map (λ p. Index i ∷ p) (places t)) (places_from (i + 1) ts))
 
-  many_by_key : (n : ℕ) (h : NodeId) (ks : Keyed) → length (nodes_by_key n h ks) ≡ length (places_by_key ks)
+  many_by_key : (n h : ℕ) (ks : Keyed) → length (nodes_by_key n h ks) ≡ length (places_by_key ks)
   many_by_key n h no_keys = refl
   many_by_key n h (key k t ks) =
       let first = nodes_of n h (Some (Name k)) t in
@@ -113,13 +111,12 @@ module _ (s : StoryTree) where
   placed : (n : ℕ) (p : List Part) → slice_get (places s) n ≡ Some (p ++ []) → node_place s (record { number = n }) ≡ p
   placed n p is = ap (λ o. unwrap_or o []) is ∙ append-nil p
 
-  keeps : (n : ℕ) (p : List Part) (t : StoryTree) (k : Node) → slice_get (places s) n ≡ Some (p ++ []) → at s p ≡ Some t → IsNode s k.holder → way_to s k.holder k.last ≡ p
-      → kept_width k.held ≡ width (Some t) → kept_flags k.held ≡ flags_at (Some t) → kept_leaf k.held ≡ leaf_in (Some t) → Keeps s (node_place s (record { number = n })) k
-  keeps n p t k is stands inside way wide flags held =
-      subst (λ q. Keeps s q k) (sym (placed n p is))
-      (inside, way, wide ∙ sym (ap width stands), flags ∙ sym (ap flags_at stands), held ∙ sym (ap leaf_in stands))
+  keeps : (n : ℕ) (p : List Part) (t : StoryTree) (k : Node) → slice_get (places s) n ≡ Some (p ++ []) → at s p ≡ Some t → k.holder < length (places s) → way_to s k.holder k.last ≡ p
+      → k.content ≡ own_content t → Keeps s (node_place s (record { number = n })) k
+  keeps n p t k is stands inside way own =
+      subst (λ q. Keeps s q k) (sym (placed n p is)) (inside, way, ap Some own ∙ sym (ap (option_map own_content) stands))
 
-  one_further : (h : NodeId) (p : List Part) (x : Part) → node_place s h ≡ p → way_to s h (Some x) ≡ p ++ x ∷ []
+  one_further : (h : ℕ) (p : List Part) (x : Part) → node_place s (record { number = h }) ≡ p → way_to s h (Some x) ≡ p ++ x ∷ []
   one_further h p x is = ap (λ q. q ++ x ∷ []) is
 
   -- ---- how far a content reaches
@@ -175,40 +172,35 @@ module _ (s : StoryTree) where
 
   module _ (whole : keys_rise s ≡ true) where
     mutual
-      hold : (n : ℕ) (h : NodeId) (x : Option Part) (p : List Part) (t : StoryTree) → IsNode s h → way_to s h x ≡ p → at s p ≡ Some t → Sits n p (places t) → keys_rise t ≡ true
+      hold : (n h : ℕ) (x : Option Part) (p : List Part) (t : StoryTree) → h < length (places s) → way_to s h x ≡ p → at s p ≡ Some t → Sits n p (places t) → keys_rise t ≡ true
           → Each n (nodes_of n h x t)
       hold n h x p (leaf l) inside way stands sits rise =
-          let node : Node = record { held = Whole (contents.Leaf l); holder = h; last = x } in
-          ((keeps n p (leaf l) node sits.0 stands inside way refl refl (ap (λ o. leaf_in (Some o)) (leaf_seen l)), spans whole n p (leaf l) stands sits (n + 1) (placed n p sits.0) refl, λ some. absurd (omega arith)), tt)
+          ((keeps n p (leaf l) (own_node h x (leaf l)) sits.0 stands inside way refl, spans whole n p (leaf l) stands sits (n + 1) (placed n p sits.0) refl, λ some. absurd (omega arith)), tt)
       hold n h x p (container name flags content named) inside way stands sits rise =
-          let own : NodeId = record { number = n } in
           let two = and_parts (keys_rise_in content) (keys_rise_by_key named) rise in
-          let within : IsNode s own = slice_get_within (places s) n (p ++ []) sits.0 in
+          let within = slice_get_within (places s) n (p ++ []) sits.0 in
           let here = placed n p sits.0 in
-          let elements = nodes_from (n + 1) own 0 content in
+          let elements = nodes_from (n + 1) n 0 content in
           let m = n + 1 + length elements in
-          let s' = container name flags content named in
-          let inside_it = elements ++ nodes_by_key m own named in
-          let node : Node = record { held = Inside (count content) flags (n + 1 + length inside_it); holder = h; last = x } in
-          let total : suc (length inside_it) ≡ length (places s') = many n h x s' in
+          let t = container name flags content named in
           let next : n + 1 ≡ suc n = omega arith in
           let rest = subst (λ k. Sits k p (places_from 0 content ++ places_by_key named)) (sym next) sits.1 in (
             (
-              keeps n p s' node sits.0 stands inside way refl refl refl,
-              spans whole n p s' stands sits (n + 1 + length inside_it) here (omega (arith, total)),
+              keeps n p t (own_node h x t) sits.0 stands inside way refl,
+              spans whole n p t stands sits (n + length (places t)) here refl,
               λ some. ap (λ o. unwrap_or o []) (begins (n + 1) p content named rest some) ∙ ap (λ q. q ++ Index 0 ∷ []) (sym here),
             ),
-            subst (λ k. Each k (elements ++ nodes_by_key m own named)) next
-                (each_append (n + 1) m elements (nodes_by_key m own named) refl
-                (hold_from (n + 1) own 0 p content within here
+            subst (λ k. Each k (elements ++ nodes_by_key m n named)) next
+                (each_append (n + 1) m elements (nodes_by_key m n named) refl
+                (hold_from (n + 1) n 0 p content within here
                 (λ k j e. sym (below s p (Index k) (Some (container name flags content named)) (sym stands)) ∙ ap (λ i. nth i content) (omega (arith, e)))
                 (sits_front (n + 1) p (places_from 0 content) (places_by_key named) rest) two.0)
-                (hold_by_key m own p named within here
+                (hold_by_key m n p named within here
                 (λ k some. sym (below s p (Name k) (Some (container name flags content named)) (sym stands)))
-                (sits_back (n + 1) m p (places_from 0 content) (places_by_key named) (omega (arith, many_from (n + 1) own 0 content)) rest) two.1)),
+                (sits_back (n + 1) m p (places_from 0 content) (places_by_key named) (omega (arith, many_from (n + 1) n 0 content)) rest) two.1)),
           )
 
-      hold_from : (n : ℕ) (h : NodeId) (i : ℕ) (p : List Part) (ts : Trees) → IsNode s h → node_place s h ≡ p → ((k j : ℕ) → k ≡ i + j → at s (p ++ Index k ∷ []) ≡ nth j ts)
+      hold_from : (n h i : ℕ) (p : List Part) (ts : Trees) → h < length (places s) → node_place s (record { number = h }) ≡ p → ((k j : ℕ) → k ≡ i + j → at s (p ++ Index k ∷ []) ≡ nth j ts)
           → Sits n p (places_from i ts) → keys_rise_in ts ≡ true → Each n (nodes_from n h i ts)
       hold_from n h i p no_trees inside here each sits rise = tt
       hold_from n h i p (tree t ts) inside here each sits rise =
@@ -222,7 +214,7 @@ module _ (s : StoryTree) where
           (sits_back n m p (map (λ q. Index i ∷ q) (places t)) (places_from (i + 1) ts)
           (omega (arith, many n h (Some (Index i)) t, length-map (places t) (λ q. Index i ∷ q))) sits) two.1)
 
-      hold_by_key : (n : ℕ) (h : NodeId) (p : List Part) (ks : Keyed) → IsNode s h → node_place s h ≡ p
+      hold_by_key : (n h : ℕ) (p : List Part) (ks : Keyed) → h < length (places s) → node_place s (record { number = h }) ≡ p
           → ((k : List ℕ) → is_some (by_key k ks) ≡ true → at s (p ++ Name k ∷ []) ≡ by_key k ks)
           → Sits n p (places_by_key ks) → keys_rise_by_key ks ≡ true → Each n (nodes_by_key n h ks)
       hold_by_key n h p no_keys inside here each sits rise = tt
@@ -238,11 +230,10 @@ module _ (s : StoryTree) where
           (sits_back n m p (map (λ q. Name k ∷ q) (places t)) (places_by_key ks)
           (omega (arith, many n h (Some (Name k)) t, length-map (places t) (λ q. Name k ∷ q))) sits) two.1)
 
-pub keeps_all : (s : StoryTree) (ns : List Node) → ns ≡ nodes_of 0 (record { number = 0 }) None s → keys_rise s ≡ true → KeepsAll s ns
+pub keeps_all : (s : StoryTree) (ns : List Node) → ns ≡ story_nodes s → keys_rise s ≡ true → KeepsAll s ns
 keeps_all s ns is rise = λ i n e.
-    each_at s 0 (nodes_of 0 (record { number = 0 }) None s) i i n (omega arith)
-    (hold s rise 0 (record { number = 0 }) None [] s (some_place s) refl refl (sits_all s [] (places s) 0 refl refl) rise)
+    each_at s 0 (story_nodes s) i i n (omega arith) (hold s rise 0 0 None [] s (some_place s) refl refl (sits_all s [] (places s) 0 refl refl) rise)
     (ap (λ ks. slice_get ks i) (sym is) ∙ e)
 
-pub all_kept : (s : StoryTree) (ns : List Node) → ns ≡ nodes_of 0 (record { number = 0 }) None s → length ns ≡ length (places s)
-all_kept s ns is = ap length is ∙ many 0 (record { number = 0 }) None s
+pub all_kept : (s : StoryTree) (ns : List Node) → ns ≡ story_nodes s → length ns ≡ length (places s)
+all_kept s ns is = ap length is ∙ many 0 0 None s

@@ -8,12 +8,12 @@ use Rattle.std.specs.FinMap.{nat_cmp-IsAntisymmetric, slice_cmp-IsAntisymmetric}
 use Rattle.std.specs.List.{AllByRecursion}
 use Rattle.std.specs.Ordering.{MatchOrdering, is_lt, ordering_reverse}
 use Rattle.std.proofs.lemmas.Bool.{and_parts}
+use Rattle.ink_json.specs.Order.{part_order, place_order, keys_rise, keys_rise_in, keys_rise_by_key, is_below}
 use Rattle.ink_model.specs.Places.{places, places_from, places_by_key}
 use Rattle.ink_model.specs.Tree.{StoryTree, leaf, container, Trees, no_trees, tree, Keyed, no_keys, key}
 use Rattle.ink_model.specs.declared.place.Part.{Part}
 use Rattle.ink_model.specs.declared.place.Part.TheVariants.{Index, Name}
 use Rattle.ink_tree.specs.Numbers.{NumbersInOrder, node_place}
-use Rattle.ink_tree.specs.Order.{part_order, place_order, keys_rise, keys_rise_in, keys_rise_by_key, is_below}
 
 -- ---- the order of parts and of places
 

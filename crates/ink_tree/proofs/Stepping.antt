@@ -2,13 +2,13 @@
 use Rattle.std.proofs.Common.{◌≡◌, ◌∙◌, inl, inr, ap, sym, refl, add-one, drop-cons, drop, get_or, length, suc, ◌+◌, ℕ, ◌<◌, List, [], ◌∷◌, ◌++◌, true, false, true≢false, Option, Some, None, is_some, option_map, option_and_then, nat_lt, arith}
 use Rattle.std.proofs.lemmas.Bool.{cases_lt}
 use Rattle.std.proofs.lemmas.Bool.Decides.{nat_tests}
+use Rattle.ink_json.specs.Order.{keys_rise}
 use Rattle.ink_model.specs.Path.{by_name, listed_index, stepped, walked}
 use Rattle.ink_model.specs.Tree.{StoryTree, at, width}
 use Rattle.ink_model.specs.declared.place.Part.{Part}
 use Rattle.ink_model.specs.declared.place.Part.TheVariants.{Index, Name}
 use Rattle.ink_tree.specs.Nodes.{node_place, Finds}
 use Rattle.ink_tree.specs.declared.spot.NodeId.{NodeId}
-use Rattle.ink_tree.specs.Order.{keys_rise}
 use Rattle.ink_tree.proofs.Nodes.{node_stands}
 use Rattle.ink_tree.proofs.Standing.{index_stands, index_within, listed_within, there}
 

@@ -1,6 +1,5 @@
 -- What is asked of one content.
 use Rattle.std.specs.Prelude.{ℕ, List, Bool, false, nat_le, Option, Some, None}
-use Rattle.ink_model.specs.Place.{is_named}
 use Rattle.ink_model.specs.Tree.{StoryTree, leaf, container, count}
 
 -- an index is one of a container's, or its end
@@ -13,7 +12,8 @@ abbrev pub reaches_in : Option StoryTree → ℕ → Bool
 reaches_in None i = false
 reaches_in (Some t) i = reaches t i
 
--- a container gives itself a name
-abbrev pub has_name : List ℕ → StoryTree → Bool
-has_name name (leaf l) = false
-has_name name (container own flags content named) = is_named name own
+-- the name that a container gives itself
+abbrev pub name_in : Option StoryTree → Option (List ℕ)
+name_in None = None
+name_in (Some (leaf l)) = None
+name_in (Some (container own flags content named)) = own

@@ -1,9 +1,8 @@
 pub mod Contents
+pub mod Gaps
 pub mod Kept
-pub mod Last
 pub mod Laws
 pub mod Names
 pub mod Nodes
 pub mod Numbers
-pub mod Order
 pub mod Walks

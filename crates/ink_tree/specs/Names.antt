@@ -3,8 +3,8 @@ use Rattle.std.specs.Prelude.{◌≡◌, ⊤, ℕ, List, Option, Some, None, if�
 use Rattle.std.specs.BTreeMap.{get_by_text}
 use Rattle.std.specs.Borrow.{Bor}
 use Rattle.ink_model.specs.Path.{listed_index}
+use Rattle.ink_model.specs.Place.{is_named}
 use Rattle.ink_model.specs.Tree.{StoryTree, at}
-use Rattle.ink_tree.specs.Contents.{has_name}
 use Rattle.ink_tree.specs.Numbers.{node_place}
 use Rattle.ink_tree.specs.declared.names.Listed.{Listed}
 use Rattle.ink_tree.specs.declared.names.Names.{Names}
@@ -13,9 +13,9 @@ use Rattle.ink_tree.specs.declared.names.Names.{Names}
 abbrev pub named_at : List ℕ → Names → Option ℕ
 named_at name m = get_by_text m.indices name
 
--- the index of content that gives itself a name
-abbrev pub given : List ℕ → ℕ → StoryTree → Option ℕ
-given name i t = if has_name name t then Some i else None
+-- the index of content that gives itself this name, or none
+abbrev pub given : List ℕ → ℕ → Option (List ℕ) → Option ℕ
+given name i own = if is_named name own then Some i else None
 
 -- the first of two that is there
 abbrev pub first_of : Option ℕ → Option ℕ → Option ℕ

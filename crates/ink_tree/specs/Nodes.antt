@@ -1,12 +1,12 @@
 -- What nodes and spots of a story stand for.
 use Rattle.std.specs.Prelude.{◌≡◌, ⊤, ℕ, List, [], ◌∷◌, ◌++◌, Option, Some, None}
+use Rattle.ink_json.specs.Order.{key_part}
 use Rattle.ink_json.specs.Story.{tree}
+use Rattle.ink_json.specs.declared.key.Key.{Key}
 use Rattle.ink_model.specs.Tree.{StoryTree, at}
 use Rattle.ink_model.specs.declared.place.Part.{Part}
 use Rattle.ink_model.specs.declared.place.Part.TheVariants.{Index}
 pub use Rattle.ink_tree.specs.Numbers.{node_place, IsNode, NumbersInOrder}
-use Rattle.ink_tree.specs.Order.{key_part}
-use Rattle.ink_tree.specs.declared.order.Key.{Key}
 use Rattle.ink_tree.specs.declared.spot.NodeId.{NodeId}
 use Rattle.ink_tree.specs.declared.spot.Spot.{Spot}
 use Rattle.ink_tree.specs.declared.tree.Tree.{Tree}

@@ -3,9 +3,9 @@
 ghost use Rattle.std.specs.Prelude.{◌≡◌, option_map};
 ghost use Rattle.ink_model.specs.Entered.{is_around, was_inside};
 
-use crate::order::Key;
 use crate::spot::{NodeId, Spot};
 use crate::tree::Tree;
+use ink_json::Key;
 
 impl Tree {
     ghost use Rattle.ink_tree.specs.Nodes.{story_tree, node_place, place_of};
@@ -38,7 +38,7 @@ impl Tree {
     {
         let container = self.own(container);
         let node = self.own(node);
-        let kept = &self.nodes[container.number];
-        container.number <= node.number && kept.ends_behind(container.number, node.number)
+        let behind = self.behind(container);
+        container.number <= node.number && node.number < behind
     }
 }

@@ -1,7 +1,6 @@
 //! Where contents may be looked for first.
 
-use crate::node::Node;
-use crate::order::{Key, compare_parts};
+use ink_json::{Key, Node, compare_parts};
 use std::alloc::{AllocError, Global};
 use std::cmp::Ordering;
 
@@ -14,21 +13,13 @@ pub(crate) struct Children {
 }
 
 impl Children {
-    /// None, for a story without nodes.
-    pub(crate) fn none(alloc: Global) -> Children {
-        Children {
-            numbers: Vec::new(alloc),
-            ends: Vec::new(alloc),
-        }
-    }
-
     /// The numbers of these nodes by what is around them. The one error is a refused request for memory.
-    pub(crate) fn of(alloc: Global, nodes: &Vec<Node>) -> Result<Children, AllocError> {
+    pub(crate) fn of(alloc: Global, nodes: &[Node]) -> Result<Children, AllocError> {
         let mut ends = starts(alloc, nodes)?;
         let mut numbers = filled(alloc, nodes.len())?;
         for (number, node) in nodes.iter().enumerate() {
             if !node.last.is_none() {
-                if let Some(end) = ends.get_mut(node.holder.number) {
+                if let Some(end) = ends.get_mut(node.holder as usize) {
                     if let Some(slot) = numbers.get_mut(*end as usize) {
                         *slot = small(number);
                     }
@@ -44,15 +35,17 @@ impl Children {
         self.number(self.start(container).wrapping_add(index))
     }
 
-    /// The number of what a container has by a key, behind so many contents by index: the keys rise.
-    pub(crate) fn named(
+    /// The number of the last content in a container, behind so many by index, at a key or before it: the keys rise. The
+    /// container's own, where none is.
+    pub(crate) fn up_to(
         &self,
-        nodes: &Vec<Node>,
+        nodes: &[Node],
         container: usize,
         width: usize,
         name: &str,
     ) -> usize {
-        let mut low = self.start(container).wrapping_add(width);
+        let start = self.start(container);
+        let mut low = start.wrapping_add(width);
         let mut high = self.end(container);
         while low < high {
             let middle = low + (high - low) / 2;
@@ -63,7 +56,11 @@ impl Children {
                 Ordering::Greater => high = middle,
             }
         }
-        0
+        if low > start {
+            self.number(low - 1)
+        } else {
+            container
+        }
     }
 
     fn number(&self, place: usize) -> usize {
@@ -90,11 +87,11 @@ impl Children {
 }
 
 // Where the block of each container starts.
-fn starts(alloc: Global, nodes: &Vec<Node>) -> Result<Vec<u32>, AllocError> {
+fn starts(alloc: Global, nodes: &[Node]) -> Result<Vec<u32>, AllocError> {
     let mut starts = filled(alloc, nodes.len())?;
     for node in nodes {
         if !node.last.is_none() {
-            if let Some(count) = starts.get_mut(node.holder.number) {
+            if let Some(count) = starts.get_mut(node.holder as usize) {
                 *count = (*count).wrapping_add(1);
             }
         }
@@ -125,7 +122,7 @@ fn filled(alloc: Global, count: usize) -> Result<Vec<u32>, AllocError> {
 }
 
 // How the key of a node stands to a name.
-fn order(nodes: &Vec<Node>, number: usize, name: &str) -> Ordering {
+fn order(nodes: &[Node], number: usize, name: &str) -> Ordering {
     match nodes.get(number) {
         Some(node) => match node.last.key() {
             Some(part) => compare_parts(part, Key::Name(name)),

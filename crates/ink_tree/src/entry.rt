@@ -3,10 +3,11 @@
 ghost use Rattle.std.specs.Prelude.{◌≡◌, option_map};
 ghost use Rattle.ink_model.specs.Place.{entered};
 ghost use Rattle.ink_model.specs.Tree.{at};
-ghost use Rattle.ink_model.specs.View.{view};
+ghost use Rattle.ink_model.specs.View.{own_content};
 ghost use Rattle.ink_tree.specs.Kept.{first_inside, leaf_in};
 ghost use Rattle.ink_tree.specs.Walks.{GoesIn};
 
+use crate::content::width_of;
 use crate::spot::{NodeId, Spot};
 use crate::tree::Tree;
 use ink_model::{Content, Leaf};
@@ -18,13 +19,13 @@ impl Tree {
     /// that content, none where nothing stands there. Takes no memory.
     pub fn first_content(&self, spot: Spot) -> (Spot, Option<&Content>)
         ensures spot { place_of (story_tree self.now) result.0 ≡ entered (story_tree self.now) (place_of (story_tree self.now) spot) }
-        ensures content { option_map (λ c. view c.now) result.1 ≡ at (story_tree self.now) (place_of (story_tree self.now) result.0) }
+        ensures content { option_map (λ c. c.now) result.1 ≡ option_map own_content (at (story_tree self.now) (place_of (story_tree self.now) result.0)) }
     {
         match self.node(spot) {
             None => (spot, None),
             Some(node) => {
                 let first = self.first_in(node);
-                (Spot::of(first), self.content_of(first))
+                (Spot::of(first), Some(self.content_of(first)))
             }
         }
     }
@@ -70,7 +71,7 @@ impl Tree {
             ≡ first_inside (story_tree self.now) (node_place (story_tree self.now) node) }
     {
         let own = self.own(node);
-        if self.nodes[own.number].width() > 0 {
+        if width_of(&self.kept_own(own).content) > 0 {
             Some(NodeId {
                 number: own.number + 1,
             })

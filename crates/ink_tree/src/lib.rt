@@ -3,17 +3,15 @@
 
 mod around;
 mod children;
-mod copying;
+mod content;
 mod entry;
-mod last;
+mod gap;
+mod link;
 mod linking;
-mod listing;
 mod lookup;
 mod moving;
 mod names;
 mod naming;
-mod node;
-mod order;
 mod path;
 mod resolving;
 mod spot;

@@ -4,10 +4,10 @@ ghost use Rattle.std.specs.Prelude.{◌≡◌, IfOk, option_map, slice_get};
 ghost use Rattle.ink_model.specs.Place.{next_place};
 ghost use Rattle.ink_tree.specs.Kept.{AreLinked, IsLinked, MayBeLinked};
 
-use crate::node::Link;
-use crate::order::Key;
+use crate::link::Link;
 use crate::spot::NodeId;
 use crate::tree::Tree;
+use ink_json::Key;
 use std::alloc::AllocError;
 
 impl Tree {
@@ -46,18 +46,17 @@ impl Tree {
         ensures { option_map (node_place (story_tree self.now)) result
             ≡ next_place (story_tree self.now) (node_place (story_tree self.now) node) }
     {
-        let kept = self.kept(node);
-        let Some(last) = kept.last.key() else {
+        let Some((last, holder)) = self.above(node) else {
             return None;
         };
         match last {
             Key::Index(index) => {
-                if (index as usize) + 1 < self.kept(kept.holder).width() as usize {
-                    self.child_at(kept.holder, index + 1)
+                if (index as usize) + 1 < self.width(holder) as usize {
+                    self.child_at(holder, index + 1)
                 } else {
-                    match link_at(links, kept.holder.number) {
+                    match link_at(links, holder.number) {
                         Some(around) => around.next(),
-                        None => self.next_of(links, kept.holder),
+                        None => self.next_of(links, holder),
                     }
                 }
             }

@@ -1,31 +1,40 @@
 //! Nodes by number and by place.
 
 ghost use Rattle.std.specs.Prelude.{◌≡◌, ◌<◌, ◌∷◌, [], ◌++◌, true, false, Some, option_map, reverse, length, slice_get};
+ghost use Rattle.ink_json.specs.Order.{key_part};
 ghost use Rattle.ink_model.specs.Path.{above};
 ghost use Rattle.ink_model.specs.Places.{places};
-ghost use Rattle.ink_model.specs.Tree.{at, down};
+ghost use Rattle.ink_model.specs.Tree.{at};
 ghost use Rattle.ink_model.specs.Tree as trees;
-ghost use Rattle.ink_model.specs.View.{view, keyed_view};
+ghost use Rattle.ink_model.specs.View.{own_content};
 ghost use Rattle.ink_model.specs.declared.place.Part.TheVariants.{Index, Name};
 ghost use Rattle.ink_tree.specs.Contents.{reaches_in};
-ghost use Rattle.ink_tree.specs.Kept.{Keeps};
-ghost use Rattle.ink_tree.specs.Order.{key_part};
+ghost use Rattle.ink_tree.specs.Gaps.{LeadsTo};
+ghost use Rattle.ink_tree.specs.Kept.{Keeps, KeepsAll, KeepsAt};
 
-use crate::node::Node;
-use crate::order::{Key, compare_parts, key_of};
+use crate::content::{keys_of, reaches, width_of};
 use crate::spot::NodeId;
-use crate::tree::{Tree, by_index};
+use crate::tree::Tree;
+use ink_json::{Key, Node, compare_parts, key_of};
 use ink_model::{Content, Part};
-use std::collections::BTreeMap;
 
 impl Tree {
     ghost use Rattle.ink_tree.specs.Nodes.{story_tree, node_place, Finds, IsAbove, NumbersInOrder};
+
+    /// All content, in reading order.
+    #[inline(always)]
+    pub(crate) fn nodes(&self) -> &[Node]
+        ensures all { KeepsAll (story_tree self.now) result.now }
+        ensures many { length result.now ≡ length (places (story_tree self.now)) }
+    {
+        self.raw.nodes()
+    }
 
     /// A node of the story: the root in place of a number beyond the story's content.
     pub(crate) fn own(&self, node: NodeId) -> NodeId
         ensures { Finds (story_tree self.now) (node_place (story_tree self.now) node) (Some result) }
     {
-        if node.number < self.nodes.len() {
+        if node.number < self.len() {
             node
         } else {
             NodeId { number: 0 }
@@ -47,22 +56,43 @@ impl Tree {
     pub(crate) fn kept(&self, node: NodeId) -> &Node
         ensures { Keeps (story_tree self.now) (node_place (story_tree self.now) node) result.now }
     {
-        match self.nodes.get(node.number) {
+        match node_at(self.nodes(), node.number) {
             Some(kept) => kept,
-            None => {
-                let root = self.own(node);
-                &self.nodes[root.number]
-            }
+            None => self.kept_own(self.own(node)),
         }
+    }
+
+    /// What is kept of a node of the story.
+    pub(crate) fn kept_own(&self, own: NodeId) -> &Node
+        requires { own.number < length (places (story_tree self.now)) }
+        ensures { KeepsAt (story_tree self.now) own.number result.now }
+    {
+        &self.nodes()[own.number]
+    }
+
+    /// The content of a node.
+    #[inline(always)]
+    pub(crate) fn content_of(&self, node: NodeId) -> &Content
+        ensures { Some result.now ≡ option_map own_content (at (story_tree self.now) (node_place (story_tree self.now) node)) }
+    {
+        &self.kept(node).content
+    }
+
+    /// How many contents a node holds by index.
+    #[inline(always)]
+    #[tactic(auto, using(crate::proofs::Contents::width_seen))]
+    pub(crate) fn width(&self, node: NodeId) -> u32
+        ensures { result ≡ trees.width (at (story_tree self.now) (node_place (story_tree self.now) node)) }
+    {
+        width_of(self.content_of(node))
     }
 
     /// The container that holds a content, none for the root. Takes no memory.
     pub fn holder(&self, node: NodeId) -> Option<NodeId>
         ensures { option_map (node_place (story_tree self.now)) result ≡ above (reverse (node_place (story_tree self.now) node)) }
     {
-        let kept = self.kept(node);
-        match kept.last.key() {
-            Some(_) => Some(kept.holder),
+        match self.above(node) {
+            Some((_, holder)) => Some(holder),
             None => None,
         }
     }
@@ -73,34 +103,22 @@ impl Tree {
     {
         let kept = self.kept(node);
         match kept.last.key() {
-            Some(last) => Some((last, kept.holder)),
+            Some(last) => {
+                let holder = NodeId {
+                    number: kept.holder as usize,
+                };
+                Some((last, holder))
+            }
             None => None,
         }
     }
 
-    /// The content of a node, which may hold others.
-    pub(crate) fn inside(&self, node: NodeId) -> Option<&Content>
-        ensures { option_map (λ c. view c.now) result ≡ at (story_tree self.now) (node_place (story_tree self.now) node) }
-    {
-        let kept = self.kept(node);
-        match kept.last.key() {
-            Some(last) => match self.inside(kept.holder) {
-                Some(content) => below(content, last),
-                None => None,
-            },
-            None => self.raw.at(&[]),
-        }
-    }
-
     /// Whether an index is one of a node, or its end.
+    #[tactic(auto, using(crate::proofs::Contents::reaches_seen))]
     pub(crate) fn reaches(&self, node: NodeId, index: u32) -> bool
         ensures { result ≡ reaches_in (at (story_tree self.now) (node_place (story_tree self.now) node)) index }
     {
-        let kept = self.kept(node);
-        match kept.content() {
-            Some(_) => false,
-            None => index <= kept.width(),
-        }
+        reaches(self.content_of(node), index)
     }
 
     /// The node at a place; none where nothing stands there.
@@ -128,7 +146,7 @@ impl Tree {
     pub(crate) fn child_at(&self, holder: NodeId, index: u32) -> Option<NodeId>
         ensures { Finds (story_tree self.now) (node_place (story_tree self.now) holder ++ Index index ∷ []) result }
     {
-        if index < self.kept(holder).width() {
+        if index < self.width(holder) {
             let number = self.children.at(holder.number, index as usize);
             self.near(number, holder, Key::Index(index))
         } else {
@@ -140,14 +158,17 @@ impl Tree {
     pub(crate) fn child_by_name(&self, holder: NodeId, name: &str) -> Option<NodeId>
         ensures { Finds (story_tree self.now) (node_place (story_tree self.now) holder ++ Name name.now ∷ []) result }
     {
-        let width = self.kept(holder).width() as usize;
-        let number = self.children.named(&self.nodes, holder.number, width, name);
-        if self.is_child(number, holder, Key::Name(name)) {
-            return Some(NodeId { number });
+        let container = self.content_of(holder);
+        if keys_of(container) == 0 {
+            return None;
         }
-        match by_name(self.inside(holder)?, name) {
-            Some(_) => self.scan(holder, Key::Name(name)),
-            None => None,
+        let own = self.own(holder);
+        let width = width_of(container) as usize;
+        let number = self.children.up_to(self.nodes(), own.number, width, name);
+        if self.is_gap(number, holder, Key::Name(name)) {
+            None
+        } else {
+            self.near(number, holder, Key::Name(name))
         }
     }
 
@@ -166,7 +187,7 @@ impl Tree {
     fn scan(&self, holder: NodeId, key: Key<'_>) -> Option<NodeId>
         ensures { Finds (story_tree self.now) (node_place (story_tree self.now) holder ++ key_part key.entry ∷ []) result }
     {
-        for number in 0..self.nodes.len() {
+        for number in 0..self.len() {
             if self.is_child(number, holder, key) {
                 return Some(NodeId { number });
             }
@@ -180,20 +201,34 @@ impl Tree {
         ensures no { result ≡ false → number < length (places (story_tree self.now))
             → node_place (story_tree self.now) (record { number = number }) ≡ node_place (story_tree self.now) holder ++ key_part key.entry ∷ [] → ⊥ }
     {
-        let own = self.own(holder);
-        match node_at(&self.nodes, number) {
-            Some(node) => match node.last.key() {
-                Some(last) => node.holder.number == own.number && is_part(last, key),
-                None => false,
-            },
+        match self.part_in(holder, number) {
+            Some(part) => is_part(part, key),
             None => false,
+        }
+    }
+
+    /// The part that leads from a node to the content of a number; none where that does not stand one part down.
+    pub(crate) fn part_in(&self, holder: NodeId, number: usize) -> Option<Key<'_>>
+        ensures { LeadsTo (story_tree self.now) (node_place (story_tree self.now) holder) number result }
+    {
+        let own = self.own(holder);
+        match node_at(self.nodes(), number) {
+            Some(node) => {
+                if node.holder as usize == own.number {
+                    node.last.key()
+                } else {
+                    None
+                }
+            }
+            None => None,
         }
     }
 }
 
 // What is kept at a number.
-fn node_at(nodes: &Vec<Node>, number: usize) -> Option<&Node>
-    ensures { option_map (λ n. n.now) result ≡ slice_get nodes.now.items number }
+#[inline(always)]
+fn node_at(nodes: &[Node], number: usize) -> Option<&Node>
+    ensures { option_map (λ n. n.now) result ≡ slice_get nodes.now number }
 {
     nodes.get(number)
 }
@@ -203,29 +238,4 @@ fn is_part(part: Key<'_>, key: Key<'_>) -> bool
     ensures no { result ≡ false → key_part part.entry ≡ key_part key.entry → ⊥ }
 {
     compare_parts(part, key).is_eq()
-}
-
-/// What stands one part down in content.
-fn below<'c>(content: &'c Content, part: Key<'_>) -> Option<&'c Content>
-    ensures { option_map (λ c. view c.now) result ≡ down (key_part part.entry) (view content.now) }
-{
-    match part {
-        Key::Index(index) => by_index(content, index),
-        Key::Name(name) => by_name(content, name),
-    }
-}
-
-fn by_name<'c>(content: &'c Content, name: &str) -> Option<&'c Content>
-    ensures { option_map (λ c. view c.now) result ≡ down (Name name.now) (view content.now) }
-{
-    match content {
-        Content::Leaf(_) => None,
-        Content::Container(container) => by_key(&container.named, name),
-    }
-}
-
-fn by_key<'c>(named: &'c BTreeMap<String, Content>, name: &str) -> Option<&'c Content>
-    ensures { option_map (λ c. view c.now) result ≡ trees.by_key name.now (keyed_view named.now.entries) }
-{
-    named.get(name)
 }

@@ -68,7 +68,7 @@ impl Tree {
         ensures { option_map (node_place (story_tree self.now)) result
             ≡ next_place (story_tree self.now) (node_place (story_tree self.now) holder ++ Index index ∷ []) }
     {
-        if (index as usize) + 1 < self.kept(holder).width() as usize {
+        if (index as usize) + 1 < self.width(holder) as usize {
             self.child_at(holder, index + 1)
         } else {
             self.next_node(holder)

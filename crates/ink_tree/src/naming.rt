@@ -1,13 +1,17 @@
 //! Containers in a list by the names that they give themselves.
 
-ghost use Rattle.std.specs.Prelude.{◌≡◌, IfOk, option_map, slice_get};
+ghost use Rattle.std.specs.Prelude.{◌≡◌, ◌∷◌, [], ◌++◌, IfOk, option_map, slice_get};
 ghost use Rattle.ink_model.specs.Path.{listed_index};
+ghost use Rattle.ink_model.specs.Place.{is_named};
 ghost use Rattle.ink_model.specs.Tree.{at};
-ghost use Rattle.ink_tree.specs.Names.{AreNamed, MayKeepNames, MayShowNames};
+ghost use Rattle.ink_model.specs.declared.place.Part.TheVariants.{Index};
+ghost use Rattle.ink_tree.specs.Contents.{name_in};
+ghost use Rattle.ink_tree.specs.Names.{AreNamed, KeepsNames, MayKeepNames, MayShowNames};
 
+use crate::content::name_of;
 use crate::names::{Listed, Names};
 use crate::spot::NodeId;
-use crate::tree::{Tree, index_in};
+use crate::tree::Tree;
 use std::alloc::AllocError;
 
 /// A list of at most so many contents is looked through each time.
@@ -35,20 +39,27 @@ impl Tree {
     fn new_names(&self, holder: NodeId) -> Result<Option<Names>, AllocError>
         ensures { IfOk result (MayKeepNames (at (story_tree self.now) (node_place (story_tree self.now) holder))) }
     {
-        if self.kept(holder).width() <= FEW {
+        if self.width(holder) <= FEW {
             return Ok(None);
         }
-        match self.inside(holder) {
-            Some(container) => {
-                let names = Names::inside(self.alloc, container)?;
-                if names.is_empty() {
-                    Ok(None)
-                } else {
-                    Ok(Some(names))
-                }
-            }
-            None => Ok(None),
+        let names = self.names_in(holder)?;
+        if names.is_empty() {
+            Ok(None)
+        } else {
+            Ok(Some(names))
         }
+    }
+
+    // The names in the list of one container.
+    fn names_in(&self, holder: NodeId) -> Result<Names, AllocError>
+        ensures { IfOk result (KeepsNames (at (story_tree self.now) (node_place (story_tree self.now) holder))) }
+    {
+        let mut names = Names::none(self.alloc);
+        for index in 0..self.width(holder) {
+            let own = self.name_at(holder, index);
+            names.add(self.alloc, own, index)?;
+        }
+        Ok(names)
     }
 
     /// The index in content of the first container that gives itself a name.
@@ -76,8 +87,40 @@ impl Tree {
     fn look_through(&self, here: NodeId, name: &str) -> Option<u32>
         ensures { result ≡ listed_index name.now (at (story_tree self.now) (node_place (story_tree self.now) here)) }
     {
-        let _width = self.kept(here).width();
-        index_in(self.inside(here)?, name)
+        for index in 0..self.width(here) {
+            if is_name(name, self.name_at(here, index)) {
+                return Some(index);
+            }
+        }
+        None
+    }
+
+    // The name that the content at an index gives itself.
+    fn name_at(&self, holder: NodeId, index: u32) -> Option<&str>
+        ensures { option_map (λ n. n.now) result ≡ name_in (at (story_tree self.now) (node_place (story_tree self.now) holder ++ Index index ∷ [])) }
+    {
+        match self.child_at(holder, index) {
+            Some(node) => self.own_name(node),
+            None => None,
+        }
+    }
+
+    // The name that a content gives itself.
+    #[tactic(auto, using(crate::proofs::Contents::name_seen))]
+    fn own_name(&self, node: NodeId) -> Option<&str>
+        ensures { option_map (λ n. n.now) result ≡ name_in (at (story_tree self.now) (node_place (story_tree self.now) node)) }
+    {
+        name_of(self.content_of(node))
+    }
+}
+
+// Whether a name is the one that content gives itself.
+fn is_name(name: &str, own: Option<&str>) -> bool
+    ensures { result ≡ is_named name.now (option_map (λ n. n.now) own.entry) }
+{
+    match own {
+        Some(own) => name == own,
+        None => false,
     }
 }
 

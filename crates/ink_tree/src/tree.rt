@@ -1,46 +1,40 @@
 //! A story's content by number.
 
 ghost use Rattle.std.specs.Prelude.{◌≡◌, length, Some, None, IfOk, IfErr, IsOk, true, is_some, if◌then◌else◌, option_map, [], ◌∷◌, ◌++◌, ◌<◌, ◌^◌};
+ghost use Rattle.ink_json.specs.Order.{keys_rise};
 ghost use Rattle.ink_json.specs.Story.{tree};
 ghost use Rattle.ink_model.specs.Entered.{flags_at};
 ghost use Rattle.ink_model.specs.Grammar.{here, IsSpelled};
-ghost use Rattle.ink_model.specs.Path.{is_place, listed_index};
+ghost use Rattle.ink_model.specs.Path.{is_place};
 ghost use Rattle.ink_model.specs.Place as rules;
-ghost use Rattle.ink_model.specs.Place.{named_index};
 ghost use Rattle.ink_model.specs.Places.{places};
-ghost use Rattle.ink_model.specs.Tree.{at, down, width, count};
-ghost use Rattle.ink_model.specs.Tree as trees;
-ghost use Rattle.ink_model.specs.View.{view, trees_view};
+ghost use Rattle.ink_model.specs.Tree.{at};
+ghost use Rattle.ink_model.specs.View.{own_content};
 ghost use Rattle.ink_model.specs.declared.fault.Cause.TheVariants.{OutOfMemory};
 ghost use Rattle.ink_model.specs.declared.place.Part.TheVariants.{Index};
-ghost use Rattle.ink_tree.specs.Contents.{has_name};
-ghost use Rattle.ink_tree.specs.Kept.{KeepsAll, AreLinked, leaf_in};
+ghost use Rattle.ink_tree.specs.Kept.{AreLinked, leaf_in};
 ghost use Rattle.ink_tree.specs.Names.{AreNamed};
-ghost use Rattle.ink_tree.specs.Order.{keys_rise};
 
 use crate::children::Children;
-use crate::listing::list_story;
+use crate::content::{flags_of, leaf_of};
+use crate::link::Link;
 use crate::names::Listed;
-use crate::node::{Link, Node};
-use crate::order::part_of;
 use crate::spot::{NodeId, Spot};
-use ink_json::RawStory;
+use ink_json::{RawStory, part_of};
 use ink_model::{Cause, Content, Leaf, Part, Place, ReadRefusal};
 use std::alloc::{AllocError, Global};
 
-/// A story's content, and a node for each content in reading order, with what a step asks of it. It never changes.
+/// A story's content, each by its number in reading order, with what a step asks of it. It never changes.
 #[derive(Drop)]
 pub struct Tree {
     pub(crate) alloc: Global,
     pub(crate) raw: RawStory,
-    pub(crate) nodes: Vec<Node>,
     pub(crate) children: Children,
     pub(crate) links: Vec<Link>,
     pub(crate) lists: Vec<Listed>,
-    ghost many: { length nodes.items ≡ length (places (tree raw)) },
+    ghost few: { length (places (tree raw)) < 2 ^ 32 },
     ghost rising: { keys_rise (tree raw) ≡ true },
     ghost spelled: { IsSpelled (tree raw) },
-    ghost kept: { KeepsAll (tree raw) nodes.items },
     ghost linked: { AreLinked (tree raw) links.items },
     ghost named: { AreNamed (tree raw) lists.items },
 }
@@ -65,12 +59,10 @@ impl Tree {
         ensures ok { IfOk result (λ t. story_tree t ≡ tree raw) }
         ensures spelled { IfOk result (λ t. IsSpelled (story_tree t)) }
     {
-        let nodes = list_story(alloc, &raw)?;
-        let children = Children::of(alloc, &nodes)?;
+        let children = Children::of(alloc, raw.nodes())?;
         let bare = Tree {
             alloc,
             raw,
-            nodes,
             children,
             links: Vec::new(alloc),
             lists: Vec::new(alloc),
@@ -80,14 +72,12 @@ impl Tree {
         let Tree {
             alloc,
             raw,
-            nodes,
             children,
             ..
         } = bare;
         Ok(Tree {
             alloc,
             raw,
-            nodes,
             children,
             links,
             lists,
@@ -96,18 +86,19 @@ impl Tree {
 
     /// How many contents the story has. Their numbers are those below it. Takes no memory.
     pub fn len(&self) -> usize
-        ensures { result ≡ length (places (story_tree self.now)) }
+        ensures all { result ≡ length (places (story_tree self.now)) }
+        ensures few { result < 2 ^ 32 }
     {
-        self.nodes.len()
+        self.nodes().len()
     }
 
     /// The content at a place, none where nothing stands there. Takes no memory.
     pub fn content(&self, spot: Spot) -> Option<&Content>
-        ensures { option_map (λ c. view c.now) result ≡ at (story_tree self.now) (place_of (story_tree self.now) spot) }
+        ensures { option_map (λ c. c.now) result ≡ option_map own_content (at (story_tree self.now) (place_of (story_tree self.now) spot)) }
     {
         match spot.index {
             Some(index) => self.content_in(spot.holder, index),
-            None => self.content_of(spot.holder),
+            None => Some(self.content_of(spot.holder)),
         }
     }
 
@@ -135,27 +126,19 @@ impl Tree {
 
     /// The content of a node, where it holds no other. Takes no memory.
     #[inline(always)]
+    #[tactic(auto, using(crate::proofs::Contents::leaf_seen))]
     pub fn leaf(&self, node: NodeId) -> Option<&Leaf>
         ensures { option_map (λ l. l.now) result ≡ leaf_in (at (story_tree self.now) (node_place (story_tree self.now) node)) }
     {
-        self.kept(node).leaf()
+        leaf_of(self.content_of(node))
     }
 
-    /// The content of a node.
-    pub(crate) fn content_of(&self, node: NodeId) -> Option<&Content>
-        ensures { option_map (λ c. view c.now) result ≡ at (story_tree self.now) (node_place (story_tree self.now) node) }
-    {
-        match self.kept(node).content() {
-            Some(content) => Some(content),
-            None => self.inside(node),
-        }
-    }
-
+    // The content at an index in a content.
     fn content_in(&self, holder: NodeId, index: u32) -> Option<&Content>
-        ensures { option_map (λ c. view c.now) result ≡ at (story_tree self.now) (node_place (story_tree self.now) holder ++ Index index ∷ []) }
+        ensures { option_map (λ c. c.now) result ≡ option_map own_content (at (story_tree self.now) (node_place (story_tree self.now) holder ++ Index index ∷ [])) }
     {
         match self.child_at(holder, index) {
-            Some(node) => self.content_of(node),
+            Some(node) => Some(self.content_of(node)),
             None => None,
         }
     }
@@ -177,10 +160,9 @@ impl Tree {
         ensures root { node_place (story_tree self.now) node ≡ [] → IsOk result }
     {
         let alloc = self.alloc;
-        let kept = self.kept(node);
-        match kept.last.key() {
-            Some(last) => {
-                let mut place = self.place_at(kept.holder)?;
+        match self.above(node) {
+            Some((last, holder)) => {
+                let mut place = self.place_at(holder)?;
                 place.push(part_of(alloc, last)?)?;
                 Ok(place)
             }
@@ -246,10 +228,11 @@ impl Tree {
     }
 
     /// The flags of a container, 0 of other content. Takes no memory.
+    #[tactic(auto, using(crate::proofs::Contents::flags_seen))]
     pub fn flags(&self, node: NodeId) -> u8
         ensures { result ≡ flags_at (at (story_tree self.now) (node_place (story_tree self.now) node)) }
     {
-        self.kept(node).flags()
+        flags_of(self.content_of(node))
     }
 
     /// The knot of a name: the container of the root that has it as its key, or else the first in the root's list that gives
@@ -264,63 +247,5 @@ impl Tree {
         }
         let index = self.listed_index(root, name)?;
         self.child_at(root, index)
-    }
-}
-
-/// What stands at an index in content.
-pub(crate) fn by_index(content: &Content, index: u32) -> Option<&Content>
-    ensures { option_map (λ c. view c.now) result ≡ down (Index index) (view content.now) }
-{
-    match content {
-        Content::Leaf(_) => None,
-        Content::Container(container) => nth(&container.content, index as usize),
-    }
-}
-
-/// The same in a list.
-fn nth(contents: &Vec<Content>, index: usize) -> Option<&Content>
-    ensures { option_map (λ c. view c.now) result ≡ trees.nth index (trees_view contents.now.items) }
-{
-    if index < contents.len() {
-        Some(&contents[index])
-    } else {
-        None
-    }
-}
-
-/// The index in a container of the first container that gives itself a name.
-pub(crate) fn index_in(container: &Content, name: &str) -> Option<u32>
-    requires { width (Some (view container.now)) < 2 ^ 32 }
-    ensures { result ≡ listed_index name.now (Some (view container.now)) }
-{
-    match container {
-        Content::Leaf(_) => None,
-        Content::Container(container) => index_of(&container.content, name),
-    }
-}
-
-/// The same in a list.
-fn index_of(contents: &Vec<Content>, name: &str) -> Option<u32>
-    requires { count (trees_view contents.now.items) < 2 ^ 32 }
-    ensures { result ≡ named_index name.now 0 (trees_view contents.now.items) }
-{
-    for (index, content) in contents.iter().enumerate() {
-        if has_name(content, name) {
-            return Some(index as u32);
-        }
-    }
-    None
-}
-
-/// Whether content is a container that gives itself a name.
-fn has_name(content: &Content, name: &str) -> bool
-    ensures { result ≡ has_name name.now (view content.now) }
-{
-    let Content::Container(container) = content else {
-        return false;
-    };
-    match &container.name {
-        Some(own) => name == own.as_str(),
-        None => false,
     }
 }

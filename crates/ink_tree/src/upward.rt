@@ -1,14 +1,14 @@
 //! Which containers a landing enters (docs/RUNNING.md, "Visits").
 
 ghost use Rattle.std.specs.Prelude.{◌≡◌, ◌≤◌, Option, List, IfOk, IsOk, length, map, option_map};
+ghost use Rattle.ink_json.specs.Order.{key_part};
 ghost use Rattle.ink_model.specs.Entered.{entered_places, is_first, starts_only};
 ghost use Rattle.ink_model.specs.declared.place.Part.{Part as Step};
-ghost use Rattle.ink_tree.specs.Order.{key_part};
 ghost use Rattle.ink_tree.specs.Walks.{EntersNext, IsUp, still_entered};
 
-use crate::order::Key;
 use crate::spot::{NodeId, Spot};
 use crate::tree::Tree;
+use ink_json::Key;
 use ink_model::flags::counts_at_start;
 use smallvec::SmallVec;
 use std::alloc::AllocError;

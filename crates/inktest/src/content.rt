@@ -1,12 +1,11 @@
 //! Content as tables have it.
 
 use crate::answer::{Answer, text};
-use ink_model::{Content, Destination, Leaf, Shared, Text};
+use ink_model::{Container, Content, Destination, Leaf, Shared, Text};
 use std::alloc::{AllocError, Global};
-use std::collections::BTreeMap;
 
-/// Content as a table has it: a leaf by its form, a container by its name, its flags, how many contents stand in its list, and
-/// its keys.
+/// Content as a table has it: a leaf by its form, a container by its name, its flags, how many contents stand in its list, how
+/// many containers by key, and how many contents there are with all in it.
 pub(crate) fn shown_content(alloc: Global, content: Option<&Content>) -> Answer {
     match content {
         None => text(alloc, "nothing"),
@@ -34,21 +33,23 @@ pub(crate) fn shown_leaf(alloc: Global, leaf: Option<&Leaf>) -> Answer {
 pub(crate) fn show_content(text: &mut String, content: &Content) -> Result<(), AllocError> {
     match content {
         Content::Leaf(leaf) => show_leaf(text, leaf),
-        Content::Container(container) => {
-            let name = container.name.as_ref().map_or("-", Text::as_str);
-            let width = container.content.len();
-            write!(text, "container {name} {} {width}", container.flags)?;
-            show_keys(text, &container.named)
-        }
+        Content::Container(container) => show_container(text, container),
     }
 }
 
-fn show_keys(text: &mut String, named: &BTreeMap<String, Content>) -> Result<(), AllocError> {
-    for (key, _) in named.iter() {
-        text.push(' ')?;
-        text.push_str(key.as_str())?;
-    }
-    Ok(())
+fn show_container(text: &mut String, container: &Container) -> Result<(), AllocError> {
+    let Container {
+        name,
+        width,
+        keys,
+        size,
+        flags,
+    } = container;
+    let name = match name {
+        Some(name) => name.as_str(),
+        None => "-",
+    };
+    write!(text, "container {name} {flags} {width} {keys} {size}")
 }
 
 fn show_leaf(text: &mut String, leaf: &Leaf) -> Result<(), AllocError> {

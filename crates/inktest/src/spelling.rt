@@ -1,15 +1,14 @@
 //! Paths that are spelled from two places of a story, some of which lead nowhere.
 
-use crate::twin;
-use ink_json::RawStory;
+use crate::twin::{self, Plain};
 use ink_model::Part;
 use std::alloc::{AllocError, Global};
 
 /// A story whose places are spelled, by the names that containers give themselves or by indexes.
 #[derive(Clone, Copy)]
-struct Speller<'s> {
+struct Speller<'s, 'r> {
     alloc: Global,
-    story: &'s RawStory,
+    story: &'s Plain<'r>,
     by_name: bool,
 }
 
@@ -17,7 +16,7 @@ struct Speller<'s> {
 /// wrong: further up than the root; to the other place's end, past the end and on from the end; and by a name that is not there.
 pub(crate) fn spelled(
     alloc: Global,
-    story: &RawStory,
+    story: &Plain<'_>,
     from: &[Part],
     to: &[Part],
 ) -> Result<Vec<String>, AllocError> {
@@ -54,7 +53,7 @@ fn too_far_up(alloc: Global, from: &[Part]) -> Result<String, AllocError> {
     Ok(path)
 }
 
-impl Speller<'_> {
+impl Speller<'_, '_> {
     /// From the root, of which there is no path.
     fn down(self, to: &[Part]) -> Result<String, AllocError> {
         let path = self.across(&[], to)?;
@@ -92,6 +91,6 @@ impl Speller<'_> {
             return Ok(None);
         }
         let place = twin::below(self.alloc, place, index)?;
-        Ok(self.story.at(place.parts()).and_then(twin::name_of))
+        Ok(twin::content_at(self.story, place.parts()).and_then(twin::name_of))
     }
 }

@@ -1,13 +1,14 @@
 //! A slow twin of the calls of `Tree` and `Story`: the rules of docs/STORY_FORMAT.md ("Places", "Paths"), docs/RUNNING.md
-//! ("Places", "Visits") and docs/VARIABLES.md once more, each by a walk from the root of the story as it was read. A place is its
-//! parts; but for the numbers of variables nothing is numbered or kept, and none of the code is that of the calls.
+//! ("Places", "Visits") and docs/VARIABLES.md once more, each by a walk from the root of a tree of the story's content. A place is
+//! its parts; but for the numbers of variables nothing is numbered or kept, and none of the code is that of the calls.
 
 use indexmap::IndexSet;
-use ink_json::RawStory;
+use ink_json::{Key, Node, RawStory};
 use ink_model::choice_flags::is_once_only;
 use ink_model::flags::{counts_at_start, counts_visits};
-use ink_model::{Container, Content, Destination, Leaf, Part, Path, Place, Seq, Text};
+use ink_model::{Content, Destination, Leaf, MAX_NESTING, Part, Path, Place, Seq, Text};
 use std::alloc::{AllocError, Global};
+use std::collections::BTreeMap;
 
 /// A place, where there is one.
 pub(crate) type Found = Result<Option<Place>, AllocError>;
@@ -15,46 +16,163 @@ pub(crate) type Found = Result<Option<Place>, AllocError>;
 /// The largest index of a path.
 const MOST: u32 = 2_147_483_647;
 
+// ---- the tree
+
+/// Content with what is in it: in a container's list, and by keys.
+#[derive(Drop)]
+pub(crate) struct Plain<'s> {
+    content: &'s Content,
+    list: Vec<Plain<'s>>,
+    keys: BTreeMap<&'s str, Plain<'s>>,
+}
+
+/// The list of a story's content, from the next one on.
+#[derive(Drop)]
+struct Reader<'s> {
+    alloc: Global,
+    nodes: &'s [Node],
+    next: usize,
+}
+
+/// The tree of a story that was read, none where its list ends too early. Of each container it counts what is in it.
+pub(crate) fn tree_of<'s>(
+    alloc: Global,
+    story: &'s RawStory,
+) -> Result<Option<Plain<'s>>, AllocError> {
+    let mut reader = Reader {
+        alloc,
+        nodes: story.nodes(),
+        next: 0,
+    };
+    reader.content(MAX_NESTING + 1)
+}
+
+impl<'s> Reader<'s> {
+    fn take(&mut self) -> Option<&'s Node> {
+        let node = self.nodes.get(self.next)?;
+        self.next = self.next.saturating_add(1);
+        Some(node)
+    }
+
+    /// The next content with what is in it, so many levels at most.
+    #[cycle(reader)]
+    fn content(&mut self, levels: usize) -> Result<Option<Plain<'s>>, AllocError> {
+        let Some(node) = self.take() else {
+            return Ok(None);
+        };
+        let content = &node.content;
+        let mut plain = Plain {
+            content,
+            list: Vec::new(self.alloc),
+            keys: BTreeMap::new(self.alloc),
+        };
+        if let (Content::Container(container), 1..) = (content, levels) {
+            self.elements(&mut plain, container.width, levels - 1)?;
+            self.keyed(&mut plain, container.keys, levels - 1)?;
+        }
+        Ok(Some(plain))
+    }
+
+    #[cycle(reader)]
+    fn elements(
+        &mut self,
+        around: &mut Plain<'s>,
+        width: u32,
+        levels: usize,
+    ) -> Result<(), AllocError> {
+        for _ in 0..width {
+            if let Some(element) = self.content(levels)? {
+                around.list.push(element)?;
+            }
+        }
+        Ok(())
+    }
+
+    #[cycle(reader)]
+    fn keyed(
+        &mut self,
+        around: &mut Plain<'s>,
+        keys: u32,
+        levels: usize,
+    ) -> Result<(), AllocError> {
+        for _ in 0..keys {
+            let name = self.name();
+            if let Some(container) = self.content(levels)? {
+                around.keys.insert(name, container)?;
+            }
+        }
+        Ok(())
+    }
+
+    /// The name that leads to the next content.
+    fn name(&self) -> &'s str {
+        match self.nodes.get(self.next).map(|node| node.last.key()) {
+            Some(Some(Key::Name(name))) => name,
+            _ => "",
+        }
+    }
+}
+
 // ---- what stands at a place
 
-/// The container at a place.
-pub(crate) fn container_at<'s>(story: &'s RawStory, place: &[Part]) -> Option<&'s Container> {
-    match story.at(place)? {
-        Content::Container(container) => Some(&**container),
+/// What stands at a place.
+fn at<'p, 's>(story: &'p Plain<'s>, place: &[Part]) -> Option<&'p Plain<'s>> {
+    match place.split_first() {
+        Some((part, rest)) => at(down(story, part)?, rest),
+        None => Some(story),
+    }
+}
+
+/// What stands one part down.
+fn down<'p, 's>(plain: &'p Plain<'s>, part: &Part) -> Option<&'p Plain<'s>> {
+    match part {
+        Part::Index(index) => plain.list.get(*index as usize),
+        Part::Name(name) => plain.keys.get(name.as_str()),
+    }
+}
+
+/// The content at a place.
+pub(crate) fn content_at<'s>(story: &Plain<'s>, place: &[Part]) -> Option<&'s Content> {
+    Some(at(story, place)?.content)
+}
+
+/// The container at a place, with what is in it.
+pub(crate) fn container_at<'p, 's>(story: &'p Plain<'s>, place: &[Part]) -> Option<&'p Plain<'s>> {
+    let here = at(story, place)?;
+    match here.content {
+        Content::Container(_) => Some(here),
         Content::Leaf(_) => None,
     }
 }
 
 /// The content at a place that holds no other.
-pub(crate) fn leaf_at<'s>(story: &'s RawStory, place: &[Part]) -> Option<&'s Leaf> {
-    match story.at(place)? {
+pub(crate) fn leaf_at<'s>(story: &Plain<'s>, place: &[Part]) -> Option<&'s Leaf> {
+    match content_at(story, place)? {
         Content::Container(_) => None,
         Content::Leaf(leaf) => Some(leaf),
     }
 }
 
 /// How many contents stand by index at a place.
-pub(crate) fn width(story: &RawStory, place: &[Part]) -> u32 {
+pub(crate) fn width(story: &Plain<'_>, place: &[Part]) -> u32 {
     match container_at(story, place) {
-        Some(container) => u32::try_from(container.content.len()).unwrap_or(u32::MAX),
+        Some(container) => u32::try_from(container.list.len()).unwrap_or(u32::MAX),
         None => 0,
     }
 }
 
 /// The flags of the container at a place.
-pub(crate) fn flags(story: &RawStory, place: &[Part]) -> u8 {
-    match container_at(story, place) {
-        Some(container) => container.flags,
-        None => 0,
+pub(crate) fn flags(story: &Plain<'_>, place: &[Part]) -> u8 {
+    match content_at(story, place) {
+        Some(Content::Container(container)) => container.flags,
+        _ => 0,
     }
 }
 
 /// The places of all content, in reading order.
-pub(crate) fn places(alloc: Global, story: &RawStory) -> Result<Vec<Place>, AllocError> {
+pub(crate) fn places(alloc: Global, story: &Plain<'_>) -> Result<Vec<Place>, AllocError> {
     let mut places = Vec::new(alloc);
-    if let Some(root) = story.at(&[]) {
-        list(alloc, &mut places, &[], root)?;
-    }
+    list(alloc, &mut places, &[], story)?;
     Ok(places)
 }
 
@@ -63,18 +181,16 @@ fn list(
     alloc: Global,
     places: &mut Vec<Place>,
     place: &[Part],
-    content: &Content,
+    plain: &Plain<'_>,
 ) -> Result<(), AllocError> {
     places.push(Place::from_parts(alloc, place)?)?;
-    if let Content::Container(container) = content {
-        for (index, inner) in (0..u32::MAX).zip(container.content.iter()) {
-            let place = below(alloc, place, index)?;
-            list(alloc, places, place.parts(), inner)?;
-        }
-        for (name, inner) in container.named.iter() {
-            let place = under(alloc, place, name.as_str())?;
-            list(alloc, places, place.parts(), inner)?;
-        }
+    for (index, inner) in (0..u32::MAX).zip(plain.list.iter()) {
+        let place = below(alloc, place, index)?;
+        list(alloc, places, place.parts(), inner)?;
+    }
+    for (name, inner) in plain.keys.iter() {
+        let place = under(alloc, place, name)?;
+        list(alloc, places, place.parts(), inner)?;
     }
     Ok(())
 }
@@ -104,7 +220,7 @@ pub(crate) fn holder(alloc: Global, place: &[Part]) -> Found {
 }
 
 /// The first content in a container.
-pub(crate) fn inside(alloc: Global, story: &RawStory, place: &[Part]) -> Found {
+pub(crate) fn inside(alloc: Global, story: &Plain<'_>, place: &[Part]) -> Found {
     if width(story, place) == 0 {
         return Ok(None);
     }
@@ -112,7 +228,11 @@ pub(crate) fn inside(alloc: Global, story: &RawStory, place: &[Part]) -> Found {
 }
 
 /// Where flow lands on what stands at a place: on a container's first content, and else there.
-pub(crate) fn landed(alloc: Global, story: &RawStory, place: &[Part]) -> Result<Place, AllocError> {
+pub(crate) fn landed(
+    alloc: Global,
+    story: &Plain<'_>,
+    place: &[Part],
+) -> Result<Place, AllocError> {
     match inside(alloc, story, place)? {
         Some(first) => Ok(first),
         None => Place::from_parts(alloc, place),
@@ -122,28 +242,26 @@ pub(crate) fn landed(alloc: Global, story: &RawStory, place: &[Part]) -> Result<
 /// Where a step at a place performs: at the first content from there on that holds no other by index.
 pub(crate) fn performed(
     alloc: Global,
-    story: &RawStory,
+    story: &Plain<'_>,
     place: &[Part],
 ) -> Result<Place, AllocError> {
     let mut here = Place::from_parts(alloc, place)?;
-    if let Some(content) = story.at(place) {
-        go_in(&mut here, content)?;
+    if let Some(there) = at(story, place) {
+        go_in(&mut here, there)?;
     }
     Ok(here)
 }
 
-fn go_in(place: &mut Place, content: &Content) -> Result<(), AllocError> {
-    if let Content::Container(container) = content {
-        if let Some(first) = container.content.first() {
-            place.push(Part::Index(0))?;
-            go_in(place, first)?;
-        }
+fn go_in(place: &mut Place, plain: &Plain<'_>) -> Result<(), AllocError> {
+    if let Some(first) = plain.list.first() {
+        place.push(Part::Index(0))?;
+        go_in(place, first)?;
     }
     Ok(())
 }
 
 /// The place after a place: the next index of the container, or what follows the container, as long as that stands by index.
-pub(crate) fn after(alloc: Global, story: &RawStory, place: &[Part]) -> Found {
+pub(crate) fn after(alloc: Global, story: &Plain<'_>, place: &[Part]) -> Found {
     let Some((Part::Index(index), around)) = place.split_last() else {
         return Ok(None);
     };
@@ -159,12 +277,12 @@ pub(crate) fn after(alloc: Global, story: &RawStory, place: &[Part]) -> Found {
 /// nothing stands enters none.
 pub(crate) fn entered<'p>(
     alloc: Global,
-    story: &RawStory,
+    story: &Plain<'_>,
     previous: Option<&[Part]>,
     at: &'p [Part],
 ) -> Result<Vec<&'p [Part]>, AllocError> {
     let mut entered = Vec::new(alloc);
-    if story.at(at).is_some() {
+    if content_at(story, at).is_some() {
         enter(story, previous, at, true, &mut entered)?;
     }
     Ok(entered)
@@ -172,7 +290,7 @@ pub(crate) fn entered<'p>(
 
 /// The same from a place on the way upward; `at_start` says whether only first contents led down from there.
 fn enter<'p>(
-    story: &RawStory,
+    story: &Plain<'_>,
     previous: Option<&[Part]>,
     place: &'p [Part],
     at_start: bool,
@@ -276,7 +394,7 @@ fn component(alloc: Global, word: &str) -> Result<Option<Part>, AllocError> {
 }
 
 /// Where a path leads from a place.
-pub(crate) fn resolved(alloc: Global, story: &RawStory, from: &[Part], path: &Path) -> Found {
+pub(crate) fn resolved(alloc: Global, story: &Plain<'_>, from: &[Part], path: &Path) -> Found {
     let start = if path.relative { from } else { &[] };
     match path.parts.as_slice().split_last() {
         Some((last, others)) => match walked(alloc, story, start, others)? {
@@ -287,7 +405,7 @@ pub(crate) fn resolved(alloc: Global, story: &RawStory, from: &[Part], path: &Pa
     }
 }
 
-fn walked(alloc: Global, story: &RawStory, from: &[Part], components: &[Part]) -> Found {
+fn walked(alloc: Global, story: &Plain<'_>, from: &[Part], components: &[Part]) -> Found {
     let mut here = Place::from_parts(alloc, from)?;
     for component in components {
         match stepped(alloc, story, here.parts(), component)? {
@@ -299,7 +417,7 @@ fn walked(alloc: Global, story: &RawStory, from: &[Part], components: &[Part]) -
 }
 
 /// One component further.
-fn stepped(alloc: Global, story: &RawStory, place: &[Part], component: &Part) -> Found {
+fn stepped(alloc: Global, story: &Plain<'_>, place: &[Part], component: &Part) -> Found {
     match component {
         Part::Name(name) if name.as_str() == "^" => holder(alloc, place),
         Part::Name(name) => named(alloc, story, place, name.as_str()),
@@ -311,7 +429,7 @@ fn stepped(alloc: Global, story: &RawStory, place: &[Part], component: &Part) ->
 }
 
 /// The same for the last component, which may be the index of a container's end.
-fn last_stepped(alloc: Global, story: &RawStory, place: &[Part], component: &Part) -> Found {
+fn last_stepped(alloc: Global, story: &Plain<'_>, place: &[Part], component: &Part) -> Found {
     match component {
         Part::Index(index) if is_end(story, place, *index) => {
             Ok(Some(below(alloc, place, *index)?))
@@ -320,19 +438,19 @@ fn last_stepped(alloc: Global, story: &RawStory, place: &[Part], component: &Par
     }
 }
 
-fn is_end(story: &RawStory, place: &[Part], index: u32) -> bool {
+fn is_end(story: &Plain<'_>, place: &[Part], index: u32) -> bool {
     container_at(story, place).is_some() && index == width(story, place)
 }
 
 /// The container in a container by a name: given by key, or else the first in the list that gives itself that name.
-pub(crate) fn named(alloc: Global, story: &RawStory, place: &[Part], name: &str) -> Found {
+pub(crate) fn named(alloc: Global, story: &Plain<'_>, place: &[Part], name: &str) -> Found {
     let keyed = under(alloc, place, name)?;
-    if story.at(keyed.parts()).is_some() {
+    if content_at(story, keyed.parts()).is_some() {
         return Ok(Some(keyed));
     }
     if let Some(container) = container_at(story, place) {
-        for (index, content) in (0..u32::MAX).zip(container.content.iter()) {
-            if name_of(content) == Some(name) {
+        for (index, inner) in (0..u32::MAX).zip(container.list.iter()) {
+            if name_of(inner.content) == Some(name) {
                 return Ok(Some(below(alloc, place, index)?));
             }
         }
@@ -343,7 +461,10 @@ pub(crate) fn named(alloc: Global, story: &RawStory, place: &[Part], name: &str)
 /// The name that a container gives itself.
 pub(crate) fn name_of(content: &Content) -> Option<&str> {
     match content {
-        Content::Container(container) => container.name.as_ref().map(Text::as_str),
+        Content::Container(container) => match &container.name {
+            Some(name) => Some(name.as_str()),
+            None => None,
+        },
         Content::Leaf(_) => None,
     }
 }
@@ -351,7 +472,7 @@ pub(crate) fn name_of(content: &Content) -> Option<&str> {
 // ---- written paths
 
 /// Where a path as it is spelled leads from a content.
-fn leads(alloc: Global, story: &RawStory, place: &[Part], text: &str) -> Found {
+fn leads(alloc: Global, story: &Plain<'_>, place: &[Part], text: &str) -> Found {
     match path_of(alloc, text)? {
         Some(path) => resolved(alloc, story, place, &path),
         None => Ok(None),
@@ -359,7 +480,7 @@ fn leads(alloc: Global, story: &RawStory, place: &[Part], text: &str) -> Found {
 }
 
 /// Where flow lands by it: by an index there, and by a name on the container's first content.
-fn lands(alloc: Global, story: &RawStory, place: &[Part], text: &str) -> Found {
+fn lands(alloc: Global, story: &Plain<'_>, place: &[Part], text: &str) -> Found {
     let Some(target) = leads(alloc, story, place, text)? else {
         return Ok(None);
     };
@@ -387,7 +508,7 @@ pub(crate) fn written(leaf: &Leaf) -> Option<&str> {
 }
 
 /// Where the written path of the content at a place leads: the target of a value or a count, and else the landing.
-pub(crate) fn target(alloc: Global, story: &RawStory, place: &[Part]) -> Found {
+pub(crate) fn target(alloc: Global, story: &Plain<'_>, place: &[Part]) -> Found {
     let Some(leaf) = leaf_at(story, place) else {
         return Ok(None);
     };
@@ -399,7 +520,7 @@ pub(crate) fn target(alloc: Global, story: &RawStory, place: &[Part]) -> Found {
 }
 
 /// The container whose visits the content at a place asks for: a count does, and a choice that is offered once only.
-pub(crate) fn counted(alloc: Global, story: &RawStory, place: &[Part]) -> Found {
+pub(crate) fn counted(alloc: Global, story: &Plain<'_>, place: &[Part]) -> Found {
     match leaf_at(story, place) {
         Some(Leaf::Count(text)) => leads(alloc, story, place, text.as_str()),
         Some(Leaf::Choice { target, flags }) if is_once_only(*flags) => {
@@ -412,7 +533,7 @@ pub(crate) fn counted(alloc: Global, story: &RawStory, place: &[Part]) -> Found 
 /// The path that the content at a place pushes.
 pub(crate) fn pushed(
     alloc: Global,
-    story: &RawStory,
+    story: &Plain<'_>,
     place: &[Part],
 ) -> Result<Option<Path>, AllocError> {
     match leaf_at(story, place) {
@@ -424,7 +545,7 @@ pub(crate) fn pushed(
 /// The names of the story's variables, each once, in order of their first occurrence.
 pub(crate) fn variables<'s>(
     alloc: Global,
-    story: &'s RawStory,
+    story: &Plain<'s>,
     places: &[Place],
 ) -> Result<IndexSet<&'s str>, AllocError> {
     let mut variables = IndexSet::new(alloc);
@@ -451,7 +572,7 @@ pub(crate) fn variable(leaf: &Leaf) -> Option<&str> {
 
 /// Whether the content at a place has a path that does not lead where it has to: the path of a value is not relative, what is
 /// counted is a container whose visits are, and every path leads somewhere.
-pub(crate) fn is_bad(alloc: Global, story: &RawStory, place: &[Part]) -> Result<bool, AllocError> {
+pub(crate) fn is_bad(alloc: Global, story: &Plain<'_>, place: &[Part]) -> Result<bool, AllocError> {
     let Some(text) = leaf_at(story, place).and_then(written) else {
         return Ok(false);
     };

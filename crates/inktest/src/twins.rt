@@ -6,7 +6,7 @@ use crate::answer::{Answer, NoAnswer, append, counted, text};
 use crate::content::{shown_content, shown_leaf};
 use crate::reading::refused;
 use crate::spelling::spelled;
-use crate::twin;
+use crate::twin::{self, Plain};
 use crate::words::{show_parts, shown_parts};
 use ink_check::{Story, check};
 use ink_json::{RawStory, read_story};
@@ -17,12 +17,13 @@ use std::alloc::{AllocError, AllocFailed, Global};
 /// The most pairs of two places, or of a path and a place, that are compared for one story.
 const MOST_PAIRS: usize = 100_000;
 
-/// A story by number, the same story as it was read, and the places of all content in it, by number.
+/// A story by number, the same story as it was read and as a tree, and the places of all content in it, by number.
 #[derive(Clone, Copy)]
-struct Twins<'s> {
+struct Twins<'s, 'r> {
     alloc: Global,
     tree: &'s Tree,
     raw: &'s RawStory,
+    plain: &'s Plain<'r>,
     places: &'s [Place],
 }
 
@@ -76,12 +77,21 @@ pub(crate) fn answer(alloc: Global, story: &str) -> Answer {
     }
 }
 
-fn compare(alloc: Global, tree: &Tree, raw: &RawStory, story: &str) -> Result<String, Stop> {
-    let places = twin::places(alloc, raw)?;
+fn compare<'s>(
+    alloc: Global,
+    tree: &'s Tree,
+    raw: &'s RawStory,
+    story: &str,
+) -> Result<String, Stop> {
+    let Some(plain) = twin::tree_of(alloc, raw)? else {
+        return Ok(text(alloc, "its list ends too early")?);
+    };
+    let places = twin::places(alloc, &plain)?;
     let twins = Twins {
         alloc,
         tree,
         raw,
+        plain: &plain,
         places: places.as_slice(),
     };
     twins.compare(story)
@@ -112,9 +122,10 @@ fn on(holder: NodeId) -> Spot {
     }
 }
 
-impl Twins<'_> {
+impl Twins<'_, '_> {
     fn compare(&self, story: &str) -> Result<String, Stop> {
         self.compare_contents()?;
+        self.compare_raw()?;
         self.compare_knots()?;
         self.compare_checked(check(self.alloc, read(self.alloc, story)?))?;
         let landings = self.compare_landings()?;
@@ -147,7 +158,7 @@ impl Twins<'_> {
 
     /// Where a content is.
     fn compare_node(&self, node: NodeId, at: &[Part]) -> Result<(), Stop> {
-        let (alloc, tree, raw) = (self.alloc, self.tree, self.raw);
+        let (alloc, tree, plain) = (self.alloc, self.tree, self.plain);
         let asked = |call| Asked { call, at };
         let number = counted(alloc, tree.number_of(node));
         self.alike(asked("number_of"), number, counted(alloc, node.number))?;
@@ -155,32 +166,57 @@ impl Twins<'_> {
         self.alike_spots(asked("spot"), tree.spot(at), Some(at))?;
         let holder = twin::holder(alloc, at)?;
         self.alike_nodes(asked("holder"), tree.holder(node), parts_of(&holder))?;
-        let inside = twin::inside(alloc, raw, at)?;
+        let inside = twin::inside(alloc, plain, at)?;
         self.alike_nodes(asked("first"), tree.first(node), parts_of(&inside))
     }
 
     /// What it is.
     fn compare_content(&self, node: NodeId, at: &[Part]) -> Result<(), Stop> {
-        let (alloc, tree, raw) = (self.alloc, self.tree, self.raw);
+        let (alloc, tree, plain) = (self.alloc, self.tree, self.plain);
         let asked = |call| Asked { call, at };
         let content = shown_content(alloc, tree.content(on(node)));
-        self.alike(asked("content"), content, shown_content(alloc, raw.at(at)))?;
+        self.alike(
+            asked("content"),
+            content,
+            shown_content(alloc, twin::content_at(plain, at)),
+        )?;
         let leaf = shown_leaf(alloc, tree.leaf(node));
         self.alike(
             asked("leaf"),
             leaf,
-            shown_leaf(alloc, twin::leaf_at(raw, at)),
+            shown_leaf(alloc, twin::leaf_at(plain, at)),
         )?;
         let flags = counted(alloc, usize::from(tree.flags(node)));
-        let slow = counted(alloc, usize::from(twin::flags(raw, at)));
+        let slow = counted(alloc, usize::from(twin::flags(plain, at)));
         self.alike(asked("flags"), flags, slow)
+    }
+
+    /// The content at all places, or some, as it was read, and what stands behind a container's last content and at no key.
+    fn compare_raw(&self) -> Result<(), Stop> {
+        for place in some_of(self.alloc, self.places, self.places.len())? {
+            let place = place.parts();
+            self.compare_raw_at(place)?;
+            let end = twin::below(self.alloc, place, twin::width(self.plain, place))?;
+            self.compare_raw_at(end.parts())?;
+            let absent = twin::under(self.alloc, place, "nowhere")?;
+            self.compare_raw_at(absent.parts())?;
+        }
+        Ok(())
+    }
+
+    fn compare_raw_at(&self, at: &[Part]) -> Result<(), Stop> {
+        let content = shown_content(self.alloc, self.raw.at(at));
+        let slow = shown_content(self.alloc, twin::content_at(self.plain, at));
+        self.alike(Asked { call: "at", at }, content, slow)
     }
 
     /// By the name of each container that gives itself one, and by each key.
     fn compare_knots(&self) -> Result<(), Stop> {
         self.compare_knot("nowhere")?;
         for place in self.places {
-            if let Some(name) = self.raw.at(place.parts()).and_then(twin::name_of) {
+            if let Some(name) = twin::content_at(self.plain, place.parts()).and_then(
+                twin::name_of,
+            ) {
                 self.compare_knot(name)?;
             }
             if let Some(Part::Name(name)) = place.parts().last() {
@@ -196,7 +232,7 @@ impl Twins<'_> {
             call: "knot",
             at: place.parts(),
         };
-        let slow = twin::named(self.alloc, self.raw, &[], name)?;
+        let slow = twin::named(self.alloc, self.plain, &[], name)?;
         self.alike_nodes(knot, self.tree.knot(name), parts_of(&slow))
     }
 
@@ -220,7 +256,7 @@ impl Twins<'_> {
     /// Whether each path leads where it has to, or the first place where one does not.
     fn accepted(&self) -> Answer {
         for place in self.places {
-            if twin::is_bad(self.alloc, self.raw, place.parts())? {
+            if twin::is_bad(self.alloc, self.plain, place.parts())? {
                 let mut answer = String::from_str(self.alloc, "BadPath ")?;
                 show_parts(&mut answer, place.parts())?;
                 return Ok(answer);
@@ -230,19 +266,19 @@ impl Twins<'_> {
     }
 
     fn compare_written(&self, story: &Story) -> Result<(), Stop> {
-        let (alloc, raw) = (self.alloc, self.raw);
-        let variables = twin::variables(alloc, raw, self.places)?;
+        let (alloc, plain) = (self.alloc, self.plain);
+        let variables = twin::variables(alloc, plain, self.places)?;
         for (number, place) in self.places.iter().enumerate() {
             let (node, at) = (NodeId { number }, place.parts());
             let asked = |call| Asked { call, at };
-            let target = twin::target(alloc, raw, at)?;
+            let target = twin::target(alloc, plain, at)?;
             self.alike_spots(asked("target"), story.target(node), parts_of(&target))?;
-            let counted = twin::counted(alloc, raw, at)?;
+            let counted = twin::counted(alloc, plain, at)?;
             self.alike_nodes(asked("counted"), story.counted(node), parts_of(&counted))?;
-            let pushed = twin::pushed(alloc, raw, at)?;
+            let pushed = twin::pushed(alloc, plain, at)?;
             let fast = story.pushed(node).map(Shared::get);
             self.alike_paths(asked("pushed"), fast, pushed.as_ref())?;
-            let variable = twin::leaf_at(raw, at).and_then(twin::variable);
+            let variable = twin::leaf_at(plain, at).and_then(twin::variable);
             let slow = variable.and_then(|name| variables.get_index_of(name));
             self.alike_numbers(asked("variable"), story.variable(node), slow)?;
         }
@@ -253,7 +289,7 @@ impl Twins<'_> {
 
     /// At each place, and from each, or some, to each. Says how many pairs there are, those without a place before among them.
     fn compare_landings(&self) -> Result<usize, Stop> {
-        let root = twin::landed(self.alloc, self.raw, &[])?;
+        let root = twin::landed(self.alloc, self.plain, &[])?;
         let start = Asked {
             call: "start",
             at: &[],
@@ -279,8 +315,8 @@ impl Twins<'_> {
         for (number, place) in self.places.iter().enumerate() {
             let holder = NodeId { number };
             stands.push(self.stand(place.parts(), on(holder))?)?;
-            if twin::container_at(self.raw, place.parts()).is_some() {
-                let index = twin::width(self.raw, place.parts());
+            if twin::container_at(self.plain, place.parts()).is_some() {
+                let index = twin::width(self.plain, place.parts());
                 let end = twin::below(self.alloc, place.parts(), index)?;
                 let index = Some(index);
                 stands.push(self.stand(end.parts(), Spot { holder, index })?)?;
@@ -299,24 +335,28 @@ impl Twins<'_> {
     }
 
     fn compare_flow(&self, stand: &Stand) -> Result<(), Stop> {
-        let (alloc, tree, raw) = (self.alloc, self.tree, self.raw);
+        let (alloc, tree, plain) = (self.alloc, self.tree, self.plain);
         let at = stand.place.parts();
         let asked = |call| Asked { call, at };
-        let here = raw.at(at).map(|_| at);
-        let landed = twin::landed(alloc, raw, at)?;
-        let next = twin::after(alloc, raw, at)?;
+        let here = twin::content_at(plain, at).map(|_| at);
+        let landed = twin::landed(alloc, plain, at)?;
+        let next = twin::after(alloc, plain, at)?;
         for spot in stand.spots {
             self.alike_spots(asked("place"), Some(spot), Some(at))?;
             self.alike_nodes(asked("node"), tree.node(spot), here)?;
             let content = shown_content(alloc, tree.content(spot));
-            self.alike(asked("content"), content, shown_content(alloc, raw.at(at)))?;
+            self.alike(
+                asked("content"),
+                content,
+                shown_content(alloc, twin::content_at(plain, at)),
+            )?;
             self.alike_spots(asked("land"), Some(tree.land(spot)), Some(landed.parts()))?;
             self.alike_spots(asked("next"), tree.next(spot), parts_of(&next))?;
             let leaf = shown_leaf(alloc, tree.leaf_at(spot));
             self.alike(
                 asked("leaf_at"),
                 leaf,
-                shown_leaf(alloc, twin::leaf_at(raw, at)),
+                shown_leaf(alloc, twin::leaf_at(plain, at)),
             )?;
             self.compare_first(at, spot)?;
         }
@@ -325,9 +365,9 @@ impl Twins<'_> {
 
     /// Where a step performs, and the content there, whole or as a leaf.
     fn compare_first(&self, at: &[Part], spot: Spot) -> Result<(), Stop> {
-        let (alloc, tree, raw) = (self.alloc, self.tree, self.raw);
+        let (alloc, tree, plain) = (self.alloc, self.tree, self.plain);
         let asked = |call| Asked { call, at };
-        let performed = twin::performed(alloc, raw, at)?;
+        let performed = twin::performed(alloc, plain, at)?;
         let there = performed.parts();
         let (first, content) = tree.first_content(spot);
         self.alike_spots(asked("first_content"), Some(first), Some(there))?;
@@ -335,7 +375,7 @@ impl Twins<'_> {
         self.alike(
             asked("first_content"),
             content,
-            shown_content(alloc, raw.at(there)),
+            shown_content(alloc, twin::content_at(plain, there)),
         )?;
         let (first, leaf) = tree.first_leaf(spot);
         self.alike_spots(asked("first_leaf"), Some(first), Some(there))?;
@@ -343,13 +383,13 @@ impl Twins<'_> {
         self.alike(
             asked("first_leaf"),
             leaf,
-            shown_leaf(alloc, twin::leaf_at(raw, there)),
+            shown_leaf(alloc, twin::leaf_at(plain, there)),
         )
     }
 
     fn compare_landing(&self, previous: Option<&Stand>, at: &Stand) -> Result<(), Stop> {
         let before = previous.map(|stand| stand.place.parts());
-        let slow = twin::entered(self.alloc, self.raw, before, at.place.parts())?;
+        let slow = twin::entered(self.alloc, self.plain, before, at.place.parts())?;
         for (from, to) in [(0usize, 1usize), (1, 0)] {
             let from = previous.map(|stand| stand.spots[from]);
             let fast = self.tree.entered(from, at.spots[to])?;
@@ -373,7 +413,7 @@ impl Twins<'_> {
             for path in &written {
                 self.compare_path(node, from.parts(), path)?;
             }
-            let spelled = spelled(self.alloc, self.raw, from.parts(), self.other(number))?;
+            let spelled = spelled(self.alloc, self.plain, from.parts(), self.other(number))?;
             for path in &spelled {
                 self.compare_path(node, from.parts(), path.as_str())?;
             }
@@ -388,7 +428,7 @@ impl Twins<'_> {
     fn written(&self) -> Result<Vec<&str>, AllocError> {
         let mut written = Vec::new(self.alloc);
         for place in self.places {
-            if let Some(path) = twin::leaf_at(self.raw, place.parts()).and_then(twin::written) {
+            if let Some(path) = twin::leaf_at(self.plain, place.parts()).and_then(twin::written) {
                 written.push(path)?;
             }
         }
@@ -422,7 +462,7 @@ impl Twins<'_> {
         let (Some(read), Some(path)) = (read, slow) else {
             return Ok(());
         };
-        let slow = twin::resolved(self.alloc, self.raw, at, &path)?;
+        let slow = twin::resolved(self.alloc, self.plain, at, &path)?;
         self.alike_spots(asked, self.tree.resolve(node, &read), parts_of(&slow))
     }
 

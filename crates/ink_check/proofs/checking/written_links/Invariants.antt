@@ -1,4 +1,4 @@
-use Rattle.std.proofs.Common.{◌≡◌, map, take}
+use Rattle.std.proofs.Common.{◌≡◌, length, map, take}
 use Rattle.ink_model.specs.Acceptance.{bad_places, counted_container, written_target}
 use Rattle.ink_model.specs.Places.{places}
 use Rattle.ink_tree.specs.Nodes as nodes
@@ -10,9 +10,10 @@ use Rattle.ink_check.proofs.checking.written_links.Given as goal
 
 abbrev pub invariant-loop-number : goal.invariant-loop-number
 invariant-loop-number l = record {
+  many : length l.links ≡ l.number;
   good : bad_places (nodes.story_tree l.tree) ≡ bad_from (nodes.story_tree l.tree) l.number;
-  leading : map (target_place (nodes.story_tree l.tree)) l.links.items ≡ map (written_target (nodes.story_tree l.tree)) (take l.number (places (nodes.story_tree l.tree)));
-  counting : map (counted_place (nodes.story_tree l.tree)) l.links.items ≡ map (counted_container (nodes.story_tree l.tree)) (take l.number (places (nodes.story_tree l.tree)));
-  pushing : map pushed_of l.links.items ≡ map (λ p. pushed_path (at (nodes.story_tree l.tree) p)) (take l.number (places (nodes.story_tree l.tree)));
-  numbering : map number_of l.links.items ≡ map (variable_number (nodes.story_tree l.tree)) (take l.number (places (nodes.story_tree l.tree)));
+  leading : map (target_place (nodes.story_tree l.tree)) l.links ≡ map (written_target (nodes.story_tree l.tree)) (take l.number (places (nodes.story_tree l.tree)));
+  counting : map (counted_place (nodes.story_tree l.tree)) l.links ≡ map (counted_container (nodes.story_tree l.tree)) (take l.number (places (nodes.story_tree l.tree)));
+  pushing : map pushed_of l.links ≡ map (λ p. pushed_path (at (nodes.story_tree l.tree) p)) (take l.number (places (nodes.story_tree l.tree)));
+  numbering : map number_of l.links ≡ map (variable_number (nodes.story_tree l.tree)) (take l.number (places (nodes.story_tree l.tree)));
 }

@@ -1,5 +1,5 @@
 use Rattle.std.proofs.Common.{◌∙◌, ap, sym, is_eq}
-use Rattle.ink_tree.specs.Order.{key_part}
+use Rattle.ink_json.specs.Order.{key_part}
 use Rattle.ink_tree.proofs.Down.{equal_parts, other_parts}
 use Rattle.ink_tree.proofs.lookup.is_part.Goals as goal
 

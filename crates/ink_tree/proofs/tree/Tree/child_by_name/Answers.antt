@@ -1,17 +1,13 @@
-use Rattle.std.proofs.Common.{◌∙◌, ◌∷◌, ◌++◌, [], sym, subst, Some, None}
-use Rattle.ink_model.specs.View.{view}
-use Rattle.ink_model.specs.declared.place.Part.TheVariants.{Name}
-use Rattle.ink_tree.specs.Nodes.{story_tree, node_place, Finds}
-use Rattle.ink_tree.proofs.Further.{below}
+use Rattle.std.proofs.Common.{◌≡◌, arith}
+use Rattle.std.proofs.lemmas.Bool.Decides.{nat_tests}
+use Rattle.ink_tree.specs.Kept.{kept_keys}
+use Rattle.ink_tree.specs.Nodes.{story_tree, node_place}
+use Rattle.ink_tree.proofs.Contents.{no_keys_in}
 use Rattle.ink_tree.proofs.tree.Tree.child_by_name.Goals as goal
 
-pub returns-in-None : goal.returns-in-None
-returns-in-None c =
+pub returns-then-keys_of-eq0 : goal.returns-then-keys_of-eq0
+returns-then-keys_of-eq0 c =
     let s = story_tree c.args.self.now in
-    sym (c.in-None.ensures ∙ below s (node_place s c.args.holder) (Name c.args.name.now) (Some (view c.in_ok-inside.field-0.now)) c.in_ok-inside.ensures)
-
-pub returns-in_err-inside : goal.returns-in_err-inside
-returns-in_err-inside c =
-    let s = story_tree c.args.self.now in
-    let p = node_place s c.args.holder in
-    subst (Finds s (p ++ Name c.args.name.now ∷ [])) (sym c.from_residual.ensures) (sym (below s p (Name c.args.name.now) None c.in_err-inside.ensures))
+    let container = c.content_of-container in
+    let none : kept_keys container.result.now ≡ 0 = grind (arith, nat_tests, c.if-keys_of-eq0.true, c.keys_of.ensures) in
+    no_keys_in s (node_place s c.args.holder) container.result.now c.args.name.now container.ensures none

@@ -6,20 +6,16 @@ use Rattle.ink_tree.proofs.tree.Tree.is_around.Goals as goal
 
 pub returns-then-container-node : goal.returns-then-container-node
 returns-then-container-node c =
-    let t = c.args.self.now in
-    let s = story_tree t in
+    let s = story_tree c.args.self.now in
     let a = c.own-container in
     let q = c.own-node in
-    c.ends_behind.ensures
-    ∙ around_by_number s t.nodes.items t.many t.kept (node_place s c.args.container) (node_place s c.args.node) a.result q.result c.index-kept.result.now true a.ensures q.ensures c.index-kept.ensures
+    around_by_number s (node_place s c.args.container) (node_place s c.args.node) a.result q.result c.behind-behind.result true a.ensures q.ensures c.behind-behind.ensures
     (grind (arith, nat_tests, c.if-container-node.true))
 
 pub returns-else-container-node : goal.returns-else-container-node
 returns-else-container-node c =
-    let t = c.args.self.now in
-    let s = story_tree t in
+    let s = story_tree c.args.self.now in
     let a = c.own-container in
     let q = c.own-node in
     let low : nat_le a.result.number q.result.number ≡ false = grind (arith, nat_tests, c.if-container-node.false) in
-    low
-    ∙ around_by_number s t.nodes.items t.many t.kept (node_place s c.args.container) (node_place s c.args.node) a.result q.result c.index-kept.result.now false a.ensures q.ensures c.index-kept.ensures low
+    low ∙ around_by_number s (node_place s c.args.container) (node_place s c.args.node) a.result q.result c.behind-behind.result false a.ensures q.ensures c.behind-behind.ensures low

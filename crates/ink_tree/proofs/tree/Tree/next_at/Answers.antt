@@ -9,12 +9,12 @@ pub returns-then-index-width : goal.returns-then-index-width
 returns-then-index-width c =
     let s = story_tree c.args.self.now in
     let up = node_place s c.args.holder in
-    let below : c.args.index + 1 < width (at s up) = omega (arith, c.kept.ensures.2, c.if-index-width.true) in
+    let below : c.args.index + 1 < width (at s up) = omega (arith, c.width.ensures, c.if-index-width.true) in
     next_found s up up c.args.index c.child_at.result refl below c.child_at.ensures
 
 pub returns-else-index-width : goal.returns-else-index-width
 returns-else-index-width c =
     let s = story_tree c.args.self.now in
     let up = node_place s c.args.holder in
-    let past : width (at s up) ≤ c.args.index + 1 = omega (arith, c.kept.ensures.2, c.if-index-width.false) in
+    let past : width (at s up) ≤ c.args.index + 1 = omega (arith, c.width.ensures, c.if-index-width.false) in
     c.next_node.ensures ∙ next_outside s up c.args.index past

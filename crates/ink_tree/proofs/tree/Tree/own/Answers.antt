@@ -4,5 +4,4 @@ use Rattle.ink_tree.proofs.Kept.{root_for}
 use Rattle.ink_tree.proofs.tree.Tree.own.Goals as goal
 
 pub returns-else-node-len : goal.returns-else-node-len
-returns-else-node-len c =
-    root_for (story_tree c.args.self.now) c.args.node (omega (arith, c.len.ensures, c.if-node-len.false, c.args.self.now.nodes.ok.0, c.args.self.now.many))
+returns-else-node-len c = root_for (story_tree c.args.self.now) c.args.node (omega (arith, c.len.ensures.all, c.if-node-len.false))

@@ -1,0 +1,155 @@
+-- The list of a story's nodes, as content is read.
+use Rattle.std.proofs.Common.{◌≡◌, ℕ, suc, ◌+◌, ◌≤◌, List, [], ◌∷◌, ◌++◌, map, length, get_or, slice_set, Bool, true, false, cond, Option, None, Result, Ok, Err, refl, sym, ap, ◌∙◌, append_assoc, arith}
+use Rattle.std.proofs.lemmas.List.{length-append}
+use Rattle.std.specs.Result.{result_unwrap_or}
+use Rattle.serde_json.specs.Data.{Data, Items, no_items, item, Members, no_members, member}
+use Rattle.ink_model.specs.Grammar.{first, leaf_faults, under, is_own, own_after, tree_of, content_of, keyed_by, keyed_in}
+use Rattle.ink_model.specs.Places.{places, places_from}
+use Rattle.ink_model.specs.Tree.{StoryTree, leaf, container, Trees, Keyed, key, count}
+use Rattle.ink_model.specs.View.{count_keys}
+use Rattle.ink_model.specs.declared.content.Container.{Container}
+use Rattle.ink_model.specs.declared.content.Content.TheVariants as contents
+use Rattle.ink_model.specs.declared.content.Leaf.{Leaf}
+use Rattle.ink_model.specs.declared.content.Leaf.TheVariants.{Newline}
+use Rattle.ink_model.specs.declared.fault.Cause.{Cause}
+use Rattle.ink_model.specs.declared.fault.Failure.{Failure}
+use Rattle.ink_model.specs.declared.fault.Failure.TheVariants.{OutOfMemory, Refused}
+use Rattle.ink_model.specs.declared.fault.ReadRefusal.{ReadRefusal}
+use Rattle.ink_model.specs.declared.place.Part.{Part}
+use Rattle.ink_model.specs.declared.place.Part.TheVariants.{Index}
+use Rattle.ink_json.specs.Listing.{IsListed, container_node, nodes_of, nodes_from, nodes_by_key, nodes_inside, rebuilt}
+use Rattle.ink_json.specs.Reading.{Fails, IsFirst, placed, takes_memory}
+use Rattle.ink_json.specs.Size.{size, items_size, members_size}
+use Rattle.ink_json.specs.Value.{json_data, Entry, members_data}
+use Rattle.ink_json.specs.declared.node.Node.{Node}
+use Rattle.ink_json.proofs.Containers.{size_positive}
+use Rattle.ink_json.proofs.Listing.{listed, many, many_from, many_by_key, got_at, set_at}
+use Rattle.ink_json.proofs.Many.{places_within, inside_within, under_more}
+
+-- ---- leaves
+
+-- a leaf that was read goes behind the nodes before
+pub leaf_listed : (d : Result Leaf Cause) (l : Leaf) (old new : List Node) (h : ℕ) (x : Option Part) → placed d ≡ Ok l → new ≡ old ++ record { content = contents.Leaf l; holder = h; last = x } ∷ []
+    → (t : StoryTree) × (first (leaf_faults d) (leaf (result_unwrap_or d Newline)) ≡ Ok t) × (new ≡ old ++ nodes_of (length old) h x t)
+leaf_listed (Ok k) l old new h x e more = (leaf l, cc, more)
+leaf_listed (Err c) l old new h x e more = absurd cc
+
+-- ---- containers
+
+-- all that is in a container is listed
+pub closed_container : (ns before inside : List Node) (h : ℕ) (x : Option Part) (name : Option (List ℕ)) (flags w k size i : ℕ) (node : Node) (c : Container)
+    → ns ≡ before ++ container_node h x name flags 0 0 0 ∷ inside → i ≡ length before → node ≡ get_or ns i node → node.content ≡ contents.Container c → size ≡ length inside + 1
+    → slice_set ns i (record { content = contents.Container (record { name = c.name; width = w; keys = k; size = size; flags = c.flags }); holder = node.holder; last = node.last })
+    ≡ before ++ container_node h x name flags w k (length inside + 1) ∷ inside
+closed_container ns before inside h x name flags w k size i node c is number got held long =
+    let own = container_node h x name flags 0 0 0 in
+    let same : node ≡ own = got ∙ (λ j. get_or (is j) (number j) node) ∙ got_at before inside own node in
+    let e : contents.Container c ≡ contents.Container (record { name = name; width = 0; keys = 0; size = 0; flags = flags }) = sym held ∙ ap (λ n. n.content) same in
+    let alone : c ≡ record { name = name; width = 0; keys = 0; size = 0; flags = flags } = cc in
+    (λ j. slice_set (is j) (number j) (record {
+      content = contents.Container (record { name = (alone j).name; width = w; keys = k; size = long j; flags = (alone j).flags });
+      holder = (same j).holder;
+      last = (same j).last;
+    })) ∙ set_at before inside own (container_node h x name flags w k (length inside + 1))
+
+-- .. and then the whole container is
+module _ (old : List Node) (h : ℕ) (x : Option Part) (name : Option (List ℕ)) (flags number : ℕ) (content : Trees) (keyed : Keyed) (here : number ≡ length old) where
+  abbrev inside : List Node
+  inside = nodes_inside (length old + 1) (length old) content keyed
+
+  pub opened_listed : (l1 l2 : List Node) → l1 ≡ old ++ container_node h x name flags 0 0 0 ∷ [] → l2 ≡ l1 ++ nodes_inside (length l1) number content keyed
+      → l2 ≡ old ++ container_node h x name flags 0 0 0 ∷ nodes_inside (length old + 1) (length old) content keyed
+  opened_listed l1 l2 first more =
+      let own = container_node h x name flags 0 0 0 in
+      let long : length l1 ≡ length old + 1 = ap length first ∙ length-append old (own ∷ []) in
+      more ∙ (λ j. first j ++ nodes_inside (long j) (here j) content keyed) ∙ append_assoc old (own ∷ []) inside
+
+  pub container_listed : (l3 : List Node) (w k : ℕ) → w ≡ count content → k ≡ count_keys keyed
+      → l3 ≡ old ++ container_node h x name flags w k (length (nodes_inside (length old + 1) (length old) content keyed) + 1) ∷ nodes_inside (length old + 1) (length old) content keyed
+      → l3 ≡ old ++ nodes_of (length old) h x (container name flags content keyed)
+  container_listed l3 w k wide by_key is =
+      let s = container name flags content keyed in
+      let total : length inside + 1 ≡ length (places s) = omega (arith, many (length old) h x s) in
+      is ∙ (λ j. old ++ container_node h x name flags (wide j) (by_key j) (total j) ∷ inside)
+
+-- elements, and then containers by key
+pub inside_listed : (old l1 l2 : List Node) (number : ℕ) (content : Trees) (keyed ks : Keyed) → l1 ≡ old ++ nodes_from (length old) number 0 content
+    → l2 ≡ l1 ++ nodes_by_key (length l1) number ks → keyed ≡ ks → l2 ≡ old ++ nodes_inside (length old) number content keyed
+inside_listed old l1 l2 number content keyed ks elements named same =
+    let first = nodes_from (length old) number 0 content in
+    let long : length l1 ≡ length old + length first = ap length elements ∙ length-append old first in
+    named ∙ (λ j. elements j ++ nodes_by_key (long j) number (sym same j)) ∙ append_assoc old first (nodes_by_key (length old + length first) number keyed)
+
+-- content adds no more nodes than its value is made of values
+pub grown : (old new : List Node) (n h : ℕ) (x : Option Part) (listed : Bool) (d : Data) (t : StoryTree) → new ≡ old ++ nodes_of n h x t → tree_of 21 listed d ≡ t → length new ≤ length old + size d
+grown old new n h x listed d t is same =
+    omega (arith, ap length is, length-append old (nodes_of n h x t), many n h x t, ap (λ u. length (places u)) same, places_within 21 listed d)
+
+-- nor does what is in a container
+pub inside_grown : (version : ℕ) (old new : List Node) (number : ℕ) (ds : Items) → new ≡ old ++ nodes_inside (length old) number (content_of version ds) (keyed_in version ds) → length new ≤ length old + items_size ds
+inside_grown version old new number ds is =
+    let elements = nodes_from (length old) number 0 (content_of version ds) in
+    let by_keys = nodes_by_key (length old + length elements) number (keyed_in version ds) in
+    omega (
+      arith,
+      ap length is,
+      length-append old (elements ++ by_keys),
+      length-append elements by_keys,
+      many_from (length old) number 0 (content_of version ds),
+      many_by_key (length old + length elements) number (keyed_in version ds),
+      inside_within version 0 ds,
+    )
+
+-- after the elements there is room for the last one
+elements_within : (version i : ℕ) (d : Data) (ds : Items) → length (places_from i (content_of version (item d ds))) + size (own_after d ds) ≤ items_size (item d ds)
+elements_within version i d no_items = omega arith
+elements_within version i d (item e ds) =
+    omega (arith, under_more (Index i) (places (tree_of version true d)) (places_from (i + 1) (content_of version (item e ds))), places_within version true d, elements_within version (i + 1) e ds)
+
+pub last_grown : (version : ℕ) (old new : List Node) (number : ℕ) (d : Data) (ds : Items) (last : Data) → new ≡ old ++ nodes_from (length old) number 0 (content_of version (item d ds)) → own_after d ds ≡ last
+    → length new + size last ≤ length old + items_size (item d ds)
+last_grown version old new number d ds last is e =
+    omega (arith, ap length is, length-append old (nodes_from (length old) number 0 (content_of version (item d ds))), many_from (length old) number 0 (content_of version (item d ds)), ap size e, elements_within version 0 d ds)
+
+-- ---- containers by key
+
+keys_unless : (b : Bool) (k : List ℕ) (t : StoryTree) (ks : Keyed) (n : ℕ) → count_keys ks ≤ n → count_keys (cond b ks (key k t ks)) ≤ suc n
+keys_unless true k t ks n h = omega arith
+keys_unless false k t ks n h = omega arith
+
+-- there are no more of them than members
+pub keys_within : (version : ℕ) (ms : Members) → count_keys (keyed_by version ms) ≤ members_size ms
+keys_within version no_members = omega arith
+keys_within version (member k d ms) = omega (arith, keys_unless (is_own k) k (tree_of version false d) (keyed_by version ms) (members_size ms) (keys_within version ms), size_positive d)
+
+-- the next of them
+module _ (version : ℕ) (e : Entry) (more : List Entry) (own : is_own e.0.now ≡ false) where
+  pub next_key : keyed_by version (members_data (e ∷ more)) ≡ key e.0.now (tree_of version false (json_data e.1)) (keyed_by version (members_data more))
+  next_key = rw own refl
+
+-- a key that is no name is passed
+pub own_key : (version : ℕ) (e : Entry) (more : List Entry) → is_own e.0.now ≡ true → keyed_by version (members_data (e ∷ more)) ≡ keyed_by version (members_data more)
+own_key version e more own = rw own refl
+
+-- ---- under a part
+
+pub under_takes : {A : Type 0} (p : Part) (fs : List ReadRefusal) (a : A) → takes_memory (first (map (under p) fs) a) ≡ true
+under_takes p [] a = refl
+under_takes p (f ∷ fs) a = refl
+
+pub goes_under : {A : Type 0} (p : Part) (fs : List ReadRefusal) (a b : A) → first fs a ≡ Ok b → first (map (under p) fs) a ≡ Ok b
+goes_under p [] a b e = e
+goes_under p (f ∷ fs) a b e = absurd cc
+
+-- what fails is the first of the faults
+pub fails_is_first : {A : Type 0} (e : Failure ReadRefusal) (fs : List ReadRefusal) (a : A) → Fails e (first fs a) → IsFirst e fs
+fails_is_first OutOfMemory fs a h = tt
+fails_is_first (Refused r) [] a h = absurd cc
+fails_is_first (Refused r) (f ∷ fs) a h = cc
+
+-- ---- the whole story
+
+-- the nodes of the root are those of the tree that they stand for
+pub root_listed : (old new : List Node) (x : Option Part) (t : StoryTree) → old ≡ [] → x ≡ None → new ≡ old ++ nodes_of (length old) 0 x t → (t ≡ rebuilt new) × IsListed new
+root_listed old new x t none root is =
+    let both = listed new t (is ∙ (λ j. none j ++ nodes_of (length (none j)) 0 (root j) t)) in (sym both.0, both.1)
