@@ -8,9 +8,6 @@ use Rattle.std.specs.Str.{is_utf8}
 use Rattle.json.specs.Token.{Token}
 use Rattle.json.specs.Lex.{tokens}
 use Rattle.json.specs.Json.{Json, document}
-use Rattle.json.specs.declared.error.Error.{Error}
-use Rattle.json.specs.declared.error.Error.TheVariants as errors
-use Rattle.json.specs.declared.tape.TheConstants.{MAX_LEN}
 use Rattle.serde_json.specs.Data.{Data, null, boolean, number, string, array, object, Members, no_members, member}
 use Rattle.serde_json.specs.Find.{get, get_member}
 use Rattle.serde_json.specs.Read.{read}
@@ -21,11 +18,11 @@ use Rattle.ink_model.specs.declared.fault.Cause.TheVariants.{NotJson}
 use Rattle.ink_model.specs.declared.fault.Failure.{Failure}
 use Rattle.ink_model.specs.declared.fault.Failure.TheVariants.{OutOfMemory, Refused}
 use Rattle.ink_model.specs.declared.fault.ReadRefusal.{ReadRefusal}
-use Rattle.ink_json.specs.Reading.{is_parsable, is_parsed, unparsed, FailsOr, Reads, ReadsOr}
+use Rattle.ink_json.specs.Reading.{is_parsable, is_parsed, Reads, ReadsOr}
 use Rattle.ink_json.specs.Size.{size, members_size}
 use Rattle.ink_json.specs.Spelled.{are_sound, data_of}
 use Rattle.ink_json.proofs.Size.{read_size}
-use Rattle.ink_json.proofs.Spelled.{there, text_read, text_refused, text_unsound, spelled_data}
+use Rattle.ink_json.proofs.Spelled.{there, text_read, text_unsound, spelled_data}
 use Rattle.ink_json.proofs.Conditions.{not_above}
 
 -- ---- text and JSON
@@ -87,15 +84,6 @@ tape_size text tape all is e =
     let found = text_read text j.0 j.1 (ap (are_sound 0) (sym all) ∙ e) in
     let same : data_of tape ≡ found.0 = ap data_of all ∙ spelled_data (tokens text) found.0 found.2 in
     omega (arith, read_size text found.0 found.1, ap size same)
-
--- where a text could not be parsed
-pub stopped : {A : Type 0} (bytes text : List ℕ) (e : Error) (r : Result A Error) → text ≡ bytes → IsUtf8 bytes → is_parsable bytes ≡ true → length bytes ≤ MAX_STORY
-    → r ≡ Err e → (r ≡ Err errors.Invalid → document text ≡ None) → (r ≡ Err errors.TooLong → MAX_LEN < length text) → (r ≡ Err errors.DuplicateKey → ⊥)
-    → FailsOr (is_parsable bytes) (unparsed e) (of_json (json bytes))
-stopped bytes text errors.Invalid r same utf8 some short is invalid long never = no_json bytes text same utf8 (text_refused text (invalid is))
-stopped bytes text errors.OutOfMemory r same utf8 some short is invalid long never = some
-stopped bytes text errors.TooLong r same utf8 some short is invalid long never = absurd (omega (arith, long is, short, ap length same))
-stopped bytes text errors.DuplicateKey r same utf8 some short is invalid long never = absurd (never is)
 
 -- ---- the file
 

@@ -28,17 +28,6 @@ entry_size : (done : List Entry) (e : Entry) (more : List Entry) → size (json_
 entry_size [] e more = omega arith
 entry_size (f ∷ done) e more = omega (arith, entry_size done e more)
 
-pub entry_within : (all done : List Entry) (e : Entry) (more : List Entry) → all ≡ done ++ e ∷ more → size (json_data e.1) ≤ members_size (members_data all)
-entry_within all done e more split = omega (arith, entry_size done e more, ap (λ es. members_size (members_data es)) split)
-
-pub members_within : (d : Data) → members_size (members_of d) ≤ size d
-members_within null = omega arith
-members_within (boolean b) = omega arith
-members_within (number n) = omega arith
-members_within (string s) = omega arith
-members_within (array ds) = omega arith
-members_within (object ms) = omega arith
-
 pub last_within : (d last : Data) (ds : Items) → own_after d ds ≡ last → size last ≤ items_size (item d ds)
 last_within d last no_items e = omega (arith, ap size e)
 last_within d last (item f ds) e = omega (arith, last_within f last ds e)

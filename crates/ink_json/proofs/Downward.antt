@@ -11,7 +11,7 @@ use Rattle.ink_model.specs.declared.place.Part.{Part}
 use Rattle.ink_model.specs.declared.place.Part.TheVariants.{Index, Name}
 use Rattle.ink_json.specs.Descent.{tree_at, Stands, size_of, leads}
 use Rattle.ink_json.specs.Listing.{nodes_of, nodes_from, nodes_by_key, own_node, story_nodes, Standing, first_tree, rebuilt}
-use Rattle.ink_json.specs.declared.node.Node.{Node}
+use Rattle.ink_json.specs.Node.{Node}
 use Rattle.ink_json.proofs.Listing.{many, stands, standing_from, standing_by_key}
 
 -- ---- the nodes of what is in a content

@@ -1,30 +1,26 @@
 -- The list of a story's nodes, as content is read.
-use Rattle.std.proofs.Common.{◌≡◌, ℕ, suc, ◌+◌, ◌≤◌, List, [], ◌∷◌, ◌++◌, map, length, get_or, slice_set, Bool, true, false, cond, Option, None, Result, Ok, Err, refl, sym, ap, ◌∙◌, append_assoc, arith}
+use Rattle.std.proofs.Common.{◌≡◌, ℕ, suc, ◌+◌, ◌≤◌, List, [], ◌∷◌, ◌++◌, length, Bool, true, false, cond, Option, None, Result, Ok, Err, refl, sym, ap, ◌∙◌, append_assoc, arith}
 use Rattle.std.proofs.lemmas.List.{length-append}
 use Rattle.std.specs.Result.{result_unwrap_or}
 use Rattle.serde_json.specs.Data.{Data, Items, no_items, item, Members, no_members, member}
-use Rattle.ink_model.specs.Grammar.{first, leaf_faults, under, is_own, own_after, tree_of, content_of, keyed_by, keyed_in}
+use Rattle.ink_model.specs.Grammar.{first, leaf_faults, is_own, own_after, tree_of, content_of, keyed_by}
 use Rattle.ink_model.specs.Places.{places, places_from}
 use Rattle.ink_model.specs.Tree.{StoryTree, leaf, container, Trees, Keyed, key, count}
 use Rattle.ink_model.specs.View.{count_keys}
-use Rattle.ink_model.specs.declared.content.Container.{Container}
 use Rattle.ink_model.specs.declared.content.Content.TheVariants as contents
 use Rattle.ink_model.specs.declared.content.Leaf.{Leaf}
 use Rattle.ink_model.specs.declared.content.Leaf.TheVariants.{Newline}
 use Rattle.ink_model.specs.declared.fault.Cause.{Cause}
-use Rattle.ink_model.specs.declared.fault.Failure.{Failure}
-use Rattle.ink_model.specs.declared.fault.Failure.TheVariants.{OutOfMemory, Refused}
-use Rattle.ink_model.specs.declared.fault.ReadRefusal.{ReadRefusal}
 use Rattle.ink_model.specs.declared.place.Part.{Part}
 use Rattle.ink_model.specs.declared.place.Part.TheVariants.{Index}
 use Rattle.ink_json.specs.Listing.{IsListed, container_node, nodes_of, nodes_from, nodes_by_key, nodes_inside, rebuilt}
-use Rattle.ink_json.specs.Reading.{Fails, IsFirst, placed, takes_memory}
+use Rattle.ink_json.specs.Reading.{placed}
 use Rattle.ink_json.specs.Size.{size, items_size, members_size}
 use Rattle.ink_json.specs.Value.{json_data, Entry, members_data}
-use Rattle.ink_json.specs.declared.node.Node.{Node}
+use Rattle.ink_json.specs.Node.{Node}
 use Rattle.ink_json.proofs.Containers.{size_positive}
-use Rattle.ink_json.proofs.Listing.{listed, many, many_from, many_by_key, got_at, set_at}
-use Rattle.ink_json.proofs.Many.{places_within, inside_within, under_more}
+use Rattle.ink_json.proofs.Listing.{listed, many, many_from}
+use Rattle.ink_json.proofs.Many.{places_within, under_more}
 
 -- ---- leaves
 
@@ -36,23 +32,7 @@ leaf_listed (Err c) l old new h x e more = absurd cc
 
 -- ---- containers
 
--- all that is in a container is listed
-pub closed_container : (ns before inside : List Node) (h : ℕ) (x : Option Part) (name : Option (List ℕ)) (flags w k size i : ℕ) (node : Node) (c : Container)
-    → ns ≡ before ++ container_node h x name flags 0 0 0 ∷ inside → i ≡ length before → node ≡ get_or ns i node → node.content ≡ contents.Container c → size ≡ length inside + 1
-    → slice_set ns i (record { content = contents.Container (record { name = c.name; width = w; keys = k; size = size; flags = c.flags }); holder = node.holder; last = node.last })
-    ≡ before ++ container_node h x name flags w k (length inside + 1) ∷ inside
-closed_container ns before inside h x name flags w k size i node c is number got held long =
-    let own = container_node h x name flags 0 0 0 in
-    let same : node ≡ own = got ∙ (λ j. get_or (is j) (number j) node) ∙ got_at before inside own node in
-    let e : contents.Container c ≡ contents.Container (record { name = name; width = 0; keys = 0; size = 0; flags = flags }) = sym held ∙ ap (λ n. n.content) same in
-    let alone : c ≡ record { name = name; width = 0; keys = 0; size = 0; flags = flags } = cc in
-    (λ j. slice_set (is j) (number j) (record {
-      content = contents.Container (record { name = (alone j).name; width = w; keys = k; size = long j; flags = (alone j).flags });
-      holder = (same j).holder;
-      last = (same j).last;
-    })) ∙ set_at before inside own (container_node h x name flags w k (length inside + 1))
-
--- .. and then the whole container is
+-- once all in a container is listed, the whole container is
 module _ (old : List Node) (h : ℕ) (x : Option Part) (name : Option (List ℕ)) (flags number : ℕ) (content : Trees) (keyed : Keyed) (here : number ≡ length old) where
   abbrev inside : List Node
   inside = nodes_inside (length old + 1) (length old) content keyed
@@ -85,21 +65,6 @@ pub grown : (old new : List Node) (n h : ℕ) (x : Option Part) (listed : Bool) 
 grown old new n h x listed d t is same =
     omega (arith, ap length is, length-append old (nodes_of n h x t), many n h x t, ap (λ u. length (places u)) same, places_within 21 listed d)
 
--- nor does what is in a container
-pub inside_grown : (version : ℕ) (old new : List Node) (number : ℕ) (ds : Items) → new ≡ old ++ nodes_inside (length old) number (content_of version ds) (keyed_in version ds) → length new ≤ length old + items_size ds
-inside_grown version old new number ds is =
-    let elements = nodes_from (length old) number 0 (content_of version ds) in
-    let by_keys = nodes_by_key (length old + length elements) number (keyed_in version ds) in
-    omega (
-      arith,
-      ap length is,
-      length-append old (elements ++ by_keys),
-      length-append elements by_keys,
-      many_from (length old) number 0 (content_of version ds),
-      many_by_key (length old + length elements) number (keyed_in version ds),
-      inside_within version 0 ds,
-    )
-
 -- after the elements there is room for the last one
 elements_within : (version i : ℕ) (d : Data) (ds : Items) → length (places_from i (content_of version (item d ds))) + size (own_after d ds) ≤ items_size (item d ds)
 elements_within version i d no_items = omega arith
@@ -130,22 +95,6 @@ module _ (version : ℕ) (e : Entry) (more : List Entry) (own : is_own e.0.now �
 -- a key that is no name is passed
 pub own_key : (version : ℕ) (e : Entry) (more : List Entry) → is_own e.0.now ≡ true → keyed_by version (members_data (e ∷ more)) ≡ keyed_by version (members_data more)
 own_key version e more own = rw own refl
-
--- ---- under a part
-
-pub under_takes : {A : Type 0} (p : Part) (fs : List ReadRefusal) (a : A) → takes_memory (first (map (under p) fs) a) ≡ true
-under_takes p [] a = refl
-under_takes p (f ∷ fs) a = refl
-
-pub goes_under : {A : Type 0} (p : Part) (fs : List ReadRefusal) (a b : A) → first fs a ≡ Ok b → first (map (under p) fs) a ≡ Ok b
-goes_under p [] a b e = e
-goes_under p (f ∷ fs) a b e = absurd cc
-
--- what fails is the first of the faults
-pub fails_is_first : {A : Type 0} (e : Failure ReadRefusal) (fs : List ReadRefusal) (a : A) → Fails e (first fs a) → IsFirst e fs
-fails_is_first OutOfMemory fs a h = tt
-fails_is_first (Refused r) [] a h = absurd cc
-fails_is_first (Refused r) (f ∷ fs) a h = cc
 
 -- ---- the whole story
 

@@ -16,3 +16,8 @@ pub mod Many
 pub mod Listing
 pub mod Downward
 pub mod Growing
+pub mod Keeping
+pub mod Taped
+pub mod Moves
+pub mod Tokens
+pub mod Elements

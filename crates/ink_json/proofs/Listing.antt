@@ -1,14 +1,13 @@
 -- A tree from the list of its nodes, and listing them one element and one key at a time.
-use Rattle.std.proofs.Common.{◌≡◌, ◌∙◌, ap, sym, refl, ℕ, suc, ◌+◌, List, [], ◌∷◌, ◌++◌, length, map, take, drop, get_or, slice_set, Option, Some, None, append_assoc}
+use Rattle.std.proofs.Common.{◌≡◌, ◌∙◌, ap, sym, refl, ℕ, suc, ◌+◌, List, [], ◌∷◌, ◌++◌, length, map, take, drop, slice_set, Option, Some, None, append_assoc}
 use Rattle.std.proofs.lemmas.List.{append-nil, length-append, length-map}
 use Rattle.ink_model.specs.Places.{places, places_from, places_by_key}
 use Rattle.ink_model.specs.Tree.{StoryTree, leaf, container, Trees, no_trees, tree, Keyed, no_keys, key, count}
 use Rattle.ink_model.specs.View.{own_content, count_keys}
-use Rattle.ink_model.specs.declared.content.Content.TheVariants as contents
 use Rattle.ink_model.specs.declared.place.Part.{Part}
 use Rattle.ink_model.specs.declared.place.Part.TheVariants.{Index, Name}
 use Rattle.ink_json.specs.Listing.{nodes_of, nodes_from, nodes_by_key, story_nodes, Standing, trees_in, keys_in, with_content, standing, first_tree, rebuilt}
-use Rattle.ink_json.specs.declared.node.Node.{Node}
+use Rattle.ink_json.specs.Node.{Node}
 
 -- ---- as many as there are places
 
@@ -125,44 +124,7 @@ by_key_more now new whole h k t ks = listed_more now (nodes_of (length now) h (S
 
 -- ---- a container whose node is mended once all in it is known
 
--- a container, then its elements, then what it has by key
-pub container_listed : (ns : List Node) (own : Node) (elements by_keys : ℕ → List Node) (l1 l2 l3 : List Node)
-    → l1 ≡ ns ++ own ∷ [] → l2 ≡ l1 ++ elements (length l1) → l3 ≡ l2 ++ by_keys (length l2)
-    → l3 ≡ ns ++ own ∷ (elements (length ns + 1) ++ by_keys (length ns + 1 + length (elements (length ns + 1))))
-container_listed ns own elements by_keys l1 l2 l3 first inner last =
-    let long : length l1 ≡ length ns + 1 = ap length first ∙ length-append ns (own ∷ []) in
-    let inside : l2 ≡ (ns ++ own ∷ []) ++ elements (length ns + 1) = inner ∙ (λ i. first i ++ elements (long i)) in
-    let longer : length l2 ≡ length ns + 1 + length (elements (length ns + 1)) =
-    ap length inside ∙ length-append (ns ++ own ∷ []) (elements (length ns + 1)) ∙ ap (λ n. n + length (elements (length ns + 1))) (length-append ns (own ∷ [])) in
-    last ∙ (λ i. inside i ++ by_keys (longer i))
-    ∙ append_assoc (ns ++ own ∷ []) (elements (length ns + 1)) (by_keys (length ns + 1 + length (elements (length ns + 1))))
-    ∙ append_assoc ns (own ∷ []) (elements (length ns + 1) ++ by_keys (length ns + 1 + length (elements (length ns + 1))))
-
 -- one of them with another in its place
 pub set_at : (before inside : List Node) (own new : Node) → slice_set (before ++ own ∷ inside) (length before) new ≡ before ++ new ∷ inside
 set_at [] inside own new = refl
 set_at (n ∷ before) inside own new = ap (λ l. n ∷ l) (set_at before inside own new)
-
-pub got_at : (before inside : List Node) (own d : Node) → get_or (before ++ own ∷ inside) (length before) d ≡ own
-got_at [] inside own d = refl
-got_at (n ∷ before) inside own d = got_at before inside own d
-
--- the node at an index, x, is changed
-pub closed : (change : Node → Node) (ns before inside : List Node) (own x : Node) (i : ℕ) → ns ≡ before ++ own ∷ inside → i ≡ length before → x ≡ get_or ns i x
-    → slice_set ns i (change x) ≡ before ++ change own ∷ inside
-closed change ns before inside own x i is number at_it =
-    let same : x ≡ own = at_it ∙ (λ j. get_or (is j) (number j) x) ∙ got_at before inside own x in
-    (λ j. slice_set (is j) (number j) (change (same j))) ∙ set_at before inside own (change own)
-
--- the mended node with all that is in the container are the nodes of the container, which has as many places as those are
-pub container_nodes : (n h : ℕ) (x : Option Part) (name : Option (List ℕ)) (flags size : ℕ) (content : Trees) (named : Keyed)
-    → size ≡ suc (length (nodes_from (n + 1) n 0 content ++ nodes_by_key (n + 1 + length (nodes_from (n + 1) n 0 content)) n named))
-    → (record {
-      content = contents.Container (record { name = name; width = count content; keys = count_keys named; size = size; flags = flags });
-      holder = h;
-      last = x;
-    }) ∷ (nodes_from (n + 1) n 0 content ++ nodes_by_key (n + 1 + length (nodes_from (n + 1) n 0 content)) n named) ≡ nodes_of n h x (container name flags content named)
-container_nodes n h x name flags size content named long =
-    let t = container name flags content named in
-    ap (λ s. (record { content = contents.Container (record { name = name; width = count content; keys = count_keys named; size = s; flags = flags }); holder = h; last = x })
-    ∷ (nodes_from (n + 1) n 0 content ++ nodes_by_key (n + 1 + length (nodes_from (n + 1) n 0 content)) n named)) (long ∙ many n h x t)

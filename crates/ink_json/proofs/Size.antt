@@ -1,79 +1,16 @@
 -- A JSON text is made of no more values than it has bytes, and one.
-use Rattle.std.proofs.Common.{◌≡◌, ℕ, zero, suc, ◌+◌, ◌≤◌, List, [], ◌∷◌, length, Bool, true, false, Option, Some, None, option_map, option_and_then, Ordering, Less, Equal, Greater, refl, subst, arith}
+use Rattle.std.proofs.Common.{◌≡◌, ℕ, zero, suc, ◌+◌, ◌≤◌, List, [], ◌∷◌, length, Option, Some, None, option_map, option_and_then, Ordering, Less, Equal, Greater, refl, subst, arith}
 use Rattle.std.specs.Prelude.{⊤}
 use Rattle.std.specs.Ordering.{match_ordering}
-use Rattle.json.specs.Token.{Token, begin_object, end_object, begin_array, end_array, key, string, number, boolean, null, bad}
-use Rattle.json.specs.Lex.{tokens, lex, lex_byte, class, Class, quote, backslash, operator, space, other, Mode, between, in_word, in_string, in_escape, Lexeme, token, comma, colon, punctuate, place_token, if_allowed, may_begin, may_close, begins_colon, Place, fresh, after_value, after_comma, after_key}
+use Rattle.json.specs.Token.{Token}
+use Rattle.json.specs.Lex.{tokens}
 use Rattle.json.specs.Json as json
 use Rattle.json.specs.Json.{Parse, parse_map, after_end_array, read_key, items_step, members_step, value_with}
 use Rattle.json.proofs.Grammar.{after_end_array-shorter, read_key-shorter}
 use Rattle.serde_json.specs.Data as d
 use Rattle.serde_json.specs.Read.{number_of, of_json, of_items, of_members, max_depth, read}
 use Rattle.ink_json.specs.Size.{size, items_size, members_size}
-
--- ---- tokens
-
-lexemes : (m : Mode) (c : Class) (x : ℕ) (xs : List ℕ) (k : Mode → List Lexeme) (n : ℕ) → ((next : Mode) → length (k next) ≤ n) → length (lex_byte m c x xs k) ≤ suc n
-lexemes between quote x xs k n h = omega (arith, h in_string)
-lexemes between backslash x xs k n h = omega (arith, h in_word)
-lexemes between operator x xs k n h = omega (arith, h between)
-lexemes between space x xs k n h = omega (arith, h between)
-lexemes between other x xs k n h = omega (arith, h in_word)
-lexemes in_word quote x xs k n h = omega (arith, h in_word)
-lexemes in_word backslash x xs k n h = omega (arith, h in_word)
-lexemes in_word operator x xs k n h = omega (arith, h between)
-lexemes in_word space x xs k n h = omega (arith, h between)
-lexemes in_word other x xs k n h = omega (arith, h in_word)
-lexemes in_string quote x xs k n h = omega (arith, h between)
-lexemes in_string backslash x xs k n h = omega (arith, h in_escape)
-lexemes in_string operator x xs k n h = omega (arith, h in_string)
-lexemes in_string space x xs k n h = omega (arith, h in_string)
-lexemes in_string other x xs k n h = omega (arith, h in_string)
-lexemes in_escape c x xs k n h = omega (arith, h in_string)
-
-lex_length : (xs : List ℕ) (m : Mode) → length (lex m xs) ≤ length xs
-unfolding lex
-lex_length [] m = omega arith
-lex_length (x ∷ xs) m = lexemes m (class x) x xs (λ next. lex next xs) (length xs) (lex_length xs)
-
-allowed : (b : Bool) (t : Token) (k : Place → List Token) (p : Place) (n : ℕ) → length (k p) ≤ n → length (if_allowed b t k p) ≤ suc n
-allowed true t k p n h = omega arith
-allowed false t k p n h = omega arith
-
-placed : (p : Place) (t : Token) (b : Bool) (k : Place → List Token) (n : ℕ) → ((q : Place) → length (k q) ≤ n) → length (place_token p t b k) ≤ suc n
-placed p begin_object b k n h = allowed (may_begin p) begin_object k fresh n (h fresh)
-placed p end_object b k n h = allowed (may_close p) end_object k after_value n (h after_value)
-placed p begin_array b k n h = allowed (may_begin p) begin_array k fresh n (h fresh)
-placed p end_array b k n h = allowed (may_close p) end_array k after_value n (h after_value)
-placed p (key s) b k n h = omega arith
-placed p (string s) true k n h = allowed (may_begin p) (key s) k after_key n (h after_key)
-placed p (string s) false k n h = allowed (may_begin p) (string s) k after_value n (h after_value)
-placed p (number s) b k n h = allowed (may_begin p) (number s) k after_value n (h after_value)
-placed p (boolean x) b k n h = allowed (may_begin p) (boolean x) k after_value n (h after_value)
-placed p null b k n h = allowed (may_begin p) null k after_value n (h after_value)
-placed p bad b k n h = omega arith
-
-punctuated : (ls : List Lexeme) (p : Place) → length (punctuate p ls) ≤ suc (length ls)
-unfolding punctuate
-punctuated [] fresh = omega arith
-punctuated [] after_value = omega arith
-punctuated [] after_comma = omega arith
-punctuated [] after_key = omega arith
-punctuated (token t ∷ ls) fresh = placed fresh t (begins_colon ls) (λ next. punctuate next ls) (suc (length ls)) (punctuated ls)
-punctuated (token t ∷ ls) after_value = placed after_value t (begins_colon ls) (λ next. punctuate next ls) (suc (length ls)) (punctuated ls)
-punctuated (token t ∷ ls) after_comma = placed after_comma t (begins_colon ls) (λ next. punctuate next ls) (suc (length ls)) (punctuated ls)
-punctuated (token t ∷ ls) after_key = placed after_key t (begins_colon ls) (λ next. punctuate next ls) (suc (length ls)) (punctuated ls)
-punctuated (comma ∷ ls) fresh = omega arith
-punctuated (comma ∷ ls) after_value = omega (arith, punctuated ls after_comma)
-punctuated (comma ∷ ls) after_comma = omega arith
-punctuated (comma ∷ ls) after_key = omega arith
-punctuated (colon ∷ ls) fresh = omega arith
-punctuated (colon ∷ ls) after_value = omega arith
-punctuated (colon ∷ ls) after_comma = omega arith
-punctuated (colon ∷ ls) after_key = omega (arith, punctuated ls fresh)
-
-tokens_length : (text : List ℕ) → length (tokens text) ≤ suc (length text)
-tokens_length text = omega (arith, punctuated (lex between text) fresh, lex_length text between)
+use Rattle.ink_json.proofs.Tokens.{fewer_tokens}
 
 -- ---- the values that tokens spell
 
@@ -211,4 +148,4 @@ pub read_size : (text : List ℕ) (x : d.Data) → read text ≡ Some x → size
 read_size text x e =
     let n = length (tokens text) in
     let within : size x ≤ n = subst (AtMost size n) e (AtMost-and_then weight size n n of_json (λ j h. of_json_at_most j n h) _ (last_at_most _ n (Within-value max_depth (tokens text)))) in
-    omega (arith, tokens_length text)
+    omega (arith, fewer_tokens text)

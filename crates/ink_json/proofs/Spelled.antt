@@ -1,6 +1,6 @@
 -- What tokens spell: a whole text, and the data of one value.
-use Rattle.std.proofs.Common.{◌≡◌, ℕ, suc, ◌+◌, ◌-◌, ◌<◌, ◌≤◌, List, [], ◌∷◌, ◌++◌, length, Bool, true, false, ◌&&◌, nat_lt, is_some, Option, Some, None, option_map, option_and_then, unwrap_or, refl, sym, ap, ◌∙◌, arith, append_assoc, length-append}
-use Rattle.std.proofs.lemmas.Bool.{ltb-true, lt-ltb}
+use Rattle.std.proofs.Common.{◌≡◌, ℕ, suc, ◌+◌, ◌-◌, ◌<◌, ◌≤◌, List, [], ◌∷◌, ◌++◌, length, true, false, ◌&&◌, nat_lt, is_some, Option, Some, None, option_map, option_and_then, unwrap_or, refl, sym, ap, ◌∙◌, arith, append_assoc, length-append}
+use Rattle.std.proofs.lemmas.Bool.{and_from, ltb-true, lt-ltb}
 use Rattle.json.specs.Token.{Token}
 use Rattle.json.specs.Lex.{tokens}
 use Rattle.json.specs.Json as json
@@ -118,21 +118,18 @@ mutual
       let rest = sound_members ms levels ts h here.1 in
       (omega (arith, here.0, rest.0), rest.1, λ found. (let more = rest.2 (put k here.2 found) in (more.0, rw here.3 more.1)))
 
-and : (a b : Bool) → a ≡ true → b ≡ true → (a && b) ≡ true
-and a b h k = rw (h, k) refl
-
 mutual
   value_sound : (j : json.Json) (d : Data) (levels : ℕ) (ts : List Token) → levels + depth j ≤ max_depth → of_json j ≡ Some d → are_sound levels ts ≡ true → are_sound levels (json_tokens j ++ ts) ≡ true
   value_sound json.null d levels ts h e s = s
   value_sound (json.boolean b) d levels ts h e s = s
-  value_sound (json.number t) d levels ts h e s = let n = mapped number (number_of t) d e in and _ _ (ap is_some n.1) s
+  value_sound (json.number t) d levels ts h e s = let n = mapped number (number_of t) d e in and_from _ _ (ap is_some n.1) s
   value_sound (json.string t) d levels ts h e s = s
   value_sound (json.array js) d levels ts h e s =
       let inside = mapped array (of_items js) d e in
-      and _ _ (lt-ltb levels max_depth (omega arith)) (items_sound js inside.0 levels ts (omega arith) inside.1 s)
+      and_from _ _ (lt-ltb levels max_depth (omega arith)) (items_sound js inside.0 levels ts (omega arith) inside.1 s)
   value_sound (json.object ms) d levels ts h e s =
       let inside = mapped object (of_members ms no_members) d e in
-      and _ _ (lt-ltb levels max_depth (omega arith)) (members_sound ms no_members inside.0 levels ts (omega arith) inside.1 s)
+      and_from _ _ (lt-ltb levels max_depth (omega arith)) (members_sound ms no_members inside.0 levels ts (omega arith) inside.1 s)
 
   items_sound : (js : json.Items) (ds : Items) (levels : ℕ) (ts : List Token) → suc levels + items_depth js ≤ max_depth → of_items js ≡ Some ds → are_sound levels ts ≡ true
       → are_sound (suc levels) (items_tokens js ++ ts) ≡ true

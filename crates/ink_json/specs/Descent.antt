@@ -7,7 +7,7 @@ use Rattle.ink_model.specs.declared.content.Content.TheVariants as contents
 use Rattle.ink_model.specs.declared.place.Part.{Part}
 use Rattle.ink_json.specs.Listing.{nodes_of, rebuilt}
 use Rattle.ink_json.specs.Order.{part_order}
-use Rattle.ink_json.specs.declared.node.Node.{Node}
+use Rattle.ink_json.specs.Node.{Node}
 
 -- the content whose node has this number
 abbrev pub tree_at : List Node → ℕ → StoryTree

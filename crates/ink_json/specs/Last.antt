@@ -1,11 +1,10 @@
 -- The part that leads to a content from the content around it.
-use Rattle.std.specs.Prelude.{Option, Some, None}
+use Rattle.std.specs.Prelude.{⊤, ◌<◌, ◌^◌, Option, Some, None}
 use Rattle.ink_model.specs.declared.place.Part.{Part}
-use Rattle.ink_model.specs.declared.place.Part.TheVariants as parts
-use Rattle.ink_json.specs.declared.last.KeptPart.{KeptPart}
-use Rattle.ink_json.specs.declared.last.KeptPart.TheVariants.{Nothing, Index, Name}
+use Rattle.ink_model.specs.declared.place.Part.TheVariants.{Index, Name}
 
-abbrev pub kept_part : KeptPart → Option Part
-kept_part Nothing = None
-kept_part (Index i) = Some (parts.Index i)
-kept_part (Name n) = Some (parts.Name n.value)
+-- an index can be told from a name by its size
+abbrev pub FitsLast : Option Part → Type 0
+FitsLast None = ⊤
+FitsLast (Some (Index i)) = i < 2 ^ 31
+FitsLast (Some (Name n)) = ⊤

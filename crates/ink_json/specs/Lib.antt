@@ -4,8 +4,11 @@ pub mod Reading
 pub mod Heads
 pub mod Descent
 pub mod Last
+pub mod Node
+pub mod Kept
 pub mod Listing
 pub mod Order
 pub mod Spelled
 pub mod Number
 pub mod Value
+pub mod Tape

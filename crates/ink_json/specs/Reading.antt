@@ -6,15 +6,13 @@ use Rattle.std.specs.Cmp.Lexicographic.{slice_cmp}
 use Rattle.std.specs.List.{list_any}
 use Rattle.std.specs.Ordering.{nat_cmp}
 use Rattle.std.specs.Str.{is_utf8}
-use Rattle.json.specs.declared.error.Error.{Error}
-use Rattle.json.specs.declared.error.Error.TheVariants as errors
 use Rattle.serde_json.specs.Data.{Data}
 use Rattle.serde_json.specs.Find.{as_array}
 use Rattle.ink_model.specs.Bytes.{is_filled}
 use Rattle.ink_model.specs.Grammar.{here, under, unmarked, is_last, are_flags, member_of, flags_key, faults}
 use Rattle.ink_model.specs.declared.limits.TheConstants.{MAX_STORY}
 use Rattle.ink_model.specs.declared.fault.Cause.{Cause}
-use Rattle.ink_model.specs.declared.fault.Cause.TheVariants.{NotJson, Shape}
+use Rattle.ink_model.specs.declared.fault.Cause.TheVariants.{Shape}
 use Rattle.ink_model.specs.declared.fault.Failure.{Failure}
 use Rattle.ink_model.specs.declared.fault.Failure.TheVariants.{OutOfMemory, Refused}
 use Rattle.ink_model.specs.declared.fault.ReadRefusal.{ReadRefusal}
@@ -27,13 +25,6 @@ is_parsable bytes = is_utf8 bytes && is_filled bytes
 -- The bytes are parsed as JSON, which takes memory: they are within the limit, and those behind the byte order mark are text.
 abbrev pub is_parsed : List ℕ → Bool
 is_parsed bytes = not (nat_lt MAX_STORY (length bytes)) && is_parsable (unmarked bytes)
-
--- why a text could not be parsed
-abbrev pub unparsed : Error → Failure ReadRefusal
-unparsed errors.Invalid = Refused (here NotJson)
-unparsed errors.OutOfMemory = OutOfMemory
-unparsed errors.TooLong = Refused (here NotJson)
-unparsed errors.DuplicateKey = Refused (here NotJson)
 
 -- a place is not the very place
 abbrev pub has_parts : List Part → Bool

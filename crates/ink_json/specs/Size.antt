@@ -22,4 +22,4 @@ abbrev mutual
 
 -- Content that is looked at: its nesting is one above the limit at most, and what it is made of can be counted.
 abbrev pub Fits : ℕ → Data → Type 0
-Fits nesting d = (nesting ≤ MAX_NESTING + 1) × (size d < 2 ^ 32)
+Fits nesting d = (nesting ≤ MAX_NESTING + 1) × (size d < 2 ^ 31)

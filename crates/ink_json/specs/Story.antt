@@ -4,4 +4,4 @@ use Rattle.ink_json.specs.Listing.{rebuilt}
 use Rattle.ink_json.specs.declared.story.RawStory.{RawStory}
 
 abbrev pub tree : RawStory → StoryTree
-tree s = rebuilt s.nodes.items
+tree s = rebuilt s.nodes

@@ -40,9 +40,6 @@ members_of (string s) = no_members
 members_of (array ds) = no_members
 members_of (object ms) = ms
 
-abbrev pub IsArray : Data → Type 0
-IsArray d = (ds : Items) × (d ≡ array ds)
-
 abbrev pub IsObject : Data → Type 0
 IsObject d = (ms : Members) × (d ≡ object ms)
 

@@ -18,21 +18,20 @@ use crate::error::{ReadFailure, at_index, at_name, refused};
 use crate::last::Last;
 use crate::leaf::{read_number, read_string};
 use crate::names::{give, is_misnamed};
-use crate::node::Node;
-use crate::nodes::{close, open};
+use crate::nodes::Nodes;
 use crate::object::read_object_leaf;
 use crate::own::{copy_name, is_own, name_of, read_own};
 use crate::value::{Items, Kind, Value};
-use ink_model::{Cause, Leaf, MAX_NESTING};
+use ink_model::{Cause, Content, Leaf, MAX_NESTING};
 use std::alloc::Global;
 use std::collections::{BTreeMap, BTreeSet};
 
 /// Where content stands that is read: in which container and by which part, how deep, whether in a list or by a key, and whether
 /// its name rules it out there.
 #[derive(Drop)]
-pub(crate) struct Position {
+pub(crate) struct Position<'k> {
     pub holder: u32,
-    pub last: Last,
+    pub last: Last<'k>,
     pub nesting: usize,
     pub listed: bool,
     pub misnamed: bool,
@@ -57,37 +56,39 @@ struct Inside {
 #[cycle(content)]
 fn read_content(
     alloc: Global,
-    nodes: &mut Vec<Node>,
+    nodes: &mut Nodes,
     value: &Value<'_, '_>,
-    position: Position,
+    position: Position<'_>,
 ) -> Result<(), ReadFailure>
     requires fits { Fits position.nesting (json_data value.now) }
-    requires room { length nodes.old.items + size (json_data value.now) < 2 ^ 32 }
-    ensures { Lists nodes.old.items nodes.new.items position.holder position.last result
-        (content 21 position.nesting position.misnamed position.listed (json_data value.now)) }
+    requires room { length nodes.old + size (json_data value.now) < 2 ^ 31 }
+    ensures { Lists nodes.old nodes.new position.entry.holder position.entry.last result
+        (content 21 position.entry.nesting position.entry.misnamed position.entry.listed (json_data value.now)) }
 {
     match value.kind() {
         Kind::Array(items) => read_container(alloc, nodes, value, items, position),
-        Kind::String(text) => list_leaf(nodes, position, read_string(alloc, text)),
-        Kind::Bool(truth) => list_leaf(nodes, position, Ok(Leaf::Bool(truth))),
-        Kind::Number(number) => list_leaf(nodes, position, read_number(alloc, number)),
-        Kind::Object => list_leaf(nodes, position, read_object_leaf(alloc, value)),
+        Kind::String(text) => list_leaf(alloc, nodes, position, read_string(alloc, text)),
+        Kind::Bool(truth) => list_leaf(alloc, nodes, position, Ok(Leaf::Bool(truth))),
+        Kind::Number(number) => list_leaf(alloc, nodes, position, read_number(alloc, number)),
+        Kind::Object => list_leaf(alloc, nodes, position, read_object_leaf(alloc, value)),
         Kind::Null => Err(refused(alloc, Cause::Shape)),
     }
 }
 
 /// Content that holds no other, where it was read.
 fn list_leaf(
-    nodes: &mut Vec<Node>,
-    position: Position,
+    alloc: Global,
+    nodes: &mut Nodes,
+    position: Position<'_>,
     read: Result<Leaf, ReadFailure>,
 ) -> Result<(), ReadFailure>
+    requires room { length nodes.old + 1 < 2 ^ 31 }
     ensures { (leaf_or : Result AnyLeaf Reason) → Reads (λ l. l) read (placed leaf_or)
-        → Lists nodes.old.items nodes.new.items position.holder position.last result
+        → Lists nodes.old nodes.new position.entry.holder position.entry.last result
         (first (leaf_faults leaf_or) (leaf (result_unwrap_or leaf_or Leaf.Newline))) }
 {
     let leaf = read?;
-    nodes.push(Node::leaf(position.holder, position.last, leaf))?;
+    nodes.push(alloc, position.holder, position.last, Content::Leaf(leaf))?;
     Ok(())
 }
 
@@ -95,16 +96,16 @@ fn list_leaf(
 #[cycle(content)]
 pub(crate) fn read_container(
     alloc: Global,
-    nodes: &mut Vec<Node>,
+    nodes: &mut Nodes,
     array: &Value<'_, '_>,
     items: Items<'_, '_>,
-    position: Position,
+    position: Position<'_>,
 ) -> Result<(), ReadFailure>
     requires nests { position.nesting ≤ MAX_NESTING + 1 }
     requires items { json_data array.now ≡ json_array (items_left items) }
-    requires room { length nodes.old.items + items_size (items_left items) + 1 < 2 ^ 32 }
-    ensures { Lists nodes.old.items nodes.new.items position.holder position.last result
-        (content 21 position.nesting position.misnamed position.listed (json_data array.now)) }
+    requires room { length nodes.old + items_size (items_left items) + 1 < 2 ^ 31 }
+    ensures { Lists nodes.old nodes.new position.entry.holder position.entry.last result
+        (content 21 position.entry.nesting position.entry.misnamed position.entry.listed (json_data array.now)) }
 {
     let Position {
         holder,
@@ -128,9 +129,9 @@ pub(crate) fn read_container(
     }
     let name = copy_name(alloc, own.name)?;
     let number = nodes.len();
-    open(nodes, holder, last, name, own.flags)?;
+    nodes.open(alloc, holder, last, name, own.flags)?;
     let inside = read_inside(alloc, nodes, number as u32, first, items, nesting)?;
-    close(nodes, number, inside.width, inside.keys);
+    nodes.close(number, inside.width, inside.keys);
     Ok(())
 }
 
@@ -138,17 +139,17 @@ pub(crate) fn read_container(
 #[cycle(content)]
 fn read_inside<'t, 'a>(
     alloc: Global,
-    nodes: &mut Vec<Node>,
+    nodes: &mut Nodes,
     number: u32,
     first: Value<'t, 'a>,
     items: Items<'t, 'a>,
     nesting: usize,
 ) -> Result<Inside, ReadFailure>
     requires nests { nesting ≤ MAX_NESTING }
-    requires room { length nodes.old.items + items_size (item (json_data first) (items_left items)) < 2 ^ 32 }
+    requires room { length nodes.old + items_size (item (json_data first) (items_left items)) < 2 ^ 31 }
     ensures width { IfOk result (λ x. x.width ≡ count (content_of 21 (item (json_data first.entry) (items_left items.entry)))) }
     ensures keys { IfOk result (λ x. x.keys ≡ count_keys (keyed_in 21 (item (json_data first.entry) (items_left items.entry)))) }
-    ensures nodes { OnOk result (nodes.new.items ≡ nodes.old.items ++ nodes_inside (length nodes.old.items) number
+    ensures nodes { OnOk result (nodes.new ≡ nodes.old ++ nodes_inside (length nodes.old) number
         (content_of 21 (item (json_data first.entry) (items_left items.entry))) (keyed_in 21 (item (json_data first.entry) (items_left items.entry)))) }
     ensures good { OnOk result (faults_inside 21 nesting 0 [] (item (json_data first.entry) (items_left items.entry)) ≡ []) }
     ensures err { IfErr result (λ e. IsFirst e (faults_inside 21 nesting 0 [] (item (json_data first.entry) (items_left items.entry)))) }
@@ -164,16 +165,16 @@ fn read_inside<'t, 'a>(
 #[cycle(content)]
 fn read_elements<'t, 'a>(
     alloc: Global,
-    nodes: &mut Vec<Node>,
+    nodes: &mut Nodes,
     number: u32,
     first: Value<'t, 'a>,
     items: Items<'t, 'a>,
     nesting: usize,
 ) -> Result<Elements<'t, 'a>, ReadFailure>
     requires nests { nesting ≤ MAX_NESTING }
-    requires room { length nodes.old.items + items_size (item (json_data first) (items_left items)) < 2 ^ 32 }
-    ensures nodes { OnOk result (nodes.new.items ≡ nodes.old.items
-        ++ nodes_from (length nodes.old.items) number 0 (content_of 21 (item (json_data first.entry) (items_left items.entry)))) }
+    requires room { length nodes.old + items_size (item (json_data first) (items_left items)) < 2 ^ 31 }
+    ensures nodes { OnOk result (nodes.new ≡ nodes.old
+        ++ nodes_from (length nodes.old) number 0 (content_of 21 (item (json_data first.entry) (items_left items.entry)))) }
     ensures width { IfOk result (λ x. x.width ≡ count (content_of 21 (item (json_data first.entry) (items_left items.entry)))) }
     ensures names { IfOk result (λ x. (taken : List (List ℕ)) × Holds x.names taken
         × (faults_inside 21 nesting 0 [] (item (json_data first.entry) (items_left items.entry)) ≡ faults_keyed 21 nesting taken (json_data x.last))) }
@@ -202,7 +203,7 @@ fn read_elements<'t, 'a>(
 #[cycle(content)]
 fn read_element(
     alloc: Global,
-    nodes: &mut Vec<Node>,
+    nodes: &mut Nodes,
     number: u32,
     value: &Value<'_, '_>,
     index: u32,
@@ -210,8 +211,9 @@ fn read_element(
     misnamed: bool,
 ) -> Result<(), ReadFailure>
     requires fits { Fits nesting (json_data value.now) }
-    requires room { length nodes.old.items + size (json_data value.now) < 2 ^ 32 }
-    ensures { Lists nodes.old.items nodes.new.items number (Some (Index index)) result
+    requires index { index < 2 ^ 31 }
+    requires room { length nodes.old + size (json_data value.now) < 2 ^ 31 }
+    ensures { Lists nodes.old nodes.new number (Some (Index index)) result
         (first (map (under (Index index)) (faults 21 nesting misnamed (json_data value.now))) (tree_of 21 true (json_data value.now))) }
 {
     let position = Position {
@@ -231,15 +233,15 @@ fn read_element(
 #[cycle(content)]
 fn read_last(
     alloc: Global,
-    nodes: &mut Vec<Node>,
+    nodes: &mut Nodes,
     number: u32,
     last: &Value<'_, '_>,
     nesting: usize,
     names: &BTreeSet<&str>,
 ) -> Result<u32, ReadFailure>
     requires nests { nesting ≤ MAX_NESTING }
-    requires room { length nodes.old.items + size (json_data last.now) < 2 ^ 32 }
-    ensures { (taken : List (List ℕ)) → Holds names.now taken → ListsByKey nodes.old.items nodes.new.items number result
+    requires room { length nodes.old + size (json_data last.now) < 2 ^ 31 }
+    ensures { (taken : List (List ℕ)) → Holds names.now taken → ListsByKey nodes.old nodes.new number result
         (first (faults_keyed 21 nesting taken (json_data last.now)) (keyed_last 21 (json_data last.now))) }
 {
     let keys = last.members(alloc)?;
@@ -250,15 +252,15 @@ fn read_last(
 #[cycle(content)]
 fn read_keyed(
     alloc: Global,
-    nodes: &mut Vec<Node>,
+    nodes: &mut Nodes,
     number: u32,
     keys: &BTreeMap<&str, Value<'_, '_>>,
     nesting: usize,
     names: &BTreeSet<&str>,
 ) -> Result<u32, ReadFailure>
     requires nests { nesting ≤ MAX_NESTING }
-    requires room { length nodes.old.items + members_size (members_data keys.now.entries) < 2 ^ 32 }
-    ensures { (taken : List (List ℕ)) → Holds names.now taken → ListsByKey nodes.old.items nodes.new.items number result
+    requires room { length nodes.old + members_size (members_data keys.now.entries) < 2 ^ 31 }
+    ensures { (taken : List (List ℕ)) → Holds names.now taken → ListsByKey nodes.old nodes.new number result
         (first (faults_by 21 nesting taken (members_data keys.now.entries)) (keyed_by 21 (members_data keys.now.entries))) }
 {
     let mut count = 0;
@@ -277,7 +279,7 @@ fn read_keyed(
 #[cycle(content)]
 fn read_named(
     alloc: Global,
-    nodes: &mut Vec<Node>,
+    nodes: &mut Nodes,
     number: u32,
     key: &str,
     value: &Value<'_, '_>,
@@ -285,13 +287,13 @@ fn read_named(
     misnamed: bool,
 ) -> Result<(), ReadFailure>
     requires fits { Fits nesting (json_data value.now) }
-    requires room { length nodes.old.items + size (json_data value.now) < 2 ^ 32 }
-    ensures { Lists nodes.old.items nodes.new.items number (Some (Name key.now)) result
+    requires room { length nodes.old + size (json_data value.now) < 2 ^ 31 }
+    ensures { Lists nodes.old nodes.new number (Some (Name key.now)) result
         (first (map (under (Name key.now)) (faults_named 21 nesting misnamed (json_data value.now))) (tree_of 21 false (json_data value.now))) }
 {
     let position = Position {
         holder: number,
-        last: Last::name(alloc, key)?,
+        last: Last::name(key),
         nesting,
         listed: false,
         misnamed,
@@ -306,14 +308,14 @@ fn read_named(
 #[cycle(content)]
 fn read_only_container(
     alloc: Global,
-    nodes: &mut Vec<Node>,
+    nodes: &mut Nodes,
     value: &Value<'_, '_>,
-    position: Position,
+    position: Position<'_>,
 ) -> Result<(), ReadFailure>
     requires fits { Fits position.nesting (json_data value.now) }
-    requires room { length nodes.old.items + size (json_data value.now) < 2 ^ 32 }
-    ensures { Lists nodes.old.items nodes.new.items position.holder position.last result
-        (first (faults_named 21 position.nesting position.misnamed (json_data value.now)) (tree_of 21 position.listed (json_data value.now))) }
+    requires room { length nodes.old + size (json_data value.now) < 2 ^ 31 }
+    ensures { Lists nodes.old nodes.new position.entry.holder position.entry.last result
+        (first (faults_named 21 position.entry.nesting position.entry.misnamed (json_data value.now)) (tree_of 21 position.entry.listed (json_data value.now))) }
 {
     match value.kind() {
         Kind::Array(items) => read_container(alloc, nodes, value, items, position),

@@ -7,41 +7,42 @@ ghost use Rattle.ink_json.specs.Order.{key_part};
 
 use crate::key::{Key, compare_parts};
 use crate::node::Node;
+use crate::nodes::Nodes;
 use ink_model::Content;
 
 /// The number of what stands one part down from the content of a number; none where nothing does.
-pub(crate) fn child(nodes: &[Node], number: usize, part: Key<'_>) -> Option<usize>
+pub(crate) fn child(nodes: &Nodes, number: usize, part: Key<'_>) -> Option<usize>
     requires { Stands nodes.now number }
     ensures found { option_map (tree_at nodes.now) result ≡ down (key_part part.entry) (tree_at nodes.now number) }
     ensures stands { IfSome result (Stands nodes.now) }
 {
-    let end = number + size(&nodes[number]);
+    let end = number + size(&nodes.at(number));
     let mut next = number + 1;
     while next < end {
-        let node = &nodes[next];
-        if is_at(node, part) {
+        let node = nodes.at(next);
+        if is_at(&node, part) {
             return Some(next);
         }
-        next += size(node);
+        next += size(&node);
     }
     None
 }
 
 // How many nodes there are of the content of a node and all that is in it.
-fn size(node: &Node) -> usize
+fn size(node: &Node<'_>) -> usize
     ensures { result ≡ size_of node.now.content }
 {
-    match &node.content {
+    match node.content() {
         Content::Leaf(_) => 1,
         Content::Container(container) => container.size as usize,
     }
 }
 
 // Whether a part leads to the content of a node from the one around it.
-fn is_at(node: &Node, part: Key<'_>) -> bool
+fn is_at(node: &Node<'_>, part: Key<'_>) -> bool
     ensures { result ≡ leads (key_part part.entry) node.now.last }
 {
-    match node.last.key() {
+    match node.last() {
         Some(last) => compare_parts(part, last).is_eq(),
         None => false,
     }

@@ -3,10 +3,9 @@
 ghost use Rattle.std.specs.Prelude.{◌≡◌};
 ghost use Rattle.ink_model.specs.Grammar.{here};
 ghost use Rattle.ink_model.specs.declared.place.Part.TheVariants.{Index, Name};
-ghost use Rattle.ink_json.specs.Reading.{IsUnder, unparsed};
+ghost use Rattle.ink_json.specs.Reading.{IsUnder};
 
 use ink_model::{Cause, Failure, Part, ReadRefusal, Text};
-use json::Error;
 use std::alloc::Global;
 
 /// A request for memory was refused, or the story is.
@@ -17,16 +16,6 @@ pub(crate) fn refused(alloc: Global, cause: Cause) -> ReadFailure
     ensures { result ≡ Failure.Refused (here cause) }
 {
     Failure::Refused(ReadRefusal::at_root(alloc, cause))
-}
-
-/// Why a text could not be parsed: it lacks memory, or it is no JSON.
-pub(crate) fn unparsed(alloc: Global, error: Error) -> ReadFailure
-    ensures { result ≡ unparsed error }
-{
-    match error {
-        Error::OutOfMemory => Failure::OutOfMemory,
-        Error::Invalid | Error::TooLong | Error::DuplicateKey => refused(alloc, Cause::NotJson),
-    }
 }
 
 /// The same failure, of content that stands at this index.

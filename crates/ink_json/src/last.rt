@@ -1,80 +1,65 @@
-//! The last parts of places, as they are kept.
+//! The part that leads to content, as it is read.
 
-ghost use Rattle.std.specs.Prelude.{◌≡◌, Some, None, IfOk, option_map};
+ghost use Rattle.std.specs.Prelude.{◌≡◌, ◌<◌, ◌^◌, Some, None, option_map};
 ghost use Rattle.ink_model.specs.declared.place.Part.TheVariants.{Index, Name};
+ghost use Rattle.ink_json.specs.Last.{FitsLast};
 ghost use Rattle.ink_json.specs.Order.{key_part};
 
 use crate::key::Key;
-use ink_model::Text;
-use std::alloc::{AllocError, Global};
 use std::marker::Model;
 
-/// The part that leads to a content from the content around it, of which the root has none, in few bytes. A contract sees the
-/// part.
+/// The part that leads to a content from the content around it, of which the root has none, lent. A contract sees the part. An index
+/// is below the numbers that names have.
 #[derive(Drop)]
-pub struct Last {
-    kept: KeptPart,
+pub(crate) struct Last<'k> {
+    key: Option<Key<'k>>,
 }
 
-#[derive(Drop)]
-enum KeptPart {
-    Nothing,
-    Index(u32),
-    Name(Box<Text>),
-}
-
-impl Model for Last {
-    ghost use Rattle.std.specs.Prelude.{Option};
+impl<'k> Model for Last<'k> {
+    ghost use Rattle.std.specs.Prelude.{Option, option_map};
     ghost use Rattle.ink_model.specs.declared.place.Part.{Part};
-    ghost use Rattle.ink_json.specs.Last.{kept_part};
+    ghost use Rattle.ink_json.specs.Order.{key_part};
+    ghost use Rattle.ink_json.specs.Last.{FitsLast};
 
     ghost Value = { Option Part };
 
-    ghost view = { λ l. kept_part l.kept };
+    ghost view = { λ l. option_map key_part l.key };
+
+    ghost invariant = { λ l. FitsLast (option_map key_part l.key) };
 }
 
-impl Last {
+impl<'k> Last<'k> {
     /// None, for the root.
-    pub fn none() -> Last
+    pub(crate) fn none() -> Last<'k>
         ensures { result ≡ None }
     {
-        Last {
-            kept: KeptPart::Nothing,
-        }
+        Last { key: None }
     }
 
     /// An index.
-    pub fn index(index: u32) -> Last
+    pub(crate) fn index(index: u32) -> Last<'k>
+        requires { index < 2 ^ 31 }
         ensures { result ≡ Some (Index index) }
     {
         Last {
-            kept: KeptPart::Index(index),
+            key: Some(Key::Index(index)),
         }
     }
 
-    /// A name. The one error is a refused request for memory.
-    pub fn name(alloc: Global, name: &str) -> Result<Last, AllocError>
-        ensures { IfOk result (λ last. last ≡ Some (Name name.now)) }
+    /// A name.
+    pub(crate) fn name(name: &'k str) -> Last<'k>
+        ensures { result ≡ Some (Name name.now) }
     {
-        let text = Text::from_str(alloc, name)?;
-        Ok(Last {
-            kept: KeptPart::Name(Box::new(alloc, text)?),
-        })
-    }
-
-    /// Whether it is none, as the root's. Nothing rests on it.
-    pub fn is_none(&self) -> bool {
-        matches!(&self.kept, KeptPart::Nothing)
-    }
-
-    /// The part, lent.
-    pub fn key(&self) -> Option<Key<'_>>
-        ensures { option_map key_part result ≡ self.now }
-    {
-        match &self.kept {
-            KeptPart::Nothing => None,
-            KeptPart::Index(index) => Some(Key::Index(*index)),
-            KeptPart::Name(name) => Some(Key::Name(name.as_str())),
+        Last {
+            key: Some(Key::Name(name)),
         }
+    }
+
+    /// The part.
+    pub(crate) fn key(&self) -> Option<Key<'k>>
+        ensures part { option_map key_part result ≡ self.now }
+        ensures fits { FitsLast self.now }
+    {
+        self.key
     }
 }

@@ -3,8 +3,10 @@
 
 mod container;
 mod descent;
+mod element;
 mod error;
 mod heads;
+mod kept;
 mod key;
 mod last;
 mod leaf;
@@ -19,11 +21,12 @@ mod own;
 mod reading;
 mod readings;
 mod story;
+mod tape;
 mod value;
 mod word;
 
 pub use key::{Key, compare_parts, key_of, part_of};
-pub use last::Last;
 pub use node::Node;
+pub use nodes::Nodes;
 pub use reading::read_story;
 pub use story::RawStory;

@@ -1,7 +1,6 @@
 //! What a container's last element says of the container itself.
 
 ghost use Rattle.std.specs.Prelude.{◌≡◌, false, true, not, MatchOption, Some, None, option_map, if◌then◌else◌, IfOk};
-ghost use Rattle.ink_model.specs.Leaves.{whole};
 ghost use Rattle.ink_model.specs.Grammar.{own_of, is_last, are_flags, flags_of, is_name, name_in, name_of, member_of, flags_key, name_key, is_own};
 ghost use Rattle.ink_json.specs.Reading.{is_whole};
 ghost use Rattle.ink_json.specs.Value.{json_data};

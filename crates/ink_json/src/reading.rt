@@ -12,13 +12,14 @@ ghost use Rattle.ink_json.specs.Story.{tree};
 ghost use Rattle.ink_json.specs.Value.{json_data};
 
 use crate::container::{Position, read_container};
-use crate::error::{ReadFailure, refused, unparsed};
+use crate::error::{ReadFailure, refused};
 use crate::last::Last;
-use crate::node::Node;
+use crate::nodes::Nodes;
 use crate::story::RawStory;
+use crate::tape::Tape;
 use crate::value::{Kind, Value, root};
 use ink_model::{Cause, Failure, MAX_STORY, ReadRefusal};
-use json::{Scratch, Tape};
+use json::Scratch;
 use std::alloc::Global;
 
 /// The version of the format that is read.
@@ -40,9 +41,9 @@ pub fn read_story(alloc: Global, bytes: &[u8]) -> Result<RawStory, ReadRefusal>
 }
 
 #[tactic(auto, unfolding(ink_model::specs::Grammar::story))]
-fn read_nodes(alloc: Global, bytes: &[u8]) -> Result<Vec<Node>, ReadFailure>
-    ensures reads { ReadsOr (is_parsed bytes.now) (λ ns. rebuilt ns.items) result (story bytes.now) }
-    ensures listed { IfOk result (λ ns. IsListed ns.items) }
+fn read_nodes(alloc: Global, bytes: &[u8]) -> Result<Nodes, ReadFailure>
+    ensures reads { ReadsOr (is_parsed bytes.now) (λ ns. rebuilt ns) result (story bytes.now) }
+    ensures listed { IfOk result (λ ns. IsListed ns) }
 {
     if bytes.len() > MAX_STORY {
         return Err(refused(alloc, Cause::Limit));
@@ -62,10 +63,10 @@ fn without_mark(bytes: &[u8]) -> &[u8]
 }
 
 /// The nodes of the story that bytes are in JSON. Their tape, and what it is made with, are gone once the story is read.
-fn read_json(alloc: Global, bytes: &[u8]) -> Result<Vec<Node>, ReadFailure>
+fn read_json(alloc: Global, bytes: &[u8]) -> Result<Nodes, ReadFailure>
     requires { length bytes.now ≤ MAX_STORY }
-    ensures reads { ReadsOr (is_parsable bytes.now) (λ ns. rebuilt ns.items) result (of_json (json bytes.now)) }
-    ensures listed { IfOk result (λ ns. IsListed ns.items) }
+    ensures reads { ReadsOr (is_parsable bytes.now) (λ ns. rebuilt ns) result (of_json (json bytes.now)) }
+    ensures listed { IfOk result (λ ns. IsListed ns) }
 {
     let Ok(text) = str::from_utf8(bytes) else {
         return Err(refused(alloc, Cause::NotJson));
@@ -74,17 +75,18 @@ fn read_json(alloc: Global, bytes: &[u8]) -> Result<Vec<Node>, ReadFailure>
         return Err(refused(alloc, Cause::NotJson));
     }
     let mut scratch = Scratch::new(alloc);
-    match Tape::parse(text, &mut scratch, Vec::new(alloc)) {
-        Ok(tape) => read_tape(alloc, &tape),
-        Err(error) => Err(unparsed(alloc, error)),
+    match Tape::parse(alloc, text, &mut scratch) {
+        Ok(Some(tape)) => read_tape(alloc, &tape),
+        Ok(None) => Err(refused(alloc, Cause::NotJson)),
+        Err(_) => Err(Failure::OutOfMemory),
     }
 }
 
 /// The nodes of the story that a tape holds.
-fn read_tape(alloc: Global, tape: &Tape<'_>) -> Result<Vec<Node>, ReadFailure>
-    requires { are_sound 0 tape.now ≡ true → size (data_of tape.now) < 2 ^ 32 }
-    ensures reads { Reads (λ ns. rebuilt ns.items) result (of_json (if are_sound 0 tape.now then Some (data_of tape.now) else None)) }
-    ensures listed { IfOk result (λ ns. IsListed ns.items) }
+fn read_tape(alloc: Global, tape: &Tape<'_>) -> Result<Nodes, ReadFailure>
+    requires { are_sound 0 tape.now ≡ true → size (data_of tape.now) < 2 ^ 31 }
+    ensures reads { Reads (λ ns. rebuilt ns) result (of_json (if are_sound 0 tape.now then Some (data_of tape.now) else None)) }
+    ensures listed { IfOk result (λ ns. IsListed ns) }
 {
     match root(tape) {
         Some(value) => read_value(alloc, &value),
@@ -93,10 +95,10 @@ fn read_tape(alloc: Global, tape: &Tape<'_>) -> Result<Vec<Node>, ReadFailure>
 }
 
 /// The nodes of the story that a value is.
-fn read_value(alloc: Global, value: &Value<'_, '_>) -> Result<Vec<Node>, ReadFailure>
-    requires { size (json_data value.now) < 2 ^ 32 }
-    ensures reads { Reads (λ ns. rebuilt ns.items) result (of_value (json_data value.now)) }
-    ensures listed { IfOk result (λ ns. IsListed ns.items) }
+fn read_value(alloc: Global, value: &Value<'_, '_>) -> Result<Nodes, ReadFailure>
+    requires { size (json_data value.now) < 2 ^ 31 }
+    ensures reads { Reads (λ ns. rebuilt ns) result (of_value (json_data value.now)) }
+    ensures listed { IfOk result (λ ns. IsListed ns) }
 {
     if !value.is_object() {
         return Err(refused(alloc, Cause::Shape));
@@ -113,14 +115,14 @@ fn read_value(alloc: Global, value: &Value<'_, '_>) -> Result<Vec<Node>, ReadFai
     }
 }
 
-fn read_root(alloc: Global, root: &Value<'_, '_>) -> Result<Vec<Node>, ReadFailure>
-    requires { size (json_data root.now) < 2 ^ 32 }
-    ensures reads { Reads (λ ns. rebuilt ns.items) result (root_of 21 (Some (json_data root.now))) }
-    ensures listed { IfOk result (λ ns. IsListed ns.items) }
+fn read_root(alloc: Global, root: &Value<'_, '_>) -> Result<Nodes, ReadFailure>
+    requires { size (json_data root.now) < 2 ^ 31 }
+    ensures reads { Reads (λ ns. rebuilt ns) result (root_of 21 (Some (json_data root.now))) }
+    ensures listed { IfOk result (λ ns. IsListed ns) }
 {
     match root.kind() {
         Kind::Array(items) => {
-            let mut nodes = Vec::new(alloc);
+            let mut nodes = Nodes::new(alloc);
             let position = Position {
                 holder: 0,
                 last: Last::none(),

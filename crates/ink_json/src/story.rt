@@ -11,18 +11,18 @@ ghost use Rattle.ink_json.specs.Order.{keys_rise};
 
 use crate::descent::child;
 use crate::key::key_of;
-use crate::node::Node;
+use crate::nodes::Nodes;
 use ink_model::{Content, Part};
 
 /// A story as it was read: its content in one list, in reading order.
 #[derive(Drop)]
 pub struct RawStory {
-    pub(crate) nodes: Vec<Node>,
-    ghost listed: { IsListed nodes.items },
-    ghost narrow: { is_narrow (rebuilt nodes.items) ≡ true },
-    ghost few: { length (places (rebuilt nodes.items)) < 2 ^ 32 },
-    ghost rising: { keys_rise (rebuilt nodes.items) ≡ true },
-    ghost spelled: { IsSpelled (rebuilt nodes.items) },
+    pub(crate) nodes: Nodes,
+    ghost listed: { IsListed nodes },
+    ghost narrow: { is_narrow (rebuilt nodes) ≡ true },
+    ghost few: { length (places (rebuilt nodes)) < 2 ^ 32 },
+    ghost rising: { keys_rise (rebuilt nodes) ≡ true },
+    ghost spelled: { IsSpelled (rebuilt nodes) },
 }
 
 impl RawStory {
@@ -31,7 +31,7 @@ impl RawStory {
     /// All content, in reading order. Some bytes spell the story, so that all limits hold in it, and in each container the names
     /// of those by key rise. Takes no memory.
     #[inline(always)]
-    pub fn nodes(&self) -> &[Node]
+    pub fn nodes(&self) -> &Nodes
         ensures nodes { result.now ≡ story_nodes (tree self.now) }
         ensures few { length (places (tree self.now)) < 2 ^ 32 }
         ensures rising { keys_rise (tree self.now) ≡ true }
@@ -50,6 +50,6 @@ impl RawStory {
         for part in parts {
             here = child(&self.nodes, here, key_of(part))?;
         }
-        Some(&self.nodes[here].content)
+        Some(self.nodes.at(here).content())
     }
 }

@@ -1,7 +1,6 @@
 //! The values of a text of JSON, which stand in a tape.
 
-ghost use Rattle.std.specs.Prelude.{◌≡◌, ◌<◌, ◌^◌, ◌∷◌, true, false, map, length, Some, None, option_map, option_and_then, is_some, MatchOption, IfOk, OnSome};
-ghost use Rattle.json.specs.Tape.{node_token};
+ghost use Rattle.std.specs.Prelude.{◌≡◌, ◌<◌, ◌^◌, ◌∷◌, true, false, length, Some, None, option_map, option_and_then, is_some, MatchOption, IfOk, OnSome};
 ghost use Rattle.json.specs.Token.{begin_array};
 ghost use Rattle.serde_json.specs.Data.{no_items, item};
 ghost use Rattle.serde_json.specs.Find.{get, as_bool, as_str, as_array, as_object, as_number, as_u64};
@@ -9,8 +8,10 @@ ghost use Rattle.ink_model.specs.Grammar.{is_blank_object, is_last, own_of};
 ghost use Rattle.ink_json.specs.Number.{num};
 ghost use Rattle.ink_json.specs.Spelled.{is_readable, are_sound};
 
+use crate::element::{self, Element};
 use crate::number::Number;
-use json::{Element, Node, Tape};
+use crate::tape::Tape;
+use json::Node;
 use std::alloc::{AllocError, Global};
 use std::collections::BTreeMap;
 
@@ -27,7 +28,7 @@ pub(crate) struct Value<'t, 'a> {
 /// The items of an array that are left. A clause sees their data.
 #[derive(Drop)]
 pub(crate) struct Items<'t, 'a> {
-    rest: json::Items<'t, 'a>,
+    rest: element::Items<'t, 'a>,
     ghost readable: { is_readable (begin_array ∷ rest) ≡ true },
 }
 
@@ -46,21 +47,22 @@ pub(crate) enum Kind<'t, 'a> {
 pub(crate) fn root<'t, 'a>(tape: &'t Tape<'a>) -> Option<Value<'t, 'a>>
     ensures { MatchOption result (are_sound 0 tape.now ≡ false) (λ v. (are_sound 0 tape.now ≡ true) × (v.element ≡ tape.now)) }
 {
-    if are_sound(tape.nodes()) {
+    if are_sound(tape) {
         Some(Value {
-            element: tape.root(),
+            element: Element::root(tape),
         })
     } else {
         None
     }
 }
 
-fn are_sound(nodes: &[Node<'_>]) -> bool
-    ensures { result ≡ are_sound 0 (map node_token nodes.now) }
+/// Whether nothing in a tape nests too deeply, and each number has a value.
+fn are_sound(tape: &Tape<'_>) -> bool
+    ensures { result ≡ are_sound 0 tape.now }
 {
     let mut levels = 0;
-    for node in nodes {
-        match node {
+    for at in 0..tape.len() {
+        match tape.node(at) {
             Node::Object(_) | Node::Array(_) => {
                 if levels >= MAX_DEPTH {
                     return false;

@@ -1,6 +1,6 @@
 //! Where lines are read from.
 
-ghost use Rattle.std.specs.Prelude.{◌≡◌, ◌<◌, ◌≤◌, ◌+◌, ◌-◌, ℕ, max, min, List, [], ◌∷◌, Bool, true, false, ◌||◌, ◌++◌, Option, length, take, drop, is_err, IfOk, OnOk, OnErr, MatchOption, MatchResult};
+ghost use Rattle.std.specs.Prelude.{◌≡◌, ◌<◌, ◌≤◌, ◌+◌, ◌-◌, ℕ, max, List, [], Bool, true, false, ◌||◌, Option, length, take, drop, is_err, IfOk, OnOk, OnErr, MatchOption, MatchResult};
 ghost use Rattle.ink_model.specs.Bytes.{has_newline};
 ghost use Rattle.ink_player.specs.Input.{Extends, IsNewlineAt};
 ghost use Rattle.std.specs.Io.{ReadsAtMost};

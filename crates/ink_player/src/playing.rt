@@ -1,6 +1,6 @@
 //! Playing a story over bytes (docs/PROTOCOL.md, "Playing").
 
-ghost use Rattle.std.specs.Prelude.{◌≡◌, ◌||◌, List, [], Ok, IfOk, IfErr};
+ghost use Rattle.std.specs.Prelude.{◌≡◌, List, Ok, IfOk, IfErr};
 ghost use Rattle.ink_check.specs.Words.{story_tree};
 ghost use Rattle.ink_host.specs.Desk.{Resting};
 ghost use Rattle.ink_model.specs.Acceptance as rules;

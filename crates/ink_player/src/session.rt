@@ -1,6 +1,6 @@
 //! Sessions over command lines (docs/PROTOCOL.md, "Sessions").
 
-ghost use Rattle.std.specs.Prelude.{◌≡◌, ℕ, List, [], ◌||◌, ◌⊎◌, ◌≤◌, ◌+◌, length, option_map};
+ghost use Rattle.std.specs.Prelude.{◌≡◌, ℕ, List, [], ◌⊎◌, option_map};
 ghost use Rattle.ink_model.specs.Answer.{Refuses};
 ghost use Rattle.ink_model.specs.Session.{Does, Serves, Set};
 ghost use Rattle.ink_model.specs.Host.{Bindings};

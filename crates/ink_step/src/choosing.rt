@@ -1,8 +1,8 @@
 //! Where choices lead, and jumps (docs/RUNNING.md, "Choosing and jumping").
 
-ghost use Rattle.std.specs.Prelude.{◌≡◌, true, IfErr, OnErr, OnOk};
+ghost use Rattle.std.specs.Prelude.{◌≡◌, true, OnErr, OnOk};
 ghost use Rattle.ink_check.specs.Words.{story_tree};
-ghost use Rattle.ink_model.specs.Choosing.{chosen, default_asks, default_choice, jumped, open_choice, stopped_by, taken_up};
+ghost use Rattle.ink_model.specs.Choosing.{default_asks, default_choice, jumped, open_choice, stopped_by, taken_up};
 ghost use Rattle.ink_model.specs.Configuration.{map_choice};
 ghost use Rattle.ink_model.specs.Tree.{StoryTree};
 ghost use Rattle.ink_model.specs.Visits.{entering_around, entering_asks};

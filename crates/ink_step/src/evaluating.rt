@@ -1,8 +1,7 @@
 //! Values, operators and evaluation mode (docs/RUNNING.md, "Evaluation").
 
-ghost use Rattle.std.specs.Prelude.{ℕ, List, [], ◌∷◌, Bool, true, false, Option, Some, IfOk, ◌≡◌};
+ghost use Rattle.std.specs.Prelude.{ℕ, List, [], Bool, true, false, Option, Some, IfOk, ◌≡◌};
 ghost use Rattle.ink_check.specs.Words.{story_tree};
-ghost use Rattle.ink_model.specs.Effect.{pushing};
 ghost use Rattle.ink_model.specs.Memory.{has_top, operator_asks};
 ghost use Rattle.ink_model.specs.Operator.{takes};
 ghost use Rattle.ink_model.specs.Page.{Page};

@@ -3,7 +3,7 @@
 ghost use Rattle.std.specs.Prelude.{◌≡◌, ◌≤◌, ℕ, List, Bool, Option, Some, Ok, Err, IfOk, IfErr, true, false, is_some, length, option_map};
 ghost use Rattle.std.specs.List.{list_all};
 ghost use Rattle.ink_check.specs.Words.{story_tree};
-ghost use Rattle.ink_host.specs.Desk.{Grew, answer_of, at, bound_by};
+ghost use Rattle.ink_host.specs.Desk.{Grew, at, bound_by};
 ghost use Rattle.ink_host.specs.declared.objects.Bound.TheVariants as bound;
 ghost use Rattle.ink_model.specs.Effect.{Fields};
 ghost use Rattle.ink_model.specs.Asks.{binding_asks, external_asks, takes_arguments};

@@ -4,7 +4,7 @@ use Rattle.std.proofs.lemmas.Cmp.{tied_itself}
 use Rattle.std.proofs.lemmas.List.{length-append, take_more, take-append-drop}
 use Rattle.ink_json.specs.Order.{key_part, keys_rise, part_order}
 use Rattle.ink_json.specs.declared.key.Key.{Key}
-use Rattle.ink_json.specs.declared.node.Node.{Node}
+use Rattle.ink_json.specs.Node.{Node}
 use Rattle.ink_model.specs.Places.{places}
 use Rattle.ink_model.specs.Tree.{StoryTree, at, width}
 use Rattle.ink_model.specs.declared.place.Part.{Part}

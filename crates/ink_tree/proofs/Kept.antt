@@ -5,7 +5,7 @@ use Rattle.std.proofs.lemmas.List.{append-nil, length-append, length-reverse}
 use Rattle.std.proofs.lemmas.Bool.{cases_lt}
 use Rattle.std.proofs.lemmas.Option.{cond_some, none-some, same_Some, slice_get_past, slice_get_read}
 use Rattle.std.specs.Option.{unwrap_or}
-use Rattle.ink_json.specs.declared.node.Node.{Node}
+use Rattle.ink_json.specs.Node.{Node}
 use Rattle.ink_model.specs.Entered.{is_around, listed_if, passed_at, passed_places}
 use Rattle.ink_model.specs.Path.{is_container}
 use Rattle.ink_model.specs.Place.{entered, first_content_at, landed, next_place, next_upwards}

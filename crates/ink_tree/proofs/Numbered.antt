@@ -6,7 +6,7 @@ use Rattle.std.proofs.lemmas.List.{append-nil, length-append, length-map}
 use Rattle.std.proofs.lemmas.Option.{none-some, same_Some, slice_get_within}
 use Rattle.ink_json.specs.Listing.{nodes_of, nodes_from, nodes_by_key, own_node, story_nodes}
 use Rattle.ink_json.specs.Order.{keys_rise, keys_rise_in, keys_rise_by_key, is_below}
-use Rattle.ink_json.specs.declared.node.Node.{Node}
+use Rattle.ink_json.specs.Node.{Node}
 use Rattle.ink_model.specs.Places.{places, places_from, places_by_key}
 use Rattle.ink_model.specs.Tree.{StoryTree, leaf, container, Trees, no_trees, tree, Keyed, no_keys, key, nth, by_key, at, count}
 use Rattle.ink_model.specs.Entered.{is_around}

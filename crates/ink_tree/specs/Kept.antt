@@ -2,7 +2,7 @@
 use Rattle.std.specs.Prelude.{◌≡◌, ⊤, ℕ, ◌+◌, ◌<◌, List, [], ◌∷◌, ◌++◌, length, Bool, false, nat_le, nat_lt, ◌&&◌, slice_get, if◌then◌else◌, Option, Some, None}
 use Rattle.std.specs.Borrow.{Bor}
 use Rattle.std.specs.Option.{option_map}
-use Rattle.ink_json.specs.declared.node.Node.{Node}
+use Rattle.ink_json.specs.Node.{Node}
 use Rattle.ink_model.specs.Entered.{is_around}
 use Rattle.ink_model.specs.Place.{next_place}
 use Rattle.ink_model.specs.Places.{places}

@@ -1,6 +1,6 @@
 //! Where contents may be looked for first.
 
-use ink_json::{Key, Node, compare_parts};
+use ink_json::{Key, Nodes, compare_parts};
 use std::alloc::{AllocError, Global};
 use std::cmp::Ordering;
 
@@ -14,17 +14,15 @@ pub(crate) struct Children {
 
 impl Children {
     /// The numbers of these nodes by what is around them. The one error is a refused request for memory.
-    pub(crate) fn of(alloc: Global, nodes: &[Node]) -> Result<Children, AllocError> {
+    pub(crate) fn of(alloc: Global, nodes: &Nodes) -> Result<Children, AllocError> {
         let mut ends = starts(alloc, nodes)?;
         let mut numbers = filled(alloc, nodes.len())?;
-        for (number, node) in nodes.iter().enumerate() {
-            if !node.last.is_none() {
-                if let Some(end) = ends.get_mut(node.holder as usize) {
-                    if let Some(slot) = numbers.get_mut(*end as usize) {
-                        *slot = small(number);
-                    }
-                    *end = (*end).wrapping_add(1);
+        for number in 1..nodes.len() {
+            if let Some(end) = ends.get_mut(holder(nodes, number)) {
+                if let Some(slot) = numbers.get_mut(*end as usize) {
+                    *slot = small(number);
                 }
+                *end = (*end).wrapping_add(1);
             }
         }
         Ok(Children { numbers, ends })
@@ -37,13 +35,7 @@ impl Children {
 
     /// The number of the last content in a container, behind so many by index, at a key or before it: the keys rise. The
     /// container's own, where none is.
-    pub(crate) fn up_to(
-        &self,
-        nodes: &[Node],
-        container: usize,
-        width: usize,
-        name: &str,
-    ) -> usize {
+    pub(crate) fn up_to(&self, nodes: &Nodes, container: usize, width: usize, name: &str) -> usize {
         let start = self.start(container);
         let mut low = start.wrapping_add(width);
         let mut high = self.end(container);
@@ -87,13 +79,11 @@ impl Children {
 }
 
 // Where the block of each container starts.
-fn starts(alloc: Global, nodes: &[Node]) -> Result<Vec<u32>, AllocError> {
+fn starts(alloc: Global, nodes: &Nodes) -> Result<Vec<u32>, AllocError> {
     let mut starts = filled(alloc, nodes.len())?;
-    for node in nodes {
-        if !node.last.is_none() {
-            if let Some(count) = starts.get_mut(node.holder as usize) {
-                *count = (*count).wrapping_add(1);
-            }
+    for number in 1..nodes.len() {
+        if let Some(count) = starts.get_mut(holder(nodes, number)) {
+            *count = (*count).wrapping_add(1);
         }
     }
     let mut before: u32 = 0;
@@ -103,6 +93,14 @@ fn starts(alloc: Global, nodes: &[Node]) -> Result<Vec<u32>, AllocError> {
         before = before.wrapping_add(count);
     }
     Ok(starts)
+}
+
+// The number of the content around the content of a number, of which the root, the first, has none.
+fn holder(nodes: &Nodes, number: usize) -> usize {
+    match nodes.get(number) {
+        Some(node) => node.holder() as usize,
+        None => nodes.len(),
+    }
 }
 
 // A number, or the largest of the list's where it is larger: then nothing is found there.
@@ -122,9 +120,9 @@ fn filled(alloc: Global, count: usize) -> Result<Vec<u32>, AllocError> {
 }
 
 // How the key of a node stands to a name.
-fn order(nodes: &[Node], number: usize, name: &str) -> Ordering {
+fn order(nodes: &Nodes, number: usize, name: &str) -> Ordering {
     match nodes.get(number) {
-        Some(node) => match node.last.key() {
+        Some(node) => match node.last() {
             Some(part) => compare_parts(part, Key::Name(name)),
             None => Ordering::Less,
         },

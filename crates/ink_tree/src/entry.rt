@@ -71,7 +71,7 @@ impl Tree {
             ≡ first_inside (story_tree self.now) (node_place (story_tree self.now) node) }
     {
         let own = self.own(node);
-        if width_of(&self.kept_own(own).content) > 0 {
+        if width_of(self.kept_own(own).content()) > 0 {
             Some(NodeId {
                 number: own.number + 1,
             })

@@ -60,7 +60,7 @@ impl Tree {
         requires { own.number < length (places (story_tree self.now)) }
         ensures { Spans (story_tree self.now) own.number result }
     {
-        own.number + size_of(&self.kept_own(own).content) as usize
+        own.number + size_of(self.kept_own(own).content()) as usize
     }
 }
 

@@ -1,6 +1,6 @@
 //! Nodes by number and by place.
 
-ghost use Rattle.std.specs.Prelude.{◌≡◌, ◌<◌, ◌∷◌, [], ◌++◌, true, false, Some, option_map, reverse, length, slice_get};
+ghost use Rattle.std.specs.Prelude.{◌≡◌, ◌<◌, ◌∷◌, [], ◌++◌, true, false, Some, option_map, reverse, length};
 ghost use Rattle.ink_json.specs.Order.{key_part};
 ghost use Rattle.ink_model.specs.Path.{above};
 ghost use Rattle.ink_model.specs.Places.{places};
@@ -15,7 +15,7 @@ ghost use Rattle.ink_tree.specs.Kept.{Keeps, KeepsAll, KeepsAt};
 use crate::content::{keys_of, reaches, width_of};
 use crate::spot::NodeId;
 use crate::tree::Tree;
-use ink_json::{Key, Node, compare_parts, key_of};
+use ink_json::{Key, Node, Nodes, compare_parts, key_of};
 use ink_model::{Content, Part};
 
 impl Tree {
@@ -23,7 +23,7 @@ impl Tree {
 
     /// All content, in reading order.
     #[inline(always)]
-    pub(crate) fn nodes(&self) -> &[Node]
+    pub(crate) fn nodes(&self) -> &Nodes
         ensures all { KeepsAll (story_tree self.now) result.now }
         ensures many { length result.now ≡ length (places (story_tree self.now)) }
     {
@@ -53,21 +53,21 @@ impl Tree {
 
     /// What is kept of a node.
     #[inline(always)]
-    pub(crate) fn kept(&self, node: NodeId) -> &Node
-        ensures { Keeps (story_tree self.now) (node_place (story_tree self.now) node) result.now }
+    pub(crate) fn kept(&self, node: NodeId) -> Node<'_>
+        ensures { Keeps (story_tree self.now) (node_place (story_tree self.now) node) result }
     {
-        match node_at(self.nodes(), node.number) {
+        match self.nodes().get(node.number) {
             Some(kept) => kept,
             None => self.kept_own(self.own(node)),
         }
     }
 
     /// What is kept of a node of the story.
-    pub(crate) fn kept_own(&self, own: NodeId) -> &Node
+    pub(crate) fn kept_own(&self, own: NodeId) -> Node<'_>
         requires { own.number < length (places (story_tree self.now)) }
-        ensures { KeepsAt (story_tree self.now) own.number result.now }
+        ensures { KeepsAt (story_tree self.now) own.number result }
     {
-        &self.nodes()[own.number]
+        self.nodes().at(own.number)
     }
 
     /// The content of a node.
@@ -75,7 +75,7 @@ impl Tree {
     pub(crate) fn content_of(&self, node: NodeId) -> &Content
         ensures { Some result.now ≡ option_map own_content (at (story_tree self.now) (node_place (story_tree self.now) node)) }
     {
-        &self.kept(node).content
+        self.kept(node).content()
     }
 
     /// How many contents a node holds by index.
@@ -102,10 +102,10 @@ impl Tree {
         ensures { IsAbove (story_tree self.now) (node_place (story_tree self.now) node) result }
     {
         let kept = self.kept(node);
-        match kept.last.key() {
+        match kept.last() {
             Some(last) => {
                 let holder = NodeId {
-                    number: kept.holder as usize,
+                    number: kept.holder() as usize,
                 };
                 Some((last, holder))
             }
@@ -212,10 +212,10 @@ impl Tree {
         ensures { LeadsTo (story_tree self.now) (node_place (story_tree self.now) holder) number result }
     {
         let own = self.own(holder);
-        match node_at(self.nodes(), number) {
+        match self.nodes().get(number) {
             Some(node) => {
-                if node.holder as usize == own.number {
-                    node.last.key()
+                if node.holder() as usize == own.number {
+                    node.last()
                 } else {
                     None
                 }
@@ -223,14 +223,6 @@ impl Tree {
             None => None,
         }
     }
-}
-
-// What is kept at a number.
-#[inline(always)]
-fn node_at(nodes: &[Node], number: usize) -> Option<&Node>
-    ensures { option_map (λ n. n.now) result ≡ slice_get nodes.now number }
-{
-    nodes.get(number)
 }
 
 fn is_part(part: Key<'_>, key: Key<'_>) -> bool

@@ -3,7 +3,7 @@
 //! its parts; but for the numbers of variables nothing is numbered or kept, and none of the code is that of the calls.
 
 use indexmap::IndexSet;
-use ink_json::{Key, Node, RawStory};
+use ink_json::{Key, Node, Nodes, RawStory};
 use ink_model::choice_flags::is_once_only;
 use ink_model::flags::{counts_at_start, counts_visits};
 use ink_model::{Content, Destination, Leaf, MAX_NESTING, Part, Path, Place, Seq, Text};
@@ -30,11 +30,11 @@ pub(crate) struct Plain<'s> {
 #[derive(Drop)]
 struct Reader<'s> {
     alloc: Global,
-    nodes: &'s [Node],
+    nodes: &'s Nodes,
     next: usize,
 }
 
-/// The tree of a story that was read, none where its list ends too early. Of each container it counts what is in it.
+/// The tree of a story that was read, none where its list is empty. What is in a container is told by how much it says it holds.
 pub(crate) fn tree_of<'s>(
     alloc: Global,
     story: &'s RawStory,
@@ -48,7 +48,7 @@ pub(crate) fn tree_of<'s>(
 }
 
 impl<'s> Reader<'s> {
-    fn take(&mut self) -> Option<&'s Node> {
+    fn take(&mut self) -> Option<Node<'s>> {
         let node = self.nodes.get(self.next)?;
         self.next = self.next.saturating_add(1);
         Some(node)
@@ -60,7 +60,7 @@ impl<'s> Reader<'s> {
         let Some(node) = self.take() else {
             return Ok(None);
         };
-        let content = &node.content;
+        let content = node.content();
         let mut plain = Plain {
             content,
             list: Vec::new(self.alloc),
@@ -106,9 +106,12 @@ impl<'s> Reader<'s> {
 
     /// The name that leads to the next content.
     fn name(&self) -> &'s str {
-        match self.nodes.get(self.next).map(|node| node.last.key()) {
-            Some(Some(Key::Name(name))) => name,
-            _ => "",
+        match self.nodes.get(self.next) {
+            Some(node) => match node.last() {
+                Some(Key::Name(name)) => name,
+                _ => "",
+            },
+            None => "",
         }
     }
 }

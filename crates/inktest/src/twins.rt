@@ -17,6 +17,10 @@ use std::alloc::{AllocError, AllocFailed, Global};
 /// The most pairs of two places, or of a path and a place, that are compared for one story.
 const MOST_PAIRS: usize = 100_000;
 
+/// How many contents are taken to be passed, at most, on the way to a place of a story as it was read: so of the largest story
+/// some ten places are compared.
+const MOST_PASSED: usize = 10_000;
+
 /// A story by number, the same story as it was read and as a tree, and the places of all content in it, by number.
 #[derive(Clone, Copy)]
 struct Twins<'s, 'r> {
@@ -84,7 +88,7 @@ fn compare<'s>(
     story: &str,
 ) -> Result<String, Stop> {
     let Some(plain) = twin::tree_of(alloc, raw)? else {
-        return Ok(text(alloc, "its list ends too early")?);
+        return Ok(text(alloc, "its list is empty")?);
     };
     let places = twin::places(alloc, &plain)?;
     let twins = Twins {
@@ -191,17 +195,24 @@ impl Twins<'_, '_> {
         self.alike(asked("flags"), flags, slow)
     }
 
-    /// The content at all places, or some, as it was read, and what stands behind a container's last content and at no key.
+    /// The content at all places, or the last and some, as it was read, and what stands behind a container's last content and at
+    /// no key.
     fn compare_raw(&self) -> Result<(), Stop> {
-        for place in some_of(self.alloc, self.places, self.places.len())? {
-            let place = place.parts();
-            self.compare_raw_at(place)?;
-            let end = twin::below(self.alloc, place, twin::width(self.plain, place))?;
-            self.compare_raw_at(end.parts())?;
-            let absent = twin::under(self.alloc, place, "nowhere")?;
-            self.compare_raw_at(absent.parts())?;
+        if let Some(last) = self.places.last() {
+            self.compare_raw_in(last.parts())?;
+        }
+        for place in some_of(self.alloc, self.places, self.places.len().min(MOST_PASSED))? {
+            self.compare_raw_in(place.parts())?;
         }
         Ok(())
+    }
+
+    fn compare_raw_in(&self, place: &[Part]) -> Result<(), Stop> {
+        self.compare_raw_at(place)?;
+        let end = twin::below(self.alloc, place, twin::width(self.plain, place))?;
+        self.compare_raw_at(end.parts())?;
+        let absent = twin::under(self.alloc, place, "nowhere")?;
+        self.compare_raw_at(absent.parts())
     }
 
     fn compare_raw_at(&self, at: &[Part]) -> Result<(), Stop> {

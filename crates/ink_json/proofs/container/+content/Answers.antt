@@ -1,18 +1,17 @@
-use Rattle.std.proofs.Common.{◌≡◌, ◌+◌, [], ◌∷◌, ◌++◌, true, false, cond, None, Ok, length, refl, ap, sym, subst, ◌∙◌, arith}
-use Rattle.std.proofs.lemmas.List.{append-nil, length-append}
+use Rattle.std.proofs.Common.{◌≡◌, ◌+◌, ◌++◌, true, false, cond, None, Ok, length, refl, ap, sym, subst, ◌∙◌, arith}
+use Rattle.std.proofs.lemmas.List.{append-nil}
 use Rattle.std.proofs.lemmas.Result.{err_from_is_err_and}
 use Rattle.serde_json.specs.Data.{array, item}
 use Rattle.ink_model.specs.Grammar.{with_name, name_of, name_in, flags_of, own_of, own_after, content, content_of, tree_of, faults_inside, faults_by, keyed_in, keyed_last, keyed_by, first}
 use Rattle.ink_model.specs.Tree.{container, count, key, tree}
 use Rattle.ink_model.specs.View.{count_keys}
 use Rattle.ink_model.specs.declared.content.Leaf.{Leaf}
-use Rattle.ink_model.specs.declared.place.Part.TheVariants.{Name}
-use Rattle.ink_json.specs.Listing.{Lists, container_node, nodes_from, nodes_by_key, nodes_inside}
+use Rattle.ink_json.specs.Listing.{Lists, nodes_from, nodes_by_key, nodes_inside}
 use Rattle.ink_json.specs.Reading.{is_whole}
 use Rattle.ink_json.specs.Size.{items_size, members_size}
 use Rattle.ink_json.specs.Value.{json_data, items_left, Entry, members_data}
 use Rattle.ink_json.proofs.Containers.{first_ok, size_positive, keyed_takes, container_takes, container_stops, container_read, keyed_is, keyed_members, last_within, element_goes, element_stops, own_key_faults, key_stops, key_goes}
-use Rattle.ink_json.proofs.Growing.{container_listed, grown, inside_grown, inside_listed, keys_within, last_grown, next_key, opened_listed, own_key, under_takes}
+use Rattle.ink_json.proofs.Growing.{container_listed, grown, inside_listed, keys_within, last_grown, next_key, opened_listed, own_key}
 use Rattle.ink_json.proofs.Listing.{by_key_more, from_more}
 use Rattle.ink_json.proofs.container.+content.Goals as goal
 
@@ -47,13 +46,6 @@ read_container-returns-in_err-inside t c =
     let p = err_from_is_err_and c.from_residual-in_err-inside.result c.from_residual-in_err-inside.ensures.1 in
     rw (is, p.1, p.2) (container_stops 21 c.args.position.nesting c.args.position.misnamed c.args.position.listed ds c.in_err-inside.field-0.0 c.if-nesting-gt-MAX_NESTING.false whole c.if-misnamed.false c.in_err-inside.ensures.err)
 
-pub read_container-close-requires-clause-few : goal.read_container-close-requires-clause-few
-read_container-close-requires-clause-few t c =
-    let ds = item (json_data c.in-Some.first) (items_left c.next.new.self) in
-    let own = container_node c.args.position.holder c.args.position.last c.in_ok-name.name c.in-Some-read_own.own.flags 0 0 0 in
-    let same = ap items_size c.in-Some.ensures.value in
-    omega (arith, ap length c.in_ok-open.ensures, length-append c.args.nodes.now.items (own ∷ []), inside_grown 21 c.open.new.nodes.items c.read_inside.new.nodes.items _ ds c.in_ok-inside.ensures.nodes)
-
 pub read_container-returns : goal.read_container-returns
 read_container-returns t c =
     let first = json_data c.in-Some.first in
@@ -63,13 +55,13 @@ read_container-returns t c =
     let whole = subst (λ d. is_whole (own_of d) ≡ true) is own.0 in
     let flags = own.1 ∙ ap (λ d. flags_of (own_of d)) is in
     let name = c.in_ok-name.ensures ∙ own.2 ∙ ap (λ d. cond c.args.position.listed (name_in (own_of d)) None) is in
-    let old = c.args.nodes.now.items in
-    let here : c.len-number.result ≡ length old = omega (arith, c.len-number.ensures, c.args.nodes.now.ok.0) in
+    let old = c.args.nodes.now in
+    let here : c.len-number.result ≡ length old = c.len-number.ensures in
     let opened = opened_listed old c.args.position.holder c.args.position.last c.in_ok-name.name c.in-Some-read_own.own.flags c.len-number.result (content_of 21 ds) (keyed_in 21 ds) here
-    c.open.new.nodes.items c.read_inside.new.nodes.items c.in_ok-open.ensures c.in_ok-inside.ensures.nodes in
+    c.open.new.self c.read_inside.new.nodes c.in_ok-open.ensures c.in_ok-inside.ensures.nodes in
     let closed = c.close.ensures old (nodes_inside (length old + 1) (length old) (content_of 21 ds) (keyed_in 21 ds)) c.args.position.holder c.args.position.last c.in_ok-name.name c.in-Some-read_own.own.flags opened here in
     let listed = container_listed old c.args.position.holder c.args.position.last c.in_ok-name.name c.in-Some-read_own.own.flags c.len-number.result (content_of 21 ds) (keyed_in 21 ds) here
-    c.close.new.nodes.items c.in_ok-inside.inside.width c.in_ok-inside.inside.keys c.in_ok-inside.ensures.width c.in_ok-inside.ensures.keys closed in (
+    c.close.new.self c.in_ok-inside.inside.width c.in_ok-inside.inside.keys c.in_ok-inside.ensures.width c.in_ok-inside.ensures.keys closed in (
       container c.in_ok-name.name c.in-Some-read_own.own.flags (content_of 21 ds) (keyed_in 21 ds),
       ap (content 21 c.args.position.nesting c.args.position.misnamed c.args.position.listed) is
           ∙ container_read 21 c.args.position.nesting c.args.position.misnamed c.args.position.listed ds c.in_ok-name.name c.in-Some-read_own.own.flags
@@ -79,7 +71,7 @@ read_container-returns t c =
 
 pub read_content-returns-in-Bool : goal.read_content-returns-in-Bool
 read_content-returns-in-Bool t c =
-    subst (λ d. Lists c.args.nodes.now.items c.list_leaf-in-Bool.new.nodes.items c.args.position.holder c.args.position.last c.list_leaf-in-Bool.result (content 21 c.args.position.nesting c.args.position.misnamed c.args.position.listed d))
+    subst (λ d. Lists c.args.nodes.now c.list_leaf-in-Bool.new.nodes c.args.position.holder c.args.position.last c.list_leaf-in-Bool.result (content 21 c.args.position.nesting c.args.position.misnamed c.args.position.listed d))
     (sym c.in-Bool.ensures) (c.list_leaf-in-Bool.ensures (Ok (Leaf.Bool c.in-Bool.truth)) refl)
 
 -- ---- what is in it
@@ -87,7 +79,7 @@ read_content-returns-in-Bool t c =
 pub read_inside-read_last-requires : goal.read_inside-read_last-requires
 read_inside-read_last-requires t c =
     let small = last_within (json_data c.args.first) (json_data c.in_ok-width.field-0.last) (items_left c.args.items) c.in_ok-width.ensures.last in
-    let within = last_grown 21 c.args.nodes.now.items c.read_elements.new.nodes.items _ (json_data c.args.first) (items_left c.args.items) (json_data c.in_ok-width.field-0.last) c.in_ok-width.ensures.nodes c.in_ok-width.ensures.last in
+    let within = last_grown 21 c.args.nodes.now c.read_elements.new.nodes _ (json_data c.args.first) (items_left c.args.items) (json_data c.in_ok-width.field-0.last) c.in_ok-width.ensures.nodes c.in_ok-width.ensures.last in
     (omega arith, (c.requires.nests, omega arith))
 
 pub read_inside-returns-clause-keys : goal.read_inside-returns-clause-keys
@@ -103,7 +95,7 @@ read_inside-returns-clause-nodes t c =
     let names = c.in_ok-width.ensures.names in
     let read = c.in_ok-keys.ensures names.0 names.1 in
     let same = (first_ok _ (keyed_last 21 (json_data c.in_ok-width.field-0.last)) read.0 read.1).1 in
-    inside_listed c.args.nodes.now.items c.read_elements.new.nodes.items c.read_last.new.nodes.items c.args.number (content_of 21 ds) (keyed_in 21 ds) read.0 c.in_ok-width.ensures.nodes read.3
+    inside_listed c.args.nodes.now c.read_elements.new.nodes c.read_last.new.nodes c.args.number (content_of 21 ds) (keyed_in 21 ds) read.0 c.in_ok-width.ensures.nodes read.3
     (keyed_is 21 (json_data c.args.first) (json_data c.in_ok-width.field-0.last) (items_left c.args.items) c.in_ok-width.ensures.last ∙ same)
 
 -- ---- the elements
@@ -128,17 +120,17 @@ read_elements-loop-next-preserved t c =
     let read = rw (c.is_misnamed-misnamed.ensures names.0 names.1) at c.in_ok-read_element.ensures in
     let same = names.2 ∙ ap (λ ds. faults_inside 21 c.args.nesting l.index names.0 (item here ds)) e in
     let goes = element_goes 21 c.args.nesting l.index here next left names.0 _ same read.0 read.1 in
-    let now = l.nodes.items in
+    let now = l.nodes in
     let listed = l.invariant.listed in
     record {
-      listed = from_more now c.read_element.new.nodes.items _ c.args.number l.index read.0 (content_of 21 (item next left))
+      listed = from_more now c.read_element.new.nodes _ c.args.number l.index read.0 (content_of 21 (item next left))
           (ap (λ u. now ++ nodes_from (length now) c.args.number l.index (tree u (content_of 21 (item next left)))) (sym goes.1)
           ∙ ap (λ ds. now ++ nodes_from (length now) c.args.number l.index (content_of 21 (item here ds))) (sym e) ∙ listed) read.2;
       wide = omega (arith, l.invariant.wide, ap (λ ds. count (content_of 21 (item here ds))) e);
       names = (with_name names.0 (name_of here), rw c.name_of.ensures at (c.in_ok-give.ensures names.0 names.1), goes.0);
       last = l.invariant.last ∙ ap (own_after here) e;
       within = omega (arith, l.invariant.within, ap items_size e, size_positive here);
-      room = omega (arith, l.invariant.room, ap items_size e, grown now c.read_element.new.nodes.items _ _ _ true here read.0 read.2 goes.1);
+      room = omega (arith, l.invariant.room, ap items_size e, grown now c.read_element.new.nodes _ _ _ true here read.0 read.2 goes.1);
     }
 
 -- ---- the containers by key
@@ -180,7 +172,7 @@ read_keyed-loop-key-preserved t c =
     let same = ap (λ es. keyed_by 21 (members_data es)) steps ∙ own_key 21 e rest own in
     record {
       left = omega (arith, l.invariant.left, spent);
-      listed = ap (λ ks. l.nodes.items ++ nodes_by_key (length l.nodes.items) c.args.number ks) (sym same) ∙ l.invariant.listed;
+      listed = ap (λ ks. l.nodes ++ nodes_by_key (length l.nodes) c.args.number ks) (sym same) ∙ l.invariant.listed;
       many = l.invariant.many ∙ ap (λ ks. l.count + count_keys ks) same;
       faults = λ taken held. l.invariant.faults taken held ∙ ap (λ es. faults_by 21 c.args.nesting taken (members_data es)) steps ∙ own_key_faults 21 c.args.nesting taken e rest e.0.now refl own;
       room = omega (arith, l.invariant.room, spent);
@@ -198,16 +190,16 @@ read_keyed-loop-key-preserved-then-not-is_own t c =
     let read = c.in_ok-read_named.ensures in
     let tree = (first_ok _ (tree_of 21 false (json_data e.1)) read.0 read.1).1 in
     let next = ap (λ es. keyed_by 21 (members_data es)) steps ∙ next_key 21 e rest own ∙ ap (λ u. key name u (keyed_by 21 (members_data rest))) tree in
-    let now = l.nodes.items in
+    let now = l.nodes in
     let listed = l.invariant.listed in
     record {
       left = omega (arith, l.invariant.left, spent);
-      listed = by_key_more now c.read_named.new.nodes.items _ c.args.number name read.0 (keyed_by 21 (members_data rest))
+      listed = by_key_more now c.read_named.new.nodes _ c.args.number name read.0 (keyed_by 21 (members_data rest))
           (ap (λ ks. now ++ nodes_by_key (length now) c.args.number ks) (sym next) ∙ listed) read.2;
       many = omega (arith, l.invariant.many, ap count_keys next);
       faults = λ taken held. key_goes 21 c.args.nesting e rest name c.contains-misnamed.result refl own read.0 read.1
           taken _ (c.contains-misnamed.ensures ∙ held name) (l.invariant.faults taken held ∙ ap (λ es. faults_by 21 c.args.nesting taken (members_data es)) steps);
-      room = omega (arith, l.invariant.room, spent, grown now c.read_named.new.nodes.items _ _ _ false (json_data e.1) read.0 read.2 tree);
+      room = omega (arith, l.invariant.room, spent, grown now c.read_named.new.nodes _ _ _ false (json_data e.1) read.0 read.2 tree);
     }
 
 pub read_keyed-returns : goal.read_keyed-returns
@@ -219,10 +211,5 @@ read_keyed-returns t c = λ taken held.
       all,
       ap (λ fs. first fs all) good,
       omega (arith, l.invariant.many, ap (λ es. count_keys (keyed_by 21 (members_data es))) none),
-      sym (append-nil l.nodes.items) ∙ ap (λ es. l.nodes.items ++ nodes_by_key (length l.nodes.items) c.args.number (keyed_by 21 (members_data es))) (sym none) ∙ l.invariant.listed,
+      sym (append-nil l.nodes) ∙ ap (λ es. l.nodes ++ nodes_by_key (length l.nodes) c.args.number (keyed_by 21 (members_data es))) (sym none) ∙ l.invariant.listed,
     )
-
-pub read_named-returns-in_err-name : goal.read_named-returns-in_err-name
-read_named-returns-in_err-name t c =
-    let p = err_from_is_err_and c.from_residual.result c.from_residual.ensures.1 in
-    rw (p.1, p.2) (under_takes (Name c.args.key.now) _ _)

@@ -9,10 +9,10 @@ pub returns-in_ok-read_container-in-Array-clause-reads : goal.returns-in_ok-read
 returns-in_ok-read_container-in-Array-clause-reads c =
     let read = c.in_ok-read_container-in-Array.ensures in
     let is : json_data c.args.root.now ≡ array (items_left c.in-Array.items) = c.in-Array.ensures in
-    let good = read.1 ∙ ap Ok (root_listed c.new-nodes.result.items c.read_container.new.nodes.items _ read.0 c.new-nodes.ensures.items c.none.ensures read.2).0 in
+    let good = read.1 ∙ ap Ok (root_listed c.new-nodes.result c.read_container.new.nodes _ read.0 c.new-nodes.ensures c.none.ensures read.2).0 in
     ap (λ d. root_of 21 (Some d)) is ∙ ap (content 21 1 false false) (sym is) ∙ good
 
 pub returns-in_ok-read_container-in-Array-clause-listed : goal.returns-in_ok-read_container-in-Array-clause-listed
 returns-in_ok-read_container-in-Array-clause-listed c =
     let read = c.in_ok-read_container-in-Array.ensures in
-    (root_listed c.new-nodes.result.items c.read_container.new.nodes.items _ read.0 c.new-nodes.ensures.items c.none.ensures read.2).1
+    (root_listed c.new-nodes.result c.read_container.new.nodes _ read.0 c.new-nodes.ensures c.none.ensures read.2).1

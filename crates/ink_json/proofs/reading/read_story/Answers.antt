@@ -7,7 +7,7 @@ use Rattle.ink_json.proofs.reading.read_story.Goals as goal
 pub invariant_of-result : goal.invariant_of-result
 invariant_of-result c =
     let bytes = c.args.bytes.now in
-    let s = rebuilt c.in-Ok.nodes.items in
+    let s = rebuilt c.in-Ok.nodes in
     let spelled = c.in-Ok.ensures.reads in
     record {
       listed = c.in-Ok.ensures.listed;

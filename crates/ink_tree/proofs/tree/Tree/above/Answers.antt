@@ -8,9 +8,9 @@ pub returns-in-Some : goal.returns-in-Some
 returns-in-Some c =
     let s = story_tree c.args.self.now in
     let k = c.kept-kept in
-    (k.ensures.0, led_by s (node_place s c.args.node) k.result.now k.ensures (key_part c.in-Some.last) (sym c.key.ensures ∙ ap (option_map key_part) c.in-Some.is))
+    rw c.holder.ensures (k.ensures.0, led_by s (node_place s c.args.node) k.result k.ensures (key_part c.in-Some.last) (sym c.last.ensures ∙ ap (option_map key_part) c.in-Some.is))
 
 pub returns-in-None : goal.returns-in-None
 returns-in-None c =
     let s = story_tree c.args.self.now in
-    led_by_none s (node_place s c.args.node) c.kept-kept.result.now c.kept-kept.ensures (sym c.key.ensures ∙ ap (option_map key_part) c.in-None.is)
+    led_by_none s (node_place s c.args.node) c.kept-kept.result c.kept-kept.ensures (sym c.last.ensures ∙ ap (option_map key_part) c.in-None.is)
