@@ -1,6 +1,6 @@
 //! What a choice point makes (docs/CHOICES.md, "What is made").
 
-ghost use Rattle.std.specs.Prelude.{◌≡◌, ◌≢◌, ◌++◌, true, reverse, IfOk, OnErr};
+ghost use Rattle.std.specs.Prelude.{◌≡◌, true, reverse, IfOk, OnErr};
 ghost use Rattle.ink_choice.specs.Operands.{operands_of};
 ghost use Rattle.ink_choice.specs.Words.{Chooses, Finds, Makes};
 ghost use Rattle.ink_model.specs.Choices as rules;

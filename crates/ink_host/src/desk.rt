@@ -1,6 +1,6 @@
 //! The desk: what a host has bound and who watches, and what happened.
 
-ghost use Rattle.std.specs.Prelude.{◌≡◌, ◌⊎◌, [], ◌∷◌, List, Option, None, Some, Ok, Err, option_map, string_bytes, IfOk, IfErr, IfSome, OnOk, OnErr, true};
+ghost use Rattle.std.specs.Prelude.{◌≡◌, ◌⊎◌, [], ◌∷◌, List, None, Some, Ok, Err, option_map, string_bytes, IfOk, IfErr, IfSome, OnOk, OnErr, true};
 ghost use Rattle.ink_model.specs.Host.{shares};
 ghost use Rattle.ink_model.specs.declared.fault.Fault.TheVariants as fault;
 ghost use Rattle.ink_model.specs.declared.host.Event.{Event as Happening};

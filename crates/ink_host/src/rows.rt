@@ -1,6 +1,6 @@
 //! What the desk does to its parts: maps by name, and the events.
 
-ghost use Rattle.std.specs.Prelude.{◌≡◌, ◌+◌, ◌≤◌, ◌++◌, [], ◌∷◌, Option, None, Some, Ok, Err, string_bytes, vec_capacity, vec_len, IfOk, IfErr, OnOk, OnErr};
+ghost use Rattle.std.specs.Prelude.{◌≡◌, ◌+◌, ◌≤◌, ◌++◌, [], ◌∷◌, None, Some, Ok, Err, string_bytes, vec_capacity, vec_len, IfOk, IfErr, OnOk, OnErr};
 ghost use Rattle.ink_model.specs.Events.{after};
 ghost use Rattle.ink_model.specs.declared.host.Event.TheVariants as event;
 ghost use Rattle.ink_model.specs.declared.host.Given.{Given as Answer};

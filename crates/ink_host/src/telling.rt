@@ -1,6 +1,6 @@
 //! Telling the watchers what has changed.
 
-ghost use Rattle.std.specs.Prelude.{◌≡◌, ◌≢◌, ◌+◌, ◌≤◌, [], ◌∷◌, ◌++◌, List, true, false, bytes_eq, filter, is_ok, length, not, string_bytes, vec_capacity, vec_len, IfOk, OnErr, OnOk, Err};
+ghost use Rattle.std.specs.Prelude.{◌≡◌, ◌≢◌, ◌+◌, ◌≤◌, [], ◌∷◌, ◌++◌, List, true, false, bytes_eq, filter, is_ok, not, string_bytes, vec_capacity, vec_len, IfOk, OnErr, OnOk, Err};
 ghost use Rattle.ink_model.specs.Events.{later};
 ghost use Rattle.ink_model.specs.declared.host.Event.{Event as Happening};
 ghost use Rattle.ink_model.specs.declared.host.Event.TheVariants.{Saw};

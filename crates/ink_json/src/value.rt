@@ -4,7 +4,7 @@ ghost use Rattle.std.specs.Prelude.{◌≡◌, ◌<◌, ◌^◌, ◌∷◌, true
 ghost use Rattle.json.specs.Token.{begin_array};
 ghost use Rattle.serde_json.specs.Data.{no_items, item};
 ghost use Rattle.serde_json.specs.Find.{get, as_bool, as_str, as_array, as_object, as_number, as_u64};
-ghost use Rattle.ink_model.specs.Grammar.{is_blank_object, is_last, own_of};
+ghost use Rattle.ink_model.specs.Grammar.{is_blank_object, own_of};
 ghost use Rattle.ink_json.specs.Number.{num};
 ghost use Rattle.ink_json.specs.Spelled.{is_readable, are_sound};
 

@@ -1,6 +1,6 @@
 //! The shown text, by one walk over the marks (docs/TEXT.md, "What is shown").
 
-ghost use Rattle.std.specs.Prelude.{◌≡◌, ℕ, List, [], ◌∷◌, Bool, Option, length, IfOk, OnOk};
+ghost use Rattle.std.specs.Prelude.{◌≡◌, ℕ, List, [], ◌∷◌, Bool, length, IfOk, OnOk};
 ghost use Rattle.ink_model.specs.declared.mark.Mark.{Mark};
 ghost use Rattle.ink_model.specs.declared.mark.Mark.TheVariants as kinds;
 ghost use Rattle.ink_model.specs.Shown.{shown_text, text_before};

@@ -1,7 +1,7 @@
 //! Frames.
 
 ghost use Rattle.std.specs.Prelude.{◌≡◌, ◌≢◌, [], None, option_map, IfOk, OnOk, OnErr};
-ghost use Rattle.ink_model.specs.Frames.{base_frame, fresh_depth, is_function, unnumbered_frame};
+ghost use Rattle.ink_model.specs.Frames.{fresh_depth, is_function};
 ghost use Rattle.ink_model.specs.Rows.{name_order, row};
 ghost use Rattle.ink_model.specs.Threads.{new_frame, same_kind, stale, with_row_in};
 

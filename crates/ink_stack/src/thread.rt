@@ -28,7 +28,7 @@ pub struct Thread<P> {
 }
 
 impl<P> Model for Thread<P> {
-    ghost use Rattle.std.specs.Prelude.{◌≡◌, ℕ, reverse, ◌<◌, length, true};
+    ghost use Rattle.std.specs.Prelude.{◌≡◌, reverse, ◌<◌, length, true};
     ghost use Rattle.ink_model.specs.Frames.{ThreadOf};
     ghost use Rattle.ink_model.specs.declared.limits.TheConstants.{MAX_FRAMES};
     ghost use Rattle.ink_stack.specs.Quiet.{is_quiet};

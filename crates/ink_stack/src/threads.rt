@@ -20,7 +20,7 @@ pub struct Threads<P> {
 }
 
 impl<P> Model for Threads<P> {
-    ghost use Rattle.std.specs.Prelude.{ℕ, reverse};
+    ghost use Rattle.std.specs.Prelude.{reverse};
     ghost use Rattle.ink_model.specs.Frames.{ThreadsOf};
 
     ghost Value = { ThreadsOf P };

@@ -72,11 +72,6 @@ module _ {P Q : Type 0} (g : P → Q) where
   added_renamed c cs =
       ap (λ n. if nat_lt n MAX_CHOICES then Ok (map (map_choice g) cs ++ map_choice g c ∷ []) else Err TooDeep) (length-map cs (map_choice g)) ∙ added_by c cs (nat_lt (length cs) MAX_CHOICES)
 
--- what holds where nothing faulted, holds where flow goes on then
-pub moved_ok : (r : Result (Unit {0}) Fault) (B : Type 0) → OnOk r B → OnOk (moving r) B
-moved_ok (Ok u) B h = h
-moved_ok (Err f) B h = h
-
 -- ---- a choice point
 
 module _ (s : StoryTree) (p : List Part) (rest : Rest) (ts : ThreadsOf Spot) (text : List ℕ) (flags : ℕ) (stands : at s p ≡ Some (leaf (Choice text flags)))

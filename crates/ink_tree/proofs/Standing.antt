@@ -18,17 +18,6 @@ pub at_append : (p q : List Part) (s : StoryTree) → at s (p ++ q) ≡ option_a
 at_append [] q s = refl
 at_append (x ∷ p) q s = onward p q (at_append p q) (down x s)
 
-front : (o : Option StoryTree) (f : StoryTree → Option StoryTree) → is_some (option_and_then f o) ≡ true → is_some o ≡ true
-front None f h = h
-front (Some t) f h = refl
-
--- content stands around content
-pub stands_above : (s : StoryTree) (up q : List Part) → is_some (at s (up ++ q)) ≡ true → is_some (at s up) ≡ true
-stands_above s up q h = front (at s up) (λ t. at t q) (sym (ap is_some (at_append up q s)) ∙ h)
-
-pub stands_around : (s : StoryTree) (p up : List Part) (x : Part) → p ≡ up ++ x ∷ [] → is_some (at s p) ≡ true → is_some (at s up) ≡ true
-stands_around s p up x e h = stands_above s up (x ∷ []) (ap (λ q. is_some (at s q)) (sym e) ∙ h)
-
 -- ---- by index
 
 nth_stands : (i : ℕ) (ts : Trees) → i < count ts → is_some (option_and_then (λ u. Some u) (nth i ts)) ≡ true
