@@ -10,7 +10,7 @@ ghost use Rattle.ink_json.specs.Spelled.{are_sound, data_of};
 ghost use Rattle.ink_json.specs.Story.{tree};
 ghost use Rattle.ink_json.specs.Value.{json_data};
 
-use crate::container::{Position, read_container};
+use crate::container::{Context, Position, read_container};
 use crate::error::{ReadFailure, refused};
 use crate::last::Last;
 use crate::nodes::Nodes;
@@ -122,8 +122,10 @@ fn read_root(alloc: Global, version: InkVersion, root: &Value<'_, '_>) -> Result
             let position = Position {
                 holder: 0,
                 last: Last::none(),
-                version,
-                nesting: 1,
+                context: Context {
+                    version,
+                    nesting: 1,
+                },
                 listed: false,
                 misnamed: false,
             };
