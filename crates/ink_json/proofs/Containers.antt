@@ -1,6 +1,7 @@
 -- Reading content element by element and key by key, beside its faults and its tree.
 use Rattle.std.proofs.Common.{◌≡◌, ℕ, ◌+◌, ◌≤◌, List, [], ◌∷◌, ◌++◌, map, Bool, true, false, cond, Option, Some, None, Ok, Err, refl, sym, ap, ◌∙◌, append_assoc, arith}
 use Rattle.serde_json.specs.Data.{Data, null, boolean, number, string, array, object, Items, no_items, item, Members, no_members, member}
+use Rattle.ink_model.specs.declared.version.InkVersion.{InkVersion}
 use Rattle.ink_json.specs.Value.{json_data, members_of, Entry, members_data}
 use Rattle.ink_model.specs.Tree.{StoryTree, container, Keyed}
 use Rattle.ink_model.specs.declared.limits.TheConstants.{MAX_NESTING}
@@ -64,13 +65,13 @@ unless_takes : {A : Type 0} (b : Bool) (fs gs : List ReadRefusal) (a : A) → ta
 unless_takes true fs gs a h k = h
 unless_takes false fs gs a h k = k
 
-pub by_takes : {A : Type 0} (version nesting : ℕ) (taken : List (List ℕ)) (ms : Members) (a : A) → takes_memory (first (faults_by version nesting taken ms) a) ≡ true
+pub by_takes : {A : Type 0} (version : InkVersion) (nesting : ℕ) (taken : List (List ℕ)) (ms : Members) (a : A) → takes_memory (first (faults_by version nesting taken ms) a) ≡ true
 by_takes version nesting taken no_members a = refl
 by_takes version nesting taken (member k d ms) a =
     let rest = by_takes version nesting taken ms a in
     unless_takes (is_own k) _ _ a rest (below_takes (Name k) _ _ a rest)
 
-pub keyed_takes : {A : Type 0} (version nesting : ℕ) (taken : List (List ℕ)) (d : Data) (a : A) → takes_memory (first (faults_keyed version nesting taken d) a) ≡ true
+pub keyed_takes : {A : Type 0} (version : InkVersion) (nesting : ℕ) (taken : List (List ℕ)) (d : Data) (a : A) → takes_memory (first (faults_keyed version nesting taken d) a) ≡ true
 keyed_takes version nesting taken null a = refl
 keyed_takes version nesting taken (boolean b) a = refl
 keyed_takes version nesting taken (number n) a = refl
@@ -79,14 +80,14 @@ keyed_takes version nesting taken (array ds) a = refl
 keyed_takes version nesting taken (object ms) a = by_takes version nesting taken ms a
 
 -- nothing that is wrong inside a container is wrong at its very place
-pub inside_takes : {A : Type 0} (version nesting i : ℕ) (taken : List (List ℕ)) (ds : Items) (a : A) → takes_memory (first (faults_inside version nesting i taken ds) a) ≡ true
+pub inside_takes : {A : Type 0} (version : InkVersion) (nesting i : ℕ) (taken : List (List ℕ)) (ds : Items) (a : A) → takes_memory (first (faults_inside version nesting i taken ds) a) ≡ true
 inside_takes version nesting i taken no_items a = refl
 inside_takes version nesting i taken (item d ds) a =
     unless_takes (is_empty ds) _ _ a (keyed_takes version nesting taken d a) (below_takes (Index i) _ _ a (inside_takes version nesting (i + 1) (with_name taken (name_of d)) ds a))
 
 -- ---- a container's own object
 
-faults_are_inside : (version nesting : ℕ) (misnamed : Bool) (ds : Items) → nesting ≤ MAX_NESTING → is_whole (own ds) ≡ true → misnamed ≡ false
+faults_are_inside : (version : InkVersion) (nesting : ℕ) (misnamed : Bool) (ds : Items) → nesting ≤ MAX_NESTING → is_whole (own ds) ≡ true → misnamed ≡ false
     → faults version nesting misnamed (array ds) ≡ faults_inside version nesting 0 [] ds
 faults_are_inside version nesting misnamed ds h w m =
     let deep = not_above MAX_NESTING nesting h in
@@ -96,18 +97,18 @@ faults_are_inside version nesting misnamed ds h w m =
     rw (deep, last, flags, m) refl
 
 -- a container whose own object is good takes memory, whatever is wrong inside
-pub container_takes : (version nesting : ℕ) (misnamed listed : Bool) (ds : Items) → nesting ≤ MAX_NESTING → is_whole (own ds) ≡ true → misnamed ≡ false → takes_memory (content version nesting misnamed listed (array ds)) ≡ true
+pub container_takes : (version : InkVersion) (nesting : ℕ) (misnamed listed : Bool) (ds : Items) → nesting ≤ MAX_NESTING → is_whole (own ds) ≡ true → misnamed ≡ false → takes_memory (content version nesting misnamed listed (array ds)) ≡ true
 container_takes version nesting misnamed listed ds h w m =
     rw (faults_are_inside version nesting misnamed ds h w m) (inside_takes version nesting 0 [] ds (tree_of version listed (array ds)))
 
 -- a container stops at the first fault among its elements
-pub container_stops : (version nesting : ℕ) (misnamed listed : Bool) (ds : Items) (e : Failure ReadRefusal) → nesting ≤ MAX_NESTING → is_whole (own ds) ≡ true → misnamed ≡ false
+pub container_stops : (version : InkVersion) (nesting : ℕ) (misnamed listed : Bool) (ds : Items) (e : Failure ReadRefusal) → nesting ≤ MAX_NESTING → is_whole (own ds) ≡ true → misnamed ≡ false
     → IsFirst e (faults_inside version nesting 0 [] ds) → Fails e (content version nesting misnamed listed (array ds))
 container_stops version nesting misnamed listed ds e h w m stops =
     rw (faults_are_inside version nesting misnamed ds h w m) (first_fails e (faults_inside version nesting 0 [] ds) (tree_of version listed (array ds)) (inside_takes version nesting 0 [] ds _) stops)
 
 -- and is read where there is none
-pub container_read : (version nesting : ℕ) (misnamed listed : Bool) (ds : Items) (name : Option (List ℕ)) (flags : ℕ) → nesting ≤ MAX_NESTING → is_whole (own ds) ≡ true → misnamed ≡ false
+pub container_read : (version : InkVersion) (nesting : ℕ) (misnamed listed : Bool) (ds : Items) (name : Option (List ℕ)) (flags : ℕ) → nesting ≤ MAX_NESTING → is_whole (own ds) ≡ true → misnamed ≡ false
     → faults_inside version nesting 0 [] ds ≡ [] → name ≡ cond listed (name_in (own ds)) None → flags ≡ flags_of (own ds)
     → content version nesting misnamed listed (array ds) ≡ Ok (container name flags (content_of version ds) (keyed_in version ds))
 container_read version nesting misnamed listed ds name flags h w m good n f =
@@ -116,7 +117,7 @@ container_read version nesting misnamed listed ds name flags h w m good n f =
 
 -- ---- the elements
 
-module _ (version nesting i : ℕ) (d e : Data) (ds : Items) (taken : List (List ℕ)) (all : List ReadRefusal) (same : all ≡ faults_inside version nesting i taken (item d (item e ds))) where
+module _ (version : InkVersion) (nesting i : ℕ) (d e : Data) (ds : Items) (taken : List (List ℕ)) (all : List ReadRefusal) (same : all ≡ faults_inside version nesting i taken (item d (item e ds))) where
   -- one element more
   pub element_goes : (read : StoryTree) → first (map (under (Index i)) (faults version (nesting + 1) (is_misnamed taken d) d)) (tree_of version true d) ≡ Ok read
       → (all ≡ faults_inside version nesting (i + 1) (with_name taken (name_of d)) (item e ds)) × (tree_of version true d ≡ read)
@@ -129,15 +130,15 @@ module _ (version nesting i : ℕ) (d e : Data) (ds : Items) (taken : List (List
 
 -- ---- the containers by key
 
-keyed_in_last : (version : ℕ) (d : Data) (ds : Items) → keyed_in version (item d ds) ≡ keyed_last version (own_after d ds)
+keyed_in_last : (version : InkVersion) (d : Data) (ds : Items) → keyed_in version (item d ds) ≡ keyed_last version (own_after d ds)
 keyed_in_last version d no_items = refl
 keyed_in_last version d (item e ds) = keyed_in_last version e ds
 
-pub keyed_is : (version : ℕ) (d last : Data) (ds : Items) → own_after d ds ≡ last → keyed_in version (item d ds) ≡ keyed_last version last
+pub keyed_is : (version : InkVersion) (d last : Data) (ds : Items) → own_after d ds ≡ last → keyed_in version (item d ds) ≡ keyed_last version last
 keyed_is version d last ds e = keyed_in_last version d ds ∙ ap (keyed_last version) e
 
 -- what is no object gives none
-pub keyed_members : (version nesting : ℕ) (taken : List (List ℕ)) (d : Data) → (faults_keyed version nesting taken d ≡ faults_by version nesting taken (members_of d)) × (keyed_last version d ≡ keyed_by version (members_of d))
+pub keyed_members : (version : InkVersion) (nesting : ℕ) (taken : List (List ℕ)) (d : Data) → (faults_keyed version nesting taken d ≡ faults_by version nesting taken (members_of d)) × (keyed_last version d ≡ keyed_by version (members_of d))
 keyed_members version nesting taken null = (refl, refl)
 keyed_members version nesting taken (boolean b) = (refl, refl)
 keyed_members version nesting taken (number n) = (refl, refl)
@@ -146,7 +147,7 @@ keyed_members version nesting taken (array ds) = (refl, refl)
 keyed_members version nesting taken (object ms) = (refl, refl)
 
 -- one key more
-module _ (version nesting : ℕ) (e : Entry) (more : List Entry) (name : List ℕ) (misnamed : Bool) (is : name ≡ e.0.now) (named : is_own name ≡ false) where
+module _ (version : InkVersion) (nesting : ℕ) (e : Entry) (more : List Entry) (name : List ℕ) (misnamed : Bool) (is : name ≡ e.0.now) (named : is_own name ≡ false) where
   key_faults : (taken : List (List ℕ)) → misnamed ≡ is_taken taken (Some name)
       → faults_by version nesting taken (members_data (e ∷ more)) ≡ map (under (Name name)) (faults_named version (nesting + 1) misnamed (json_data e.1)) ++ faults_by version nesting taken (members_data more)
   key_faults taken given = let own : is_own e.0.now ≡ false = ap is_own (sym is) ∙ named in rw (own, given, is) refl
@@ -162,7 +163,7 @@ module _ (version nesting : ℕ) (e : Entry) (more : List Entry) (name : List �
         let none = (first_ok _ (tree_of version false (json_data e.1)) read good).0 in
         same ∙ key_faults taken given ∙ ap (λ fs. fs ++ faults_by version nesting taken (members_data more)) none
 
-pub own_key_faults : (version nesting : ℕ) (taken : List (List ℕ)) (e : Entry) (more : List Entry) (name : List ℕ) → name ≡ e.0.now → is_own name ≡ true → faults_by version nesting taken (members_data (e ∷ more)) ≡ faults_by version nesting taken (members_data more)
+pub own_key_faults : (version : InkVersion) (nesting : ℕ) (taken : List (List ℕ)) (e : Entry) (more : List Entry) (name : List ℕ) → name ≡ e.0.now → is_own name ≡ true → faults_by version nesting taken (members_data (e ∷ more)) ≡ faults_by version nesting taken (members_data more)
 own_key_faults version nesting taken e more name is own = let h : is_own e.0.now ≡ true = ap is_own (sym is) ∙ own in rw h refl
 
 -- the next key

@@ -13,6 +13,7 @@ use Rattle.ink_model.specs.declared.content.Leaf.TheVariants.{Newline}
 use Rattle.ink_model.specs.declared.fault.Cause.{Cause}
 use Rattle.ink_model.specs.declared.place.Part.{Part}
 use Rattle.ink_model.specs.declared.place.Part.TheVariants.{Index}
+use Rattle.ink_model.specs.declared.version.InkVersion.{InkVersion}
 use Rattle.ink_json.specs.Listing.{IsListed, container_node, nodes_of, nodes_from, nodes_by_key, nodes_inside, rebuilt}
 use Rattle.ink_json.specs.Reading.{placed}
 use Rattle.ink_json.specs.Size.{size, items_size, members_size}
@@ -61,17 +62,17 @@ inside_listed old l1 l2 number content keyed ks elements named same =
     named ∙ (λ j. elements j ++ nodes_by_key (long j) number (sym same j)) ∙ append_assoc old first (nodes_by_key (length old + length first) number keyed)
 
 -- content adds no more nodes than its value is made of values
-pub grown : (old new : List Node) (n h : ℕ) (x : Option Part) (listed : Bool) (d : Data) (t : StoryTree) → new ≡ old ++ nodes_of n h x t → tree_of 21 listed d ≡ t → length new ≤ length old + size d
-grown old new n h x listed d t is same =
-    omega (arith, ap length is, length-append old (nodes_of n h x t), many n h x t, ap (λ u. length (places u)) same, places_within 21 listed d)
+pub grown : (version : InkVersion) (old new : List Node) (n h : ℕ) (x : Option Part) (listed : Bool) (d : Data) (t : StoryTree) → new ≡ old ++ nodes_of n h x t → tree_of version listed d ≡ t → length new ≤ length old + size d
+grown version old new n h x listed d t is same =
+    omega (arith, ap length is, length-append old (nodes_of n h x t), many n h x t, ap (λ u. length (places u)) same, places_within version listed d)
 
 -- after the elements there is room for the last one
-elements_within : (version i : ℕ) (d : Data) (ds : Items) → length (places_from i (content_of version (item d ds))) + size (own_after d ds) ≤ items_size (item d ds)
+elements_within : (version : InkVersion) (i : ℕ) (d : Data) (ds : Items) → length (places_from i (content_of version (item d ds))) + size (own_after d ds) ≤ items_size (item d ds)
 elements_within version i d no_items = omega arith
 elements_within version i d (item e ds) =
     omega (arith, under_more (Index i) (places (tree_of version true d)) (places_from (i + 1) (content_of version (item e ds))), places_within version true d, elements_within version (i + 1) e ds)
 
-pub last_grown : (version : ℕ) (old new : List Node) (number : ℕ) (d : Data) (ds : Items) (last : Data) → new ≡ old ++ nodes_from (length old) number 0 (content_of version (item d ds)) → own_after d ds ≡ last
+pub last_grown : (version : InkVersion) (old new : List Node) (number : ℕ) (d : Data) (ds : Items) (last : Data) → new ≡ old ++ nodes_from (length old) number 0 (content_of version (item d ds)) → own_after d ds ≡ last
     → length new + size last ≤ length old + items_size (item d ds)
 last_grown version old new number d ds last is e =
     omega (arith, ap length is, length-append old (nodes_from (length old) number 0 (content_of version (item d ds))), many_from (length old) number 0 (content_of version (item d ds)), ap size e, elements_within version 0 d ds)
@@ -83,17 +84,17 @@ keys_unless true k t ks n h = omega arith
 keys_unless false k t ks n h = omega arith
 
 -- there are no more of them than members
-pub keys_within : (version : ℕ) (ms : Members) → count_keys (keyed_by version ms) ≤ members_size ms
+pub keys_within : (version : InkVersion) (ms : Members) → count_keys (keyed_by version ms) ≤ members_size ms
 keys_within version no_members = omega arith
 keys_within version (member k d ms) = omega (arith, keys_unless (is_own k) k (tree_of version false d) (keyed_by version ms) (members_size ms) (keys_within version ms), size_positive d)
 
 -- the next of them
-module _ (version : ℕ) (e : Entry) (more : List Entry) (own : is_own e.0.now ≡ false) where
+module _ (version : InkVersion) (e : Entry) (more : List Entry) (own : is_own e.0.now ≡ false) where
   pub next_key : keyed_by version (members_data (e ∷ more)) ≡ key e.0.now (tree_of version false (json_data e.1)) (keyed_by version (members_data more))
   next_key = rw own refl
 
 -- a key that is no name is passed
-pub own_key : (version : ℕ) (e : Entry) (more : List Entry) → is_own e.0.now ≡ true → keyed_by version (members_data (e ∷ more)) ≡ keyed_by version (members_data more)
+pub own_key : (version : InkVersion) (e : Entry) (more : List Entry) → is_own e.0.now ≡ true → keyed_by version (members_data (e ∷ more)) ≡ keyed_by version (members_data more)
 own_key version e more own = rw own refl
 
 -- ---- the whole story

@@ -8,6 +8,7 @@ use Rattle.ink_model.specs.Places.{places, places_from, places_by_key}
 use Rattle.ink_model.specs.declared.place.Part.{Part}
 use Rattle.ink_model.specs.declared.place.Part.TheVariants.{Index, Name}
 use Rattle.ink_model.specs.Grammar.{is_own, tree_of, content_of, keyed_in, keyed_last, keyed_by, story}
+use Rattle.ink_model.specs.declared.version.InkVersion.{InkVersion}
 use Rattle.ink_json.specs.Size.{size, items_size, members_size}
 use Rattle.ink_json.proofs.Root.{story_root, root_size}
 
@@ -19,7 +20,7 @@ under_more p ps qs = omega (arith, length-append (map (λ q. p ∷ q) ps) qs, le
 
 mutual
   -- content has no more places than its value is made of values
-  pub places_within : (version : ℕ) (listed : Bool) (d : Data) → length (places (tree_of version listed d)) ≤ size d
+  pub places_within : (version : InkVersion) (listed : Bool) (d : Data) → length (places (tree_of version listed d)) ≤ size d
   places_within version listed null = omega arith
   places_within version listed (boolean b) = omega arith
   places_within version listed (number n) = omega arith
@@ -29,13 +30,13 @@ mutual
       omega (arith, length-append (places_from 0 (content_of version ds)) (places_by_key (keyed_in version ds)), inside_within version 0 ds)
 
   -- nor have the elements of a list, together with the containers by key in the last of them
-  pub inside_within : (version i : ℕ) (ds : Items) → length (places_from i (content_of version ds)) + length (places_by_key (keyed_in version ds)) ≤ items_size ds
+  pub inside_within : (version : InkVersion) (i : ℕ) (ds : Items) → length (places_from i (content_of version ds)) + length (places_by_key (keyed_in version ds)) ≤ items_size ds
   inside_within version i no_items = omega arith
   inside_within version i (item d no_items) = omega (arith, keyed_last_within version d)
   inside_within version i (item d (item e ds)) =
       omega (arith, under_more (Index i) (places (tree_of version true d)) (places_from (i + 1) (content_of version (item e ds))), places_within version true d, inside_within version (i + 1) (item e ds))
 
-  pub keyed_last_within : (version : ℕ) (d : Data) → length (places_by_key (keyed_last version d)) ≤ size d
+  pub keyed_last_within : (version : InkVersion) (d : Data) → length (places_by_key (keyed_last version d)) ≤ size d
   keyed_last_within version null = omega arith
   keyed_last_within version (boolean b) = omega arith
   keyed_last_within version (number n) = omega arith
@@ -43,7 +44,7 @@ mutual
   keyed_last_within version (array ds) = omega arith
   keyed_last_within version (object ms) = omega (arith, keyed_by_within version ms)
 
-  pub keyed_by_within : (version : ℕ) (ms : Members) → length (places_by_key (keyed_by version ms)) ≤ members_size ms
+  pub keyed_by_within : (version : InkVersion) (ms : Members) → length (places_by_key (keyed_by version ms)) ≤ members_size ms
   keyed_by_within version no_members = omega arith
   keyed_by_within version (member k d ms) =
       let rest = keyed_by_within version ms in
@@ -55,4 +56,4 @@ mutual
 pub story_few : (bytes : List ℕ) (t : StoryTree) → story bytes ≡ Ok t → length (places t) < 2 ^ 32
 story_few bytes t e =
     let r = story_root bytes t e in
-    omega (arith, ap (λ u. length (places u)) r.is_tree, places_within 21 false r.root, root_size t r)
+    omega (arith, ap (λ u. length (places u)) r.is_tree, places_within r.version false r.root, root_size t r)

@@ -12,6 +12,7 @@ use Rattle.serde_json.specs.Find.{get, get_member}
 use Rattle.serde_json.specs.Read.{number_of, of_json, of_items, of_members, max_depth, read}
 use Rattle.ink_model.specs.Tree.{StoryTree}
 use Rattle.ink_model.specs.Grammar.{is_own, tree_of, content_of, keyed_in, keyed_last, keyed_by, story}
+use Rattle.ink_model.specs.declared.version.InkVersion.{InkVersion}
 use Rattle.ink_json.specs.Order.{is_below, keys_rise, keys_rise_in, keys_rise_by_key}
 use Rattle.ink_json.proofs.Root.{Root, story_root}
 use Rattle.ink_json.proofs.Spelled.{chained}
@@ -131,7 +132,7 @@ root_rises t r = subst (λ o. IfSome o Rises) r.is_root (get_rises (codes "root"
 -- ---- trees
 
 -- the containers by key keep the order of the members
-keyed_below : (version : ℕ) (k : List ℕ) (ms : Members) → Below k ms → is_below k (keyed_by version ms) ≡ true
+keyed_below : (version : InkVersion) (k : List ℕ) (ms : Members) → Below k ms → is_below k (keyed_by version ms) ≡ true
 keyed_below version k no_members h = refl
 keyed_below version k (member l d ms) h =
     let rest = keyed_below version k ms h.1 in
@@ -139,7 +140,7 @@ keyed_below version k (member l d ms) h =
 
 mutual
   -- in the tree of data whose keys rise they do too
-  tree_rises : (version : ℕ) (listed : Bool) (d : Data) → Rises d → keys_rise (tree_of version listed d) ≡ true
+  tree_rises : (version : InkVersion) (listed : Bool) (d : Data) → Rises d → keys_rise (tree_of version listed d) ≡ true
   tree_rises version listed null h = refl
   tree_rises version listed (boolean b) h = refl
   tree_rises version listed (number n) h = refl
@@ -147,17 +148,17 @@ mutual
   tree_rises version listed (object ms) h = refl
   tree_rises version listed (array ds) h = and_from (keys_rise_in (content_of version ds)) (keys_rise_by_key (keyed_in version ds)) (content_rises version ds h) (keyed_in_rises version ds h)
 
-  content_rises : (version : ℕ) (ds : Items) → RisesIn ds → keys_rise_in (content_of version ds) ≡ true
+  content_rises : (version : InkVersion) (ds : Items) → RisesIn ds → keys_rise_in (content_of version ds) ≡ true
   content_rises version no_items h = refl
   content_rises version (item d no_items) h = refl
   content_rises version (item d (item e ds)) h = and_from _ _ (tree_rises version true d h.0) (content_rises version (item e ds) h.1)
 
-  keyed_in_rises : (version : ℕ) (ds : Items) → RisesIn ds → keys_rise_by_key (keyed_in version ds) ≡ true
+  keyed_in_rises : (version : InkVersion) (ds : Items) → RisesIn ds → keys_rise_by_key (keyed_in version ds) ≡ true
   keyed_in_rises version no_items h = refl
   keyed_in_rises version (item d no_items) h = keyed_last_rises version d h.0
   keyed_in_rises version (item d (item e ds)) h = keyed_in_rises version (item e ds) h.1
 
-  keyed_last_rises : (version : ℕ) (d : Data) → Rises d → keys_rise_by_key (keyed_last version d) ≡ true
+  keyed_last_rises : (version : InkVersion) (d : Data) → Rises d → keys_rise_by_key (keyed_last version d) ≡ true
   keyed_last_rises version null h = refl
   keyed_last_rises version (boolean b) h = refl
   keyed_last_rises version (number n) h = refl
@@ -165,7 +166,7 @@ mutual
   keyed_last_rises version (array ds) h = refl
   keyed_last_rises version (object ms) h = keyed_by_rises version ms h
 
-  keyed_by_rises : (version : ℕ) (ms : Members) → RisesByKey ms → keys_rise_by_key (keyed_by version ms) ≡ true
+  keyed_by_rises : (version : InkVersion) (ms : Members) → RisesByKey ms → keys_rise_by_key (keyed_by version ms) ≡ true
   keyed_by_rises version no_members h = refl
   keyed_by_rises version (member k d ms) h =
       let rest = keyed_by_rises version ms h.2 in
@@ -176,4 +177,4 @@ mutual
 pub story_rises : (bytes : List ℕ) (t : StoryTree) → story bytes ≡ Ok t → keys_rise t ≡ true
 story_rises bytes t e =
     let r = story_root bytes t e in
-    ap keys_rise (sym r.is_tree) ∙ tree_rises 21 false r.root (root_rises t r)
+    ap keys_rise (sym r.is_tree) ∙ tree_rises r.version false r.root (root_rises t r)

@@ -7,10 +7,10 @@ use Rattle.serde_json.specs.Find.{get}
 use Rattle.serde_json.specs.Read.{read}
 use Rattle.ink_model.specs.Tree.{StoryTree}
 use Rattle.ink_model.specs.declared.limits.TheConstants.{MAX_STORY}
-use Rattle.ink_model.specs.Leaves.{whole}
-use Rattle.ink_model.specs.Grammar.{here, is_object, is_version, is_blank_object, tree_of, faults, unmarked, json, of_json, of_value, root_of, story}
-use Rattle.ink_model.specs.declared.fault.Cause.TheVariants.{Shape, Version, Unsupported}
+use Rattle.ink_model.specs.Grammar.{here, is_object, is_blank_object, tree_of, faults, unmarked, json, of_json, of_value, of_version, version_of, root_of, story}
+use Rattle.ink_model.specs.declared.fault.Cause.TheVariants.{Shape, Unsupported}
 use Rattle.ink_model.specs.declared.fault.ReadRefusal.{ReadRefusal}
+use Rattle.ink_model.specs.declared.version.InkVersion.{InkVersion}
 use Rattle.ink_json.specs.Size.{size}
 use Rattle.ink_json.proofs.Bytes.{get_size}
 use Rattle.ink_json.proofs.Containers.{first_ok}
@@ -24,7 +24,8 @@ pub record Root (t : StoryTree) : Type 0 where
   pub is_read : read text ≡ Some whole
   pub root : Data
   pub is_root : get (codes "root") whole ≡ Some root
-  pub is_tree : tree_of 21 false root ≡ t
+  pub version : InkVersion
+  pub is_tree : tree_of version false root ≡ t
 
 not_refused : {A : Type 0} (b : Bool) (r : ReadRefusal) (read : Result A ReadRefusal) (a : A) → cond b (Err r) read ≡ Ok a → read ≡ Ok a
 not_refused true r read a h = absurd cc
@@ -35,19 +36,18 @@ not_else true r read a h = h
 not_else false r read a h = absurd cc
 
 -- the tree is that of the root's value, which is there
-root_read : (o : Option Data) (t : StoryTree) → root_of 21 o ≡ Ok t → (d : Data) × (o ≡ Some d) × (tree_of 21 false d ≡ t)
-root_read None t e = absurd cc
-root_read (Some d) t e = (d, refl, (first_ok (faults 21 1 false d) (tree_of 21 false d) t (not_else _ _ _ t e)).1)
+root_read : (version : InkVersion) (o : Option Data) (t : StoryTree) → root_of version o ≡ Ok t → (d : Data) × (o ≡ Some d) × (tree_of version false d ≡ t)
+root_read version None t e = absurd cc
+root_read version (Some d) t e = (d, refl, (first_ok (faults version 1 false d) (tree_of version false d) t (not_else _ _ _ t e)).1)
 
--- a value that is read is read at its root
-value_read : (d : Data) (t : StoryTree) → of_value d ≡ Ok t → root_of 21 (get (codes "root") d) ≡ Ok t
-value_read d t e =
-    let root = root_of 21 (get (codes "root") d) in
-    let lists = cond (not (is_blank_object (get (codes "listDefs") d))) (Err (here Unsupported)) root in
-    let version = cond (not (is_version (whole (get (codes "inkVersion") d)))) (Err (here Version)) lists in
-    not_refused (not (is_blank_object (get (codes "listDefs") d))) (here Unsupported) root t
-    (not_refused (not (is_version (whole (get (codes "inkVersion") d)))) (here Version) lists t
-    (not_refused (not (is_object d)) (here Shape) version t e))
+-- a story that is read has a version, in which its root is read
+version_read : (o : Option InkVersion) (d : Data) (t : StoryTree) → of_version o d ≡ Ok t → (version : InkVersion) × (root_of version (get (codes "root") d) ≡ Ok t)
+version_read None d t e = absurd cc
+version_read (Some version) d t e =
+    (version, not_refused (not (is_blank_object (get (codes "listDefs") d))) (here Unsupported) (root_of version (get (codes "root") d)) t e)
+
+value_read : (d : Data) (t : StoryTree) → of_value d ≡ Ok t → (version : InkVersion) × (root_of version (get (codes "root") d) ≡ Ok t)
+value_read d t e = version_read (version_of d) d t (not_refused (not (is_object d)) (here Shape) (of_version (version_of d) d) t e)
 
 json_read : (o : Option Data) (t : StoryTree) → of_json o ≡ Ok t → (d : Data) × (o ≡ Some d) × (of_value d ≡ Ok t)
 json_read None t e = absurd cc
@@ -77,7 +77,8 @@ unfolding story
 story_root bytes t e =
     let within = bytes_read _ bytes _ _ t refl e in
     let value = json_read (json (unmarked bytes)) t within.1 in
-    let found = root_read (get (codes "root") value.0) t (value_read value.0 t value.2) in
+    let read = value_read value.0 t value.2 in
+    let found = root_read read.0 (get (codes "root") value.0) t read.1 in
     record {
       text = unmarked bytes;
       short = omega (arith, unmarked_shorter bytes, within.0);
@@ -85,6 +86,7 @@ story_root bytes t e =
       is_read = text_read (is_utf8 (unmarked bytes)) (unmarked bytes) value.0 value.1;
       root = found.0;
       is_root = found.1;
+      version = read.0;
       is_tree = found.2;
     }
 

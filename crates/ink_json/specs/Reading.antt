@@ -17,6 +17,7 @@ use Rattle.ink_model.specs.declared.fault.Failure.{Failure}
 use Rattle.ink_model.specs.declared.fault.Failure.TheVariants.{OutOfMemory, Refused}
 use Rattle.ink_model.specs.declared.fault.ReadRefusal.{ReadRefusal}
 use Rattle.ink_model.specs.declared.place.Part.{Part}
+use Rattle.ink_model.specs.declared.version.InkVersion.{InkVersion}
 
 -- there is a byte, and all are text
 abbrev pub is_parsable : List ℕ → Bool
@@ -79,5 +80,5 @@ abbrev pub is_whole : Option Data → Bool
 is_whole last = is_last last && are_flags (member_of flags_key last)
 
 -- what is wrong with what stands at a key
-abbrev pub faults_named : ℕ → ℕ → Bool → Data → List ReadRefusal
+abbrev pub faults_named : InkVersion → ℕ → Bool → Data → List ReadRefusal
 faults_named version nesting misnamed d = if is_some (as_array d) then faults version nesting misnamed d else here Shape ∷ []

@@ -22,17 +22,38 @@ use crate::nodes::Nodes;
 use crate::object::read_object_leaf;
 use crate::own::{copy_name, is_own, name_of, read_own};
 use crate::value::{Items, Kind, Value};
-use ink_model::{Cause, Content, Leaf, MAX_NESTING};
+use ink_model::{Cause, Content, InkVersion, Leaf, MAX_NESTING};
 use std::alloc::Global;
 use std::collections::{BTreeMap, BTreeSet};
 
-/// Where content stands that is read: in which container and by which part, how deep, whether in a list or by a key, and whether
-/// its name rules it out there.
+/// What content is read in: a story of which version, and how deep.
+#[derive(Clone, Copy)]
+pub(crate) struct Context {
+    pub version: InkVersion,
+    pub nesting: usize,
+}
+
+impl Context {
+    /// The context of what is in a container that is read in this one.
+    fn inside(self) -> Context
+        requires { self.nesting ≤ MAX_NESTING }
+        ensures version { result.version ≡ self.version }
+        ensures nesting { result.nesting ≡ self.nesting + 1 }
+    {
+        Context {
+            version: self.version,
+            nesting: self.nesting + 1,
+        }
+    }
+}
+
+/// Where content stands that is read: in which container and by which part, in which context, whether in a list or by a key, and
+/// whether its name rules it out there.
 #[derive(Drop)]
 pub(crate) struct Position<'k> {
     pub holder: u32,
     pub last: Last<'k>,
-    pub nesting: usize,
+    pub context: Context,
     pub listed: bool,
     pub misnamed: bool,
 }
@@ -60,17 +81,20 @@ fn read_content(
     value: &Value<'_, '_>,
     position: Position<'_>,
 ) -> Result<(), ReadFailure>
-    requires fits { Fits position.nesting (json_data value.now) }
+    requires fits { Fits position.context.nesting (json_data value.now) }
     requires room { length nodes.old + size (json_data value.now) < 2 ^ 31 }
     ensures { Lists nodes.old nodes.new position.entry.holder position.entry.last result
-        (content 21 position.entry.nesting position.entry.misnamed position.entry.listed (json_data value.now)) }
+        (content position.entry.context.version position.entry.context.nesting position.entry.misnamed position.entry.listed (json_data value.now)) }
 {
     match value.kind() {
         Kind::Array(items) => read_container(alloc, nodes, value, items, position),
         Kind::String(text) => list_leaf(alloc, nodes, position, read_string(alloc, text)),
         Kind::Bool(truth) => list_leaf(alloc, nodes, position, Ok(Leaf::Bool(truth))),
         Kind::Number(number) => list_leaf(alloc, nodes, position, read_number(alloc, number)),
-        Kind::Object => list_leaf(alloc, nodes, position, read_object_leaf(alloc, value)),
+        Kind::Object => {
+            let read = read_object_leaf(alloc, position.context.version, value);
+            list_leaf(alloc, nodes, position, read)
+        }
         Kind::Null => Err(refused(alloc, Cause::Shape)),
     }
 }
@@ -101,20 +125,20 @@ pub(crate) fn read_container(
     items: Items<'_, '_>,
     position: Position<'_>,
 ) -> Result<(), ReadFailure>
-    requires nests { position.nesting ≤ MAX_NESTING + 1 }
+    requires nests { position.context.nesting ≤ MAX_NESTING + 1 }
     requires items { json_data array.now ≡ json_array (items_left items) }
     requires room { length nodes.old + items_size (items_left items) + 1 < 2 ^ 31 }
     ensures { Lists nodes.old nodes.new position.entry.holder position.entry.last result
-        (content 21 position.entry.nesting position.entry.misnamed position.entry.listed (json_data array.now)) }
+        (content position.entry.context.version position.entry.context.nesting position.entry.misnamed position.entry.listed (json_data array.now)) }
 {
     let Position {
         holder,
         last,
-        nesting,
+        context,
         listed,
         misnamed,
     } = position;
-    if nesting > MAX_NESTING {
+    if context.nesting > MAX_NESTING {
         return Err(refused(alloc, Cause::Limit));
     }
     let mut items = items;
@@ -130,7 +154,7 @@ pub(crate) fn read_container(
     let name = copy_name(alloc, own.name)?;
     let number = nodes.len();
     nodes.open(alloc, holder, last, name, own.flags)?;
-    let inside = read_inside(alloc, nodes, number as u32, first, items, nesting)?;
+    let inside = read_inside(alloc, nodes, number as u32, first, items, context)?;
     nodes.close(number, inside.width, inside.keys);
     Ok(())
 }
@@ -143,21 +167,21 @@ fn read_inside<'t, 'a>(
     number: u32,
     first: Value<'t, 'a>,
     items: Items<'t, 'a>,
-    nesting: usize,
+    context: Context,
 ) -> Result<Inside, ReadFailure>
-    requires nests { nesting ≤ MAX_NESTING }
+    requires nests { context.nesting ≤ MAX_NESTING }
     requires room { length nodes.old + items_size (item (json_data first) (items_left items)) < 2 ^ 31 }
-    ensures width { IfOk result (λ x. x.width ≡ count (content_of 21 (item (json_data first.entry) (items_left items.entry)))) }
-    ensures keys { IfOk result (λ x. x.keys ≡ count_keys (keyed_in 21 (item (json_data first.entry) (items_left items.entry)))) }
+    ensures width { IfOk result (λ x. x.width ≡ count (content_of context.version (item (json_data first.entry) (items_left items.entry)))) }
+    ensures keys { IfOk result (λ x. x.keys ≡ count_keys (keyed_in context.version (item (json_data first.entry) (items_left items.entry)))) }
     ensures nodes { OnOk result (nodes.new ≡ nodes.old ++ nodes_inside (length nodes.old) number
-        (content_of 21 (item (json_data first.entry) (items_left items.entry))) (keyed_in 21 (item (json_data first.entry) (items_left items.entry)))) }
-    ensures good { OnOk result (faults_inside 21 nesting 0 [] (item (json_data first.entry) (items_left items.entry)) ≡ []) }
-    ensures err { IfErr result (λ e. IsFirst e (faults_inside 21 nesting 0 [] (item (json_data first.entry) (items_left items.entry)))) }
+        (content_of context.version (item (json_data first.entry) (items_left items.entry))) (keyed_in context.version (item (json_data first.entry) (items_left items.entry)))) }
+    ensures good { OnOk result (faults_inside context.version context.nesting 0 [] (item (json_data first.entry) (items_left items.entry)) ≡ []) }
+    ensures err { IfErr result (λ e. IsFirst e (faults_inside context.version context.nesting 0 [] (item (json_data first.entry) (items_left items.entry)))) }
 {
     let Elements { width, names, last } = read_elements(
-        alloc, nodes, number, first, items, nesting,
+        alloc, nodes, number, first, items, context,
     )?;
-    let keys = read_last(alloc, nodes, number, &last, nesting, &names)?;
+    let keys = read_last(alloc, nodes, number, &last, context, &names)?;
     Ok(Inside { width, keys })
 }
 
@@ -169,25 +193,26 @@ fn read_elements<'t, 'a>(
     number: u32,
     first: Value<'t, 'a>,
     items: Items<'t, 'a>,
-    nesting: usize,
+    context: Context,
 ) -> Result<Elements<'t, 'a>, ReadFailure>
-    requires nests { nesting ≤ MAX_NESTING }
+    requires nests { context.nesting ≤ MAX_NESTING }
     requires room { length nodes.old + items_size (item (json_data first) (items_left items)) < 2 ^ 31 }
     ensures nodes { OnOk result (nodes.new ≡ nodes.old
-        ++ nodes_from (length nodes.old) number 0 (content_of 21 (item (json_data first.entry) (items_left items.entry)))) }
-    ensures width { IfOk result (λ x. x.width ≡ count (content_of 21 (item (json_data first.entry) (items_left items.entry)))) }
+        ++ nodes_from (length nodes.old) number 0 (content_of context.version (item (json_data first.entry) (items_left items.entry)))) }
+    ensures width { IfOk result (λ x. x.width ≡ count (content_of context.version (item (json_data first.entry) (items_left items.entry)))) }
     ensures names { IfOk result (λ x. (taken : List (List ℕ)) × Holds x.names taken
-        × (faults_inside 21 nesting 0 [] (item (json_data first.entry) (items_left items.entry)) ≡ faults_keyed 21 nesting taken (json_data x.last))) }
+        × (faults_inside context.version context.nesting 0 [] (item (json_data first.entry) (items_left items.entry)) ≡ faults_keyed context.version context.nesting taken (json_data x.last))) }
     ensures last { IfOk result (λ x. own_after (json_data first.entry) (items_left items.entry) ≡ json_data x.last) }
-    ensures err { IfErr result (λ e. IsFirst e (faults_inside 21 nesting 0 [] (item (json_data first.entry) (items_left items.entry)))) }
+    ensures err { IfErr result (λ e. IsFirst e (faults_inside context.version context.nesting 0 [] (item (json_data first.entry) (items_left items.entry)))) }
 {
+    let inside = context.inside();
     let mut names = BTreeSet::new(alloc);
     let mut here = first;
     let mut left = items;
     let mut index = 0;
     while let Some(next) = left.next() {
         let misnamed = is_misnamed(&names, &here);
-        read_element(alloc, nodes, number, &here, index, nesting + 1, misnamed)?;
+        read_element(alloc, nodes, number, &here, index, inside, misnamed)?;
         give(&mut names, name_of(&here))?;
         here = next;
         index += 1;
@@ -207,19 +232,19 @@ fn read_element(
     number: u32,
     value: &Value<'_, '_>,
     index: u32,
-    nesting: usize,
+    context: Context,
     misnamed: bool,
 ) -> Result<(), ReadFailure>
-    requires fits { Fits nesting (json_data value.now) }
+    requires fits { Fits context.nesting (json_data value.now) }
     requires index { index < 2 ^ 31 }
     requires room { length nodes.old + size (json_data value.now) < 2 ^ 31 }
     ensures { Lists nodes.old nodes.new number (Some (Index index)) result
-        (first (map (under (Index index)) (faults 21 nesting misnamed (json_data value.now))) (tree_of 21 true (json_data value.now))) }
+        (first (map (under (Index index)) (faults context.version context.nesting misnamed (json_data value.now))) (tree_of context.version true (json_data value.now))) }
 {
     let position = Position {
         holder: number,
         last: Last::index(index),
-        nesting,
+        context,
         listed: true,
         misnamed,
     };
@@ -236,16 +261,16 @@ fn read_last(
     nodes: &mut Nodes,
     number: u32,
     last: &Value<'_, '_>,
-    nesting: usize,
+    context: Context,
     names: &BTreeSet<&str>,
 ) -> Result<u32, ReadFailure>
-    requires nests { nesting ≤ MAX_NESTING }
+    requires nests { context.nesting ≤ MAX_NESTING }
     requires room { length nodes.old + size (json_data last.now) < 2 ^ 31 }
     ensures { (taken : List (List ℕ)) → Holds names.now taken → ListsByKey nodes.old nodes.new number result
-        (first (faults_keyed 21 nesting taken (json_data last.now)) (keyed_last 21 (json_data last.now))) }
+        (first (faults_keyed context.version context.nesting taken (json_data last.now)) (keyed_last context.version (json_data last.now))) }
 {
     let keys = last.members(alloc)?;
-    read_keyed(alloc, nodes, number, &keys, nesting, names)
+    read_keyed(alloc, nodes, number, &keys, context, names)
 }
 
 /// The containers by key, in the order of the keys; how many they are.
@@ -255,20 +280,21 @@ fn read_keyed(
     nodes: &mut Nodes,
     number: u32,
     keys: &BTreeMap<&str, Value<'_, '_>>,
-    nesting: usize,
+    context: Context,
     names: &BTreeSet<&str>,
 ) -> Result<u32, ReadFailure>
-    requires nests { nesting ≤ MAX_NESTING }
+    requires nests { context.nesting ≤ MAX_NESTING }
     requires room { length nodes.old + members_size (members_data keys.now.entries) < 2 ^ 31 }
     ensures { (taken : List (List ℕ)) → Holds names.now taken → ListsByKey nodes.old nodes.new number result
-        (first (faults_by 21 nesting taken (members_data keys.now.entries)) (keyed_by 21 (members_data keys.now.entries))) }
+        (first (faults_by context.version context.nesting taken (members_data keys.now.entries)) (keyed_by context.version (members_data keys.now.entries))) }
 {
+    let inside = context.inside();
     let mut count = 0;
     for (key, value) in keys.iter() {
         let name = *key;
         if !is_own(name) {
             let misnamed = names.contains(name);
-            read_named(alloc, nodes, number, name, value, nesting + 1, misnamed)?;
+            read_named(alloc, nodes, number, name, value, inside, misnamed)?;
             count += 1;
         }
     }
@@ -283,18 +309,18 @@ fn read_named(
     number: u32,
     key: &str,
     value: &Value<'_, '_>,
-    nesting: usize,
+    context: Context,
     misnamed: bool,
 ) -> Result<(), ReadFailure>
-    requires fits { Fits nesting (json_data value.now) }
+    requires fits { Fits context.nesting (json_data value.now) }
     requires room { length nodes.old + size (json_data value.now) < 2 ^ 31 }
     ensures { Lists nodes.old nodes.new number (Some (Name key.now)) result
-        (first (map (under (Name key.now)) (faults_named 21 nesting misnamed (json_data value.now))) (tree_of 21 false (json_data value.now))) }
+        (first (map (under (Name key.now)) (faults_named context.version context.nesting misnamed (json_data value.now))) (tree_of context.version false (json_data value.now))) }
 {
     let position = Position {
         holder: number,
         last: Last::name(key),
-        nesting,
+        context,
         listed: false,
         misnamed,
     };
@@ -312,10 +338,10 @@ fn read_only_container(
     value: &Value<'_, '_>,
     position: Position<'_>,
 ) -> Result<(), ReadFailure>
-    requires fits { Fits position.nesting (json_data value.now) }
+    requires fits { Fits position.context.nesting (json_data value.now) }
     requires room { length nodes.old + size (json_data value.now) < 2 ^ 31 }
     ensures { Lists nodes.old nodes.new position.entry.holder position.entry.last result
-        (first (faults_named 21 position.entry.nesting position.entry.misnamed (json_data value.now)) (tree_of 21 position.entry.listed (json_data value.now))) }
+        (first (faults_named position.entry.context.version position.entry.context.nesting position.entry.misnamed (json_data value.now)) (tree_of position.entry.context.version position.entry.listed (json_data value.now))) }
 {
     match value.kind() {
         Kind::Array(items) => read_container(alloc, nodes, value, items, position),

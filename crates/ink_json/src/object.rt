@@ -13,15 +13,19 @@ use crate::readings::{
     read_variable,
 };
 use crate::value::Value;
-use ink_model::{Cause, Leaf};
+use ink_model::{Cause, InkVersion, Leaf};
 use std::alloc::Global;
 
-/// The leaf that an object is: it has exactly one head, and none of content that is not supported.
+/// The leaf that an object is in a version: it has exactly one head, and none of content that is not supported.
 #[tactic(auto, unfolding(ink_model::specs::Leaves::object_leaf))]
-pub(crate) fn read_object_leaf(alloc: Global, object: &Value<'_, '_>) -> Result<Leaf, ReadFailure>
-    ensures { Reads (λ l. l) result (placed (object_leaf (json_data object.now))) }
+pub(crate) fn read_object_leaf(
+    alloc: Global,
+    version: InkVersion,
+    object: &Value<'_, '_>,
+) -> Result<Leaf, ReadFailure>
+    ensures { Reads (λ l. l) result (placed (object_leaf version (json_data object.now))) }
 {
-    if is_beyond(object) {
+    if is_beyond(version, object) {
         return Err(refused(alloc, Cause::Unsupported));
     }
     match heads(object) {
@@ -30,11 +34,13 @@ pub(crate) fn read_object_leaf(alloc: Global, object: &Value<'_, '_>) -> Result<
     }
 }
 
-/// Whether an object has a head of content that is not supported.
-fn is_beyond(object: &Value<'_, '_>) -> bool
-    ensures { result ≡ is_beyond (json_data object.now) }
+/// Whether an object has a head of content that is not supported in a version.
+fn is_beyond(version: InkVersion, object: &Value<'_, '_>) -> bool
+    ensures { result ≡ is_beyond version (json_data object.now) }
 {
-    object.get("list").is_some() || object.get("#").is_some()
+    match version {
+        InkVersion::V21 => object.get("list").is_some() || object.get("#").is_some(),
+    }
 }
 
 /// The leaf that an object is by this head, which has this value.

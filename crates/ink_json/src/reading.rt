@@ -2,8 +2,7 @@
 
 ghost use Rattle.std.specs.Prelude.{◌≡◌, ◌⊎◌, ◌≤◌, ◌<◌, ◌^◌, true, length, IfOk, IfErr, Ok, Err, Some, None, codes, if◌then◌else◌};
 ghost use Rattle.serde_json.specs.Find.{get};
-ghost use Rattle.ink_model.specs.Leaves.{whole};
-ghost use Rattle.ink_model.specs.Grammar.{here, story, unmarked, json, of_json, of_value, root_of, is_blank_object, is_version};
+ghost use Rattle.ink_model.specs.Grammar.{here, story, unmarked, json, of_json, of_value, root_of, is_blank_object, version_of};
 ghost use Rattle.ink_json.specs.Listing.{IsListed, rebuilt};
 ghost use Rattle.ink_json.specs.Reading.{Reads, ReadsOr, is_parsable, is_parsed};
 ghost use Rattle.ink_json.specs.Size.{size};
@@ -11,19 +10,16 @@ ghost use Rattle.ink_json.specs.Spelled.{are_sound, data_of};
 ghost use Rattle.ink_json.specs.Story.{tree};
 ghost use Rattle.ink_json.specs.Value.{json_data};
 
-use crate::container::{Position, read_container};
+use crate::container::{Context, Position, read_container};
 use crate::error::{ReadFailure, refused};
 use crate::last::Last;
 use crate::nodes::Nodes;
 use crate::story::RawStory;
 use crate::tape::Tape;
 use crate::value::{Kind, Value, root};
-use ink_model::{Cause, Failure, MAX_STORY, ReadRefusal};
+use ink_model::{Cause, Failure, InkVersion, MAX_STORY, ReadRefusal};
 use json::Scratch;
 use std::alloc::Global;
-
-/// The version of the format that is read.
-const VERSION: u64 = 21;
 
 /// Reads a story. It is refused for the first fault in it, in reading order, or for a refused request for memory.
 ///
@@ -103,21 +99,21 @@ fn read_value(alloc: Global, value: &Value<'_, '_>) -> Result<Nodes, ReadFailure
     if !value.is_object() {
         return Err(refused(alloc, Cause::Shape));
     }
-    if !has_version(value) {
+    let Some(version) = version_of(value) else {
         return Err(refused(alloc, Cause::Version));
-    }
+    };
     if !has_no_lists(value) {
         return Err(refused(alloc, Cause::Unsupported));
     }
     match value.get("root") {
-        Some(root) => read_root(alloc, &root),
+        Some(root) => read_root(alloc, version, &root),
         None => Err(refused(alloc, Cause::Shape)),
     }
 }
 
-fn read_root(alloc: Global, root: &Value<'_, '_>) -> Result<Nodes, ReadFailure>
+fn read_root(alloc: Global, version: InkVersion, root: &Value<'_, '_>) -> Result<Nodes, ReadFailure>
     requires { size (json_data root.now) < 2 ^ 31 }
-    ensures reads { Reads (λ ns. rebuilt ns) result (root_of 21 (Some (json_data root.now))) }
+    ensures reads { Reads (λ ns. rebuilt ns) result (root_of version (Some (json_data root.now))) }
     ensures listed { IfOk result (λ ns. IsListed ns) }
 {
     match root.kind() {
@@ -126,7 +122,10 @@ fn read_root(alloc: Global, root: &Value<'_, '_>) -> Result<Nodes, ReadFailure>
             let position = Position {
                 holder: 0,
                 last: Last::none(),
-                nesting: 1,
+                context: Context {
+                    version,
+                    nesting: 1,
+                },
                 listed: false,
                 misnamed: false,
             };
@@ -137,13 +136,11 @@ fn read_root(alloc: Global, root: &Value<'_, '_>) -> Result<Nodes, ReadFailure>
     }
 }
 
-fn has_version(value: &Value<'_, '_>) -> bool
-    ensures { result ≡ is_version (whole (get (codes "inkVersion") (json_data value.now))) }
+/// The version of a story; none where its stories are not read.
+fn version_of(value: &Value<'_, '_>) -> Option<InkVersion>
+    ensures { result ≡ version_of (json_data value.now) }
 {
-    match value.get("inkVersion") {
-        Some(version) => version.as_u64() == Some(VERSION),
-        None => false,
-    }
+    InkVersion::from_number(value.get("inkVersion")?.as_u64()?)
 }
 
 /// Whether the story declares no lists.

@@ -36,6 +36,7 @@ use Rattle.ink_model.specs.declared.host.Given.TheVariants as given
 use Rattle.ink_model.specs.declared.operator.Op.TheVariants as op
 use Rattle.ink_model.specs.declared.value.Value.{Value}
 use Rattle.ink_model.specs.declared.value.Value.TheVariants as value
+use Rattle.ink_model.specs.declared.version.InkVersion.TheVariants.{V21}
 use Rattle.ink_model.specs.declared.content.Control.{Control}
 use Rattle.ink_model.specs.declared.content.Control.TheVariants as control
 use Rattle.ink_model.specs.declared.command.Command.TheVariants.{Through}
@@ -190,7 +191,7 @@ repeated_name : of_value (file version_21 (array (item named_list (item named_li
 repeated_name = refl
 
 -- the limit of nesting comes before all else at its place
-too_deep : grammar.content 21 121 false false (array no_items) ≡ Err (here Limit)
+too_deep : grammar.content V21 121 false false (array no_items) ≡ Err (here Limit)
 too_deep = refl
 
 -- ---- command lines and sessions

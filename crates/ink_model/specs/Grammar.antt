@@ -16,6 +16,8 @@ use Rattle.ink_model.specs.declared.fault.Cause.TheVariants.{NotJson, Version, S
 use Rattle.ink_model.specs.declared.fault.ReadRefusal.{ReadRefusal}
 use Rattle.ink_model.specs.declared.place.Part.{Part}
 use Rattle.ink_model.specs.declared.place.Part.TheVariants.{Index, Name}
+use Rattle.ink_model.specs.declared.version.InkVersion.{InkVersion}
+use Rattle.ink_model.specs.declared.version.InkVersion.TheVariants.{V21}
 
 -- ---- refusals
 
@@ -119,7 +121,7 @@ is_misnamed taken d = not (is_name (member_of name_key (own_of d))) || is_taken 
 
 abbrev mutual
   -- what is wrong with content of this nesting, by places from it on; misnamed: it may not stand there by its name
-  pub faults : ℕ → ℕ → Bool → Data → List ReadRefusal
+  pub faults : InkVersion → ℕ → Bool → Data → List ReadRefusal
   faults version nesting misnamed null = leaf_faults (leaf_of version null)
   faults version nesting misnamed (boolean b) = leaf_faults (leaf_of version (boolean b))
   faults version nesting misnamed (number n) = leaf_faults (leaf_of version (number n))
@@ -130,14 +132,14 @@ abbrev mutual
       ++ faults_inside version nesting 0 [] ds
 
   -- the elements from this index on, and after them the containers by key
-  pub faults_inside : ℕ → ℕ → ℕ → List (List ℕ) → Items → List ReadRefusal
+  pub faults_inside : InkVersion → ℕ → ℕ → List (List ℕ) → Items → List ReadRefusal
   faults_inside version nesting i taken no_items = []
   faults_inside version nesting i taken (item d ds) = if is_empty ds then faults_keyed version nesting taken d
       else map (under (Index i)) (faults version (nesting + 1) (is_misnamed taken d) d)
       ++ faults_inside version nesting (i + 1) (with_name taken (name_of d)) ds
 
   -- the containers that the last element gives by key
-  pub faults_keyed : ℕ → ℕ → List (List ℕ) → Data → List ReadRefusal
+  pub faults_keyed : InkVersion → ℕ → List (List ℕ) → Data → List ReadRefusal
   faults_keyed version nesting taken null = []
   faults_keyed version nesting taken (boolean b) = []
   faults_keyed version nesting taken (number n) = []
@@ -145,7 +147,7 @@ abbrev mutual
   faults_keyed version nesting taken (array ds) = []
   faults_keyed version nesting taken (object ms) = faults_by version nesting taken ms
 
-  pub faults_by : ℕ → ℕ → List (List ℕ) → Members → List ReadRefusal
+  pub faults_by : InkVersion → ℕ → List (List ℕ) → Members → List ReadRefusal
   faults_by version nesting taken no_members = []
   faults_by version nesting taken (member k d ms) = if is_own k then faults_by version nesting taken ms
       else map (under (Name k)) (if is_some (as_array d) then faults version (nesting + 1) (is_taken taken (Some k)) d else here Shape ∷ [])
@@ -155,7 +157,7 @@ abbrev mutual
 
 abbrev mutual
   -- listed: in list position, where a container has the name that it gives itself
-  pub tree_of : ℕ → Bool → Data → StoryTree
+  pub tree_of : InkVersion → Bool → Data → StoryTree
   tree_of version listed null = leaf leaves.Newline
   tree_of version listed (boolean b) = leaf (leaves.Bool b)
   tree_of version listed (number n) = leaf (result_unwrap_or (leaf_of version (number n)) leaves.Newline)
@@ -165,16 +167,16 @@ abbrev mutual
       container (if listed then name_in (own ds) else None) (flags_of (own ds)) (content_of version ds) (keyed_in version ds)
 
   -- all elements but the last
-  pub content_of : ℕ → Items → Trees
+  pub content_of : InkVersion → Items → Trees
   content_of version no_items = no_trees
   content_of version (item d ds) = if is_empty ds then no_trees else tree (tree_of version true d) (content_of version ds)
 
   -- the containers by key in the last element
-  pub keyed_in : ℕ → Items → Keyed
+  pub keyed_in : InkVersion → Items → Keyed
   keyed_in version no_items = no_keys
   keyed_in version (item d ds) = if is_empty ds then keyed_last version d else keyed_in version ds
 
-  pub keyed_last : ℕ → Data → Keyed
+  pub keyed_last : InkVersion → Data → Keyed
   keyed_last version null = no_keys
   keyed_last version (boolean b) = no_keys
   keyed_last version (number n) = no_keys
@@ -182,12 +184,12 @@ abbrev mutual
   keyed_last version (array ds) = no_keys
   keyed_last version (object ms) = keyed_by version ms
 
-  pub keyed_by : ℕ → Members → Keyed
+  pub keyed_by : InkVersion → Members → Keyed
   keyed_by version no_members = no_keys
   keyed_by version (member k d ms) = if is_own k then keyed_by version ms else key k (tree_of version false d) (keyed_by version ms)
 
 -- content: its first fault, or its tree
-abbrev pub content : ℕ → ℕ → Bool → Bool → Data → Result StoryTree ReadRefusal
+abbrev pub content : InkVersion → ℕ → Bool → Bool → Data → Result StoryTree ReadRefusal
 content version nesting misnamed listed d = first (faults version nesting misnamed d) (tree_of version listed d)
 
 -- ---- the file
@@ -211,21 +213,27 @@ is_object (string s) = false
 is_object (array ds) = false
 is_object (object ms) = true
 
-abbrev pub is_version : Option ℕ → Bool
-is_version None = false
-is_version (Some n) = n == 21
+-- the version that has this number, where its stories are read
+abbrev pub version_numbered : ℕ → Option InkVersion
+version_numbered n = if n == 21 then Some V21 else None
+
+abbrev pub version_of : Data → Option InkVersion
+version_of d = option_and_then version_numbered (whole (get (codes "inkVersion") d))
 
 -- what `root` holds
-abbrev pub root_of : ℕ → Option Data → Result StoryTree ReadRefusal
+abbrev pub root_of : InkVersion → Option Data → Result StoryTree ReadRefusal
 root_of version None = Err (here Shape)
 root_of version (Some d) = if is_some (as_array d) then content version 1 false false d else Err (here Shape)
 
--- the whole value: an object, of a known version, without lists, with a good root
+-- a story in its version: without lists, with a good root
+abbrev pub of_version : Option InkVersion → Data → Result StoryTree ReadRefusal
+of_version None d = Err (here Version)
+of_version (Some version) d =
+    if not (is_blank_object (get (codes "listDefs") d)) then Err (here Unsupported) else root_of version (get (codes "root") d)
+
+-- the whole value: an object, of a version that is read
 abbrev pub of_value : Data → Result StoryTree ReadRefusal
-of_value d = if not (is_object d) then Err (here Shape)
-    else (if not (is_version (whole (get (codes "inkVersion") d))) then Err (here Version)
-    else (if not (is_blank_object (get (codes "listDefs") d)) then Err (here Unsupported)
-    else root_of 21 (get (codes "root") d)))
+of_value d = if not (is_object d) then Err (here Shape) else of_version (version_of d) d
 
 -- without the byte order mark
 abbrev pub unmarked : List ℕ → List ℕ

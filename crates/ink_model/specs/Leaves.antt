@@ -11,6 +11,8 @@ use Rattle.ink_model.specs.declared.content.Leaf.{Leaf}
 use Rattle.ink_model.specs.declared.content.Leaf.TheVariants as leaves
 use Rattle.ink_model.specs.declared.fault.Cause.{Cause}
 use Rattle.ink_model.specs.declared.fault.Cause.TheVariants.{Shape, Unsupported, Limit}
+use Rattle.ink_model.specs.declared.version.InkVersion.{InkVersion}
+use Rattle.ink_model.specs.declared.version.InkVersion.TheVariants.{V21}
 
 -- ---- texts and numbers
 
@@ -139,18 +141,18 @@ sole [] = Err Shape
 sole (r ∷ []) = r
 sole (r ∷ q ∷ rs) = Err Shape
 
--- the heads that ink has beyond what is supported
-abbrev pub is_beyond : Data → Bool
-is_beyond d = is_some (get (codes "list") d) || is_some (get (codes "#") d)
+-- the heads that ink has in a version beyond what is supported
+abbrev pub is_beyond : InkVersion → Data → Bool
+is_beyond V21 d = is_some (get (codes "list") d) || is_some (get (codes "#") d)
 
-unfoldable pub object_leaf : Data → Result Leaf Cause
-object_leaf d = if is_beyond d then Err Unsupported else sole (jump_readings d ++ (value_readings d ++ store_readings d))
+unfoldable pub object_leaf : InkVersion → Data → Result Leaf Cause
+object_leaf version d = if is_beyond version d then Err Unsupported else sole (jump_readings d ++ (value_readings d ++ store_readings d))
 
 -- the leaf that JSON spells in a story of this version
-abbrev pub leaf_of : ℕ → Data → Result Leaf Cause
+abbrev pub leaf_of : InkVersion → Data → Result Leaf Cause
 leaf_of version null = Err Shape
 leaf_of version (boolean b) = Ok (leaves.Bool b)
 leaf_of version (number n) = integer_leaf (as_integer n)
 leaf_of version (string s) = string_leaf s
 leaf_of version (array ds) = Err Shape
-leaf_of version (object ms) = object_leaf (object ms)
+leaf_of version (object ms) = object_leaf version (object ms)

@@ -21,6 +21,7 @@ use Rattle.ink_model.specs.declared.fault.Fault.TheVariants as fault
 use Rattle.ink_model.specs.declared.place.Part.TheVariants.{Index, Name}
 use Rattle.ink_model.specs.declared.value.Value.{Value}
 use Rattle.ink_model.specs.declared.value.Value.TheVariants as value
+use Rattle.ink_model.specs.declared.version.InkVersion.TheVariants.{V21}
 
 -- ---- causes at one place, in their order
 
@@ -34,50 +35,50 @@ abbrev count : ℕ → Data
 count n = number (unsigned n)
 
 -- nesting comes before what is wrong with the container itself
-nesting_first : content 21 121 false true (array (item (object (of (codes "#f") (count 8) no_members)) no_items)) ≡ Err (here Limit)
+nesting_first : content V21 121 false true (array (item (object (of (codes "#f") (count 8) no_members)) no_items)) ≡ Err (here Limit)
 nesting_first = refl
 
 -- what ink has beyond comes before the shape
-beyond_first : object_leaf (object (of (codes "->") (count 1) (of (codes "list") null no_members))) ≡ Err Unsupported
+beyond_first : object_leaf V21 (object (of (codes "->") (count 1) (of (codes "list") null no_members))) ≡ Err Unsupported
 unfolding object_leaf
 beyond_first = refl
 
 -- the shape before the limit
-shape_first : object_leaf (object (of (codes "exArgs") (count 2147483648) (of (codes "x()") (count 1) no_members))) ≡ Err Shape
+shape_first : object_leaf V21 (object (of (codes "exArgs") (count 2147483648) (of (codes "x()") (count 1) no_members))) ≡ Err Shape
 unfolding object_leaf jump_readings value_readings store_readings
 shape_first = refl
 
-too_many_arguments : object_leaf (object (of (codes "exArgs") (count 2147483648) (of (codes "x()") (text (codes "f")) no_members))) ≡ Err Limit
+too_many_arguments : object_leaf V21 (object (of (codes "exArgs") (count 2147483648) (of (codes "x()") (text (codes "f")) no_members))) ≡ Err Limit
 unfolding object_leaf jump_readings value_readings store_readings
 too_many_arguments = refl
 
-two_heads : object_leaf (object (of (codes "->") (text (codes "k")) (of (codes "f()") (text (codes "k")) no_members))) ≡ Err Shape
+two_heads : object_leaf V21 (object (of (codes "->") (text (codes "k")) (of (codes "f()") (text (codes "k")) no_members))) ≡ Err Shape
 unfolding object_leaf jump_readings value_readings store_readings
 two_heads = refl
 
-no_head : object_leaf (object (of (codes "var") (boolean true) no_members)) ≡ Err Shape
+no_head : object_leaf V21 (object (of (codes "var") (boolean true) no_members)) ≡ Err Shape
 unfolding object_leaf jump_readings value_readings store_readings
 no_head = refl
 
 -- ---- objects that are read
 
-a_divert : object_leaf (object (of (codes "->") (text (codes "k")) (of (codes "c") (boolean true) no_members)))
+a_divert : object_leaf V21 (object (of (codes "->") (text (codes "k")) (of (codes "c") (boolean true) no_members)))
     ≡ Ok (leaves.Divert (destination.Path (codes "k")) true)
 unfolding object_leaf jump_readings value_readings store_readings
 a_divert = refl
 
-by_a_variable : object_leaf (object (of (codes "->t->") (text (codes "v")) (of (codes "var") (boolean true) no_members)))
+by_a_variable : object_leaf V21 (object (of (codes "->t->") (text (codes "v")) (of (codes "var") (boolean true) no_members)))
     ≡ Ok (leaves.Tunnel (destination.Variable (codes "v")) false)
 unfolding object_leaf jump_readings value_readings store_readings
 by_a_variable = refl
 
 -- an option is looked at only at its own head
-another_heads_option : object_leaf (object (of (codes "VAR?") (text (codes "x")) (of (codes "re") (count 1) no_members)))
+another_heads_option : object_leaf V21 (object (of (codes "VAR?") (text (codes "x")) (of (codes "re") (count 1) no_members)))
     ≡ Ok (leaves.Variable (codes "x"))
 unfolding object_leaf jump_readings value_readings store_readings
 another_heads_option = refl
 
-a_choice : object_leaf (object (of (codes "*") (text (codes "k")) no_members)) ≡ Ok (leaves.Choice (codes "k") 16)
+a_choice : object_leaf V21 (object (of (codes "*") (text (codes "k")) no_members)) ≡ Ok (leaves.Choice (codes "k") 16)
 unfolding object_leaf jump_readings value_readings store_readings
 a_choice = refl
 

@@ -18,6 +18,7 @@ mod seq;
 mod shared;
 mod text;
 mod value;
+mod version;
 
 pub use command::Command;
 pub use content::{Container, Content, Control, Destination, Leaf};
@@ -37,3 +38,4 @@ pub use seq::Seq;
 pub use shared::Shared;
 pub use text::Text;
 pub use value::Value;
+pub use version::InkVersion;

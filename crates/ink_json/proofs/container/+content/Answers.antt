@@ -28,7 +28,7 @@ read_container-returns-in_err-name t c =
     let is : json_data c.args.array.now ≡ array ds = c.requires.items ∙ ap array c.in-Some.ensures.value in
     let whole = subst (λ d. is_whole (own_of d) ≡ true) is c.in-Some-read_own.ensures.0 in
     let p = err_from_is_err_and c.from_residual.result c.from_residual.ensures.1 in
-    rw (is, p.1, p.2) (container_takes 21 c.args.position.nesting c.args.position.misnamed c.args.position.listed ds c.if-nesting-gt-MAX_NESTING.false whole c.if-misnamed.false)
+    rw (is, p.1, p.2) (container_takes c.args.position.context.version c.args.position.context.nesting c.args.position.misnamed c.args.position.listed ds c.if-context-gt-MAX_NESTING.false whole c.if-misnamed.false)
 
 pub read_container-returns-in_err-open : goal.read_container-returns-in_err-open
 read_container-returns-in_err-open t c =
@@ -36,7 +36,7 @@ read_container-returns-in_err-open t c =
     let is : json_data c.args.array.now ≡ array ds = c.requires.items ∙ ap array c.in-Some.ensures.value in
     let whole = subst (λ d. is_whole (own_of d) ≡ true) is c.in-Some-read_own.ensures.0 in
     let p = err_from_is_err_and c.from_residual-in_err-open.result c.from_residual-in_err-open.ensures.1 in
-    rw (is, p.1, p.2) (container_takes 21 c.args.position.nesting c.args.position.misnamed c.args.position.listed ds c.if-nesting-gt-MAX_NESTING.false whole c.if-misnamed.false)
+    rw (is, p.1, p.2) (container_takes c.args.position.context.version c.args.position.context.nesting c.args.position.misnamed c.args.position.listed ds c.if-context-gt-MAX_NESTING.false whole c.if-misnamed.false)
 
 pub read_container-returns-in_err-inside : goal.read_container-returns-in_err-inside
 read_container-returns-in_err-inside t c =
@@ -44,7 +44,7 @@ read_container-returns-in_err-inside t c =
     let is : json_data c.args.array.now ≡ array ds = c.requires.items ∙ ap array c.in-Some.ensures.value in
     let whole = subst (λ d. is_whole (own_of d) ≡ true) is c.in-Some-read_own.ensures.0 in
     let p = err_from_is_err_and c.from_residual-in_err-inside.result c.from_residual-in_err-inside.ensures.1 in
-    rw (is, p.1, p.2) (container_stops 21 c.args.position.nesting c.args.position.misnamed c.args.position.listed ds c.in_err-inside.field-0.0 c.if-nesting-gt-MAX_NESTING.false whole c.if-misnamed.false c.in_err-inside.ensures.err)
+    rw (is, p.1, p.2) (container_stops c.args.position.context.version c.args.position.context.nesting c.args.position.misnamed c.args.position.listed ds c.in_err-inside.field-0.0 c.if-context-gt-MAX_NESTING.false whole c.if-misnamed.false c.in_err-inside.ensures.err)
 
 pub read_container-returns : goal.read_container-returns
 read_container-returns t c =
@@ -57,21 +57,21 @@ read_container-returns t c =
     let name = c.in_ok-name.ensures ∙ own.2 ∙ ap (λ d. cond c.args.position.listed (name_in (own_of d)) None) is in
     let old = c.args.nodes.now in
     let here : c.len-number.result ≡ length old = c.len-number.ensures in
-    let opened = opened_listed old c.args.position.holder c.args.position.last c.in_ok-name.name c.in-Some-read_own.own.flags c.len-number.result (content_of 21 ds) (keyed_in 21 ds) here
+    let opened = opened_listed old c.args.position.holder c.args.position.last c.in_ok-name.name c.in-Some-read_own.own.flags c.len-number.result (content_of c.args.position.context.version ds) (keyed_in c.args.position.context.version ds) here
     c.open.new.self c.read_inside.new.nodes c.in_ok-open.ensures c.in_ok-inside.ensures.nodes in
-    let closed = c.close.ensures old (nodes_inside (length old + 1) (length old) (content_of 21 ds) (keyed_in 21 ds)) c.args.position.holder c.args.position.last c.in_ok-name.name c.in-Some-read_own.own.flags opened here in
-    let listed = container_listed old c.args.position.holder c.args.position.last c.in_ok-name.name c.in-Some-read_own.own.flags c.len-number.result (content_of 21 ds) (keyed_in 21 ds) here
+    let closed = c.close.ensures old (nodes_inside (length old + 1) (length old) (content_of c.args.position.context.version ds) (keyed_in c.args.position.context.version ds)) c.args.position.holder c.args.position.last c.in_ok-name.name c.in-Some-read_own.own.flags opened here in
+    let listed = container_listed old c.args.position.holder c.args.position.last c.in_ok-name.name c.in-Some-read_own.own.flags c.len-number.result (content_of c.args.position.context.version ds) (keyed_in c.args.position.context.version ds) here
     c.close.new.self c.in_ok-inside.inside.width c.in_ok-inside.inside.keys c.in_ok-inside.ensures.width c.in_ok-inside.ensures.keys closed in (
-      container c.in_ok-name.name c.in-Some-read_own.own.flags (content_of 21 ds) (keyed_in 21 ds),
-      ap (content 21 c.args.position.nesting c.args.position.misnamed c.args.position.listed) is
-          ∙ container_read 21 c.args.position.nesting c.args.position.misnamed c.args.position.listed ds c.in_ok-name.name c.in-Some-read_own.own.flags
-          c.if-nesting-gt-MAX_NESTING.false whole c.if-misnamed.false c.in_ok-inside.ensures.good name flags,
+      container c.in_ok-name.name c.in-Some-read_own.own.flags (content_of c.args.position.context.version ds) (keyed_in c.args.position.context.version ds),
+      ap (content c.args.position.context.version c.args.position.context.nesting c.args.position.misnamed c.args.position.listed) is
+          ∙ container_read c.args.position.context.version c.args.position.context.nesting c.args.position.misnamed c.args.position.listed ds c.in_ok-name.name c.in-Some-read_own.own.flags
+          c.if-context-gt-MAX_NESTING.false whole c.if-misnamed.false c.in_ok-inside.ensures.good name flags,
       listed,
     )
 
 pub read_content-returns-in-Bool : goal.read_content-returns-in-Bool
 read_content-returns-in-Bool t c =
-    subst (λ d. Lists c.args.nodes.now c.list_leaf-in-Bool.new.nodes c.args.position.holder c.args.position.last c.list_leaf-in-Bool.result (content 21 c.args.position.nesting c.args.position.misnamed c.args.position.listed d))
+    subst (λ d. Lists c.args.nodes.now c.list_leaf-in-Bool.new.nodes c.args.position.holder c.args.position.last c.list_leaf-in-Bool.result (content c.args.position.context.version c.args.position.context.nesting c.args.position.misnamed c.args.position.listed d))
     (sym c.in-Bool.ensures) (c.list_leaf-in-Bool.ensures (Ok (Leaf.Bool c.in-Bool.truth)) refl)
 
 -- ---- what is in it
@@ -79,24 +79,24 @@ read_content-returns-in-Bool t c =
 pub read_inside-read_last-requires : goal.read_inside-read_last-requires
 read_inside-read_last-requires t c =
     let small = last_within (json_data c.args.first) (json_data c.in_ok-width.field-0.last) (items_left c.args.items) c.in_ok-width.ensures.last in
-    let within = last_grown 21 c.args.nodes.now c.read_elements.new.nodes _ (json_data c.args.first) (items_left c.args.items) (json_data c.in_ok-width.field-0.last) c.in_ok-width.ensures.nodes c.in_ok-width.ensures.last in
+    let within = last_grown c.args.context.version c.args.nodes.now c.read_elements.new.nodes _ (json_data c.args.first) (items_left c.args.items) (json_data c.in_ok-width.field-0.last) c.in_ok-width.ensures.nodes c.in_ok-width.ensures.last in
     (omega arith, (c.requires.nests, omega arith))
 
 pub read_inside-returns-clause-keys : goal.read_inside-returns-clause-keys
 read_inside-returns-clause-keys t c =
     let names = c.in_ok-width.ensures.names in
     let read = c.in_ok-keys.ensures names.0 names.1 in
-    let same = (first_ok _ (keyed_last 21 (json_data c.in_ok-width.field-0.last)) read.0 read.1).1 in
-    read.2 ∙ ap count_keys (sym (keyed_is 21 (json_data c.args.first) (json_data c.in_ok-width.field-0.last) (items_left c.args.items) c.in_ok-width.ensures.last ∙ same))
+    let same = (first_ok _ (keyed_last c.args.context.version (json_data c.in_ok-width.field-0.last)) read.0 read.1).1 in
+    read.2 ∙ ap count_keys (sym (keyed_is c.args.context.version (json_data c.args.first) (json_data c.in_ok-width.field-0.last) (items_left c.args.items) c.in_ok-width.ensures.last ∙ same))
 
 pub read_inside-returns-clause-nodes : goal.read_inside-returns-clause-nodes
 read_inside-returns-clause-nodes t c =
     let ds = item (json_data c.args.first) (items_left c.args.items) in
     let names = c.in_ok-width.ensures.names in
     let read = c.in_ok-keys.ensures names.0 names.1 in
-    let same = (first_ok _ (keyed_last 21 (json_data c.in_ok-width.field-0.last)) read.0 read.1).1 in
-    inside_listed c.args.nodes.now c.read_elements.new.nodes c.read_last.new.nodes c.args.number (content_of 21 ds) (keyed_in 21 ds) read.0 c.in_ok-width.ensures.nodes read.3
-    (keyed_is 21 (json_data c.args.first) (json_data c.in_ok-width.field-0.last) (items_left c.args.items) c.in_ok-width.ensures.last ∙ same)
+    let same = (first_ok _ (keyed_last c.args.context.version (json_data c.in_ok-width.field-0.last)) read.0 read.1).1 in
+    inside_listed c.args.nodes.now c.read_elements.new.nodes c.read_last.new.nodes c.args.number (content_of c.args.context.version ds) (keyed_in c.args.context.version ds) read.0 c.in_ok-width.ensures.nodes read.3
+    (keyed_is c.args.context.version (json_data c.args.first) (json_data c.in_ok-width.field-0.last) (items_left c.args.items) c.in_ok-width.ensures.last ∙ same)
 
 -- ---- the elements
 
@@ -104,10 +104,10 @@ pub read_elements-returns-in_err-read_element-clause-err : goal.read_elements-re
 read_elements-returns-in_err-read_element-clause-err t c =
     let l = c.loop-next in
     let names = l.invariant.names in
-    let same = names.2 ∙ ap (λ ds. faults_inside 21 c.args.nesting l.index names.0 (item (json_data l.here) ds)) c.in-Some.ensures.value in
+    let same = names.2 ∙ ap (λ ds. faults_inside c.args.context.version c.args.context.nesting l.index names.0 (item (json_data l.here) ds)) c.in-Some.ensures.value in
     let p = err_from_is_err_and c.from_residual.result c.from_residual.ensures.1 in
-    let fails = rw (c.is_misnamed-misnamed.ensures names.0 names.1) at c.in_err-read_element.ensures in
-    rw (p.1, p.2) (element_stops 21 c.args.nesting l.index (json_data l.here) (json_data c.in-Some.next) (items_left c.next.new.self) names.0 _ same c.in_err-read_element.field-0.0 fails)
+    let fails = rw (c.is_misnamed-misnamed.ensures names.0 names.1, c.inside-inside.ensures.version, c.inside-inside.ensures.nesting) at c.in_err-read_element.ensures in
+    rw (p.1, p.2) (element_stops c.args.context.version c.args.context.nesting l.index (json_data l.here) (json_data c.in-Some.next) (items_left c.next.new.self) names.0 _ same c.in_err-read_element.field-0.0 fails)
 
 pub read_elements-loop-next-preserved : goal.read_elements-loop-next-preserved
 read_elements-loop-next-preserved t c =
@@ -117,20 +117,20 @@ read_elements-loop-next-preserved t c =
     let next = json_data c.in-Some.next in
     let left = items_left c.next.new.self in
     let names = l.invariant.names in
-    let read = rw (c.is_misnamed-misnamed.ensures names.0 names.1) at c.in_ok-read_element.ensures in
-    let same = names.2 ∙ ap (λ ds. faults_inside 21 c.args.nesting l.index names.0 (item here ds)) e in
-    let goes = element_goes 21 c.args.nesting l.index here next left names.0 _ same read.0 read.1 in
+    let read = rw (c.is_misnamed-misnamed.ensures names.0 names.1, c.inside-inside.ensures.version, c.inside-inside.ensures.nesting) at c.in_ok-read_element.ensures in
+    let same = names.2 ∙ ap (λ ds. faults_inside c.args.context.version c.args.context.nesting l.index names.0 (item here ds)) e in
+    let goes = element_goes c.args.context.version c.args.context.nesting l.index here next left names.0 _ same read.0 read.1 in
     let now = l.nodes in
     let listed = l.invariant.listed in
     record {
-      listed = from_more now c.read_element.new.nodes _ c.args.number l.index read.0 (content_of 21 (item next left))
-          (ap (λ u. now ++ nodes_from (length now) c.args.number l.index (tree u (content_of 21 (item next left)))) (sym goes.1)
-          ∙ ap (λ ds. now ++ nodes_from (length now) c.args.number l.index (content_of 21 (item here ds))) (sym e) ∙ listed) read.2;
-      wide = omega (arith, l.invariant.wide, ap (λ ds. count (content_of 21 (item here ds))) e);
+      listed = from_more now c.read_element.new.nodes _ c.args.number l.index read.0 (content_of c.args.context.version (item next left))
+          (ap (λ u. now ++ nodes_from (length now) c.args.number l.index (tree u (content_of c.args.context.version (item next left)))) (sym goes.1)
+          ∙ ap (λ ds. now ++ nodes_from (length now) c.args.number l.index (content_of c.args.context.version (item here ds))) (sym e) ∙ listed) read.2;
+      wide = omega (arith, l.invariant.wide, ap (λ ds. count (content_of c.args.context.version (item here ds))) e);
       names = (with_name names.0 (name_of here), rw c.name_of.ensures at (c.in_ok-give.ensures names.0 names.1), goes.0);
       last = l.invariant.last ∙ ap (own_after here) e;
       within = omega (arith, l.invariant.within, ap items_size e, size_positive here);
-      room = omega (arith, l.invariant.room, ap items_size e, grown now c.read_element.new.nodes _ _ _ true here read.0 read.2 goes.1);
+      room = omega (arith, l.invariant.room, ap items_size e, grown c.args.context.version now c.read_element.new.nodes _ _ _ true here read.0 read.2 goes.1);
     }
 
 -- ---- the containers by key
@@ -139,27 +139,28 @@ pub read_last-returns-in_err-keys : goal.read_last-returns-in_err-keys
 read_last-returns-in_err-keys t c = λ taken held.
     let d = json_data c.args.last.now in
     let p = err_from_is_err_and c.from_residual.result c.from_residual.ensures.1 in
-    rw (p.1, p.2) (keyed_takes 21 c.args.nesting taken d (keyed_last 21 d))
+    rw (p.1, p.2) (keyed_takes c.args.context.version c.args.context.nesting taken d (keyed_last c.args.context.version d))
 
 pub read_last-returns : goal.read_last-returns
 read_last-returns t c = λ taken held.
-    let k = keyed_members 21 c.args.nesting taken (json_data c.args.last.now) in
+    let k = keyed_members c.args.context.version c.args.context.nesting taken (json_data c.args.last.now) in
     rw (k.0, k.1, ← c.in_ok-keys.ensures) (c.read_keyed.ensures taken held)
 
 pub read_keyed-returns-in_err-read_named : goal.read_keyed-returns-in_err-read_named
 read_keyed-returns-in_err-read_named t c = λ taken held.
-    let all = c.loop-key.invariant.faults taken held ∙ ap (λ es. faults_by 21 c.args.nesting taken (members_data es)) c.in-Some.ensures.steps in
+    let all = c.loop-key.invariant.faults taken held ∙ ap (λ es. faults_by c.args.context.version c.args.context.nesting taken (members_data es)) c.in-Some.ensures.steps in
     let p = err_from_is_err_and c.from_residual.result c.from_residual.ensures.1 in
-    rw (p.1, p.2) (key_stops 21 c.args.nesting (c.in-Some.key.now, c.in-Some.value.now) c.next.new.self c.in-Some.key.now.now c.contains-misnamed.result refl (sym c.if-not-is_own.ensures)
-    c.in_err-read_named.field-0.0 (keyed_by 21 (members_data c.args.keys.now.entries)) taken _ (c.contains-misnamed.ensures ∙ held c.in-Some.key.now.now) all c.in_err-read_named.ensures)
+    let fails = rw (c.inside-inside.ensures.version, c.inside-inside.ensures.nesting) at c.in_err-read_named.ensures in
+    rw (p.1, p.2) (key_stops c.args.context.version c.args.context.nesting (c.in-Some.key.now, c.in-Some.value.now) c.next.new.self c.in-Some.key.now.now c.contains-misnamed.result refl (sym c.if-not-is_own.ensures)
+    c.in_err-read_named.field-0.0 (keyed_by c.args.context.version (members_data c.args.keys.now.entries)) taken _ (c.contains-misnamed.ensures ∙ held c.in-Some.key.now.now) all fails)
 
 pub read_keyed-overflow_add-count : goal.read_keyed-overflow_add-count
 read_keyed-overflow_add-count t c =
     let l = c.loop-key in
     let e : Entry = (c.in-Some.key.now, c.in-Some.value.now) in
-    let step = ap (λ es. count_keys (keyed_by 21 (members_data es))) c.in-Some.ensures.steps in
-    let next = ap count_keys (next_key 21 e c.next.new.self (sym c.if-not-is_own.ensures)) in
-    omega (arith, keys_within 21 (members_data c.args.keys.now.entries), l.invariant.many, step, next)
+    let step = ap (λ es. count_keys (keyed_by c.args.context.version (members_data es))) c.in-Some.ensures.steps in
+    let next = ap count_keys (next_key c.args.context.version e c.next.new.self (sym c.if-not-is_own.ensures)) in
+    omega (arith, keys_within c.args.context.version (members_data c.args.keys.now.entries), l.invariant.many, step, next)
 
 pub read_keyed-loop-key-preserved : goal.read_keyed-loop-key-preserved
 read_keyed-loop-key-preserved t c =
@@ -169,12 +170,12 @@ read_keyed-loop-key-preserved t c =
     let steps = c.in-Some.ensures.steps in
     let own = sym c.if-not-is_own.ensures in
     let spent = ap (λ es. members_size (members_data es)) steps in
-    let same = ap (λ es. keyed_by 21 (members_data es)) steps ∙ own_key 21 e rest own in
+    let same = ap (λ es. keyed_by c.args.context.version (members_data es)) steps ∙ own_key c.args.context.version e rest own in
     record {
       left = omega (arith, l.invariant.left, spent);
       listed = ap (λ ks. l.nodes ++ nodes_by_key (length l.nodes) c.args.number ks) (sym same) ∙ l.invariant.listed;
       many = l.invariant.many ∙ ap (λ ks. l.count + count_keys ks) same;
-      faults = λ taken held. l.invariant.faults taken held ∙ ap (λ es. faults_by 21 c.args.nesting taken (members_data es)) steps ∙ own_key_faults 21 c.args.nesting taken e rest e.0.now refl own;
+      faults = λ taken held. l.invariant.faults taken held ∙ ap (λ es. faults_by c.args.context.version c.args.context.nesting taken (members_data es)) steps ∙ own_key_faults c.args.context.version c.args.context.nesting taken e rest e.0.now refl own;
       room = omega (arith, l.invariant.room, spent);
     }
 
@@ -187,29 +188,29 @@ read_keyed-loop-key-preserved-then-not-is_own t c =
     let name = e.0.now in
     let own = sym c.if-not-is_own.ensures in
     let spent = ap (λ es. members_size (members_data es)) steps in
-    let read = c.in_ok-read_named.ensures in
-    let tree = (first_ok _ (tree_of 21 false (json_data e.1)) read.0 read.1).1 in
-    let next = ap (λ es. keyed_by 21 (members_data es)) steps ∙ next_key 21 e rest own ∙ ap (λ u. key name u (keyed_by 21 (members_data rest))) tree in
+    let read = rw (c.inside-inside.ensures.version, c.inside-inside.ensures.nesting) at c.in_ok-read_named.ensures in
+    let tree = (first_ok _ (tree_of c.args.context.version false (json_data e.1)) read.0 read.1).1 in
+    let next = ap (λ es. keyed_by c.args.context.version (members_data es)) steps ∙ next_key c.args.context.version e rest own ∙ ap (λ u. key name u (keyed_by c.args.context.version (members_data rest))) tree in
     let now = l.nodes in
     let listed = l.invariant.listed in
     record {
       left = omega (arith, l.invariant.left, spent);
-      listed = by_key_more now c.read_named.new.nodes _ c.args.number name read.0 (keyed_by 21 (members_data rest))
+      listed = by_key_more now c.read_named.new.nodes _ c.args.number name read.0 (keyed_by c.args.context.version (members_data rest))
           (ap (λ ks. now ++ nodes_by_key (length now) c.args.number ks) (sym next) ∙ listed) read.2;
       many = omega (arith, l.invariant.many, ap count_keys next);
-      faults = λ taken held. key_goes 21 c.args.nesting e rest name c.contains-misnamed.result refl own read.0 read.1
-          taken _ (c.contains-misnamed.ensures ∙ held name) (l.invariant.faults taken held ∙ ap (λ es. faults_by 21 c.args.nesting taken (members_data es)) steps);
-      room = omega (arith, l.invariant.room, spent, grown now c.read_named.new.nodes _ _ _ false (json_data e.1) read.0 read.2 tree);
+      faults = λ taken held. key_goes c.args.context.version c.args.context.nesting e rest name c.contains-misnamed.result refl own read.0 read.1
+          taken _ (c.contains-misnamed.ensures ∙ held name) (l.invariant.faults taken held ∙ ap (λ es. faults_by c.args.context.version c.args.context.nesting taken (members_data es)) steps);
+      room = omega (arith, l.invariant.room, spent, grown c.args.context.version now c.read_named.new.nodes _ _ _ false (json_data e.1) read.0 read.2 tree);
     }
 
 pub read_keyed-returns : goal.read_keyed-returns
 read_keyed-returns t c = λ taken held.
     let l = c.loop-key in
-    let all = keyed_by 21 (members_data c.args.keys.now.entries) in
+    let all = keyed_by c.args.context.version (members_data c.args.keys.now.entries) in
     let none = c.in-None.ensures.steps.0 in
-    let good = l.invariant.faults taken held ∙ ap (λ es. faults_by 21 c.args.nesting taken (members_data es)) none in (
+    let good = l.invariant.faults taken held ∙ ap (λ es. faults_by c.args.context.version c.args.context.nesting taken (members_data es)) none in (
       all,
       ap (λ fs. first fs all) good,
-      omega (arith, l.invariant.many, ap (λ es. count_keys (keyed_by 21 (members_data es))) none),
-      sym (append-nil l.nodes) ∙ ap (λ es. l.nodes ++ nodes_by_key (length l.nodes) c.args.number (keyed_by 21 (members_data es))) (sym none) ∙ l.invariant.listed,
+      omega (arith, l.invariant.many, ap (λ es. count_keys (keyed_by c.args.context.version (members_data es))) none),
+      sym (append-nil l.nodes) ∙ ap (λ es. l.nodes ++ nodes_by_key (length l.nodes) c.args.number (keyed_by c.args.context.version (members_data es))) (sym none) ∙ l.invariant.listed,
     )

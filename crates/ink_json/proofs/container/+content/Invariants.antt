@@ -12,11 +12,11 @@ use Rattle.ink_json.proofs.container.+content.Given as goal
 -- what is listed and what is left are the whole, and nothing is wrong up to here
 abbrev pub invariant-read_elements-loop-next : goal.invariant-read_elements-loop-next
 invariant-read_elements-loop-next l = record {
-  listed : l.nodes ++ nodes_from (length l.nodes) l.number l.index (content_of 21 (item (json_data l.here) (items_left l.left)))
-      ≡ l.initial.nodes ++ nodes_from (length l.initial.nodes) l.number 0 (content_of 21 (item (json_data l.fn.first) (items_left l.fn.items)));
-  wide : count (content_of 21 (item (json_data l.fn.first) (items_left l.fn.items))) ≡ l.index + count (content_of 21 (item (json_data l.here) (items_left l.left)));
+  listed : l.nodes ++ nodes_from (length l.nodes) l.number l.index (content_of l.fn.context.version (item (json_data l.here) (items_left l.left)))
+      ≡ l.initial.nodes ++ nodes_from (length l.initial.nodes) l.number 0 (content_of l.fn.context.version (item (json_data l.fn.first) (items_left l.fn.items)));
+  wide : count (content_of l.fn.context.version (item (json_data l.fn.first) (items_left l.fn.items))) ≡ l.index + count (content_of l.fn.context.version (item (json_data l.here) (items_left l.left)));
   names : (taken : List (List ℕ)) × Holds l.names taken
-      × (faults_inside 21 l.nesting 0 [] (item (json_data l.fn.first) (items_left l.fn.items)) ≡ faults_inside 21 l.nesting l.index taken (item (json_data l.here) (items_left l.left)));
+      × (faults_inside l.fn.context.version l.fn.context.nesting 0 [] (item (json_data l.fn.first) (items_left l.fn.items)) ≡ faults_inside l.fn.context.version l.fn.context.nesting l.index taken (item (json_data l.here) (items_left l.left)));
   last : own_after (json_data l.fn.first) (items_left l.fn.items) ≡ own_after (json_data l.here) (items_left l.left);
   within : l.index + items_size (item (json_data l.here) (items_left l.left)) ≤ items_size (item (json_data l.fn.first) (items_left l.fn.items));
   room : length l.nodes + items_size (item (json_data l.here) (items_left l.left)) ≤ length l.initial.nodes + items_size (item (json_data l.fn.first) (items_left l.fn.items));
@@ -28,10 +28,10 @@ decreases-read_elements-loop-next l = length l.left.rest
 abbrev pub invariant-read_keyed-loop-key : goal.invariant-read_keyed-loop-key
 invariant-read_keyed-loop-key l = record {
   left : members_size (members_data l.key-iterator) ≤ members_size (members_data l.keys.entries);
-  listed : l.nodes ++ nodes_by_key (length l.nodes) l.number (keyed_by 21 (members_data l.key-iterator))
-      ≡ l.initial.nodes ++ nodes_by_key (length l.initial.nodes) l.number (keyed_by 21 (members_data l.keys.entries));
-  many : count_keys (keyed_by 21 (members_data l.keys.entries)) ≡ l.count + count_keys (keyed_by 21 (members_data l.key-iterator));
-  faults : (taken : List (List ℕ)) → Holds l.names taken → faults_by 21 l.nesting taken (members_data l.keys.entries) ≡ faults_by 21 l.nesting taken (members_data l.key-iterator);
+  listed : l.nodes ++ nodes_by_key (length l.nodes) l.number (keyed_by l.fn.context.version (members_data l.key-iterator))
+      ≡ l.initial.nodes ++ nodes_by_key (length l.initial.nodes) l.number (keyed_by l.fn.context.version (members_data l.keys.entries));
+  many : count_keys (keyed_by l.fn.context.version (members_data l.keys.entries)) ≡ l.count + count_keys (keyed_by l.fn.context.version (members_data l.key-iterator));
+  faults : (taken : List (List ℕ)) → Holds l.names taken → faults_by l.fn.context.version l.fn.context.nesting taken (members_data l.keys.entries) ≡ faults_by l.fn.context.version l.fn.context.nesting taken (members_data l.key-iterator);
   room : length l.nodes + members_size (members_data l.key-iterator) ≤ length l.initial.nodes + members_size (members_data l.keys.entries);
 }
 

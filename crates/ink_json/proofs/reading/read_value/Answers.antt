@@ -4,4 +4,4 @@ use Rattle.ink_json.proofs.Bytes.{get_size}
 use Rattle.ink_json.proofs.reading.read_value.Goals as goal
 
 pub read_root-requires : goal.read_root-requires
-read_root-requires c = let small = get_size (codes "root") (json_data c.args.value.now) (json_data c.in-Some.root) c.in-Some.ensures in omega arith
+read_root-requires c = let small = get_size (codes "root") (json_data c.args.value.now) (json_data c.in-Some-get.root) c.in-Some-get.ensures in omega arith
