@@ -1,6 +1,6 @@
 #!/usr/bin/env python3
 """What only the program shows: its words, files, exit statuses and standard error. Sessions are cases of
-crates/inktest/data.
+crates/playtest/data.
 
     tests/cases.py [PROGRAM]      the program is ./inkplay unless another is named
 

@@ -1,17 +1,17 @@
 #!/usr/bin/env python3
 """Refuses each request for memory in turn, and looks at what is answered: by the program that plays stories, and by the
-libraries' public calls, which inktest makes.
+libraries' public calls, which inktest and playtest make.
 
     tests/refuse_memory.py [--seconds N] [--program PROGRAM] [TABLE..]
-        for inktest some 480 seconds; the program is ./inkplay's, the tables are those of crates/inktest/data but for the twins,
-        which say nothing of memory, unless others are named
+        for the tables some 480 seconds; the program is ./inkplay's, the tables are those of crates/inktest/data, but for the
+        twins, which say nothing of memory, and of crates/playtest/data, unless others are named
 
 A small library, built here with cc and loaded in front of the C library, refuses the n-th request. For each story below n
 goes from 1 on until no request is left to refuse. Each run has to end as docs/PROTOCOL.md says: the named error for want of
 memory, or the same answers as with ample memory up to the command that found none, the fault OutOfMemory there, and what a
 broken player answers to the lines after it.
 
-Then inktest runs each table, and with each request that is refused a case holds, or it found no memory. Where want of memory
+Then each table is run by its program, and with each request that is refused a case holds, or it found no memory. Where want of memory
 is an answer (`short CALL`), that case may have another one, and so may those behind it of the same player. Where a table makes
 more requests than the time allows, every k-th is refused. Printed is how many of how many; the status is 0 only where all
 holds.
@@ -287,7 +287,7 @@ def wrong_stories(program, shim):
     return runs, wrong
 
 
-# ---- inktest
+# ---- tables
 
 HELD = re.compile(r"\d+ cases, \d+ failed(, \d+ out of memory)?")
 
@@ -356,16 +356,16 @@ def main():
     parser.add_argument("tables", nargs="*")
     words = parser.parse_args()
     subprocess.run([os.path.join(toolchain.TOP, "inkplay")], input=(HELLO + "\n").encode(), check=True)  # built
-    worker = toolchain.program("inktest", ["data/operators.txt"])
-    data = os.path.join(toolchain.TOP, "crates/inktest/data")
-    tables = words.tables or [os.path.join(data, name) for name in sorted(os.listdir(data)) if not name.startswith("twins")]
+    workers = toolchain.table_programs()
+    folders = [os.path.join(toolchain.TOP, "crates", name, "data") for name in workers]
+    tables = words.tables or [os.path.join(data, name) for data in folders for name in sorted(os.listdir(data)) if not name.startswith("twins")]
     jobs = os.cpu_count() or 1
     with tempfile.TemporaryDirectory() as folder:
         shim = shim_in(folder)
         runs, wrong = wrong_stories(words.program, shim)
         print("stories: %d requests refused, %d wrong" % (runs, wrong), flush=True)
         for table in tables:
-            more, failed = wrong_requests(worker, table, shim, words.seconds / len(tables), jobs)
+            more, failed = wrong_requests(workers[toolchain.program_of(table)], table, shim, words.seconds / len(tables), jobs)
             runs, wrong = runs + more, wrong + failed
     print("%d runs, %d wrong" % (runs, wrong))
     return 1 if wrong or not runs else 0

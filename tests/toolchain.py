@@ -27,3 +27,18 @@ def program(crate, words=()):
     if not os.path.exists(built):
         sys.exit("%s: %s is not built\n%s" % (os.path.basename(sys.argv[0]), crate, done.stderr.decode()[-2000:]))
     return built
+
+
+# Which program runs the tables whose names begin so (docs/TABLES.md).
+OF_TABLES = {"boxes": "playtest", "players": "playtest", "sessions": "playtest"}
+
+
+def program_of(table):
+    """The program that runs a table."""
+    name = os.path.basename(table)
+    return next((of for beginning, of in OF_TABLES.items() if name.startswith(beginning)), "inktest")
+
+
+def table_programs():
+    """The path of each program that runs tables, by its name, built."""
+    return {"inktest": program("inktest", ["data/operators.txt"]), "playtest": program("playtest", ["data/boxes.txt"])}

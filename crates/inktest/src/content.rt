@@ -1,7 +1,7 @@
 //! Content as tables have it.
 
-use crate::answer::{Answer, text};
 use ink_model::{Container, Content, Destination, Leaf, Shared, Text};
+use inkcases::{Answer, text};
 use std::alloc::{AllocError, Global};
 
 /// Content as a table has it: a leaf by its form, a container by its name, its flags, how many contents stand in its list, how

@@ -1,66 +1,32 @@
-//! Runs tables of cases through the libraries' public calls. Without words it reads its own tables, with words the files
-//! that they name. The beginning of a file's name tells what kind of cases it has (docs/TABLES.md).
+//! Runs tables of cases through the public calls of the libraries below the player. Without words it reads its own tables, with
+//! words the files that they name. The beginning of a file's name tells what kind of cases it has (docs/TABLES.md).
 //!
 //! It prints each case that fails, and last `N cases, M failed`, with the number of cases that found no memory where there
 //! are any. The status is 0 where none failed.
 #![tactic(auto)]
 
-mod answer;
-mod boxes;
 mod content;
-mod expansion;
-mod lines;
-mod objects;
 mod operators;
 mod output;
 mod paths;
-mod players;
 mod reading;
-mod sessions;
 mod spelling;
 mod stories;
-mod streams;
-mod table;
-mod tally;
 mod twin;
 mod twins;
-mod words;
 
+use inkcases::{Answer, Answers, Table, Tables, Tally, run_lines, run_stories, run_tables};
 use std::alloc::Global;
-use std::fs::Files;
 use std::process::ExitCode;
-use std::rt::Env;
-use std::{env, io};
-use table::run_table;
-use tally::Tally;
 
 /// The tables that are read where none are named.
-const TABLES: [&str; 30] = [
-    "boxes.txt",
+const TABLES: [&str; 11] = [
     "operators.txt",
     "operators_large.txt",
     "output.txt",
     "output_large.txt",
     "paths.txt",
-    "players.txt",
-    "players_large.txt",
-    "players_objects.txt",
-    "players_objects_large.txt",
-    "players_short.txt",
     "reading.txt",
-    "sessions.txt",
-    "sessions_calls.txt",
-    "sessions_calls_large.txt",
-    "sessions_choices.txt",
-    "sessions_choices_large.txt",
-    "sessions_counts.txt",
-    "sessions_counts_large.txt",
-    "sessions_cut.txt",
-    "sessions_games.txt",
-    "sessions_large.txt",
-    "sessions_limits.txt",
-    "sessions_refused.txt",
-    "sessions_variables.txt",
     "stories.txt",
     "stories_large.txt",
     "twins.txt",
@@ -68,38 +34,58 @@ const TABLES: [&str; 30] = [
     "twins_random.txt",
 ];
 
-fn main(rt: HostRuntime) -> ExitCode {
-    let mut tally = Tally::new();
-    match arguments(&rt) {
-        Ok(arguments) => run_tables(&rt, rt.alloc(), &arguments, &mut tally),
-        Err(_) => tally.refuse(),
-    }
-    let _ = tally.print(&rt);
-    if tally.failed == 0 {
-        ExitCode::SUCCESS
-    } else {
-        ExitCode::FAILURE
-    }
+/// What kind of cases a table has.
+#[derive(Clone, Copy, Drop)]
+enum Kind {
+    Operators,
+    Output,
+    Paths,
+    Reading,
+    Stories,
+    Twins,
 }
 
-/// The words that the program was started with, its own name first.
-fn arguments<R: Env + Alloc>(rt: &R) -> io::Result<Vec<String<R::A>, R::A>> {
-    let arguments = env::args(rt)?.collect(rt.alloc())?;
-    Ok(arguments)
-}
+/// How the names of files begin, and the kinds that this tells.
+const KINDS: [(&str, Kind); 6] = [
+    ("operators", Kind::Operators),
+    ("output", Kind::Output),
+    ("paths", Kind::Paths),
+    ("reading", Kind::Reading),
+    ("stories", Kind::Stories),
+    ("twins", Kind::Twins),
+];
 
-fn run_tables(
-    rt: &(impl Files + Print),
-    alloc: Global,
-    arguments: &Vec<String>,
-    tally: &mut Tally,
-) {
-    if arguments.len() < 2 {
-        for file in TABLES {
-            run_table(rt, alloc, file, tally);
+impl Tables for Kind {
+    fn of_name(name: &str) -> Option<Kind> {
+        for (beginning, kind) in KINDS {
+            if name.starts_with(beginning) {
+                return Some(kind);
+            }
+        }
+        None
+    }
+
+    fn run(&self, rt: &impl Print, alloc: Global, table: Table<'_>, tally: &mut Tally) {
+        match self {
+            Kind::Stories => run_stories(rt, alloc, self, table, tally),
+            _ => run_lines(rt, alloc, self, table, tally),
         }
     }
-    for file in arguments.iter().skip(1) {
-        run_table(rt, alloc, file.as_str(), tally);
+}
+
+impl Answers for Kind {
+    fn answer(&self, alloc: Global, story: &str, question: &str) -> Answer {
+        match self {
+            Kind::Operators => operators::answer(alloc, question),
+            Kind::Output => output::answer(alloc, question),
+            Kind::Paths => paths::answer(alloc, question),
+            Kind::Reading => reading::answer(alloc, question),
+            Kind::Stories => stories::answer(alloc, story, question),
+            Kind::Twins => twins::answer(alloc, question),
+        }
     }
+}
+
+fn main(rt: HostRuntime) -> ExitCode {
+    run_tables::<Kind>(&rt, rt.alloc(), &TABLES)
 }

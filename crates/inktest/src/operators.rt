@@ -1,9 +1,10 @@
 //! Values: operators on them, their truth, their printed text, copies of them, and the evaluation stack.
 
-use crate::answer::{Answer, NoAnswer, append, counted, first_word, text, told};
-use crate::words::{number, shown_value, value_of};
 use ink_model::{Op, Shared, Value};
 use ink_value::{EvalStack, apply, is_true, printed};
+use inkcases::{
+    Answer, NoAnswer, append, counted, first_word, number, shown_value, text, told, value_of,
+};
 use std::alloc::Global;
 
 /// The answer to an operator and its operands, `truth VALUE`, `printed VALUE`, `copied VALUE`, or `stack CALL..`.

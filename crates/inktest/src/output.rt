@@ -1,9 +1,8 @@
 //! Calls of the output, and what they leave.
 
-use crate::answer::{Answer, NoAnswer, counted, text, told};
-use crate::words::{encode, encoded, number, text_of, value_of};
 use ink_model::{Fault, Value};
 use ink_out::Output;
+use inkcases::{Answer, NoAnswer, counted, encode, encoded, number, text, text_of, told, value_of};
 use std::alloc::{AllocError, Global};
 
 /// Makes the calls of a row. The answer is what they leave: `.TEXT .TAGS`, whether the line ends, how many strings and tags

@@ -1,9 +1,8 @@
 //! Paths, as they are read and written, and places.
 
-use crate::answer::{Answer, NoAnswer, first_word};
-use crate::words::{decoded, encode, part_of, parts_of, shown_parts};
 use ink_model::{Part, Path, Place};
 use ink_tree::{print_path, read_path};
+use inkcases::{Answer, NoAnswer, decoded, encode, first_word, part_of, parts_of, shown_parts};
 use std::alloc::{AllocError, Global};
 
 /// What is written of a path that is read from `"TEXT"`, and whether each part is an index or a name; or the place that

@@ -1,8 +1,6 @@
 //! Reading: the forms of content, and stories that are refused, and some at the limits that are not.
 
-use crate::answer::{Answer, NoAnswer, append, first_word, text};
 use crate::content::shown_content;
-use crate::words::{number, show_parts};
 use ink_check::check;
 use ink_json::read_story;
 use ink_model::choice_flags::{
@@ -10,6 +8,7 @@ use ink_model::choice_flags::{
 };
 use ink_model::flags::{counts_at_start, counts_visits, notes_turns};
 use ink_model::{Cause, Part, ReadRefusal};
+use inkcases::{Answer, NoAnswer, append, first_word, number, refused, text};
 use std::alloc::{AllocError, Global};
 
 /// `form CONTENT` is answered by what the content is read as, alone in the root's list. The others are answered by `read`, or
@@ -94,24 +93,4 @@ fn accepted(alloc: Global, root: &str) -> Answer {
         Ok(_) => text(alloc, "accepted"),
         Err(refusal) => refused(alloc, &refusal),
     }
-}
-
-/// A refusal: its cause, and its place where that is not the root.
-pub(crate) fn refused(alloc: Global, refusal: &ReadRefusal) -> Answer {
-    if refusal.cause == Cause::OutOfMemory {
-        return Err(NoAnswer::OutOfMemory);
-    }
-    let mut said = String::new(alloc);
-    show_refusal(&mut said, refusal)?;
-    Ok(said)
-}
-
-fn show_refusal(said: &mut String, refusal: &ReadRefusal) -> Result<(), AllocError> {
-    write!(said, "{}", refusal.cause)?;
-    let parts = refusal.place.parts();
-    if !parts.is_empty() {
-        said.push(' ')?;
-        show_parts(said, parts)?;
-    }
-    Ok(())
 }

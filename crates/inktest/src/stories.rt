@@ -1,12 +1,13 @@
 //! A story's content and places by calls of its tree, and where its paths lead.
 
-use crate::answer::{Answer, NoAnswer, append, counted, first_word, text};
 use crate::content::{shown_content, shown_leaf};
-use crate::expansion::expanded;
-use crate::words::{number, parts_of, show_parts, shown_parts};
 use ink_check::{Story, check};
 use ink_json::{RawStory, read_story};
 use ink_tree::{NodeId, Spot, Tree, print_path, read_path};
+use inkcases::{
+    Answer, NoAnswer, append, counted, expanded, first_word, number, parts_of, show_parts,
+    shown_parts, text,
+};
 use std::alloc::{AllocError, Global};
 
 /// The most containers that are told one by one.

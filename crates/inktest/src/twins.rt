@@ -2,16 +2,14 @@
 //! for `entered` from each of these, or from some where they are many, to each. A line is a story. Its answer is how much was
 //! compared, and `alike`, or else the first call that differs, with what it was asked about, what it gave and what its twin gave.
 
-use crate::answer::{Answer, NoAnswer, append, counted, text};
 use crate::content::{shown_content, shown_leaf};
-use crate::reading::refused;
 use crate::spelling::spelled;
 use crate::twin::{self, Plain};
-use crate::words::{show_parts, shown_parts};
 use ink_check::{Story, check};
 use ink_json::{RawStory, read_story};
 use ink_model::{Part, Path, Place, ReadRefusal, Shared};
 use ink_tree::{NodeId, Spot, Tree, read_path};
+use inkcases::{Answer, NoAnswer, append, counted, refused, show_parts, shown_parts, text};
 use std::alloc::{AllocError, AllocFailed, Global};
 
 /// The most pairs of two places, or of a path and a place, that are compared for one story.

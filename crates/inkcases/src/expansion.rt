@@ -4,14 +4,14 @@
 use std::alloc::{AllocError, Global};
 
 /// A text with each form of it in full.
-pub(crate) fn expanded(alloc: Global, text: &str) -> Result<Vec<u8>, AllocError> {
+pub fn expanded(alloc: Global, text: &str) -> Result<Vec<u8>, AllocError> {
     let mut bytes = Vec::new(alloc);
     expand(alloc, &mut bytes, text)?;
     Ok(bytes)
 }
 
 /// Writes a text behind what is there, each form of it in full.
-pub(crate) fn expand(alloc: Global, into: &mut Vec<u8>, text: &str) -> Result<(), AllocError> {
+pub fn expand(alloc: Global, into: &mut Vec<u8>, text: &str) -> Result<(), AllocError> {
     let mut pieces = text.split('⟦');
     if let Some(first) = pieces.next() {
         into.extend_from_slice(first.as_bytes())?;

@@ -13,16 +13,11 @@
 ghost use Rattle.std.specs.Prelude.{◌≡◌};
 ghost use Rattle.ink_host.specs.Desk.{empty_desk};
 
-use crate::answer::{Answer, NoAnswer, told};
-use crate::expansion::expand;
-use crate::lines::is_comment;
-use crate::reading::refused;
 use crate::streams::{Page, Pieces};
-use crate::table::Table;
-use crate::tally::{Tally, Verdict};
 use ink_host::{Desk, Nobody};
 use ink_model::Fault;
 use ink_player::{PlayEnd, PlayFault, RunFault, open_story, play, run};
+use inkcases::{Answer, NoAnswer, Table, Tally, Verdict, expand, is_comment, refused, told};
 use std::alloc::{AllocError, Global};
 
 /// The longest input that is also played by `open_story` and `run`, and by few bytes at a time.

@@ -1,5 +1,5 @@
 use Rattle.ink_player.specs.Words.{Idle, desk_of}
-use Rattle.inktest.proofs.boxes.play.Given as goal
+use Rattle.playtest.proofs.boxes.play.Given as goal
 
 abbrev pub invariant-loop-word : goal.invariant-loop-word
 invariant-loop-word g l = (goal.iterator-loop-word g).can_next l.word-iterator

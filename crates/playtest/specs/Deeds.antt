@@ -1,9 +1,9 @@
 -- What the functions of the tables answer, and when their watchers are at rest.
 use Rattle.std.specs.Prelude.{Bool, Option, Some, None}
 use Rattle.ink_model.specs.declared.host.Given.{Given}
-use Rattle.inktest.specs.declared.objects.Deed.{Deed}
-use Rattle.inktest.specs.declared.objects.Deed.TheVariants as deed
-use Rattle.inktest.specs.declared.objects.Witness.{Witness}
+use Rattle.playtest.specs.declared.objects.Deed.{Deed}
+use Rattle.playtest.specs.declared.objects.Deed.TheVariants as deed
+use Rattle.playtest.specs.declared.objects.Witness.{Witness}
 
 -- what a deed gives, if it gives anything
 abbrev pub given_by : Deed → Option Given

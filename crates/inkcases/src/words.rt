@@ -3,13 +3,13 @@
 //! `root`.
 
 use crate::answer::{Answer, NoAnswer};
-use ink_model::{Given, Part, Shared, Text, Value};
+use ink_model::{Cause, Given, Part, ReadRefusal, Shared, Text, Value};
 use ink_tree::{print_path, read_path};
 use std::alloc::{AllocError, Global};
 use std::str::FromStr;
 
 /// A text of a table.
-pub(crate) fn decoded(alloc: Global, word: &str) -> Result<String, AllocError> {
+pub fn decoded(alloc: Global, word: &str) -> Result<String, AllocError> {
     let mut text = String::new(alloc);
     for character in word.chars() {
         text.push(match character {
@@ -23,14 +23,14 @@ pub(crate) fn decoded(alloc: Global, word: &str) -> Result<String, AllocError> {
 }
 
 /// A text as a table has it.
-pub(crate) fn encoded(alloc: Global, text: &str) -> Result<String, AllocError> {
+pub fn encoded(alloc: Global, text: &str) -> Result<String, AllocError> {
     let mut word = String::new(alloc);
     encode(&mut word, text)?;
     Ok(word)
 }
 
 /// Writes a text behind a word as a table has it.
-pub(crate) fn encode(word: &mut String, text: &str) -> Result<(), AllocError> {
+pub fn encode(word: &mut String, text: &str) -> Result<(), AllocError> {
     for character in text.chars() {
         word.push(match character {
             ' ' => '_',
@@ -43,7 +43,7 @@ pub(crate) fn encode(word: &mut String, text: &str) -> Result<(), AllocError> {
 }
 
 /// A value of a table.
-pub(crate) fn value_of(alloc: Global, word: &str) -> Result<Value, NoAnswer> {
+pub fn value_of(alloc: Global, word: &str) -> Result<Value, NoAnswer> {
     if let Some(text) = word.strip_prefix('^') {
         return Ok(Value::Text(text_of(alloc, text)?));
     }
@@ -60,7 +60,7 @@ pub(crate) fn value_of(alloc: Global, word: &str) -> Result<Value, NoAnswer> {
 }
 
 /// The text that a word spells.
-pub(crate) fn text_of(alloc: Global, word: &str) -> Result<Shared<Text>, AllocError> {
+pub fn text_of(alloc: Global, word: &str) -> Result<Shared<Text>, AllocError> {
     Ok(Shared::new(alloc, Text::from_string(decoded(alloc, word)?))?)
 }
 
@@ -81,7 +81,7 @@ fn plain_value(word: &str) -> Result<Value, NoAnswer> {
 }
 
 /// A number of a table.
-pub(crate) fn number<N: FromStr>(digits: &str) -> Result<N, NoAnswer>
+pub fn number<N: FromStr>(digits: &str) -> Result<N, NoAnswer>
 where
     N::Err: Drop,
 {
@@ -92,18 +92,14 @@ where
 }
 
 /// A value as a table has it.
-pub(crate) fn shown_value(alloc: Global, value: &Value) -> Answer {
+pub fn shown_value(alloc: Global, value: &Value) -> Answer {
     let mut word = String::new(alloc);
     show_value(alloc, &mut word, value)?;
     Ok(word)
 }
 
 /// Writes a value behind a text.
-pub(crate) fn show_value(
-    alloc: Global,
-    word: &mut String,
-    value: &Value,
-) -> Result<(), AllocError> {
+pub fn show_value(alloc: Global, word: &mut String, value: &Value) -> Result<(), AllocError> {
     match value {
         Value::Int(number) => write!(word, "{number}"),
         Value::Bool(truth) => write!(word, "{truth}"),
@@ -116,7 +112,7 @@ pub(crate) fn show_value(
 }
 
 /// What a host gives.
-pub(crate) fn given_of(value: Value) -> Result<Given, NoAnswer> {
+pub fn given_of(value: Value) -> Result<Given, NoAnswer> {
     match value {
         Value::Int(number) => Ok(Given::Int(number)),
         Value::Bool(truth) => Ok(Given::Bool(truth)),
@@ -127,7 +123,7 @@ pub(crate) fn given_of(value: Value) -> Result<Given, NoAnswer> {
 }
 
 /// Writes what a host gave behind a text.
-pub(crate) fn show_given(word: &mut String, given: &Given) -> Result<(), AllocError> {
+pub fn show_given(word: &mut String, given: &Given) -> Result<(), AllocError> {
     match given {
         Given::Int(number) => write!(word, "{number}"),
         Given::Bool(truth) => write!(word, "{truth}"),
@@ -142,7 +138,7 @@ fn show_text(word: &mut String, mark: char, text: &Text) -> Result<(), AllocErro
 }
 
 /// The parts of a place of a table.
-pub(crate) fn parts_of(alloc: Global, place: &str) -> Result<Vec<Part>, AllocError> {
+pub fn parts_of(alloc: Global, place: &str) -> Result<Vec<Part>, AllocError> {
     let mut parts = Vec::new(alloc);
     if place != "root" {
         for part in place.split('.') {
@@ -153,7 +149,7 @@ pub(crate) fn parts_of(alloc: Global, place: &str) -> Result<Vec<Part>, AllocErr
 }
 
 /// A part of a place of a table.
-pub(crate) fn part_of(alloc: Global, part: &str) -> Result<Part, AllocError> {
+pub fn part_of(alloc: Global, part: &str) -> Result<Part, AllocError> {
     match part.parse::<u32>() {
         Ok(index) => Ok(Part::Index(index)),
         Err(_) => Ok(Part::Name(Text::from_str(alloc, part)?)),
@@ -161,14 +157,14 @@ pub(crate) fn part_of(alloc: Global, part: &str) -> Result<Part, AllocError> {
 }
 
 /// A place as a table has it.
-pub(crate) fn shown_parts(alloc: Global, parts: &[Part]) -> Answer {
+pub fn shown_parts(alloc: Global, parts: &[Part]) -> Answer {
     let mut text = String::new(alloc);
     show_parts(&mut text, parts)?;
     Ok(text)
 }
 
 /// Writes a place behind a text.
-pub(crate) fn show_parts(text: &mut String, parts: &[Part]) -> Result<(), AllocError> {
+pub fn show_parts(text: &mut String, parts: &[Part]) -> Result<(), AllocError> {
     if parts.is_empty() {
         return text.push_str("root");
     }
@@ -186,4 +182,24 @@ fn show_part(text: &mut String, part: &Part) -> Result<(), AllocError> {
         Part::Index(index) => write!(text, "{index}"),
         Part::Name(name) => text.push_str(name.as_str()),
     }
+}
+
+/// A refusal: its cause, and its place where that is not the root.
+pub fn refused(alloc: Global, refusal: &ReadRefusal) -> Answer {
+    if refusal.cause == Cause::OutOfMemory {
+        return Err(NoAnswer::OutOfMemory);
+    }
+    let mut said = String::new(alloc);
+    show_refusal(&mut said, refusal)?;
+    Ok(said)
+}
+
+fn show_refusal(said: &mut String, refusal: &ReadRefusal) -> Result<(), AllocError> {
+    write!(said, "{}", refusal.cause)?;
+    let parts = refusal.place.parts();
+    if !parts.is_empty() {
+        said.push(' ')?;
+        show_parts(said, parts)?;
+    }
+    Ok(())
 }

@@ -8,14 +8,14 @@ const MOST_PRINTED: usize = 400;
 
 /// What came of one case. `Differs` has what came.
 #[derive(Drop)]
-pub(crate) enum Verdict {
+pub enum Verdict {
     Holds,
     Differs(String),
 }
 
 /// How many cases there were, and of them those that failed and those that found no memory.
 #[derive(Drop)]
-pub(crate) struct Tally {
+pub struct Tally {
     pub cases: u64,
     pub failed: u64,
     pub refused: u64,
@@ -23,7 +23,7 @@ pub(crate) struct Tally {
 
 impl Tally {
     /// Before the first case.
-    pub(crate) fn new() -> Tally {
+    pub fn new() -> Tally {
         Tally {
             cases: 0,
             failed: 0,
@@ -32,7 +32,7 @@ impl Tally {
     }
 
     /// Counts a case of a file, and prints it where it fails.
-    pub(crate) fn count(
+    pub fn count(
         &mut self,
         rt: &impl Print,
         file: &str,
@@ -51,19 +51,19 @@ impl Tally {
     }
 
     /// Counts a case that fails.
-    pub(crate) fn fail(&mut self) {
+    pub fn fail(&mut self) {
         self.cases = self.cases.saturating_add(1);
         self.failed = self.failed.saturating_add(1);
     }
 
     /// Counts a case that found no memory.
-    pub(crate) fn refuse(&mut self) {
+    pub fn refuse(&mut self) {
         self.cases = self.cases.saturating_add(1);
         self.refused = self.refused.saturating_add(1);
     }
 
     /// Prints the counts.
-    pub(crate) fn print(&self, rt: &impl Print) -> io::Result<()> {
+    pub fn print(&self, rt: &impl Print) -> io::Result<()> {
         print!(rt; "{} cases, {} failed", self.cases, self.failed)?;
         if self.refused > 0 {
             print!(rt; ", {} out of memory", self.refused)?;

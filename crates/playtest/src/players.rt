@@ -15,20 +15,18 @@
 
 ghost use Rattle.std.specs.Prelude.{◌≡◌, IfOk};
 ghost use Rattle.ink_player.specs.Words.{Idle, desk_of};
-ghost use Rattle.inktest.specs.Deeds.{rests};
+ghost use Rattle.playtest.specs.Deeds.{rests};
 
-use crate::answer::{Answer, NoAnswer, compared, first_word, text};
-use crate::expansion::expanded;
-use crate::lines::{first_line, is_comment, question_and_answer};
 use crate::objects::{Constant, Deed, Script, Witness};
-use crate::table::Table;
-use crate::tally::{Tally, Verdict};
-use crate::words::{encode, given_of, show_given, show_value, shown_value, value_of};
 use ink_check::{Story, check};
 use ink_host::{Called, Seen};
 use ink_json::read_story;
 use ink_model::{Event, Fault, Given, Halt, Passage, Refusal, Seq, Shared, Text, Value};
 use ink_player::{Bound, Desk, OpenFault, PlayEnd, PlayFault, Player, open_story};
+use inkcases::{
+    Answer, NoAnswer, Table, Tally, Verdict, compared, encode, expanded, first_line, first_word,
+    given_of, is_comment, question_and_answer, show_given, show_value, shown_value, text, value_of,
+};
 use std::alloc::{AllocError, Global};
 
 /// A player with the objects of tables.

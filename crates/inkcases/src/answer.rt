@@ -5,12 +5,12 @@ use ink_model::{Cause, Fault, Halt, ReadRefusal, Refusal};
 use std::alloc::{AllocError, AllocFailed, Global};
 
 /// The answer to a question, as a table has it.
-pub(crate) type Answer = Result<String, NoAnswer>;
+pub type Answer = Result<String, NoAnswer>;
 
 /// Why a question has no plain answer: a refused request for memory, a fault, a refused story or path, a refused call of a
 /// player, or words that are no question.
 #[derive(Clone, Copy)]
-pub(crate) enum NoAnswer {
+pub enum NoAnswer {
     OutOfMemory,
     Fault(Fault),
     Unread(Cause),
@@ -68,7 +68,7 @@ impl From<Halt> for NoAnswer {
 
 /// What a table has for an answer: a fault, a refusal or a cause by its name. The one error is a refused request for memory,
 /// while the answer was sought or written.
-pub(crate) fn told(alloc: Global, answer: Answer) -> Result<String, AllocError> {
+pub fn told(alloc: Global, answer: Answer) -> Result<String, AllocError> {
     match answer {
         Ok(text) => Ok(text),
         Err(NoAnswer::OutOfMemory) => Err(AllocError),
@@ -81,7 +81,7 @@ pub(crate) fn told(alloc: Global, answer: Answer) -> Result<String, AllocError> 
 }
 
 /// Whether an answer is the one that is wanted.
-pub(crate) fn compared(alloc: Global, answer: Answer, wanted: &str) -> Result<Verdict, AllocError> {
+pub fn compared(alloc: Global, answer: Answer, wanted: &str) -> Result<Verdict, AllocError> {
     let came = told(alloc, answer)?;
     Ok(if came.as_str() == wanted {
         Verdict::Holds
@@ -91,7 +91,7 @@ pub(crate) fn compared(alloc: Global, answer: Answer, wanted: &str) -> Result<Ve
 }
 
 /// A text as an answer.
-pub(crate) fn text(alloc: Global, text: &str) -> Answer {
+pub fn text(alloc: Global, text: &str) -> Answer {
     match String::from_str(alloc, text) {
         Ok(text) => Ok(text),
         Err(_) => Err(NoAnswer::OutOfMemory),
@@ -99,7 +99,7 @@ pub(crate) fn text(alloc: Global, text: &str) -> Answer {
 }
 
 /// A number as an answer.
-pub(crate) fn counted(alloc: Global, number: usize) -> Answer {
+pub fn counted(alloc: Global, number: usize) -> Answer {
     match format!(in alloc; "{number}") {
         Ok(text) => Ok(text),
         Err(_) => Err(NoAnswer::OutOfMemory),
@@ -107,12 +107,12 @@ pub(crate) fn counted(alloc: Global, number: usize) -> Answer {
 }
 
 /// A word of a question, and what stands behind it.
-pub(crate) fn first_word(question: &str) -> (&str, &str) {
+pub fn first_word(question: &str) -> (&str, &str) {
     question.split_once(' ').unwrap_or((question, ""))
 }
 
 /// Puts an answer behind others.
-pub(crate) fn append(answers: &mut String, answer: &str) -> Result<(), AllocError> {
+pub fn append(answers: &mut String, answer: &str) -> Result<(), AllocError> {
     if !answers.is_empty() {
         answers.push(' ')?;
     }

@@ -14,12 +14,12 @@
 ghost use Rattle.std.specs.Prelude.{◌≡◌, true, IfOk, IfSome};
 ghost use Rattle.ink_player.specs.Words.{Idle, desk_of};
 
-use crate::answer::{Answer, NoAnswer, append, told};
 use crate::objects::{Constant, Deed, Script, Witness};
 use crate::players::{done, passage};
 use ink_host::{Bound, HostDesk, PureBox, PureFn, TurnBox, TurnFn, Watcher, WatcherBox};
 use ink_model::{Given, HostFault, Value};
 use ink_player::{PlayEnd, Player, open_story};
+use inkcases::{Answer, NoAnswer, append, told};
 use std::alloc::{AllocError, Global};
 use std::cell::Cell;
 use std::rc::Rc;

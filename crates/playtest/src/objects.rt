@@ -1,7 +1,7 @@
 //! The objects that tables bind to names. Each notes what was asked of it, and can refuse, or find no memory.
 
 ghost use Rattle.std.specs.Prelude.{◌≡◌, true};
-ghost use Rattle.inktest.specs.Deeds.{given_by};
+ghost use Rattle.playtest.specs.Deeds.{given_by};
 
 use ink_host::{Called, Observer, PureFn, TurnFn, Watcher, copied_values};
 use ink_model::{Given, HostFault, Value};

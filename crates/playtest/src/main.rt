@@ -1,0 +1,88 @@
+//! Runs tables of cases through a player: its calls, its objects in boxes, and whole sessions. Without words it reads its own
+//! tables, with words the files that they name. The beginning of a file's name tells what kind of cases it has (docs/TABLES.md).
+//!
+//! It prints each case that fails, and last `N cases, M failed`, with the number of cases that found no memory where there
+//! are any. The status is 0 where none failed.
+#![tactic(auto)]
+
+mod boxes;
+mod objects;
+mod players;
+mod sessions;
+mod streams;
+
+use inkcases::{Answer, Answers, Table, Tables, Tally, run_lines, run_tables};
+use players::run_players;
+use sessions::run_sessions;
+use std::alloc::Global;
+use std::process::ExitCode;
+
+/// The tables that are read where none are named.
+const TABLES: [&str; 19] = [
+    "boxes.txt",
+    "players.txt",
+    "players_large.txt",
+    "players_objects.txt",
+    "players_objects_large.txt",
+    "players_short.txt",
+    "sessions.txt",
+    "sessions_calls.txt",
+    "sessions_calls_large.txt",
+    "sessions_choices.txt",
+    "sessions_choices_large.txt",
+    "sessions_counts.txt",
+    "sessions_counts_large.txt",
+    "sessions_cut.txt",
+    "sessions_games.txt",
+    "sessions_large.txt",
+    "sessions_limits.txt",
+    "sessions_refused.txt",
+    "sessions_variables.txt",
+];
+
+/// What kind of cases a table has.
+#[derive(Clone, Copy, Drop)]
+enum Kind {
+    Boxes,
+    Players,
+    Sessions,
+}
+
+/// How the names of files begin, and the kinds that this tells.
+const KINDS: [(&str, Kind); 3] = [
+    ("boxes", Kind::Boxes),
+    ("players", Kind::Players),
+    ("sessions", Kind::Sessions),
+];
+
+impl Tables for Kind {
+    fn of_name(name: &str) -> Option<Kind> {
+        for (beginning, kind) in KINDS {
+            if name.starts_with(beginning) {
+                return Some(kind);
+            }
+        }
+        None
+    }
+
+    fn run(&self, rt: &impl Print, alloc: Global, table: Table<'_>, tally: &mut Tally) {
+        match self {
+            Kind::Boxes => run_lines(rt, alloc, &Boxes, table, tally),
+            Kind::Players => run_players(rt, alloc, table, tally),
+            Kind::Sessions => run_sessions(rt, alloc, table, tally),
+        }
+    }
+}
+
+/// Answers questions about objects in boxes.
+struct Boxes;
+
+impl Answers for Boxes {
+    fn answer(&self, alloc: Global, _story: &str, question: &str) -> Answer {
+        boxes::answer(alloc, question)
+    }
+}
+
+fn main(rt: HostRuntime) -> ExitCode {
+    run_tables::<Kind>(&rt, rt.alloc(), &TABLES)
+}
