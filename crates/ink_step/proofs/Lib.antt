@@ -1,5 +1,4 @@
 pub mod Tops
-pub mod Limits
 pub mod Effects
 pub mod Landings
 pub mod Leading
@@ -13,7 +12,6 @@ pub mod Runnings
 pub mod Telling
 pub mod Passages
 pub mod Openings
-pub mod NoMemory
 pub mod Unnumbered
 pub mod Passing
 pub mod Turns
