@@ -98,7 +98,7 @@ impl Output {
         }
     }
 
-    /// Writes a text as `write` does, with no owner more where it is cut. `TooDeep` for more than 100,000 marks in the line,
+    /// Writes a text as `write` writes its value. `TooDeep` for more than 100,000 marks in the line,
     /// `OutOfMemory` for a refused request for memory, which is never made for a text without bytes; nothing has changed then.
     #[inline(always)]
     pub fn write_text(&mut self, text: &Shared<Text>, fresh: bool) -> Result<bool, Fault>

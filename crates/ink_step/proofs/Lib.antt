@@ -22,7 +22,6 @@ pub mod Goings
 pub mod Places
 pub mod Settings
 pub mod Stored
-pub mod Unstored
 pub mod Asked
 pub mod Offered
 pub mod Shows
