@@ -1,5 +1,5 @@
 -- Whether a step asks for memory (docs/RUNNING.md, "Out of memory").
-use Rattle.std.specs.Prelude.{ℕ, List, [], reverse, Bool, true, false, not, ◌&&◌, ◌||◌, if◌then◌else◌, Option, Some, None, Result, Ok, Err, is_ok}
+use Rattle.std.specs.Prelude.{ℕ, List, [], ◌∷◌, length, nat_lt, reverse, Bool, true, false, not, ◌&&◌, ◌||◌, if◌then◌else◌, Option, Some, None, Result, Ok, Err, is_ok}
 use Rattle.ink_model.specs.Acceptance.{lands, leads}
 use Rattle.ink_model.specs.Choices.{make}
 use Rattle.ink_model.specs.Choosing.{following_asks}
@@ -13,6 +13,7 @@ use Rattle.ink_model.specs.Operator.{takes}
 use Rattle.ink_model.specs.Output.{closes_string, closes_tag}
 use Rattle.ink_model.specs.Path.{above}
 use Rattle.ink_model.specs.Place.{entered}
+use Rattle.ink_model.specs.Page.{Section}
 use Rattle.ink_model.specs.Stack.{popped, taken}
 use Rattle.ink_model.specs.Step.{effect, gone_in}
 use Rattle.ink_model.specs.Host.{Binding, Bound, turn_function, pure_function}
@@ -20,6 +21,7 @@ use Rattle.ink_model.specs.Step.Choices.{was_visited}
 use Rattle.ink_model.specs.Step.Host.{arguments_on, has_string, is_argument}
 use Rattle.std.specs.List.{list_all}
 use Rattle.ink_model.specs.Step.Counts.{visits_at}
+use Rattle.ink_model.specs.Step.Text.{in_tag}
 use Rattle.ink_model.specs.Tree.{StoryTree, leaf, container, at}
 use Rattle.ink_model.specs.Value.{is_true, printed}
 use Rattle.ink_model.specs.VariableMemory.{assign_asks, declare_asks, on_popped}
@@ -31,6 +33,7 @@ use Rattle.ink_model.specs.declared.content.Leaf.{Leaf}
 use Rattle.ink_model.specs.declared.content.Leaf.TheVariants as leaves
 use Rattle.ink_model.specs.declared.fault.Fault.{Fault}
 use Rattle.ink_model.specs.declared.fault.Fault.TheVariants.{TooDeep}
+use Rattle.ink_model.specs.declared.limits.TheConstants.{MAX_SECTIONS, MAX_STACK}
 use Rattle.ink_model.specs.declared.operator.Op.{Op}
 use Rattle.ink_model.specs.declared.place.Part.{Part}
 use Rattle.ink_model.specs.declared.scope.Scope.TheVariants.{Global, Temporary}
@@ -47,6 +50,23 @@ asks_for (Ok a) = true
 asks_for (Err f) = is_found_late f
 
 -- ---- whether performing content asks for memory
+
+-- there is room on the stack for one more value; a push where there is none is TooDeep, whatever memory there is
+abbrev pub has_room : List Value → Bool
+has_room vs = nat_lt (length vs) MAX_STACK
+
+-- a value is pushed in evaluation mode
+abbrev pub push_asks : Fields → Bool
+push_asks f = f.evaluating && has_room f.stack
+
+-- one more string or tag may be open
+abbrev pub may_open : List Section → Bool
+may_open sections = nat_lt (length sections) MAX_SECTIONS
+
+-- a text has bytes; to write one that has none takes no memory
+abbrev pub has_bytes : List ℕ → Bool
+has_bytes [] = false
+has_bytes (c ∷ cs) = true
 
 -- there is something on the stack
 abbrev pub has_top : Option (Value × List Value) → Bool
@@ -78,10 +98,10 @@ offer_asks s p seen text flags f (Some q) = makes_choice (make flags q (was_visi
 
 abbrev pub control_asks : StoryTree → List Part → Context → Control → Fields → Bool
 control_asks s p seen control.Out f = output_asks (popped f.stack)
-control_asks s p seen control.Duplicate f = has_top (popped f.stack)
-control_asks s p seen control.BeginString f = f.evaluating
+control_asks s p seen control.Duplicate f = has_top (popped f.stack) && has_room f.stack
+control_asks s p seen control.BeginString f = f.evaluating && may_open f.page.sections
 control_asks s p seen control.EndString f = asks_for (closes_string f.page)
-control_asks s p seen control.BeginTag f = true
+control_asks s p seen control.BeginTag f = in_tag f.page.sections || may_open f.page.sections
 control_asks s p seen control.EndTag f = asks_for (closes_tag f.page)
 control_asks s p seen control.BeginEval f = false
 control_asks s p seen control.EndEval f = false
@@ -92,11 +112,11 @@ control_asks s p seen control.End f = false
 control_asks s p seen control.Return f = false
 control_asks s p seen control.ReturnTunnel f = false
 control_asks s p seen control.Thread f = false
-control_asks s p seen control.ChoiceCount f = true
-control_asks s p seen control.Turn f = true
+control_asks s p seen control.ChoiceCount f = has_room f.stack
+control_asks s p seen control.Turn f = has_room f.stack
 control_asks s p seen control.Turns f = false
 control_asks s p seen control.ReadCount f = false
-control_asks s p seen control.Visit f = visit_asks s seen (above (reverse p))
+control_asks s p seen control.Visit f = visit_asks s seen (above (reverse p)) && has_room f.stack
 
 -- the arguments of a call are there, and of the right kinds
 abbrev pub takes_arguments : Option (List Value × List Value) → Bool
@@ -123,26 +143,26 @@ external_asks b n conditional f =
     if conditional then where_popped (popped f.stack) (λ left. binding_asks b n (record f { stack = left })) else binding_asks b n f
 
 abbrev pub leaf_asks : StoryTree → Bound → List Part → Context → Leaf → Fields → Bool
-leaf_asks s b p seen (leaves.Text t) f = true
-leaf_asks s b p seen leaves.Newline f = f.evaluating || not (is_fresh f)
+leaf_asks s b p seen (leaves.Text t) f = if f.evaluating then has_room f.stack else has_bytes t
+leaf_asks s b p seen leaves.Newline f = if f.evaluating then has_room f.stack else not (is_fresh f)
 leaf_asks s b p seen leaves.Glue f = not f.evaluating
-leaf_asks s b p seen (leaves.Int z) f = f.evaluating
-leaf_asks s b p seen (leaves.Bool truth) f = f.evaluating
-leaf_asks s b p seen leaves.Void f = f.evaluating
-leaf_asks s b p seen (leaves.Target text) f = f.evaluating
+leaf_asks s b p seen (leaves.Int z) f = push_asks f
+leaf_asks s b p seen (leaves.Bool truth) f = push_asks f
+leaf_asks s b p seen leaves.Void f = push_asks f
+leaf_asks s b p seen (leaves.Target text) f = push_asks f
 leaf_asks s b p seen (leaves.Control o) f = control_asks s p seen o f
 leaf_asks s b p seen (leaves.Op o) f = operator_asks o (taken (takes o) f.stack [])
 leaf_asks s b p seen (leaves.Declare name) f = on_popped (popped f.stack) (declare_asks f.globals seen.thread Global name)
 leaf_asks s b p seen (leaves.Assign name) f = on_popped (popped f.stack) (assign_asks f.globals seen.thread name)
-leaf_asks s b p seen (leaves.Variable name) f = is_ok (read f.globals seen.thread name)
+leaf_asks s b p seen (leaves.Variable name) f = is_ok (read f.globals seen.thread name) && has_room f.stack
 leaf_asks s b p seen (leaves.Divert to conditional) f = false
-leaf_asks s b p seen (leaves.Pointer name frame) f = f.evaluating
+leaf_asks s b p seen (leaves.Pointer name frame) f = push_asks f
 leaf_asks s b p seen (leaves.Call to conditional) f = false
 leaf_asks s b p seen (leaves.Tunnel to conditional) f = false
 leaf_asks s b p seen (leaves.External name arguments conditional) f = external_asks (b name) arguments conditional f
 leaf_asks s b p seen (leaves.DeclareTemp name) f = on_popped (popped f.stack) (declare_asks f.globals seen.thread Temporary name)
 leaf_asks s b p seen (leaves.AssignTemp name) f = on_popped (popped f.stack) (assign_asks f.globals seen.thread name)
-leaf_asks s b p seen (leaves.Count text) f = visit_asks s seen (leads s p text)
+leaf_asks s b p seen (leaves.Count text) f = visit_asks s seen (leads s p text) && has_room f.stack
 leaf_asks s b p seen (leaves.Choice text flags) f = offer_asks s p seen text flags f (lands s p text)
 
 abbrev pub content_asks : StoryTree → Bound → List Part → Option StoryTree → Context → Fields → Bool

@@ -117,11 +117,16 @@ ThroughFrom s h es (Ready c) old reply new = MatchBool (can_go_on c)
 abbrev pub Through : StoryTree → Bindings → List Event → State → Reply → State → Type 0
 Through s h es old reply new = ThroughFrom s h es old.condition old reply new
 
+-- a fault of the declarations breaks the player, with these globals; but where it is refused memory nothing has changed
+abbrev pub FailsToRestart : Fault → Values → List Event → State → Reply → State → Type 0
+FailsToRestart OutOfMemory globals es old reply new = (es ≡ []) × FailsAllocation old reply new
+FailsToRestart f globals es old reply new = BreaksBy f globals [] es old reply new
+
 -- `restart`, by what opening comes to: as the story was opened, and told of what has another value than `get` read before; or
--- broken by the declarations, with the globals as they stood before the step that faulted. Stamps go on.
+-- not begun anew, by the fault and with the globals as they stood before the step that faulted. Stamps go on.
 abbrev pub RestartsAs : Bindings → Result Configuration Unopened → List Event → State → Reply → State → Type 0
 RestartsAs h (Ok c) es old reply new = TellsOrKeeps (told h.watches (globals_of old.condition) c.shared.globals) (Ready c) es old reply new
-RestartsAs h (Err e) es old reply new = BreaksBy e.fault e.globals [] es old reply new
+RestartsAs h (Err e) es old reply new = FailsToRestart e.fault e.globals es old reply new
 
 abbrev pub Restart : StoryTree → Bindings → List Event → State → Reply → State → Type 0
 Restart s h es old reply new = RestartsAs h (opening s) es old reply new ⊎ (OpensShort s × (es ≡ []) × FailsAllocation old reply new)

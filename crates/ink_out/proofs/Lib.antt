@@ -6,6 +6,5 @@ pub mod Standing
 pub mod Opens
 pub mod Answering
 pub mod Walking
-pub mod Tracked
 pub mod Noting
 pub mod Closing

@@ -98,8 +98,10 @@ impl Output {
         }
     }
 
+    /// Writes a text as `write` writes its value. `TooDeep` for more than 100,000 marks in the line,
+    /// `OutOfMemory` for a refused request for memory, which is never made for a text without bytes; nothing has changed then.
     #[inline(always)]
-    fn write_text(&mut self, text: &Shared<Text>, fresh: bool) -> Result<bool, Fault>
+    pub fn write_text(&mut self, text: &Shared<Text>, fresh: bool) -> Result<bool, Fault>
         ensures page { Leaves (writes_text fresh text.now self.old.page) self.old.page self.new.page result }
         ensures text { IfOk result (λ has_text. has_text ≡ list_any is_text (cut text.now)) }
         ensures nothing { text.now ≡ [] → IsOk result }

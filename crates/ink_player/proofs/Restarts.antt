@@ -4,7 +4,7 @@ use Rattle.ink_model.specs.Answer.{Reply, Breaks, Refuses}
 use Rattle.ink_model.specs.Configuration.{Configuration}
 use Rattle.ink_model.specs.Host.{Bindings}
 use Rattle.ink_model.specs.Opening.{opening}
-use Rattle.ink_model.specs.Session.{Restart, RestartsAs, TellsOrKeeps}
+use Rattle.ink_model.specs.Session.{BreaksBy, FailsToRestart, Restart, RestartsAs, TellsOrKeeps}
 use Rattle.ink_model.specs.State.{State, Broken, Ready, globals_of}
 use Rattle.ink_model.specs.Store.{Values}
 use Rattle.ink_model.specs.Told.{told}
@@ -14,7 +14,6 @@ use Rattle.ink_model.specs.declared.fault.Fault.TheVariants.{OutOfMemory}
 use Rattle.ink_model.specs.declared.fault.Refusal.TheVariants as refusal
 use Rattle.ink_model.specs.declared.host.Event.{Event}
 use Rattle.ink_player.proofs.Tellings.{at_stamp}
-use Rattle.ink_step.proofs.NoMemory.{opens_otherwise}
 use Rattle.ink_step.specs.Steps.{FailsToOpen}
 
 module _ (s : StoryTree) (h : Bindings) (old : State) where
@@ -27,15 +26,20 @@ module _ (s : StoryTree) (h : Bindings) (old : State) where
   module _ (globals : Values) where
     pub restart-refused : (f : Fault) → f ≡ OutOfMemory → FailsToOpen s f globals → Restart s h [] old (Refuses refusal.OutOfMemory) old
     restart-refused f is k = elim k [
-      | inl fails ↦ absurd (opens_otherwise s _ fails is)
+      | inl fails ↦
+          inl (subst (λ r. RestartsAs h r [] old (Refuses refusal.OutOfMemory) old) (sym fails) (subst (λ e. FailsToRestart e globals [] old (Refuses refusal.OutOfMemory) old) (sym is) (refl, (refl, refl))))
       | inr short ↦ inr (short.1, refl, (refl, refl))
     ]
+
+    broken_by : (f : Fault) (reply : Reply) (new : State) → f ≢ OutOfMemory → BreaksBy f globals [] [] old reply new → FailsToRestart f globals [] old reply new
+    broken_by OutOfMemory reply new other breaks = absurd (other refl)
+    broken_by f reply new other breaks = breaks
 
     -- with these globals now
     pub restart-broken : (f : Fault) (now : Values) (reply : Reply) (new : State) → f ≢ OutOfMemory → now ≡ globals → FailsToOpen s f globals → reply ≡ Breaks f [] → new ≡ at_stamp (Broken f now) old.stamp
         → Restart s h [] old reply new
     restart-broken f now reply new other kept k replies leaves = elim k [
       | inl fails ↦
-          inl (subst (λ r. RestartsAs h r [] old reply new) (sym fails) (refl, replies, leaves ∙ ap (λ vs. at_stamp (Broken f vs) old.stamp) kept))
+          inl (subst (λ r. RestartsAs h r [] old reply new) (sym fails) (broken_by f reply new other (refl, replies, leaves ∙ ap (λ vs. at_stamp (Broken f vs) old.stamp) kept)))
       | inr short ↦ absurd (other short.0)
     ]

@@ -1,7 +1,8 @@
 -- Questions for visits and turns.
-use Rattle.std.proofs.Common.{◌≡◌, ◌∙◌, ap, sym, subst, refl, inl, arith, ℕ, ◌≤◌, ℤ, List, [], ◌∷◌, ◌++◌, length, reverse, slice_get, nat_lt, if◌then◌else◌, Bool, true, false, Option, Some, None, option_map, ok_or, Result, Ok, Err, is_ok}
+use Rattle.std.proofs.Common.{◌≡◌, ◌∙◌, ◌&&◌, ap, sym, subst, refl, inl, arith, ℕ, ◌≤◌, ℤ, List, [], ◌∷◌, ◌++◌, length, reverse, slice_get, nat_lt, if◌then◌else◌, Bool, true, false, Option, Some, None, option_map, ok_or, Result, Ok, Err, is_ok}
 use Rattle.std.proofs.lemmas.List.{length-append}
 use Rattle.ink_model.specs.Effect.{Context, Effect, Fields, Landing as Goal, Moves, or_else, or_fault, pushing}
+use Rattle.ink_model.specs.Asks.{has_room}
 use Rattle.ink_model.specs.Memory.{Leaves, visit_asks}
 use Rattle.ink_model.specs.Page.{Page}
 use Rattle.ink_model.specs.Stack.{popped, pushed}
@@ -10,7 +11,7 @@ use Rattle.ink_model.specs.Step.Diverts.{landing_by}
 use Rattle.ink_model.specs.Store.{Values}
 use Rattle.ink_model.specs.Tree.{StoryTree}
 use Rattle.ink_model.specs.declared.fault.Fault.{Fault}
-use Rattle.ink_model.specs.declared.fault.Fault.TheVariants.{BadTarget, NotCounted, StackEmpty, TooDeep}
+use Rattle.ink_model.specs.declared.fault.Fault.TheVariants.{BadTarget, NotCounted, OutOfMemory, StackEmpty, TooDeep}
 use Rattle.ink_model.specs.declared.limits.TheConstants.{MAX_STACK}
 use Rattle.ink_model.specs.declared.place.Part.{Part}
 use Rattle.ink_model.specs.declared.value.Value.{Value}
@@ -104,16 +105,18 @@ module _ (s : StoryTree) (seen : Context) (change : Result ℤ Fault → Result 
   abbrev counted_in : Option (List Part) → Effect
   counted_in o = or_else NotCounted o (λ q. pushing_count s seen (change (visits_at s seen q)) (fields evaluating fresh old page globals))
 
-  pub visits_fail : (o : Option (List Part)) (f : Fault) → Err f ≡ visits_in s seen.counts o → Changes (visit_asks s seen o) (counted_in o) (fields evaluating fresh new page globals) (Err f)
+  pub visits_fail : (o : Option (List Part)) (f : Fault) → Err f ≡ visits_in s seen.counts o → Changes (visit_asks s seen o && has_room old) (counted_in o) (fields evaluating fresh new page globals) (Err f)
   visits_fail None f h t = inl (err_same f NotCounted h)
   visits_fail (Some q) f h t =
-      subst (λ x. Performs t (visit_asks s seen (Some q)) (pushing_count s seen x (fields evaluating fresh old page globals)) (fields evaluating fresh new page globals) (Err f))
+      subst (λ x. Performs t (visit_asks s seen (Some q) && has_room old) (pushing_count s seen x (fields evaluating fresh old page globals)) (fields evaluating fresh new page globals) (Err f))
       (sym (keeps f) ∙ ap change h) (inl refl)
 
   pub visits_pushed : (o : Option (List Part)) (z w : ℤ) → Ok z ≡ visits_in s seen.counts o → change (Ok z) ≡ Ok w
-      → (result : Result (Unit {0}) Fault) → Leaves (pushed (value.Int w) old) old new result → Changes (visit_asks s seen o) (counted_in o) (fields evaluating fresh new page globals) result
-  visits_pushed None z w h is result leaves t = absurd (cc)
-  visits_pushed (Some q) z w h is result leaves t =
-      subst (λ x. Performs t (is_ok (visits_at s seen q)) (pushing_count s seen (change x) (fields evaluating fresh old page globals)) (fields evaluating fresh new page globals) (moving result)) h
-      (subst (λ x. Performs t (is_ok (visits_at s seen q)) (pushing_count s seen x (fields evaluating fresh old page globals)) (fields evaluating fresh new page globals) (moving result)) (sym is)
-      (operated (is_ok (visits_at s seen q)) (pushed (value.Int w) old) (λ vs. fields evaluating fresh vs page globals) old new result leaves (λ _. sym (ap is_ok h)) t))
+      → (result : Result (Unit {0}) Fault) → Leaves (pushed (value.Int w) old) old new result → (result ≡ Err OutOfMemory → has_room old ≡ true)
+      → Changes (visit_asks s seen o && has_room old) (counted_in o) (fields evaluating fresh new page globals) result
+  visits_pushed None z w h is result leaves memory t = absurd (cc)
+  visits_pushed (Some q) z w h is result leaves memory t =
+      subst (λ x. Performs t (is_ok (visits_at s seen q) && has_room old) (pushing_count s seen (change x) (fields evaluating fresh old page globals)) (fields evaluating fresh new page globals) (moving result)) h
+      (subst (λ x. Performs t (is_ok (visits_at s seen q) && has_room old) (pushing_count s seen x (fields evaluating fresh old page globals)) (fields evaluating fresh new page globals) (moving result)) (sym is)
+      (operated (is_ok (visits_at s seen q) && has_room old) (pushed (value.Int w) old) (λ vs. fields evaluating fresh vs page globals) old new result leaves
+      (λ short. subst (λ b. b && has_room old ≡ true) (ap is_ok h) (memory short)) t))

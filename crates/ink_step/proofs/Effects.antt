@@ -1,11 +1,10 @@
 -- What performing does where a call of it fails.
-use Rattle.std.proofs.Common.{◌≡◌, ap, sym, refl, subst, inl, inr, List, Result, Ok, Err, Bool, true}
+use Rattle.std.proofs.Common.{◌≡◌, ap, sym, refl, subst, inl, inr, Result, Ok, Err, Bool, true}
 use Rattle.ink_model.specs.Effect.{Fields, Effect, Moves, Fails, or_fault}
-use Rattle.ink_model.specs.Memory.{Gives, Leaves, asks_for}
+use Rattle.ink_model.specs.Memory.{Gives, Leaves}
 use Rattle.ink_model.specs.Tree.{StoryTree}
 use Rattle.ink_model.specs.declared.fault.Fault.{Fault}
 use Rattle.ink_model.specs.declared.fault.Fault.TheVariants.{OutOfMemory}
-use Rattle.ink_model.specs.declared.value.Value.{Value}
 use Rattle.ink_step.specs.Performs.{Changes, Performs}
 use Rattle.ink_step.specs.declared.transfer.Transfer.TheVariants as transfer
 
@@ -16,18 +15,15 @@ module _ (s : StoryTree) (asks : Bool) (new : Fields) where
   short e a = (refl, a)
 
   -- the fault of a call whose result goes into the effect
-  pub refused : {A : Type 0} (rule : Result A Fault) (so : A → Effect) (f : Fault) → Gives {A = A} (Err f) rule → (asks_for rule ≡ true → asks ≡ true)
+  pub refused : {A : Type 0} (rule : Result A Fault) (so : A → Effect) (f : Fault) → Gives {A = A} (Err f) rule → (f ≡ OutOfMemory → asks ≡ true)
       → Performs s asks (or_fault rule so) new (Err f)
   refused rule so f h allows = elim h [
-    | inl oom ↦ subst (λ g. Performs s asks (or_fault rule so) new (Err g)) (sym oom.0) (short (or_fault rule so) (allows oom.1))
+    | inl oom ↦ subst (λ g. Performs s asks (or_fault rule so) new (Err g)) (sym oom.0) (short (or_fault rule so) (allows oom.0))
     | inr is ↦ subst (λ r. Performs s asks (or_fault r so) new (Err f)) (sym is) (inl refl)
   ]
 
--- an operator on the stack
-pub operated : (asks : Bool) (rule : Result (List Value) Fault) (with : List Value → Fields) (old new : List Value) (result : Result (Unit {0}) Fault)
-    → Leaves rule old new result → (result ≡ Err OutOfMemory → asks ≡ true) → Changes asks (or_fault rule (λ vs. Moves (with vs))) (with new) result
-operated asks rule with old new (Ok u) h a s = subst (λ r. Performs s asks (or_fault r (λ vs. Moves (with vs))) (with new) (Ok transfer.Next)) (sym h.0) refl
-operated asks rule with old new (Err f) h a s = elim h.0 [
-  | inl oom ↦ subst (λ g. Performs s asks (or_fault rule (λ vs. Moves (with vs))) (with new) (Err g)) (sym oom.0) (short s asks (with new) _ (a (ap Err oom.0)))
-  | inr is ↦ subst (λ r. Performs s asks (or_fault r (λ vs. Moves (with vs))) (with new) (Err f)) (sym is) (inl refl)
-]
+-- a call that changes a stack or a page
+pub operated : {S : Type 0} (asks : Bool) (rule : Result S Fault) (with : S → Fields) (old new : S) (result : Result (Unit {0}) Fault)
+    → Leaves rule old new result → (result ≡ Err OutOfMemory → asks ≡ true) → Changes asks (or_fault rule (λ v. Moves (with v))) (with new) result
+operated asks rule with old new (Ok u) h a s = subst (λ r. Performs s asks (or_fault r (λ v. Moves (with v))) (with new) (Ok transfer.Next)) (sym h.0) refl
+operated asks rule with old new (Err f) h a s = refused s asks (with new) rule (λ v. Moves (with v)) f h.0 (λ is. a (ap Err is))

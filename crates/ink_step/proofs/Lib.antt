@@ -1,5 +1,4 @@
 pub mod Tops
-pub mod Limits
 pub mod Effects
 pub mod Landings
 pub mod Leading
@@ -13,7 +12,6 @@ pub mod Runnings
 pub mod Telling
 pub mod Passages
 pub mod Openings
-pub mod NoMemory
 pub mod Unnumbered
 pub mod Passing
 pub mod Turns
@@ -24,7 +22,6 @@ pub mod Goings
 pub mod Places
 pub mod Settings
 pub mod Stored
-pub mod Unstored
 pub mod Asked
 pub mod Offered
 pub mod Shows

@@ -1,6 +1,7 @@
 -- What reading, declaring and assigning do, by the variable that is read or written.
-use Rattle.std.proofs.Common.{◌≡◌, ◌∙◌, ℕ, List, Bool, true, false, ◌||◌, Some, Result, Ok, Err, OnOk, ap, inl, inr, is_ok, refl, subst, sym}
-use Rattle.ink_model.specs.Effect.{Fields, Effect, Stores, or_fault, pushing}
+use Rattle.std.proofs.Common.{◌≡◌, ◌∙◌, ℕ, List, Bool, true, false, ◌&&◌, ◌||◌, Some, Result, Ok, Err, OnOk, ap, inl, inr, is_ok, refl, subst, sym}
+use Rattle.ink_model.specs.Asks.{has_room}
+use Rattle.ink_model.specs.Effect.{Fields, Effect, Stores}
 use Rattle.ink_model.specs.Frames.{ThreadOf, ThreadsOf, fresh_depth, map_thread}
 use Rattle.ink_model.specs.Memory.{Leaves}
 use Rattle.ink_model.specs.Page.{Page}
@@ -12,6 +13,7 @@ use Rattle.ink_model.specs.Tree.{StoryTree}
 use Rattle.ink_model.specs.VariableMemory.{assign_asks, declare_asks, is_pointer, on_popped, setting_asks}
 use Rattle.ink_model.specs.Variables.{assign, declare, declared, kept, read}
 use Rattle.ink_model.specs.declared.fault.Fault.{Fault}
+use Rattle.ink_model.specs.declared.fault.Fault.TheVariants.{OutOfMemory}
 use Rattle.ink_model.specs.declared.place.Part.{Part}
 use Rattle.ink_model.specs.declared.scope.Scope.{Scope}
 use Rattle.ink_model.specs.declared.scope.Scope.TheVariants.{Global, Temporary}
@@ -25,7 +27,7 @@ use Rattle.ink_step.proofs.Settings.{assigning_noted, declaring_noted}
 use Rattle.ink_step.proofs.Places.{assign_renamed, declare_renamed, left_as, read_renamed}
 use Rattle.ink_tree.specs.Nodes.{place_of}
 use Rattle.ink_tree.specs.declared.spot.Spot.{Spot}
-use Rattle.ink_vars.specs.Words.{Declares, HandsOut, LeadsTo, copy_asks, with_variable, writing_asks}
+use Rattle.ink_vars.specs.Words.{Declares, HandsOut, LeadsTo, with_variable, writing_asks}
 use Rattle.ink_vars.specs.declared.places.Variable.{Variable}
 
 -- ---- by cases
@@ -62,22 +64,17 @@ module _ (s : StoryTree) (ts : ThreadsOf Spot) (rest : Rest) (f : Fields) where
   abbrev reading : List ℕ → Bool
   reading name = is_ok (read f.globals (map_thread (place_of s) ts.thread) name)
 
-  pub pushes_read : (name : List ℕ) (v : Value) (new : List Value) (result : Result (Unit {0}) Fault)
-      → HandsOut (copy_asks (read f.globals ts.thread name)) (read f.globals ts.thread name) (Ok v) → Leaves (pushed v f.stack) f.stack new result
-      → Changes (reading name) (effects.push_variable name (seen_by s ts rest) f) (record f { stack = new }) result
-  pushes_read name v new result is pushes t =
-      let reads : read f.globals (map_thread (place_of s) ts.thread) name ≡ Ok v = read_renamed (place_of s) f.globals ts.thread name ∙ handed _ _ v is in
-      rw reads (operated true (pushed v f.stack) (λ vs. record f { stack = vs }) f.stack new result pushes (λ h. refl) t)
+  pub pushes_read : (name : List ℕ) (v : Value) (new : List Value) (result : Result (Unit {0}) Fault) → Ok v ≡ read f.globals ts.thread name
+      → Leaves (pushed v f.stack) f.stack new result → (result ≡ Err OutOfMemory → has_room f.stack ≡ true)
+      → Changes (reading name && has_room f.stack) (effects.push_variable name (seen_by s ts rest) f) (record f { stack = new }) result
+  pushes_read name v new result is leaves memory t =
+      let reads : read f.globals (map_thread (place_of s) ts.thread) name ≡ Ok v = read_renamed (place_of s) f.globals ts.thread name ∙ sym is in
+      rw reads (operated (has_room f.stack) (pushed v f.stack) (λ vs. record f { stack = vs }) f.stack new result leaves memory t)
 
-  pub reads_nothing : (name : List ℕ) (g : Fault) → HandsOut (copy_asks (read f.globals ts.thread name)) (read f.globals ts.thread name) (Err g)
-      → Changes (reading name) (effects.push_variable name (seen_by s ts rest) f) f (Err g)
-  reads_nothing name g h t =
-      let reads : read f.globals (map_thread (place_of s) ts.thread) name ≡ read f.globals ts.thread name = read_renamed (place_of s) f.globals ts.thread name in
-      rw reads (by (read f.globals ts.thread name) h)
-    where
-      by : (rule : Result Value Fault) → HandsOut (copy_asks rule) rule (Err g) → Performs t (is_ok rule) (or_fault rule (λ v. pushing v f)) f (Err g)
-      by (Ok v) k = subst (λ x. Performs t true (pushing v f) f (Err x)) (sym k.0) (short t true f (pushing v f) refl)
-      by (Err x) k = inl k
+  pub reads_nothing : (name : List ℕ) (g : Fault) → Err g ≡ read f.globals ts.thread name → Changes (reading name && has_room f.stack) (effects.push_variable name (seen_by s ts rest) f) f (Err g)
+  reads_nothing name g is t =
+      let reads : read f.globals (map_thread (place_of s) ts.thread) name ≡ Err g = read_renamed (place_of s) f.globals ts.thread name ∙ sym is in
+      rw reads (inl refl)
 
   -- ---- a variable is written
 

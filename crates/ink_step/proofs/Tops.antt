@@ -1,9 +1,10 @@
 -- The top of a stack, and operators on it.
-use Rattle.std.proofs.Common.{◌≡◌, ◌∙◌, ap, sym, subst, refl, inl, List, [], ◌∷◌, ◌++◌, reverse, slice_get, Some, option_map, Ok, Err}
+use Rattle.std.proofs.Common.{◌≡◌, ◌∙◌, ap, sym, subst, refl, inl, List, [], ◌∷◌, ◌++◌, reverse, slice_get, Bool, true, false, Some, option_map, Ok, Err}
 use Rattle.std.proofs.lemmas.List.{reverse-reverse}
 use Rattle.std.proofs.lemmas.Grind.{reverse_onto}
 use Rattle.ink_model.specs.Stack.{popped}
-use Rattle.ink_model.specs.declared.fault.Fault.TheVariants.{OutOfMemory}
+use Rattle.ink_model.specs.declared.fault.Fault.{Fault}
+use Rattle.ink_model.specs.declared.fault.Fault.TheVariants.{OutOfMemory, TooDeep}
 use Rattle.ink_model.specs.declared.value.Value.{Value}
 use Rattle.ink_step.specs.Stacks.{CopiesTop}
 
@@ -28,8 +29,11 @@ pub top_seen : (vs : List Value) (v : Value) → slice_get (reverse vs) 0 ≡ So
 top_seen vs v h = let t = top_turned (reverse vs) v h in (t.0, ap popped (sym (reverse-reverse vs)) ∙ t.1)
 
 module _ (vs : List Value) (v : Value) (seen : slice_get (reverse vs) 0 ≡ Some v) where
-  pub copied : (copy : Value) → copy ≡ v → CopiesTop (popped vs) (Ok copy)
-  copied copy same = subst (λ o. CopiesTop o (Ok copy)) (sym (top_seen vs v seen).1) (ap Ok (sym same))
+  pub copied : (room : Bool) (copy : Value) → room ≡ true → copy ≡ v → CopiesTop room (popped vs) (Ok copy)
+  copied room copy is same = rw is (subst (λ o. CopiesTop true o (Ok copy)) (sym (top_seen vs v seen).1) (ap Ok (sym same)))
 
-  pub not_copied : CopiesTop (popped vs) (Err OutOfMemory)
-  not_copied = subst (λ o. CopiesTop o (Err OutOfMemory)) (sym (top_seen vs v seen).1) (inl (refl, refl))
+  pub not_copied : (room : Bool) → room ≡ true → CopiesTop room (popped vs) (Err OutOfMemory)
+  not_copied room is = rw is (subst (λ o. CopiesTop true o (Err OutOfMemory)) (sym (top_seen vs v seen).1) (inl (refl, refl)))
+
+  pub full_below : (room : Bool) (f : Fault) → f ≡ TooDeep → room ≡ false → CopiesTop room (popped vs) (Err f)
+  full_below room f is full = rw (is, full) (subst (λ o. CopiesTop false o (Err TooDeep)) (sym (top_seen vs v seen).1) refl)

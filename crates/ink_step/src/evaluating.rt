@@ -1,7 +1,8 @@
 //! Values, operators and evaluation mode (docs/RUNNING.md, "Evaluation").
 
-ghost use Rattle.std.specs.Prelude.{ℕ, List, [], Bool, true, false, Option, Some, IfOk, ◌≡◌};
+ghost use Rattle.std.specs.Prelude.{◌&&◌, ℕ, List, [], Bool, true, false, Option, Some, IfOk, ◌≡◌};
 ghost use Rattle.ink_check.specs.Words.{story_tree};
+ghost use Rattle.ink_model.specs.Asks.{has_room};
 ghost use Rattle.ink_model.specs.Memory.{has_top, operator_asks};
 ghost use Rattle.ink_model.specs.Operator.{takes};
 ghost use Rattle.ink_model.specs.Page.{Page};
@@ -16,7 +17,7 @@ ghost use Rattle.ink_model.specs.declared.value.Value.TheVariants as value;
 ghost use Rattle.ink_step.specs.Performs.{Changes, fields};
 ghost use Rattle.ink_tree.specs.Nodes.{place_of};
 
-use crate::operands::{push, top, top_copy};
+use crate::operands::{check_room, push, top, top_copy};
 use ink_check::Story;
 use ink_model::{Fault, Op, Path, Shared, Text, Value};
 use ink_tree::Spot;
@@ -27,7 +28,7 @@ use std::alloc::{AllocError, Global};
 #[inline(always)]
 pub(crate) fn push_value(stack: &mut EvalStack, evaluating: bool, value: Value) -> Result<(), Fault>
     ensures { (fresh : Option ℕ) (page : Page) (globals : Values)
-        → Changes evaluating (push_value value (fields evaluating fresh stack.old.items page globals)) (fields evaluating fresh stack.new.items page globals) result }
+        → Changes (evaluating && has_room stack.old.items) (push_value value (fields evaluating fresh stack.old.items page globals)) (fields evaluating fresh stack.new.items page globals) result }
 {
     if !evaluating {
         return Ok(());
@@ -46,11 +47,12 @@ pub(crate) fn push_target(
 ) -> Result<(), Fault>
     requires { let s = story_tree story.now in at s (place_of s here) ≡ Some (leaf (Target text.now)) }
     ensures { (fresh : Option ℕ) (page : Page) (globals : Values)
-        → Changes evaluating (push_value (value.Target (rules.path_of text.now)) (fields evaluating fresh stack.old.items page globals)) (fields evaluating fresh stack.new.items page globals) result }
+        → Changes (evaluating && has_room stack.old.items) (push_value (value.Target (rules.path_of text.now)) (fields evaluating fresh stack.old.items page globals)) (fields evaluating fresh stack.new.items page globals) result }
 {
     if !evaluating {
         return Ok(());
     }
+    check_room(stack)?;
     let path = path_at(story, here, text)?;
     push(stack, Value::Target(path))
 }
@@ -106,7 +108,7 @@ pub(crate) fn pop(stack: &mut EvalStack) -> Result<(), Fault>
 /// The value on top is pushed again.
 pub(crate) fn duplicate(alloc: Global, stack: &mut EvalStack) -> Result<(), Fault>
     ensures { (evaluating : Bool) (fresh : Option ℕ) (page : Page) (globals : Values)
-        → Changes (has_top (popped stack.old.items)) (duplicate (fields evaluating fresh stack.old.items page globals)) (fields evaluating fresh stack.new.items page globals) result }
+        → Changes (has_top (popped stack.old.items) && has_room stack.old.items) (duplicate (fields evaluating fresh stack.old.items page globals)) (fields evaluating fresh stack.new.items page globals) result }
 {
     let value = top_copy(alloc, stack)?;
     push(stack, value)

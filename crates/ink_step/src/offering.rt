@@ -1,10 +1,10 @@
 //! Choice points (docs/RUNNING.md, "Choices").
 
-ghost use Rattle.std.specs.Prelude.{◌≡◌, ℕ, Bool, true, Option, Some, OnOk};
+ghost use Rattle.std.specs.Prelude.{◌≡◌, ℕ, Bool, Option, Some, OnOk};
 ghost use Rattle.ink_check.specs.Words.{story_tree};
 ghost use Rattle.ink_model.specs.Acceptance.{counted_container, lands};
 ghost use Rattle.ink_model.specs.Frames.{ThreadsOf};
-ghost use Rattle.ink_model.specs.Memory.{offer_asks};
+ghost use Rattle.ink_model.specs.Asks.{has_room, offer_asks};
 ghost use Rattle.ink_model.specs.Page.{Page};
 ghost use Rattle.ink_model.specs.Step.Choices.{is_visited, offer, push_choice_count};
 ghost use Rattle.ink_model.specs.Store.{Values};
@@ -75,7 +75,7 @@ fn was_visited(story: &Story, here: Spot, counts: &Counts) -> bool
 /// How many choices were made is pushed, the invisible ones counted.
 pub(crate) fn push_choice_count(stack: &mut EvalStack, choices: &Choices<Spot>) -> Result<(), Fault>
     ensures { (s : StoryTree) (threads : ThreadsOf Place) (rest : Rest) (evaluating : Bool) (fresh : Option ℕ) (page : Page) (globals : Values)
-        → Changes true (push_choice_count (seen_by s threads (record rest { choices = choices.now })) (fields evaluating fresh stack.old.items page globals)) (fields evaluating fresh stack.new.items page globals) result }
+        → Changes (has_room stack.old.items) (push_choice_count (seen_by s threads (record rest { choices = choices.now })) (fields evaluating fresh stack.old.items page globals)) (fields evaluating fresh stack.new.items page globals) result }
 {
     push(stack, Value::Int(choices.len() as i32))
 }

@@ -1,20 +1,36 @@
 //! Values at the top of the evaluation stack.
 
+ghost use Rattle.std.specs.Prelude.{◌≡◌, true, false, Err, IfErr, OnOk};
+ghost use Rattle.ink_model.specs.Asks.{has_room};
 ghost use Rattle.ink_model.specs.Memory.{Leaves};
 ghost use Rattle.ink_model.specs.Stack.{popped, pushed};
 ghost use Rattle.ink_step.specs.Stacks.{Pops, CopiesTop};
 
-use ink_model::{Fault, Value};
+use ink_model::{Fault, MAX_STACK, Value};
 use ink_value::EvalStack;
 use std::alloc::Global;
 
-/// Puts a value on top. `TooDeep` where there is no room, `OutOfMemory` for a refused request for memory; nothing has changed
-/// then.
+/// Puts a value on top. `TooDeep` where there is no room, which is found before memory is asked for, `OutOfMemory` for a refused
+/// request for memory; nothing has changed then.
 #[inline(always)]
 pub(crate) fn push(stack: &mut EvalStack, value: Value) -> Result<(), Fault>
-    ensures { Leaves (pushed value stack.old.items) stack.old.items stack.new.items result }
+    ensures stack { Leaves (pushed value stack.old.items) stack.old.items stack.new.items result }
+    ensures memory { result ≡ Err Fault.OutOfMemory → has_room stack.old.items ≡ true }
 {
     stack.push(value)
+}
+
+/// `TooDeep` where there is no room for one more value on top. Takes no memory.
+#[inline(always)]
+pub(crate) fn check_room(stack: &EvalStack) -> Result<(), Fault>
+    ensures room { OnOk result (has_room stack.now.items ≡ true) }
+    ensures full { IfErr result (λ f. (f ≡ Fault.TooDeep) × (has_room stack.now.items ≡ false)) }
+{
+    if stack.len() < MAX_STACK {
+        Ok(())
+    } else {
+        Err(Fault::TooDeep)
+    }
 }
 
 /// Takes the value on top, none where the stack is empty.
@@ -27,11 +43,13 @@ pub(crate) fn top(stack: &mut EvalStack) -> Option<Value>
     }
 }
 
-/// A copy of the value on top. `StackEmpty` where there is none; `OutOfMemory` for a refused request for memory.
+/// A copy of the value on top, to be pushed. `StackEmpty` where there is none, `TooDeep` where there is no room for one more;
+/// `OutOfMemory` for a refused request for memory.
 pub(crate) fn top_copy(alloc: Global, stack: &EvalStack) -> Result<Value, Fault>
-    ensures { CopiesTop (popped stack.now.items) result }
+    ensures { CopiesTop (has_room stack.now.items) (popped stack.now.items) result }
 {
     let value = stack.peek(0)?;
+    check_room(stack)?;
     match value.clone_in(alloc) {
         Ok(copy) => Ok(copy),
         Err(_) => Err(Fault::OutOfMemory),

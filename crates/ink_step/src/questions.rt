@@ -1,10 +1,10 @@
 //! Questions for visits and turns (docs/RUNNING.md, "Questions for counts").
 
-ghost use Rattle.std.specs.Prelude.{◌≡◌, ℕ, Bool, true, false, Option, option_map, reverse};
+ghost use Rattle.std.specs.Prelude.{◌≡◌, ◌&&◌, ℕ, Bool, false, Option, option_map, reverse};
 ghost use Rattle.ink_check.specs.Words.{story_tree};
 ghost use Rattle.ink_model.specs.Acceptance.{counted_container, leads};
 ghost use Rattle.ink_model.specs.Frames.{ThreadsOf};
-ghost use Rattle.ink_model.specs.Memory.{visit_asks};
+ghost use Rattle.ink_model.specs.Asks.{has_room, visit_asks};
 ghost use Rattle.ink_model.specs.Page.{Page};
 ghost use Rattle.ink_model.specs.Path.{above};
 ghost use Rattle.ink_model.specs.Stack.{popped};
@@ -39,7 +39,7 @@ pub(crate) fn push_count(
 ) -> Result<(), Fault>
     requires { let s = story_tree story.now in at s (place_of s here) ≡ Some (leaf (Count path.now)) }
     ensures { let s = story_tree story.now in (threads : ThreadsOf Place) (rest : Rest) (evaluating : Bool) (fresh : Option ℕ) (page : Page) (globals : Values)
-        → let seen = seen_by s threads (record rest { counts = counts.now }) in Changes (visit_asks s seen (leads s (place_of s here) path.now))
+        → let seen = seen_by s threads (record rest { counts = counts.now }) in Changes (visit_asks s seen (leads s (place_of s here) path.now) && has_room stack.old.items)
         (push_count s seen (place_of s here) path.now (fields evaluating fresh stack.old.items page globals)) (fields evaluating fresh stack.new.items page globals) result }
 {
     let visits = visits_in(story, counts, counted(story, here))?;
@@ -54,7 +54,7 @@ pub(crate) fn push_visit(
     stack: &mut EvalStack,
 ) -> Result<(), Fault>
     ensures { let s = story_tree story.now in (threads : ThreadsOf Place) (rest : Rest) (evaluating : Bool) (fresh : Option ℕ) (page : Page) (globals : Values)
-        → let seen = seen_by s threads (record rest { counts = counts.now }) in Changes (visit_asks s seen (above (reverse (place_of s here))))
+        → let seen = seen_by s threads (record rest { counts = counts.now }) in Changes (visit_asks s seen (above (reverse (place_of s here))) && has_room stack.old.items)
         (push_visit s seen (place_of s here) (fields evaluating fresh stack.old.items page globals)) (fields evaluating fresh stack.new.items page globals) result }
 {
     let visits = visits_in(story, counts, holder(story, here))?;
@@ -64,7 +64,7 @@ pub(crate) fn push_visit(
 /// The number of the turn is pushed.
 pub(crate) fn push_turn(stack: &mut EvalStack, turn: Turn) -> Result<(), Fault>
     ensures { (s : StoryTree) (threads : ThreadsOf Place) (rest : Rest) (evaluating : Bool) (fresh : Option ℕ) (page : Page) (globals : Values)
-        → Changes true (push_turn s (seen_by s threads (record rest { turn = turn })) (fields evaluating fresh stack.old.items page globals)) (fields evaluating fresh stack.new.items page globals) result }
+        → Changes (has_room stack.old.items) (push_turn s (seen_by s threads (record rest { turn = turn })) (fields evaluating fresh stack.old.items page globals)) (fields evaluating fresh stack.new.items page globals) result }
 {
     push(stack, Value::Int(turn.number() as i32))
 }

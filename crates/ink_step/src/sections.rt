@@ -1,6 +1,7 @@
 //! Strings and tags begin and end (docs/TEXT.md, "Sections").
 
-ghost use Rattle.std.specs.Prelude.{◌≡◌, ℕ, List, Bool, true, Option, Ok, IfErr, if◌then◌else◌};
+ghost use Rattle.std.specs.Prelude.{◌≡◌, ◌&&◌, ◌||◌, ℕ, List, Bool, true, Option, Ok, Err, IfErr, if◌then◌else◌};
+ghost use Rattle.ink_model.specs.Asks.{may_open};
 ghost use Rattle.ink_model.specs.Memory.{Gives, asks_for, leaving};
 ghost use Rattle.ink_model.specs.Output.{closes_string, closes_tag};
 ghost use Rattle.ink_model.specs.Step.Text.{begin_string, begin_tag, closed_tag, end_string, end_tag, in_tag};
@@ -16,7 +17,7 @@ use ink_value::EvalStack;
 /// A string begins in evaluation mode, and its content is written as text.
 pub(crate) fn begin_string(output: &mut Output, evaluating: &mut bool) -> Result<(), Fault>
     ensures { (fresh : Option ℕ) (stack : List Data) (globals : Values)
-        → Changes evaluating.old (begin_string (fields evaluating.old fresh stack output.old.page globals)) (fields evaluating.new fresh stack output.new.page globals) result }
+        → Changes (evaluating.old && may_open output.old.page.sections) (begin_string (fields evaluating.old fresh stack output.old.page globals)) (fields evaluating.new fresh stack output.new.page globals) result }
 {
     if !*evaluating {
         return Err(Fault::BadMode);
@@ -43,7 +44,7 @@ pub(crate) fn end_string(
 /// A tag begins; one that is on top is closed first.
 pub(crate) fn begin_tag(stack: &mut EvalStack, output: &mut Output) -> Result<(), Fault>
     ensures { (evaluating : Bool) (fresh : Option ℕ) (globals : Values)
-        → Changes true (begin_tag (fields evaluating fresh stack.old.items output.old.page globals)) (fields evaluating fresh stack.new.items output.new.page globals) result }
+        → Changes (in_tag output.old.page.sections || may_open output.old.page.sections) (begin_tag (fields evaluating fresh stack.old.items output.old.page globals)) (fields evaluating fresh stack.new.items output.new.page globals) result }
 {
     close_tag_on_top(stack, output)?;
     output.open_tag()
@@ -59,7 +60,8 @@ pub(crate) fn end_tag(stack: &mut EvalStack, output: &mut Output) -> Result<(), 
 
 /// Closes a tag where one is on top, and else does nothing.
 fn close_tag_on_top(stack: &mut EvalStack, output: &mut Output) -> Result<(), Fault>
-    ensures { Gives (leaving (stack.new.items, output.new.page) result) (if in_tag output.old.page.sections then closed_tag stack.old.items output.old.page else Ok (stack.old.items, output.old.page)) }
+    ensures closed { Gives (leaving (stack.new.items, output.new.page) result) (if in_tag output.old.page.sections then closed_tag stack.old.items output.old.page else Ok (stack.old.items, output.old.page)) }
+    ensures memory { result ≡ Err Fault.OutOfMemory → in_tag output.old.page.sections ≡ true }
 {
     match close_tag(stack, output) {
         Err(Fault::BadMode) => Ok(()),

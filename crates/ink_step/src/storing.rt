@@ -1,10 +1,12 @@
 //! Variables are read, declared and assigned (docs/VARIABLES.md).
 
-ghost use Rattle.std.specs.Prelude.{◌≡◌, ◌≤◌, ℕ, Bool, Option, OnOk, is_ok};
+ghost use Rattle.std.specs.Prelude.{◌≡◌, ◌≤◌, ◌&&◌, ℕ, Bool, true, Option, Err, OnOk, is_ok};
+ghost use Rattle.ink_model.specs.Asks.{has_room};
 ghost use Rattle.ink_model.specs.Effect.{Fields, Stores};
 ghost use Rattle.ink_model.specs.Frames.{map_thread};
 ghost use Rattle.ink_model.specs.Page.{Page};
-ghost use Rattle.ink_model.specs.Stack.{popped};
+ghost use Rattle.ink_model.specs.Memory.{Leaves};
+ghost use Rattle.ink_model.specs.Stack.{popped, pushed};
 ghost use Rattle.ink_model.specs.Step.Variables as effects;
 ghost use Rattle.ink_model.specs.Store.{Values};
 ghost use Rattle.ink_model.specs.Threads.{frame_count};
@@ -16,13 +18,13 @@ ghost use Rattle.ink_step.specs.Words.{Rest, seen_by};
 ghost use Rattle.ink_tree.specs.Nodes.{place_of};
 ghost use Rattle.ink_vars.specs.Words.{with_variable, writing_asks};
 
-use crate::operands::{push, top};
+use crate::operands::{check_room, push, top};
 use crate::transfer::{Assignment, Transfer};
 use ink_model::{Fault, Scope, Shared, Text, Value};
 use ink_stack::Threads;
 use ink_tree::Spot;
 use ink_value::EvalStack;
-use ink_vars::{Globals, Variable, assigned, declared, kept, point, read_at};
+use ink_vars::{Globals, Variable, assigned, declared, kept, look, point};
 use std::alloc::Global;
 
 /// What a variable is read as is pushed; its name may have a number. `BadPointer` where the pointer that it holds leads nowhere.
@@ -35,13 +37,24 @@ pub(crate) fn push_variable(
     number: Option<usize>,
 ) -> Result<(), Fault>
     ensures { (s : StoryTree) (rest : Rest) (evaluating : Bool) (fresh : Option ℕ) (page : Page)
-        → let seen = seen_by s threads.now rest in Changes (is_ok (rules.read globals.now seen.thread name.now))
+        → let seen = seen_by s threads.now rest in Changes (is_ok (rules.read globals.now seen.thread name.now) && has_room stack.old.items)
         (effects.push_variable name.now seen (fields evaluating fresh stack.old.items page globals.now)) (fields evaluating fresh stack.new.items page globals.now) result }
 {
-    match read_at(alloc, globals, threads, name.as_str(), number) {
-        Ok(value) => push(stack, value),
+    match look(globals, threads, name.as_str(), number) {
+        Ok(Some(value)) => push_copy(alloc, stack, value),
+        Ok(None) => push(stack, Value::Int(0)),
         Err(fault) => Err(fault),
     }
+}
+
+/// A copy of a value is pushed. `TooDeep` where there is no room, which is found before memory is asked for.
+fn push_copy(alloc: Global, stack: &mut EvalStack, value: &Value) -> Result<(), Fault>
+    ensures stack { Leaves (pushed value.now stack.old.items) stack.old.items stack.new.items result }
+    ensures memory { result ≡ Err Fault.OutOfMemory → has_room stack.old.items ≡ true }
+{
+    check_room(stack)?;
+    let copy = value.clone_in(alloc)?;
+    push(stack, copy)
 }
 
 /// A pointer is pushed in evaluation mode; where its frame is not known, that is found now. Outside evaluation mode nothing is
@@ -55,12 +68,13 @@ pub(crate) fn push_pointer(
     frame: i32,
 ) -> Result<(), Fault>
     ensures { (s : StoryTree) (rest : Rest) (fresh : Option ℕ) (page : Page) (globals : Values)
-        → Changes evaluating (effects.push_pointer name.now frame (seen_by s threads.now rest) (fields evaluating fresh stack.old.items page globals))
+        → Changes (evaluating && has_room stack.old.items) (effects.push_pointer name.now frame (seen_by s threads.now rest) (fields evaluating fresh stack.old.items page globals))
         (fields evaluating fresh stack.new.items page globals) result }
 {
     if !evaluating {
         return Ok(());
     }
+    check_room(stack)?;
     match point(threads, frame, name) {
         Ok(pointer) => push(stack, pointer),
         Err(fault) => Err(fault),

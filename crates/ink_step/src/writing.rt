@@ -1,6 +1,7 @@
 //! Text, newlines and glue are written, or pushed in evaluation mode (docs/TEXT.md).
 
-ghost use Rattle.std.specs.Prelude.{◌≡◌, ℕ, List, Bool, true, false, not, ◌||◌, Option, length};
+ghost use Rattle.std.specs.Prelude.{◌≡◌, ℕ, List, Bool, not, Option, if◌then◌else◌, length};
+ghost use Rattle.ink_model.specs.Asks.{has_bytes, has_room};
 ghost use Rattle.ink_model.specs.Effect.{is_fresh_at};
 ghost use Rattle.ink_model.specs.Memory.{output_asks};
 ghost use Rattle.ink_model.specs.Stack.{popped};
@@ -10,7 +11,7 @@ ghost use Rattle.ink_model.specs.Store.{Values};
 ghost use Rattle.ink_model.specs.declared.value.Value.{Value as Data};
 ghost use Rattle.ink_step.specs.Performs.{Changes, Writes, fields};
 
-use crate::operands::{push, top};
+use crate::operands::{check_room, push, top};
 use ink_model::{Fault, Shared, Text, Value};
 use ink_out::Output;
 use ink_value::EvalStack;
@@ -26,14 +27,14 @@ pub(crate) fn write_text(
     fresh: Option<usize>,
     text: &Shared<Text>,
 ) -> Result<bool, Fault>
-    ensures { (globals : Values) → Writes true (write_text text.now (fields evaluating fresh stack.old.items output.old.page globals)) (fields evaluating fresh stack.new.items output.new.page globals) result }
+    ensures { (globals : Values) → Writes (if evaluating then has_room stack.old.items else has_bytes text.now) (write_text text.now (fields evaluating fresh stack.old.items output.old.page globals)) (fields evaluating fresh stack.new.items output.new.page globals) result }
 {
-    let value = Value::Text(text.share()?);
     if evaluating {
-        push(stack, value)?;
+        check_room(stack)?;
+        push(stack, Value::Text(text.share()?))?;
         return Ok(false);
     }
-    output.write(&value, is_fresh(output, fresh))
+    output.write_text(text, is_fresh(output, fresh))
 }
 
 /// A newline is pushed in evaluation mode, and written outside it.
@@ -45,9 +46,10 @@ pub(crate) fn write_newline(
     evaluating: bool,
     fresh: Option<usize>,
 ) -> Result<(), Fault>
-    ensures { (globals : Values) → Changes (evaluating || not (is_fresh_at fresh (length output.old.page.sections))) (write_newline (fields evaluating fresh stack.old.items output.old.page globals)) (fields evaluating fresh stack.new.items output.new.page globals) result }
+    ensures { (globals : Values) → Changes (if evaluating then has_room stack.old.items else not (is_fresh_at fresh (length output.old.page.sections))) (write_newline (fields evaluating fresh stack.old.items output.old.page globals)) (fields evaluating fresh stack.new.items output.new.page globals) result }
 {
     if evaluating {
+        check_room(stack)?;
         let text = Text::from_str(alloc, "\n")?;
         return push(stack, Value::Text(Shared::new(alloc, text)?));
     }

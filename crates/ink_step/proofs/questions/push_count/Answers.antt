@@ -35,5 +35,5 @@ returns c threads rest evaluating fresh page globals =
     let old = c.args.stack.now.items in
     let new = c.push.new.stack.items in
     let z = c.in_ok-visits.visits in
-    let pushes : Leaves (pushed (value.Int z) old) old new c.push.result = search rules in
-    visits_pushed s seen (λ r. r) (λ f. refl) evaluating fresh page globals old new (leads s p c.args.path.now) z z (c.in_ok-visits.ensures ∙ ap (visits_in s seen.counts) (there (goal.at.returns c).After-counted)) refl c.push.result pushes
+    let pushes : Leaves (pushed (value.Int z) old) old new c.push.result = search (rules, c.push.ensures.stack) in
+    visits_pushed s seen (λ r. r) (λ f. refl) evaluating fresh page globals old new (leads s p c.args.path.now) z z (c.in_ok-visits.ensures ∙ ap (visits_in s seen.counts) (there (goal.at.returns c).After-counted)) refl c.push.result pushes c.push.ensures.memory

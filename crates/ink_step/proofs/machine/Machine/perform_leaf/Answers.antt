@@ -16,7 +16,7 @@ use Rattle.ink_step.specs.declared.machine.Machine.{Machine}
 use Rattle.ink_step.specs.declared.transfer.Transfer.{Transfer}
 use Rattle.ink_step.proofs.Landings.{leaf_landing}
 use Rattle.ink_step.proofs.Stored.{fields_kept}
-use Rattle.ink_step.proofs.Unstored.{control_keeps, when_ok}
+use Rattle.ink_step.proofs.Unasked.{control_keeps, when_ok}
 use Rattle.ink_step.proofs.machine.Machine.perform_leaf.Goals as goal
 use Rattle.ink_tree.specs.Nodes.{place_of}
 use Rattle.ink_tree.specs.declared.spot.Spot.{Spot}
