@@ -1,12 +1,13 @@
 -- What performing does where a call of it fails.
 use Rattle.std.proofs.Common.{◌≡◌, ap, sym, refl, subst, inl, inr, List, Result, Ok, Err, Bool, true}
-use Rattle.ink_model.specs.Effect.{Fields, Effect, Moves, Fails, or_fault}
+use Rattle.ink_model.specs.Effect.{Fields, Effect, Moves, Stores, Fails, or_fault}
 use Rattle.ink_model.specs.Memory.{Gives, Leaves, asks_for}
 use Rattle.ink_model.specs.Tree.{StoryTree}
 use Rattle.ink_model.specs.declared.fault.Fault.{Fault}
 use Rattle.ink_model.specs.declared.fault.Fault.TheVariants.{OutOfMemory}
 use Rattle.ink_model.specs.declared.value.Value.{Value}
 use Rattle.ink_step.specs.Performs.{Changes, Performs}
+use Rattle.ink_step.specs.declared.transfer.Transfer.{Transfer}
 use Rattle.ink_step.specs.declared.transfer.Transfer.TheVariants as transfer
 
 module _ (s : StoryTree) (asks : Bool) (new : Fields) where
@@ -31,3 +32,10 @@ operated asks rule with old new (Err f) h a s = elim h.0 [
   | inl oom ↦ subst (λ g. Performs s asks (or_fault rule (λ vs. Moves (with vs))) (with new) (Err g)) (sym oom.0) (short s asks (with new) _ (a (ap Err oom.0)))
   | inr is ↦ subst (λ r. Performs s asks (or_fault r (λ vs. Moves (with vs))) (with new) (Err f)) (sym is) (inl refl)
 ]
+
+-- where memory may be refused it may be so where less is asked for
+pub performs_more : (s : StoryTree) (asks : Bool) (e : Effect) (new : Fields) (r : Result Transfer Fault) → Performs s asks e new r → Performs s true e new r
+performs_more s asks (Fails g) new (Err f) h = elim h [ inl is ↦ inl is | inr refused ↦ inr (refused.0, refl) ]
+performs_more s asks (Stores t f) new (Ok (transfer.Store a)) h = (h.0, refl)
+performs_more s asks e new (Err f) h = (h.0, refl)
+performs_more s asks e new r h = h
