@@ -17,7 +17,7 @@ use Rattle.ink_model.specs.Clean.{clean}
 use Rattle.ink_model.specs.Configuration.{Configuration, with_globals, start, fresh_at, ended, with_safe, put_at, moved, settled, begun, can_go_on}
 use Rattle.ink_model.specs.Effect.{with_mode, with_page, with_stack}
 use Rattle.ink_model.specs.Step.{Bound, Faults, step, nothing_bound, Next, Stop}
-use Rattle.ink_model.specs.Run.{Made, Moment, moment, next, run, through, cut_off, answered, At, Stopped}
+use Rattle.ink_model.specs.Run.{Kept, Made, Moment, moment, next, run, through, cut_off, answered, At, Stopped}
 use Rattle.ink_model.specs.Command.{lines_of, command_of}
 use Rattle.ink_model.specs.Answer.{answer, Tells, Acts, Shows, Refuses, Breaks}
 use Rattle.ink_model.specs.Bytes.{fits_text}
@@ -25,7 +25,8 @@ use Rattle.ink_model.specs.declared.limits.TheConstants.{MAX_STACK}
 use Rattle.ink_model.specs.Effect.{Fields}
 use Rattle.ink_model.specs.Host.{no_objects}
 use Rattle.ink_model.specs.Memory.{GetsTo, asks}
-use Rattle.ink_model.specs.Session.{Session, Serves, Set, Get, Restart, passage}
+use Rattle.ink_model.specs.Passage.{passage}
+use Rattle.ink_model.specs.Session.{Session, Serves, Set, Get, Restart}
 use Rattle.ink_model.specs.State.{State, Ready, Broken}
 use Rattle.ink_model.specs.Opening.{opened, opened_by, opening}
 use Rattle.ink_model.specs.Store.{store}
@@ -298,7 +299,7 @@ a_whole_session = (
   [],
   [],
   refl,
-  rw through_line (inl ([], inl (rw small_through (refl, record { all = true; saw = []; telling = record { answers = []; one_each = refl; events = refl; all_told = refl }; events = refl; replies = refl; leaves = refl })))),
+  rw through_line (inl ([], inl (Kept small_end, rw small_through refl, inl (record { all = true; saw = []; telling = record { answers = []; one_each = refl; events = refl; all_told = refl }; events = refl; replies = refl; leaves = refl })))),
   rw a_told_answer refl,
   a_stopped_session (settled small_end) refl,
 )

@@ -52,6 +52,7 @@ pub mod Asks
 pub mod Memory
 pub mod Changed
 pub mod Turns
+pub mod Passage
 pub mod Session
 pub mod PathExamples
 pub mod StoryExamples

@@ -1,19 +1,23 @@
 -- Where memory may be refused, and what is answered then (docs/RUNNING.md, "Out of memory").
-use Rattle.std.specs.Prelude.{◌≡◌, ◌<◌, ◌≤◌, ◌⊎◌, ℕ, List, [], ◌∷◌, ◌++◌, Bool, true, false, Some, Result, Ok, Err, OnErr}
+use Rattle.std.specs.Prelude.{◌≡◌, ◌<◌, ◌⊎◌, ℕ, List, [], ◌∷◌, ◌++◌, length, nat_lt, Bool, true, false, not, ◌&&◌, ◌||◌, Option, Some, None, Result, Ok, Err, OnErr}
 unfoldable pub use Rattle.ink_model.specs.Asks.{asks, asks_at, asks_for, content_asks, control_asks, going_in_asks, has_top, is_found_late, leaf_asks, offer_asks, operator_asks, output_asks, stopping_asks, visit_asks}
 use Rattle.ink_model.specs.Tree.{StoryTree}
+use Rattle.ink_model.specs.Choices.{has_any}
+use Rattle.ink_model.specs.Choosing.{following_asks}
 use Rattle.ink_model.specs.Configuration.{Configuration, begun}
 use Rattle.ink_model.specs.Effect.{Fields}
-use Rattle.ink_model.specs.Host.{Bound, nothing_bound}
-use Rattle.ink_model.specs.Run.{At, Stopped, Made, answers_of, moment}
-use Rattle.ink_model.specs.Move.{Wants}
+use Rattle.ink_model.specs.Host.{Bound, nothing_bound, value_given}
+use Rattle.ink_model.specs.Run.{At, Made, answers_of, moment}
+use Rattle.ink_model.specs.Move.{Wants, move}
+use Rattle.ink_model.specs.MoveMemory.{move_asks}
 use Rattle.ink_model.specs.Opening.{declaring}
 use Rattle.ink_model.specs.Step.{step}
+use Rattle.ink_model.specs.Step.Host.{answering}
 use Rattle.ink_model.specs.Store.{Values}
 use Rattle.ink_model.specs.declared.fault.Fault.{Fault}
 use Rattle.ink_model.specs.declared.fault.Fault.TheVariants.{OutOfMemory}
 use Rattle.ink_model.specs.declared.host.Given.{Given}
-use Rattle.ink_model.specs.declared.limits.TheConstants.{MAX_STEPS}
+use Rattle.ink_model.specs.declared.limits.TheConstants.{MAX_STACK, MAX_STEPS}
 use Rattle.ink_model.specs.declared.value.Value.{Value}
 use Rattle.ink_model.specs.declared.value.Value.TheVariants as value
 
@@ -54,6 +58,18 @@ holds_memory (value.Pointer i n) = true
 holds_memory value.Void = false
 holds_memory (value.Tag t) = true
 
+-- ---- answered calls
+
+-- What was given asks for memory: for a copy of it, or where it takes the place of no argument and there is room for it.
+abbrev pub given_asks : List Value → Fields → Option Given → Bool
+given_asks arguments f None = false
+given_asks arguments f (Some g) = holds_memory (value_given g) || (not (has_any arguments) && nat_lt (length f.stack) MAX_STACK)
+
+-- the answer of a wanted call asks for memory, or where flow goes after it
+abbrev pub answered_asks : StoryTree → List Value → Fields → Configuration → Option Given → Bool
+answered_asks s arguments f c gave =
+    (given_asks arguments f gave || move_asks s (answering gave f) c) || following_asks s (move s (answering gave f) c)
+
 -- ---- runs
 
 -- A run got to a configuration whose step asks for memory, within the steps of a command.
@@ -63,8 +79,8 @@ pub record GetsTo (s : StoryTree) (b : Bound) (c : Configuration) (made : List M
   pub got_there : moment s b c (answers_of made) steps ≡ At reached [] made
   pub asking : asks s b reached ≡ true
 
--- A run got to a configuration whose step called a turn function, and memory was refused for what came of the answer. That call
--- is the last of those made.
+-- A run got to a configuration whose step called a turn function, whose answer asks for memory. That call is the last of those
+-- made.
 pub record CallsAt (s : StoryTree) (b : Bound) (c : Configuration) (made : List Made) (reached : Configuration) : Type 0 where
   pub steps : ℕ
   pub within : steps < MAX_STEPS
@@ -77,18 +93,13 @@ pub record CallsAt (s : StoryTree) (b : Bound) (c : Configuration) (made : List 
   pub calling : Configuration
   pub wants : step s b reached ≡ Wants name arguments fields calling
   pub calls : made ≡ before ++ (record { name = name; arguments = arguments; gave = Some given }) ∷ []
+  pub asking : answered_asks s arguments fields calling (Some given) ≡ true
 
--- A run stopped: its passage is made in memory, and what watchers are told.
-pub record StopsAt (s : StoryTree) (b : Bound) (c : Configuration) (made : List Made) (reached : Configuration) : Type 0 where
-  pub steps : ℕ
-  pub within : steps ≤ MAX_STEPS
-  pub got_there : moment s b c (answers_of made) steps ≡ Stopped reached [] made
-
--- The run of a command, with these calls made, got as far as some moment of it, where memory was refused and the globals had these
--- values.
+-- The run of a command, with these calls made, got as far as a step of it for which memory was refused, before which the globals had
+-- these values.
 pub record FallsShort (s : StoryTree) (b : Bound) (c : Configuration) (made : List Made) (globals : Values) : Type 0 where
   pub reached : Configuration
-  pub got_there : GetsTo s b (begun c) made reached ⊎ (CallsAt s b (begun c) made reached ⊎ StopsAt s b (begun c) made reached)
+  pub got_there : GetsTo s b (begun c) made reached ⊎ CallsAt s b (begun c) made reached
   pub leaves : globals ≡ reached.shared.globals
 
 -- the run of a story's declarations got to a step that asks for memory

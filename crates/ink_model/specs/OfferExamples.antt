@@ -15,7 +15,7 @@ use Rattle.ink_model.specs.ChoiceStories.{choice_by, choices_in, offers, shown_a
 use Rattle.ink_model.specs.Configuration.{Configuration, with_counts}
 use Rattle.ink_model.specs.CountStories.{evaluates, flagged, knot, target_of, with_knot}
 use Rattle.ink_model.specs.Run.{Moment}
-use Rattle.ink_model.specs.Session.{is_loose}
+use Rattle.ink_model.specs.Passage.{is_loose}
 use Rattle.ink_model.specs.Threads.{alone}
 use Rattle.ink_model.specs.Tree.{StoryTree, leaf, container, key, no_keys}
 use Rattle.ink_model.specs.View.{trees_of}

@@ -1,5 +1,5 @@
 -- A forward run, by its moments (docs/RUNNING.md, "Runs").
-use Rattle.std.specs.Prelude.{ℕ, zero, suc, List, [], ◌∷◌, ◌++◌, Option}
+use Rattle.std.specs.Prelude.{◌≡◌, ℕ, zero, suc, List, [], ◌∷◌, ◌++◌, Option, Some, None}
 use Rattle.ink_model.specs.declared.limits.TheConstants.{MAX_STEPS}
 pub use Rattle.ink_model.specs.Events.{Made, answers_of}
 use Rattle.ink_model.specs.Host.{Bound}
@@ -10,6 +10,7 @@ use Rattle.ink_model.specs.Configuration.{Configuration, begun}
 use Rattle.ink_model.specs.Effect.{Fields}
 use Rattle.ink_model.specs.Move.{Outcome, Next, Stop, Wants, Faults, move}
 use Rattle.ink_model.specs.Step.{Bound, step}
+use Rattle.ink_model.specs.Store.{Values}
 use Rattle.ink_model.specs.declared.fault.Fault.{Fault}
 use Rattle.ink_model.specs.declared.fault.Fault.TheVariants.{OutOfSteps}
 use Rattle.ink_model.specs.declared.host.Given.{Given}
@@ -64,3 +65,20 @@ cut_off (Waits name made) = Waits name made
 -- the run of a command to its end
 abbrev pub through : StoryTree → Bound → Configuration → List (Option Given) → Moment
 through s b c answers = cut_off (moment s b (begun c) answers MAX_STEPS)
+
+-- ---- ends
+
+-- How a running command ends: with the configuration that is kept, or with a fault, of which the globals stay.
+pub data RunEnd : Type 0 where
+  Kept : (configuration : Configuration) → RunEnd
+  Broke : (fault : Fault) → (globals : Values) → RunEnd
+
+-- the end of a run that used all its answers, with the calls that it made; none where it goes on or waits
+abbrev pub end_of : Moment → Option (RunEnd × List Made)
+end_of (Stopped c [] made) = Some (Kept c, made)
+end_of (Faulted f c [] made) = Some (Broke f c.shared.globals, made)
+end_of m = None
+
+-- `through`, with these calls made, ends so
+abbrev pub EndsThrough : StoryTree → Bound → Configuration → List Made → RunEnd → Type 0
+EndsThrough s b c made end = end_of (through s b c (answers_of made)) ≡ Some (end, made)

@@ -1,14 +1,13 @@
 -- What a player answers to command lines (docs/PROTOCOL.md, "Sessions").
-use Rattle.std.specs.Prelude.{is_some, Result, Ok, Err, ◌≡◌, ◌≢◌, ℕ, ℤ, List, [], ◌∷◌, ◌++◌, Bool, true, false, not, ◌&&◌, ◌⊎◌, Option, Some, None, MatchBool}
+use Rattle.std.specs.Prelude.{is_some, Result, Ok, Err, ◌≡◌, ◌≢◌, ℕ, ℤ, List, [], ◌∷◌, ◌++◌, Bool, true, false, ◌||◌, ◌⊎◌, Option, Some, None, MatchBool}
 use Rattle.ink_model.specs.Bytes.{fits_text}
 use Rattle.ink_model.specs.Tree.{StoryTree}
-use Rattle.ink_model.specs.Mark.{tags}
-use Rattle.ink_model.specs.Shown.{shown_text}
-use Rattle.ink_model.specs.Clean.{clean}
-use Rattle.ink_model.specs.Configuration.{Configuration, ChoiceOf, can_go_on, settled, with_globals}
+use Rattle.ink_model.specs.Choices.{has_any}
+use Rattle.ink_model.specs.Configuration.{Configuration, can_go_on, settled, with_globals}
 use Rattle.ink_model.specs.Events.{calls, later}
 use Rattle.ink_model.specs.Host.{Bindings, value_given}
-use Rattle.ink_model.specs.Run.{Made, answers_of, Moment, Stopped, Faulted, through}
+use Rattle.ink_model.specs.Passage.{passage, passage_asks}
+use Rattle.ink_model.specs.Run.{Made, RunEnd, Kept, Broke, EndsThrough}
 use Rattle.ink_model.specs.Memory.{FallsShort, OpensShort, holds_memory}
 pub use Rattle.ink_model.specs.Changed.{FailsAllocation, Keeps}
 use Rattle.ink_model.specs.Command.{command_of, NeedsMemory}
@@ -17,7 +16,7 @@ use Rattle.ink_model.specs.State.{State, Condition, Ready, Broken, globals_of}
 use Rattle.ink_model.specs.Store.{Values, stored, store}
 use Rattle.ink_model.specs.Told.{ToldAs, told}
 use Rattle.ink_model.specs.Opening.{opening, Unopened}
-use Rattle.ink_model.specs.Turns.{Choose, Jump, open_choices}
+use Rattle.ink_model.specs.Turns.{Choose, Jump}
 use Rattle.ink_model.specs.Visits.{visits_by}
 use Rattle.ink_model.specs.declared.command.Command.{Command}
 use Rattle.ink_model.specs.declared.command.Command.TheVariants as command
@@ -29,29 +28,6 @@ use Rattle.ink_model.specs.declared.host.Event.{Event}
 use Rattle.ink_model.specs.declared.host.Given.{Given}
 use Rattle.ink_model.specs.declared.host.Given.TheVariants as given
 use Rattle.ink_model.specs.declared.value.Value.{Value}
-use Rattle.ink_model.specs.declared.passage.Passage.{Passage}
-use Rattle.ink_model.specs.declared.place.Part.{Part}
-
--- ---- passages
-
-abbrev pub has_none : List (ChoiceOf (List Part)) → Bool
-has_none [] = true
-has_none (choice ∷ choices) = false
-
--- flow has stopped, with no choice of any kind, and neither `done` nor `end` stopped it
-abbrev pub is_loose : Configuration → Bool
-is_loose c = not (can_go_on c) && (has_none c.flow.choices && not c.flow.safe)
-
--- what a running command answers of the configuration in which it ends
-unfoldable pub passage : Configuration → Passage
-passage c = record {
-  text = clean (shown_text c.page.line);
-  tags = tags c.page.line;
-  choices = open_choices c;
-  events = [];
-  more = can_go_on c;
-  loose = is_loose c;
-}
 
 -- ---- telling, and faults
 
@@ -92,19 +68,23 @@ BreaksBy f globals before es old reply new = (es ≡ before) × (reply ≡ Break
 abbrev pub telling : Configuration → List Event → Reply
 telling c es = Tells (record (passage c) { events = es })
 
--- The end of a run, with the answers of all calls that were made used, has these events, gives this reply and leaves this. The
--- globals had these values at its start.
-abbrev pub EndsAs : Bindings → Values → Moment → List Made → List Event → State → Reply → State → Type 0
-EndsAs h start (Stopped c [] calls_made) made es old reply new = (calls_made ≡ made)
-    × TellsDone (told h.watches start c.shared.globals) (Ready (settled c)) (telling c) (calls old.stamp made) es old reply new
-EndsAs h start (Faulted f c [] calls_made) made es old reply new = (calls_made ≡ made)
-    × BreaksBy f c.shared.globals (calls old.stamp made) es old reply new
-EndsAs h start m made es old reply new = ⊥
+-- memory is asked for at the end of a running command, which began with these globals: for the passage, or to tell of something
+abbrev pub ending_asks : Bindings → Values → Configuration → Bool
+ending_asks h start c = passage_asks c || has_any (told h.watches start c.shared.globals)
+
+-- The end of a running command, which made these calls, has these events, gives this reply and leaves this. The globals had these
+-- values at its start. Where memory is refused for the passage or for telling, nobody is told, and the globals stay.
+abbrev pub EndsAs : Bindings → Values → RunEnd → List Made → List Event → State → Reply → State → Type 0
+EndsAs h start (Kept c) made es old reply new =
+    TellsDone (told h.watches start c.shared.globals) (Ready (settled c)) (telling c) (calls old.stamp made) es old reply new
+    ⊎ ((ending_asks h start c ≡ true) × BreaksBy OutOfMemory c.shared.globals (calls old.stamp made) es old reply new)
+EndsAs h start (Broke f globals) made es old reply new = BreaksBy f globals (calls old.stamp made) es old reply new
 
 -- From a configuration in which flow has not stopped: the end of the run under the answers of the calls that were made. Only
 -- where memory was refused it may fall short of that.
 abbrev pub RunsThrough : StoryTree → Bindings → Configuration → List Made → List Event → State → Reply → State → Type 0
-RunsThrough s h c made es old reply new = EndsAs h c.shared.globals (through s h.functions c (answers_of made)) made es old reply new
+RunsThrough s h c made es old reply new =
+    ((end : RunEnd) × EndsThrough s h.functions c made end × EndsAs h c.shared.globals end made es old reply new)
     ⊎ ((globals : Values) × FallsShort s h.functions c made globals × BreaksBy OutOfMemory globals (calls old.stamp made) es old reply new)
 
 abbrev pub ThroughFrom : StoryTree → Bindings → List Event → Condition → State → Reply → State → Type 0

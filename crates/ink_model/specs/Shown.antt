@@ -61,6 +61,10 @@ some (Text t ∷ before) after = true
 some (Blank t ∷ before) after = blank_shown before after || some before (Blank t ∷ after)
 some (m ∷ before) after = some before (m ∷ after)
 
+-- some Text or Blank is shown
+abbrev pub shows_text : List Mark → Bool
+shows_text ms = some (reverse ms) []
+
 -- ---- newlines
 
 -- neither glue nor a function's end hides a Newline that stands here

@@ -18,8 +18,9 @@ use Rattle.ink_model.specs.Examples.{an_opening, declaring, stays, through_line}
 use Rattle.ink_model.specs.Host.{Bindings}
 use Rattle.ink_model.specs.HostExamples.{external, host}
 use Rattle.ink_model.specs.Place.{entered, next_place}
-use Rattle.ink_model.specs.Run.{Made, Stopped, cut_off, moment, run, through}
-use Rattle.ink_model.specs.Session.{Restart, Serves, Session, Set, passage, telling}
+use Rattle.ink_model.specs.Run.{Kept, Made, Stopped, cut_off, moment, run, through}
+use Rattle.ink_model.specs.Passage.{passage}
+use Rattle.ink_model.specs.Session.{Restart, Serves, Session, Set, telling}
 use Rattle.ink_model.specs.State.{State, Broken, Ready}
 use Rattle.ink_model.specs.Step.{step}
 use Rattle.ink_model.specs.Store.{Values, store}
@@ -248,17 +249,18 @@ call_and_change = (
   refl,
   rw through_line (inl (
     one_call,
-    inl (rw rolling_through (
-      refl,
-      record {
+    inl (
+      Kept rolling_end,
+      rw rolling_through refl,
+      inl (record {
         all = true;
         saw = event.Saw (codes "a") 1 (value.Text (codes "six")) ∷ [];
         telling = record { answers = true ∷ []; one_each = refl; events = refl; all_told = refl };
         events = refl;
         replies = refl;
         leaves = refl;
-      },
-    )),
+      }),
+    ),
   )),
   refl,
   (refl, refl, refl),
@@ -283,6 +285,7 @@ after_the_call = record {
   calling = moved_to_the_call;
   wants = refl;
   calls = refl;
+  asking = refl;
 }
 
 abbrev out_of_memory : State
@@ -298,7 +301,7 @@ short_of_memory = (
   calls 0 one_call,
   [],
   refl,
-  rw through_line (inl (one_call, inr (no, record { reached = moved_to_the_call; got_there = inr (inl after_the_call); leaves = refl }, (refl, refl, refl)))),
+  rw through_line (inl (one_call, inr (no, record { reached = moved_to_the_call; got_there = inr after_the_call; leaves = refl }, (refl, refl, refl)))),
   refl,
   (refl, refl, refl),
 )

@@ -15,7 +15,8 @@ use Rattle.ink_model.specs.Entered.{entered_places}
 use Rattle.ink_model.specs.Frames.{base_threads}
 use Rattle.ink_model.specs.Path.{read_path, target}
 use Rattle.ink_model.specs.Place.{landed}
-use Rattle.ink_model.specs.Session.{Serves, Session, passage}
+use Rattle.ink_model.specs.Passage.{passage}
+use Rattle.ink_model.specs.Session.{Serves, Session}
 use Rattle.ink_model.specs.State.{State, Broken, Ready}
 use Rattle.ink_model.specs.Host.{no_objects}
 use Rattle.ink_model.specs.Tree.{StoryTree}

@@ -1,13 +1,16 @@
 -- What a section answers at once, from what is known of its marks.
-use Rattle.std.proofs.Common.{◌≡◌, ℕ, Bool, true, false, ◌||◌, eqb, List, [], ◌∷◌, drop, reverse, None, Some, refl, sym, ap, ◌∙◌, subst}
+use Rattle.std.proofs.Common.{◌≡◌, ℕ, Bool, true, false, not, ◌&&◌, ◌||◌, eqb, List, [], ◌∷◌, ◌++◌, drop, if◌then◌else◌, is_some, reverse, Option, None, Some, refl, sym, ap, ◌∙◌, subst}
 use Rattle.std.proofs.lemmas.Bool.{or_left, eq-eqb, ne_eqb}
 use Rattle.std.proofs.lemmas.List.{reverse-reverse}
-use Rattle.ink_model.specs.Shown.{newlines_before, is_among, open_newline, has_more, more_from, is_shown}
+use Rattle.ink_model.specs.Clean.{clean}
+use Rattle.ink_model.specs.Shown.{blank_shown, clear, ends, newlines_before, is_among, open_newline, has_more, more_from, is_shown, shown_text, shows_text, some, text_before}
 use Rattle.ink_model.specs.declared.mark.Mark.{Mark}
+use Rattle.ink_model.specs.declared.mark.Mark.TheVariants.{Text, Blank, Newline}
+use Rattle.ink_out.specs.declared.tracker.First.{First}
 use Rattle.ink_out.specs.declared.tracker.Tracker.{Tracker}
 use Rattle.ink_out.specs.declared.tracker.Waiting.{Waiting}
 use Rattle.ink_out.specs.declared.state.State.{State}
-use Rattle.ink_out.specs.Tracks.{waits, Tracks, Fits, FitsNewline}
+use Rattle.ink_out.specs.Tracks.{stays, waits, Tracks, Fits, FitsNewline}
 use Rattle.ink_out.specs.Stands.{Stands, is_past}
 use Rattle.ink_out.proofs.Tracking.{hidden_now}
 use Rattle.ink_out.proofs.Opens.{more_is, opens_there, open_none, open_followed}
@@ -47,3 +50,38 @@ shown_other marks settled s w i is other h =
 -- none waits
 pub shown_none : (marks : List Mark) (settled : List ℕ) (s : State) (i : ℕ) → s.tracker.newline ≡ None → Stands (reverse marks) settled s → is_among i settled ≡ is_shown marks i
 shown_none marks settled s i is h = sym (ap (is_among i) (h.tracks.newlines [] ∙ rw is refl))
+
+-- ---- whether a text is shown
+
+stays_now : (before : List Mark) (first : Option First) → stays before first [] ≡ is_some first
+stays_now before None = refl
+stays_now before (Some b) = by b.broken
+  where
+    by : (x : Bool) → not (false || (x && false)) ≡ true
+    by true = refl
+    by false = refl
+
+pub shows_of : (marks : List Mark) (settled : List ℕ) (s : State) → Stands (reverse marks) settled s → (s.tracker.text || is_some s.tracker.blank) ≡ shows_text marks
+shows_of marks settled s h = sym (h.tracks.some [] ∙ ap (λ b. s.tracker.text || b) (stays_now (reverse marks) s.tracker.blank))
+
+-- where neither a text nor a blank is shown, nothing is
+nothing_before : (before after : List Mark) → some before after ≡ false → text_before before after ≡ []
+nothing_before [] after h = refl
+nothing_before (Text t ∷ before) after h = absurd (cc)
+nothing_before (Blank t ∷ before) after h = by (blank_shown before after) h (nothing_before before (Blank t ∷ after))
+  where
+    by : (b : Bool) → b || some before (Blank t ∷ after) ≡ false → (some before (Blank t ∷ after) ≡ false → text_before before (Blank t ∷ after) ≡ [])
+        → text_before before (Blank t ∷ after) ++ (if b then t else []) ≡ []
+    by true k on = absurd (cc)
+    by false k on = ap (λ text. text ++ []) (on k)
+nothing_before (Newline ∷ before) after h = rw (nothing_before before (Newline ∷ after) h) (unshown _ (clear before after) (some before (Newline ∷ after)) h)
+  where
+    unshown : (text : List ℕ) (c x : Bool) → x ≡ false → (if c && (x && not (ends before (Newline ∷ after))) then text else []) ≡ []
+    unshown text true true k = absurd (cc)
+    unshown text true false k = refl
+    unshown text false x k = refl
+nothing_before (m ∷ before) after h = ap (λ text. text ++ []) (nothing_before before (m ∷ after) h)
+
+pub nothing_shown : (marks : List Mark) → shows_text marks ≡ false → [] ≡ clean (shown_text marks)
+unfolding clean
+nothing_shown marks h = sym (ap clean (nothing_before (reverse marks) [] h))

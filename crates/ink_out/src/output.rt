@@ -1,6 +1,6 @@
 //! The text being written (docs/TEXT.md, "Sections").
 
-ghost use Rattle.std.specs.Prelude.{◌≡◌, ◌<◌, ◌≤◌, [], ◌∷◌, length, map, reverse, ◌≢◌, IfErr, IfOk, IsOk, IsTrue};
+ghost use Rattle.std.specs.Prelude.{◌≡◌, ◌<◌, ◌≤◌, [], ◌∷◌, length, map, reverse, true, ◌≢◌, IfErr, IfOk, IsOk, IsTrue, OnErr};
 ghost use Rattle.std.specs.List.{list_any};
 ghost use Rattle.ink_model.specs.Clean.{clean};
 ghost use Rattle.ink_model.specs.Configuration.{string_section, tag_section};
@@ -8,7 +8,7 @@ ghost use Rattle.ink_model.specs.Mark.{cut, piece, tags};
 ghost use Rattle.ink_model.specs.Memory.{Gives, Hands, Leaves};
 ghost use Rattle.ink_model.specs.Output.{writes_marks, writes_value, writes_text, writes_newline, writes_glue, begins_function, ends_function, opens, closes_string, closes_tag, prints_text, ends_line, empty_page, is_string, is_text, kept_text, let_through};
 ghost use Rattle.ink_model.specs.declared.limits.TheConstants.{MAX_MARKS};
-ghost use Rattle.ink_model.specs.Shown.{shown_text, is_shown, open_newline, more_from};
+ghost use Rattle.ink_model.specs.Shown.{shown_text, shows_text, is_shown, open_newline, more_from};
 ghost use Rattle.ink_model.specs.Step.Host as host;
 ghost use Rattle.ink_model.specs.Value.{printed};
 ghost use Rattle.ink_out.specs.Cutting.{piece_mark};
@@ -292,11 +292,11 @@ impl Output {
         self.line.more_from(index)
     }
 
-    /// The line's text, cleaned (docs/TEXT.md, "Cleaning"). The one error is a refused request for memory, which is never
-    /// made where the line has no marks.
+    /// The line's text, cleaned (docs/TEXT.md, "Cleaning"). The one error is a refused request for memory, which is made only
+    /// where a text or a blank is shown.
     pub fn text(&self) -> Result<Text, AllocError>
         ensures text { IfOk result (λ text. text ≡ clean (shown_text self.now.page.line)) }
-        ensures empty { self.now.page.line ≡ [] → IsOk result }
+        ensures memory { OnErr result (shows_text self.now.page.line ≡ true) }
     {
         self.line.text(self.alloc)
     }

@@ -1,9 +1,9 @@
 //! A section of marks.
 
-ghost use Rattle.std.specs.Prelude.{◌≡◌, ◌≤◌, ◌+◌, [], ◌∷◌, ◌++◌, length, map, vec_len, vec_capacity, IfOk, IsOk, OnOk, OnErr};
+ghost use Rattle.std.specs.Prelude.{◌≡◌, ◌≤◌, ◌+◌, [], ◌∷◌, ◌++◌, length, map, true, vec_len, vec_capacity, IfOk, IsOk, OnOk, OnErr};
 ghost use Rattle.ink_model.specs.Clean.{clean};
 ghost use Rattle.ink_model.specs.Mark.{tags};
-ghost use Rattle.ink_model.specs.Shown.{is_shown, more_from, open_newline, shown_text};
+ghost use Rattle.ink_model.specs.Shown.{is_shown, more_from, open_newline, shown_text, shows_text};
 ghost use Rattle.ink_out.specs.Cutting.{piece_mark};
 ghost use Rattle.ink_out.specs.Stands.{Sees, is_past};
 
@@ -127,14 +127,13 @@ impl Section {
         is_past(index, self.state.more)
     }
 
-    /// The shown text, cleaned (docs/TEXT.md). The one error is a refused request for memory, which is never made where
-    /// there are no marks.
-    #[tactic(auto, unfolding(ink_model::specs::Clean::clean))]
+    /// The shown text, cleaned (docs/TEXT.md). The one error is a refused request for memory, which is made only where a text
+    /// or a blank is shown.
     pub(crate) fn text(&self, alloc: Global) -> Result<Text, AllocError>
         ensures text { IfOk result (λ text. text ≡ clean (shown_text self.now)) }
-        ensures empty { self.now ≡ [] → IsOk result }
+        ensures memory { OnErr result (shows_text self.now ≡ true) }
     {
-        if self.marks.is_empty() {
+        if !self.state.tracker.shows_text() {
             return Ok(Text::from_string(String::new(alloc)));
         }
         shown_text(alloc, self.marks.as_slice(), true)

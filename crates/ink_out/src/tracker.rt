@@ -58,6 +58,13 @@ impl Tracker {
         }
     }
 
+    /// Whether a text or a blank is shown.
+    pub(crate) fn shows_text(&self) -> bool
+        ensures { result ≡ (self.now.text || is_some self.now.blank) }
+    {
+        self.text || self.blank.is_some()
+    }
+
     /// Goes past a mark at an index, where the starts of the numbers up to it are known.
     #[inline(always)]
     pub(crate) fn add(&mut self, mark: &Mark, at: usize, enters: &Enters)

@@ -1,5 +1,5 @@
 -- What a command comes to that may call or tell the objects of a host.
-use Rattle.std.proofs.Common.{◌≡◌, ◌≢◌, ◌∙◌, ◌⊎◌, ap, sym, refl, subst, inl, inr, cond, ℕ, List, [], ◌∷◌, ◌++◌, map, filter, Bool, true, false, ◌&&◌, Option, Some, None, is_some, Result, Ok, Err, OnOk, is_ok, MatchBool, arith}
+use Rattle.std.proofs.Common.{◌≡◌, ◌≢◌, ◌∙◌, ◌⊎◌, ap, sym, refl, subst, inl, inr, cond, ℕ, List, [], ◌∷◌, ◌++◌, map, filter, Bool, true, false, ◌&&◌, ◌||◌, Option, Some, None, is_some, Result, Ok, Err, OnOk, is_ok, MatchBool, arith}
 use Rattle.ink_host.specs.Desk.{DeskView, Grew, bound_by, watches}
 use Rattle.ink_host.specs.declared.objects.Called.{Called}
 use Rattle.ink_host.specs.declared.objects.Seen.{Seen}
@@ -8,10 +8,11 @@ use Rattle.ink_model.specs.Answer.{Reply, Acts, Breaks, Refuses, Tells}
 use Rattle.ink_model.specs.Configuration.{Configuration, can_go_on, settled, with_globals}
 use Rattle.ink_model.specs.Events.{Made, answers_of, calls}
 use Rattle.ink_model.specs.Host.{Bindings, value_given}
-use Rattle.ink_model.specs.Memory.{FallsShort}
+use Rattle.ink_model.specs.Choices.{has_any}
+use Rattle.ink_model.specs.Passage.{passage, passage_asks}
 use Rattle.ink_model.specs.Run as run
 use Rattle.ink_model.specs.Session as rules
-use Rattle.ink_model.specs.Session.{BreaksBy, EndsAs, Keeps, Set, SetsIn, TellsDone, TellsOrKeeps, Through, condition_told, left_with, passage, reply_told, settable, telling}
+use Rattle.ink_model.specs.Session.{BreaksBy, EndsAs, Keeps, Set, SetsIn, TellsDone, TellsOrKeeps, Through, condition_told, left_with, reply_told, settable, telling}
 use Rattle.ink_model.specs.State.{State, Condition, Ready, Broken, globals_of}
 use Rattle.ink_model.specs.Store.{Values, store, stored}
 use Rattle.ink_model.specs.Told.{ToldAs, change_of, is_other, is_told, told}
@@ -29,7 +30,7 @@ use Rattle.ink_player.specs.Words.{Dealt, bindings, condition_by, desk_of, state
 use Rattle.ink_player.specs.declared.player.Player.{Player}
 use Rattle.ink_step.specs.declared.machine.Machine.{Machine}
 use Rattle.ink_step.specs.Words.{config_of}
-use Rattle.ink_step.specs.Runs.{ComesTo, ComesToFault}
+use Rattle.ink_step.specs.Runs.{EndsWith, RunsThrough}
 
 -- ---- what is told
 
@@ -75,12 +76,6 @@ at_stamp c n = record { condition = c; stamp = n }
 abbrev telling_of : Passage → List Event → Reply
 telling_of p es = Tells (record p { events = es })
 
-stopped-uncut : (m : run.Moment) (c : Configuration) (left : List (Option Given)) (made : List Made) → run.cut_off m ≡ run.Stopped c left made → m ≡ run.Stopped c left made
-stopped-uncut (run.At d l k) c left made h = absurd (cc)
-stopped-uncut (run.Stopped d l k) c left made h = h
-stopped-uncut (run.Faulted f d l k) c left made h = absurd (cc)
-stopped-uncut (run.Waits name k) c left made h = absurd (cc)
-
 module _ (s : StoryTree) (h : Bindings) (b : Option Fault) (c : Configuration) (n : ℕ) where
   abbrev start : State
   start = at_stamp (condition_by b c) n
@@ -97,32 +92,17 @@ module _ (s : StoryTree) (h : Bindings) (b : Option Fault) (c : Configuration) (
     pub through-where : (goes : Bool) → b ≡ None → can_go_on c ≡ goes → ThroughWhere goes → Through s h es start reply new
     through-where goes free e p = subst (λ x. rules.ThroughFrom s h es (condition_by x c) start reply new) (sym free) (subst (λ x. ThroughWhere x) (sym e) p)
 
-module _ (s : StoryTree) (h : Bindings) where
-  -- its run came to its end, and the watchers were told
-  ended : (c stop : Configuration) (made : List Made) (es : List Event) (old : State) (reply : Reply) (new : State)
-      → run.through s h.functions c (answers_of made) ≡ run.Stopped stop [] made
-      → TellsDone (told h.watches c.shared.globals stop.shared.globals) (Ready (settled stop)) (telling stop) (calls old.stamp made) es old reply new
-      → rules.RunsThrough s h c made es old reply new
-  ended c stop made es old reply new there done =
-      inl (subst (λ m. EndsAs h c.shared.globals m made es old reply new) (sym there) (refl, done))
+any_of : {A : Type 0} (xs : List A) → xs ≢ [] → has_any xs ≡ true
+any_of [] h = absurd (h refl)
+any_of (x ∷ xs) h = refl
 
-  -- its run faulted
-  faulted : (c before : Configuration) (f : Fault) (made : List Made) (globals : Values) (es : List Event) (old : State) (reply : Reply) (new : State)
-      → run.through s h.functions c (answers_of made) ≡ run.Faulted f before [] made → globals ≡ before.shared.globals
-      → BreaksBy f globals (calls old.stamp made) es old reply new
-      → rules.RunsThrough s h c made es old reply new
-  faulted c before f made globals es old reply new there same breaks =
-      inl (subst (λ m. EndsAs h c.shared.globals m made es old reply new) (sym there)
-      (refl, subst (λ vs. BreaksBy f vs (calls old.stamp made) es old reply new) same breaks))
+or-right : (a b : Bool) → b ≡ true → a || b ≡ true
+or-right true b h = refl
+or-right false b h = h
 
-  -- its run stopped, and memory was refused for the passage or for telling
-  stopped-short : (c stop : Configuration) (made : List Made) (globals : Values) → run.through s h.functions c (answers_of made) ≡ run.Stopped stop [] made → globals ≡ stop.shared.globals
-      → FallsShort s h.functions c made globals
-  stopped-short c stop made globals there leaves = record {
-    reached = stop;
-    got_there = inr (inr (record { steps = MAX_STEPS; within = omega arith; got_there = stopped-uncut _ stop [] made there }));
-    leaves = leaves;
-  }
+or-left : (a b : Bool) → a ≡ true → a || b ≡ true
+or-left true b h = refl
+or-left false b h = absurd (cc)
 
 -- ---- between a player and its host
 
@@ -190,31 +170,52 @@ module _ {P F O : Type 0} (turn_log : F → List Called) (watch_log : O → List
     abbrev ComesThrough : Reply → State → DeskView P F O → Type 0
     ComesThrough reply new d = (es : List Event) × Through tree host es (state_of p) reply new × Dealt turn_log watch_log (desk_of p) es d
 
-    -- its run came to its end, and watchers were told
+    abbrev Ran : Result Passage Fault → Type 0
+    Ran result = RunsThrough tree host.functions before made after result
+
+    -- its run came to its end with a configuration, which it hands out and leaves
+    abbrev Stops : Passage → Type 0
+    Stops passed = (stop : Configuration) × run.EndsThrough tree host.functions before made (run.Kept stop) × (passed ≡ passage stop) × (after ≡ settled stop)
+
+    stops : (passed : Passage) → Ran (Ok passed) → Stops passed
+    stops passed (inl ran) = by ran.0 ran.1 ran.2
+      where
+        by : (end : run.RunEnd) → run.EndsThrough tree host.functions before made end → EndsWith end after (Ok passed) → Stops passed
+        by (run.Kept stop) ends left = (stop, ends, left.0, left.1)
+        by (run.Broke f globals) ends left = absurd (let never = left.0 in cc)
+    stops passed (inr short) = absurd (let never = short.0 in cc)
+
+    -- and watchers were told
     pub through-told : (passed : Passage) (all : Bool) (d2 d : DeskView P F O) (reply : Reply) (new : State) → d1.watchers ≡ (desk_of p).watchers
-        → ComesTo tree host.functions before made passed after
+        → RunsThrough tree host.functions before made after (Ok passed)
         → (saw : List Event) × ToldAs d1.next (told (watches d1.watchers) before.shared.globals after.shared.globals) all saw × Grew turn_log watch_log d1 saw d2
         → reply ≡ reply_told all (telling_of passed d2.events) d2.events → new ≡ at_stamp (condition_told all (Ready after)) d2.next → d ≡ record d2 { events = [] }
         → ComesThrough reply new d
     unfolding settled
     through-told passed all d2 d reply new watching run t replies leaves is =
+        let stopped = stops passed run in
+        let stop = stopped.0 in
         let es = first ++ t.0 in
         let both = grew-grew turn_log watch_log (desk_of p) d1 d2 first t.0 called t.2 in
         let events : d2.events ≡ es = both.events ∙ ap (λ l. l ++ es) none in
-        let saws = subst (λ n. ToldAs n (told host.watches before.shared.globals run.stop.shared.globals) all t.0) called.next
-        (subst (λ w. ToldAs d1.next (told (watches w) before.shared.globals run.stop.shared.globals) all t.0) watching
-        (subst (λ c. ToldAs d1.next (told (watches d1.watchers) before.shared.globals c.shared.globals) all t.0) run.leaves t.1)) in (
+        let saws = subst (λ n. ToldAs n (told host.watches before.shared.globals stop.shared.globals) all t.0) called.next
+        (subst (λ w. ToldAs d1.next (told (watches w) before.shared.globals stop.shared.globals) all t.0) watching
+        (subst (λ c. ToldAs d1.next (told (watches d1.watchers) before.shared.globals c.shared.globals) all t.0) stopped.3 t.1)) in (
           es,
           through-where tree host p.broken before (desk_of p).next es reply new true free goes (
             made,
-            ended tree host before run.stop made es (state_of p) reply new run.got_there (record {
-              all = all;
-              saw = t.0;
-              telling = saws;
-              events = refl;
-              replies = replies ∙ ap (λ l. reply_told all (telling_of passed l) l) events ∙ ap (λ q. reply_told all (telling_of q es) es) run.tells;
-              leaves = leaves ∙ ap (λ c. at_stamp (condition_told all (Ready c)) d2.next) run.leaves ∙ ap (at_stamp (condition_told all (Ready (settled run.stop)))) both.next;
-            }),
+            inl (
+              run.Kept stop,
+              stopped.1,
+              inl (record {
+                all = all;
+                saw = t.0;
+                telling = saws;
+                events = refl;
+                replies = replies ∙ ap (λ l. reply_told all (telling_of passed l) l) events ∙ ap (λ q. reply_told all (telling_of q es) es) stopped.2;
+                leaves = leaves ∙ ap (λ c. at_stamp (condition_told all (Ready c)) d2.next) stopped.3 ∙ ap (at_stamp (condition_told all (Ready (settled stop)))) both.next;
+              }),
+            ),
           ),
           dealt-to (desk_of p) d2 d es both is,
         )
@@ -231,23 +232,41 @@ module _ {P F O : Type 0} (turn_log : F → List Called) (watch_log : O → List
           dealt-to (desk_of p) d1 (desk_of q) first called (ap (λ x. desk_of x) is),
         )
 
+    -- what a broken player comes to, where its run ends so
+    module _ (f : Fault) (reply : Reply) (new : State) where
+      abbrev Breaks_it : Fault → Values → Type 0
+      Breaks_it g globals = BreaksBy g globals first first (state_of p) reply new
+
+      runs-broken : Ran (Err f) → Breaks_it f after.shared.globals → rules.RunsThrough tree host before made first (state_of p) reply new
+      runs-broken (inl ran) broke = by ran.0 ran.1 ran.2
+        where
+          same : (g : Fault) → ◌≡◌ {A = Result Passage Fault} (Err f) (Err g) → f ≡ g
+          same g e = cc
+
+          by : (end : run.RunEnd) → run.EndsThrough tree host.functions before made end → EndsWith end after (Err f) → rules.RunsThrough tree host before made first (state_of p) reply new
+          by (run.Kept stop) ends left = inl (
+            run.Kept stop,
+            ends,
+            inr (or-left (passage_asks stop) _ left.1, subst (λ vs. Breaks_it OutOfMemory vs) left.2 (subst (λ g. Breaks_it g after.shared.globals) left.0 broke)),
+          )
+          by (run.Broke g globals) ends left = inl (run.Broke g globals, ends, subst (λ vs. Breaks_it g vs) left.1 (subst (λ h. Breaks_it h after.shared.globals) (same g left.0) broke))
+      runs-broken (inr short) broke = inr (after.shared.globals, short.1, subst (λ h. Breaks_it h after.shared.globals) (let is = short.0 in cc) broke)
+
     -- there was no memory for telling
-    pub through-untold : (passed : Passage) (q : Player P F O) (d2 : DeskView P F O) (reply : Reply) → ComesTo tree host.functions before made passed after → d2 ≡ d1
+    pub through-untold : (passed : Passage) (q : Player P F O) (d2 : DeskView P F O) (reply : Reply) → Ran (Ok passed) → told host.watches before.shared.globals after.shared.globals ≢ [] → d2 ≡ d1
         → reply ≡ Breaks OutOfMemory d2.events → q ≡ record p { machine = m; broken = Some OutOfMemory; desk = record d2 { events = [] } } → ComesThrough reply (state_of q) (desk_of q)
     unfolding settled
-    through-untold passed q d2 reply run same replies is =
+    through-untold passed q d2 reply ran some same replies is =
+        let stopped = stops passed ran in
+        let kept : after.shared.globals ≡ stopped.0.shared.globals = ap (λ c. c.shared.globals) stopped.3 in
+        let asks = or-right (passage_asks stopped.0) _ (subst (λ vs. has_any (told host.watches before.shared.globals vs) ≡ true) kept (any_of _ some)) in
         breaks OutOfMemory q reply (replies ∙ ap (λ d. Breaks OutOfMemory d.events) same) (is ∙ ap (λ d. record p { machine = m; broken = Some OutOfMemory; desk = record d { events = [] } }) same)
-        (λ by. inr (after.shared.globals, stopped-short tree host before run.stop made after.shared.globals run.got_there (ap (λ c. c.shared.globals) run.leaves), by))
+        (λ by. inl (run.Kept stopped.0, stopped.1, inr (asks, subst (λ vs. BreaksBy OutOfMemory vs first first (state_of p) reply (state_of q)) kept by)))
 
-    -- a fault of the run, or memory was refused to it
-    pub through-fault : (f : Fault) (q : Player P F O) (reply : Reply)
-        → ComesToFault tree host.functions before made f after.shared.globals ⊎ ((f ≡ OutOfMemory) × FallsShort tree host.functions before made after.shared.globals)
-        → reply ≡ Breaks f d1.events → q ≡ record p { machine = m; broken = Some f; desk = record d1 { events = [] } } → ComesThrough reply (state_of q) (desk_of q)
-    through-fault f q reply (inl run) replies is =
-        breaks f q reply replies is (λ by. faulted tree host before run.before f made after.shared.globals first (state_of p) reply (state_of q) run.got_there run.leaves by)
-    through-fault f q reply (inr short) replies is =
-        breaks f q reply replies is
-        (λ by. inr (after.shared.globals, short.1, subst (λ g. BreaksBy g after.shared.globals first first (state_of p) reply (state_of q)) short.0 by))
+    -- a fault of the run, or memory was refused to it or for its passage
+    pub through-fault : (f : Fault) (q : Player P F O) (reply : Reply) → Ran (Err f) → reply ≡ Breaks f d1.events → q ≡ record p { machine = m; broken = Some f; desk = record d1 { events = [] } }
+        → ComesThrough reply (state_of q) (desk_of q)
+    through-fault f q reply ran replies is = breaks f q reply replies is (runs-broken f reply (state_of q) ran)
 
   -- ---- a command that runs nothing
 

@@ -1,5 +1,5 @@
 -- Calls of external functions: what they ask, and what they come to.
-use Rattle.std.proofs.Common.{◌≡◌, ◌∙◌, ◌⊎◌, ◌&&◌, ap, sym, refl, subst, inl, inr, ℕ, List, [], ◌∷◌, Bool, true, false, not, if◌then◌else◌, Option, Some, None, option_map, is_some, Result, Ok, Err}
+use Rattle.std.proofs.Common.{◌≡◌, ◌∙◌, ◌⊎◌, ◌&&◌, ap, sym, refl, subst, inl, inr, ℕ, List, [], ◌∷◌, Bool, true, false, not, if◌then◌else◌, Option, Some, None, option_map, Result, Ok, Err}
 use Rattle.std.proofs.lemmas.List.{append-nil}
 use Rattle.std.specs.List.{list_all}
 use Rattle.ink_host.specs.Desk.{DeskView, Grew, Rows, at, binding, bound_by, kind_of, pure_of}
@@ -13,6 +13,7 @@ use Rattle.ink_model.specs.Asks.{binding_asks, external_asks, so_where, takes_ar
 use Rattle.ink_model.specs.Effect.{Effect, Fields, Landing as Goal, Asks, Calls, Fails, Moves, or_else, or_fault}
 use Rattle.ink_model.specs.Events.{calls}
 use Rattle.ink_model.specs.Host.{Binding, pure_function, shares, turn_function}
+use Rattle.ink_model.specs.Memory.{given_asks}
 use Rattle.ink_model.specs.Place.{knot, landed}
 use Rattle.ink_model.specs.Stack.{popped}
 use Rattle.ink_model.specs.Step.Diverts.{where_true}
@@ -25,13 +26,14 @@ use Rattle.ink_model.specs.declared.frame.FrameKind.TheVariants.{Function}
 use Rattle.ink_model.specs.declared.host.Event.{Event}
 use Rattle.ink_model.specs.declared.host.Event.TheVariants as event
 use Rattle.ink_model.specs.declared.host.Given.{Given}
+use Rattle.ink_model.specs.declared.host.Given.TheVariants.{Text}
 use Rattle.ink_model.specs.declared.place.Part.{Part}
 use Rattle.ink_model.specs.declared.value.Value.{Value}
 use Rattle.ink_step.specs.External.{PerformsCall, is_asking, lent_arguments, lent_of, made_call}
 use Rattle.ink_step.specs.Performs.{Decides, Performs}
 use Rattle.ink_step.specs.declared.transfer.Transfer.{Transfer}
 use Rattle.ink_step.specs.declared.transfer.Transfer.TheVariants as transfer
-use Rattle.ink_step.proofs.Effects.{short}
+use Rattle.ink_step.proofs.Effects.{performs_more, short}
 use Rattle.ink_tree.specs.Nodes.{node_place, place_of}
 use Rattle.ink_tree.specs.declared.spot.NodeId.{NodeId}
 use Rattle.ink_tree.specs.declared.spot.Spot.{Spot}
@@ -181,11 +183,22 @@ module _ (s : StoryTree) (n : ℕ) (name : List ℕ) (k : ℕ) (f : Fields) wher
       asks_memory = ap (λ b. not b && takes_arguments (arguments_on k f.stack)) safe ∙ taken_asks k f (Asks name) vs left there fits
 
       made_turn : (gave : Option Given) (es : List Event) (new : Fields) (t : Result Transfer Fault) → es ≡ calls n (made_call name vs gave ∷ [])
-          → Performs s (is_some gave) (answering gave (record f { stack = left })) new t → Turned es new t
+          → Performs s (given_asks vs (record f { stack = left }) gave) (answering gave (record f { stack = left })) new t → Turned es new t
       made_turn gave es new t is h = subst (λ e. PerformsCall s n (binding_asks (Some turn_function) k f) e es new t) (sym asked) (inl (gave, is, h))
 
       short_turn : (es : List Event) (new : Fields) → es ≡ [] → Turned es new (Err OutOfMemory)
       short_turn es new is = subst (λ e. PerformsCall s n (binding_asks (Some turn_function) k f) e es new (Err OutOfMemory)) (sym asked) (inr (is, refl, asks_memory))
+
+-- a pure function gave an answer
+pub pure_gave : (s : StoryTree) (k : ℕ) (f new : Fields) (vs : List Value) (lends : Ok vs ≡ lent_arguments k f.stack) (so : List Value → Option Given) (given : Given) (t : Result Transfer Fault) → so vs ≡ Some given
+    → ((left : List Value) → arguments_on k f.stack ≡ Some (vs, left) → Performs s (given_asks vs (record f { stack = left }) (Some given)) (answering (Some given) (record f { stack = left })) new t)
+    → Performs s (takes_arguments (arguments_on k f.stack)) (with_arguments k f (λ arguments left. answering (so arguments) left)) new t
+pure_gave s k f new vs lends so given t gave h =
+    let l = lent (arguments_on k f.stack) vs lends in
+    let goes : List Value → Fields → Effect = λ arguments left. answering (so arguments) left in
+    let on = performs_more s _ _ new t (h l.0 l.1) in
+    subst (λ a. Performs s a (with_arguments k f goes) new t) (sym (taken_asks k f goes vs l.0 l.1 l.2))
+    (subst (λ e. Performs s true e new t) (sym (taken k f goes vs l.0 l.1 l.2 ∙ ap (λ o. answering o (record f { stack = l.0 })) gave)) on)
 
 -- ---- what the desk tells of a call
 
@@ -193,21 +206,23 @@ module _ (s : StoryTree) (name : List ℕ) (k : ℕ) (f new : Fields) (safe : ha
   abbrev left : List Value
   left = (lent (arguments_on k f.stack) vs lends).0
 
-  there : arguments_on k f.stack ≡ Some (vs, left)
+  pub there : arguments_on k f.stack ≡ Some (vs, left)
   there = (lent (arguments_on k f.stack) vs lends).1
 
   fits : list_all is_argument vs ≡ true
   fits = (lent (arguments_on k f.stack) vs lends).2
 
-  pub left_by : option_map (λ r. r.1) (arguments_on k f.stack) ≡ Some left
-  left_by = ap (option_map (λ r. r.1)) there
-
   module _ {P T W : Type 0} (turn_log : T → List Called) (watch_log : W → List Seen) (a b : DeskView P T W) where
     abbrev Calls_it : Result Transfer Fault → Type 0
     Calls_it t = (es : List Event) × Grew turn_log watch_log a es b × Turned s a.next name k f es new t
 
+    -- a copy of a text asks for memory
+    text_asks : (g : Given) → shares g → given_asks vs (record f { stack = left }) (Some g) ≡ true
+    text_asks (Text t) h = refl
+    text_asks g h = absurd h
+
     pub turn_gave : (given : Given) → Grew turn_log watch_log a (event.Call name vs (Some given) a.next ∷ []) b → (t : Result Transfer Fault)
-        → Performs s true (answering (Some given) (record f { stack = left })) new t → Calls_it t
+        → Performs s (given_asks vs (record f { stack = left }) (Some given)) (answering (Some given) (record f { stack = left })) new t → Calls_it t
     turn_gave given grew t h = (event.Call name vs (Some given) a.next ∷ [], grew, made_turn s a.next name k f safe vs left there fits (Some given) _ new t refl h)
 
     turn_refused : Grew turn_log watch_log a (event.Call name vs None a.next ∷ []) b → Calls_it (Err HostRefused)
@@ -219,7 +234,7 @@ module _ (s : StoryTree) (name : List ℕ) (k : ℕ) (f new : Fields) (safe : ha
       m.1,
       elim m.2 [
         | inl none ↦ short_turn s a.next name k f safe vs left there fits m.0 new none
-        | inr one ↦ made_turn s a.next name k f safe vs left there fits (Some one.0) m.0 new (Err OutOfMemory) one.2 (short s true new _ refl)
+        | inr one ↦ made_turn s a.next name k f safe vs left there fits (Some one.0) m.0 new (Err OutOfMemory) one.2 (short s _ new _ (text_asks one.0 one.1))
       ],
     )
 

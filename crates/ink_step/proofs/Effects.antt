@@ -1,11 +1,12 @@
 -- What performing does where a call of it fails.
 use Rattle.std.proofs.Common.{◌≡◌, ap, sym, refl, subst, inl, inr, Result, Ok, Err, Bool, true}
-use Rattle.ink_model.specs.Effect.{Fields, Effect, Moves, Fails, or_fault}
+use Rattle.ink_model.specs.Effect.{Fields, Effect, Moves, Stores, Fails, or_fault}
 use Rattle.ink_model.specs.Memory.{Gives, Leaves}
 use Rattle.ink_model.specs.Tree.{StoryTree}
 use Rattle.ink_model.specs.declared.fault.Fault.{Fault}
 use Rattle.ink_model.specs.declared.fault.Fault.TheVariants.{OutOfMemory}
 use Rattle.ink_step.specs.Performs.{Changes, Performs}
+use Rattle.ink_step.specs.declared.transfer.Transfer.{Transfer}
 use Rattle.ink_step.specs.declared.transfer.Transfer.TheVariants as transfer
 
 module _ (s : StoryTree) (asks : Bool) (new : Fields) where
@@ -27,3 +28,10 @@ pub operated : {S : Type 0} (asks : Bool) (rule : Result S Fault) (with : S → 
     → Leaves rule old new result → (result ≡ Err OutOfMemory → asks ≡ true) → Changes asks (or_fault rule (λ v. Moves (with v))) (with new) result
 operated asks rule with old new (Ok u) h a s = subst (λ r. Performs s asks (or_fault r (λ v. Moves (with v))) (with new) (Ok transfer.Next)) (sym h.0) refl
 operated asks rule with old new (Err f) h a s = refused s asks (with new) rule (λ v. Moves (with v)) f h.0 (λ is. a (ap Err is))
+
+-- where memory may be refused it may be so where less is asked for
+pub performs_more : (s : StoryTree) (asks : Bool) (e : Effect) (new : Fields) (r : Result Transfer Fault) → Performs s asks e new r → Performs s true e new r
+performs_more s asks (Fails g) new (Err f) h = elim h [ inl is ↦ inl is | inr refused ↦ inr (refused.0, refl) ]
+performs_more s asks (Stores t f) new (Ok (transfer.Store a)) h = (h.0, refl)
+performs_more s asks e new (Err f) h = (h.0, refl)
+performs_more s asks e new r h = h

@@ -1,4 +1,5 @@
 pub mod Tops
+pub mod Puts
 pub mod Effects
 pub mod Landings
 pub mod Leading

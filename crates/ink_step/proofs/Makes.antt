@@ -1,5 +1,5 @@
 -- Steps that call turn functions.
-use Rattle.std.proofs.Common.{◌≡◌, ◌∙◌, ◌||◌, ap, sym, refl, subst, inl, inr, ℕ, List, [], Bool, true, false, if◌then◌else◌, Option, Some, None, is_some, option_map, Bor, Result, Ok, Err}
+use Rattle.std.proofs.Common.{◌≡◌, ◌∙◌, ◌||◌, ap, sym, refl, subst, inl, inr, ℕ, List, [], Bool, true, false, if◌then◌else◌, Option, Some, None, option_map, Bor, Result, Ok, Err}
 use Rattle.std.specs.List.{list_all}
 use Rattle.ink_model.specs.Asks.{asks, content_asks, external_asks, going_in_asks}
 use Rattle.ink_model.specs.Choosing.{following, following_asks}
@@ -7,6 +7,7 @@ use Rattle.ink_model.specs.Configuration.{ChoiceOf, Configuration, current_place
 use Rattle.ink_model.specs.Effect.{Context, Fields, Effect, Stores, Offers, Asks, Fails, context_of, fields_of, or_else, or_fault}
 use Rattle.ink_model.specs.Frames.{ThreadsOf}
 use Rattle.ink_model.specs.Host.{Binding, Bound, fits_given, pure_function, turn_function, value_given}
+use Rattle.ink_model.specs.Memory.{given_asks}
 use Rattle.ink_model.specs.Move.{Outcome, Wants, Faults, move}
 use Rattle.ink_model.specs.MoveMemory.{move_asks}
 use Rattle.ink_model.specs.Place.{entered, knot}
@@ -132,10 +133,6 @@ module _ (s : StoryTree) (b : Bound) (n : ℕ) (asking : Bool) (c d : Configurat
   abbrev Ended : Bool → Effect → Type 0
   Ended asks e = StepEnds ((asks || move_asks s e c) || following_asks s (move s e c)) (following s (move s e c)) globals d r
 
-  given_ends : (gave : Option Given) (left : Fields) → Ended (is_some gave) (answering gave left) → StepEnds (is_some gave) (answered s left c gave) globals d r
-  given_ends None left h = h
-  given_ends (Some g) left h = h
-
   module _ (ended : (asks : Bool) (e : Effect) → IsCall b e → Performs s asks e new transfer → Ended asks e) (failed : transfer ≡ Err OutOfMemory → (r ≡ Err OutOfMemory) × (d.shared.globals ≡ globals)) where
     abbrev Makes : Effect → List Event → Type 0
     Makes e es = StepMakes s b n ((asking || move_asks s e c) || following_asks s (move s e c)) (following s (move s e c)) es globals d r
@@ -145,7 +142,7 @@ module _ (s : StoryTree) (b : Bound) (n : ℕ) (asking : Bool) (c d : Configurat
 
     pub makes : (e : Effect) (es : List Event) → IsCall b e → PerformsCall s n asking e es new transfer → Makes e es
     makes (Asks name arguments left) es is h = elim h [
-      | inl made ↦ inl (made.0, is, made.1, given_ends made.0 left (ended (is_some made.0) (answering made.0 left) (answering_call b made.0 left) made.2))
+      | inl made ↦ inl (made.0, is, made.1, ended (given_asks arguments left made.0) (answering made.0 left) (answering_call b made.0 left) made.2)
       | inr short ↦ inr (short.0, (failed short.1).0, or_first _ _ (or_first asking _ short.2), (failed short.1).1)
     ]
     makes (Stores t f) es is h = absurd is

@@ -1,11 +1,11 @@
 -- Runs, moment by moment.
-use Rattle.std.proofs.Common.{◌≡◌, ◌∙◌, ◌⊎◌, ◌++◌, ◌∷◌, ℕ, zero, suc, Bool, true, false, List, Option, Some, None, is_some, Result, ◌+◌, ◌-◌, ◌≤◌, ◌<◌, ap, sym, refl, subst, inl, inr, [], Ok, Err, arith, append_assoc}
+use Rattle.std.proofs.Common.{◌≡◌, ◌∙◌, ◌⊎◌, ◌++◌, ◌∷◌, ℕ, zero, suc, Bool, true, false, List, Option, Some, None, Result, ◌+◌, ◌-◌, ◌≤◌, ◌<◌, ap, sym, refl, subst, inl, inr, [], Ok, Err, arith, append_assoc}
 use Rattle.std.proofs.lemmas.List.{append-nil, map-append}
 use Rattle.ink_model.specs.Configuration.{Configuration}
 use Rattle.ink_model.specs.Effect.{Fields}
 use Rattle.ink_model.specs.Events.{calls}
 use Rattle.ink_model.specs.Host.{Bound, turn_function}
-use Rattle.ink_model.specs.Memory.{GetsTo, asks}
+use Rattle.ink_model.specs.Memory.{GetsTo, answered_asks, asks}
 use Rattle.ink_model.specs.Move.{Outcome, Next, Stop, Wants, Faults}
 use Rattle.ink_model.specs.Run.{Made, Moment, At, Stopped, Faulted, answered, answers_of, came, cut_off, moment, moment_after, next, run}
 use Rattle.ink_model.specs.Step.{step}
@@ -49,11 +49,11 @@ kept_globals asking globals new f o h = h.1
 
 -- ---- what a step did in a run
 
--- memory was refused before a call that the step wants, or for what came of it
+-- memory was refused before a call that the step wants, or for what came of its answer
 abbrev pub Short : StoryTree → Bound → Configuration → List Made → Type 0
 Short s b old more = ((more ≡ []) × (asks s b old ≡ true))
     ⊎ ((name : List ℕ) × (arguments : List Value) × (given : Given) × (f : Fields) × (d : Configuration)
-    × (step s b old ≡ Wants name arguments f d) × (more ≡ (record { name = name; arguments = arguments; gave = Some given }) ∷ []))
+    × (step s b old ≡ Wants name arguments f d) × (more ≡ (record { name = name; arguments = arguments; gave = Some given }) ∷ []) × (answered_asks s arguments f d (Some given) ≡ true))
 
 -- the moment after a step with these calls, by what it returned
 abbrev pub Ends : StoryTree → Bound → List Made → List Made → Configuration → Configuration → Result StepEnd Fault → Type 0
@@ -102,25 +102,28 @@ module _ (s : StoryTree) (b : Bound) (made : List Made) (n : ℕ) (es : List Eve
           → came s old (step s b old) (answers_of (call gave ∷ []) ++ left) made ≡ m
       came_calling left m h = ap (λ x. came s old x (gave ∷ left) made) is ∙ h
 
-      ends_calling : (result : Result StepEnd Fault) → StepEnds (is_some gave) (answered s f d gave) old.shared.globals new result → Ends s b made (call gave ∷ []) old new result
-      ends_calling (Ok ends.Went) h = λ left. came_calling left _ (went left (made ++ call gave ∷ []) (is_some gave) old new (answered s f d gave) h)
-      ends_calling (Ok ends.Stopped) h = λ left. came_calling left _ (stopped left (made ++ call gave ∷ []) (is_some gave) old new (answered s f d gave) h)
-      ends_calling (Ok ends.WantsCall) h = never_wants (is_some gave) (answered s f d gave) old.shared.globals new h
+      abbrev asking : Bool
+      asking = answered_asks s arguments f d gave
+
+      ends_calling : (result : Result StepEnd Fault) → StepEnds asking (answered s f d gave) old.shared.globals new result → Ends s b made (call gave ∷ []) old new result
+      ends_calling (Ok ends.Went) h = λ left. came_calling left _ (went left (made ++ call gave ∷ []) asking old new (answered s f d gave) h)
+      ends_calling (Ok ends.Stopped) h = λ left. came_calling left _ (stopped left (made ++ call gave ∷ []) asking old new (answered s f d gave) h)
+      ends_calling (Ok ends.WantsCall) h = never_wants asking (answered s f d gave) old.shared.globals new h
       ends_calling (Err g) h = (
-        kept_globals (is_some gave) old.shared.globals new g (answered s f d gave) h,
-        elim (faulted (made ++ call gave ∷ []) (is_some gave) old new g (answered s f d gave) h) [
+        kept_globals asking old.shared.globals new g (answered s f d gave) h,
+        elim (faulted (made ++ call gave ∷ []) asking old new g (answered s f d gave) h) [
           | inl faults ↦ inl (λ left. came_calling left _ (faults left))
           | inr short ↦ inr (short.0, inr (by gave refl short.1))
         ],
       )
         where
-          by : (o : Option Given) → gave ≡ o → is_some o ≡ true
+          by : (o : Option Given) → gave ≡ o → answered_asks s arguments f d o ≡ true
               → (nm : List ℕ) × (ar : List Value) × (given : Given) × (k : Fields) × (c : Configuration) × (step s b old ≡ Wants nm ar k c)
-              × (call gave ∷ [] ≡ (record { name = nm; arguments = ar; gave = Some given }) ∷ [])
+              × (call gave ∷ [] ≡ (record { name = nm; arguments = ar; gave = Some given }) ∷ []) × (answered_asks s ar k c (Some given) ≡ true)
           by None at h = absurd (cc)
-          by (Some given) at h = (name, arguments, given, f, d, is, ap (λ o. call o ∷ []) at)
+          by (Some given) at h = (name, arguments, given, f, d, is, ap (λ o. call o ∷ []) at, h)
 
-    did_calling : (result : Result StepEnd Fault) → ((gave : Option Given) × (b name ≡ Some turn_function) × (es ≡ calls n (call gave ∷ [])) × StepEnds (is_some gave) (answered s f d gave) old.shared.globals new result)
+    did_calling : (result : Result StepEnd Fault) → ((gave : Option Given) × (b name ≡ Some turn_function) × (es ≡ calls n (call gave ∷ [])) × StepEnds (answered_asks s arguments f d gave) (answered s f d gave) old.shared.globals new result)
         ⊎ ((es ≡ []) × (result ≡ Err OutOfMemory) × (asks s b old ≡ true) × (new.shared.globals ≡ old.shared.globals)) → Did s b made n es old new result
     did_calling result h = elim h [
       | inl called ↦ record { more = call called.0 ∷ []; events = called.2; bound = (called.1, tt); ends = ends_calling called.0 result called.3 }
@@ -215,6 +218,7 @@ module _ (s : StoryTree) (b : Bound) (start : Configuration) where
             calling = after.4;
             wants = after.5;
             calls = ap (λ more. made ++ more) after.6;
+            asking = after.7;
           })
         ],
       )

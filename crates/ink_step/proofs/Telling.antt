@@ -31,11 +31,10 @@ names_apart (x ∷ xs) differ (suc i) (suc j) e f at there apart = names_apart x
 
 -- ---- by numbers
 
-module _ (watches : List ℕ → Bool) (now : Values) where
-  -- a global that is watched
+module _ (now : Values) where
   abbrev pub told_one : Option (List ℕ × Value) → List Change
   told_one None = []
-  told_one (Some e) = cond (watches e.0) (change_of e ∷ []) []
+  told_one (Some e) = change_of e ∷ []
 
   abbrev pub told_at : List ℕ → List Change
   told_at [] = []
@@ -45,32 +44,41 @@ module _ (watches : List ℕ → Bool) (now : Values) where
   told_more [] i = append-nil (told_one (slice_get now i))
   told_more (j ∷ is) i = ap (λ rest. told_one (slice_get now j) ++ rest) (told_more is i) ∙ sym (append_assoc (told_one (slice_get now j)) (told_at is) (told_one (slice_get now i)))
 
-  -- ---- those that changed
+  -- ---- those that changed, and are watched
 
-  module _ (start : Values) where
-    by_cases : (n : ℕ) (e : List ℕ × Value) (numbers : List ℕ) (rest : List Change) (other watched : Bool) → slice_get now n ≡ Some e → watches e.0 ≡ watched → told_at numbers ≡ rest
-        → told_at (if other then n ∷ numbers else numbers) ≡ cond (watched && other) (change_of e ∷ rest) rest
-    by_cases n e numbers rest true true at is so = ap (λ o. told_one o ++ told_at numbers) at ∙ ap (λ b. cond b (change_of e ∷ []) [] ++ told_at numbers) is ∙ ap (λ cs. change_of e ∷ cs) so
-    by_cases n e numbers rest true false at is so = ap (λ o. told_one o ++ told_at numbers) at ∙ ap (λ b. cond b (change_of e ∷ []) [] ++ told_at numbers) is ∙ so
-    by_cases n e numbers rest false true at is so = so
-    by_cases n e numbers rest false false at is so = so
-
-    map_cond : (b : Bool) (e : List ℕ × Value) (es : Values) → map change_of (cond b (e ∷ es) es) ≡ cond b (change_of e ∷ map change_of es) (map change_of es)
-    map_cond true e es = refl
-    map_cond false e es = refl
-
-    told_from : (n : ℕ) (es : Values) → ((i : ℕ) → slice_get now (n + i) ≡ slice_get es i) → told_at (changed_from start n es) ≡ told watches start es
+  module _ (watches : List ℕ → Bool) (start : Values) where
+    told_from : (n : ℕ) (es : Values) → ((i : ℕ) → slice_get now (n + i) ≡ slice_get es i) → told_at (changed_from watches start n es) ≡ told watches start es
     told_from n [] at = refl
     told_from n (e ∷ es) at =
         let here : n + 0 ≡ n = omega arith in
         let first : slice_get now n ≡ Some e = ap (slice_get now) (sym here) ∙ at 0 in
         let further : (i : ℕ) → slice_get now (suc n + i) ≡ slice_get es i =
         λ i. (let next : suc n + i ≡ n + suc i = omega arith in ap (slice_get now) next ∙ at (suc i)) in
-        by_cases n e (changed_from start (suc n) es) (told watches start es) (is_other (stored e.0 start) e.1) (watches e.0) first refl (told_from (suc n) es further)
-        ∙ sym (map_cond (watches e.0 && is_other (stored e.0 start) e.1) e (filter (is_told watches start) es))
+        by (is_told watches start e) first (told_from (suc n) es further)
+      where
+        by : (b : Bool) → slice_get now n ≡ Some e → told_at (changed_from watches start (suc n) es) ≡ told watches start es
+            → told_at (if b then n ∷ changed_from watches start (suc n) es else changed_from watches start (suc n) es) ≡ map change_of (cond b (e ∷ filter (is_told watches start) es) (filter (is_told watches start) es))
+        by true first so = ap (λ o. told_one o ++ told_at (changed_from watches start (suc n) es)) first ∙ ap (λ cs. change_of e ∷ cs) so
+        by false first so = so
 
-    pub told_changed : told_at (changed_numbers start now) ≡ told watches start now
+    pub told_changed : told_at (changed_numbers watches start now) ≡ told watches start now
     told_changed = told_from 0 now (λ i. (let same : 0 + i ≡ i = omega arith in ap (slice_get now) same))
+
+    -- where nothing is told of, none is among these
+    none_changed : (n : ℕ) (es : Values) → told watches start es ≡ [] → changed_from watches start n es ≡ []
+    none_changed n [] none = refl
+    none_changed n (e ∷ es) none = by (is_told watches start e) none (none_changed (suc n) es)
+      where
+        by : (b : Bool) → map change_of (cond b (e ∷ filter (is_told watches start) es) (filter (is_told watches start) es)) ≡ [] → (told watches start es ≡ [] → changed_from watches start (suc n) es ≡ [])
+            → (if b then n ∷ changed_from watches start (suc n) es else changed_from watches start (suc n) es) ≡ []
+        by true none on = absurd (cc)
+        by false none on = on none
+
+    pub told_some_of : changed_numbers watches start now ≢ [] → told watches start now ≢ []
+    told_some_of some none = some (none_changed 0 now none)
+
+    pub told_some_at : (ns : List ℕ) (i : ℕ) → ns ≡ changed_numbers watches start now → i < length ns → told watches start now ≢ []
+    told_some_at ns i is within = told_some_of (λ none. absurd (omega (arith, within, ap length is, ap length none)))
 
   -- ---- a loop's step
 
@@ -87,38 +95,24 @@ module _ (watches : List ℕ → Bool) (now : Values) where
     others_at i e at [] apart = refl
     others_at i e at (j ∷ is) apart = by (slice_get now j) refl (others_at i e at is apart.1)
       where
-        by_watch : (f : List ℕ × Value) (watched : Bool) → bytes_eq f.0 e.0 ≡ false → named e.0 (told_at is) ≡ false → named e.0 (cond watched (change_of f ∷ []) [] ++ told_at is) ≡ false
-        by_watch f true other others = ap (λ b. b || named e.0 (told_at is)) other ∙ others
-        by_watch f false other others = others
-
         by : (o : Option (List ℕ × Value)) → slice_get now j ≡ o → named e.0 (told_at is) ≡ false → named e.0 (told_one o ++ told_at is) ≡ false
         by None there others = others
-        by (Some f) there others = by_watch f (watches f.0) (names_apart now differ i j e f at there (eqb-false i j apart.0)) others
+        by (Some f) there others = ap (λ b. b || named e.0 (told_at is)) (names_apart now differ i j e f at there (eqb-false i j apart.0)) ∙ others
 
     pub once_at : (is : List ℕ) → IsDistinct nat_eq is → OncePerName (told_at is)
     unfolding IsDistinct
     once_at [] apart = tt
     once_at (i ∷ is) apart = by (slice_get now i) refl (once_at is apart.1)
       where
-        by_watch : (e : List ℕ × Value) (watched : Bool) → slice_get now i ≡ Some e → OncePerName (told_at is) → OncePerName (cond watched (change_of e ∷ []) [] ++ told_at is)
-        by_watch e true at once = (others_at i e at is apart.0, once)
-        by_watch e false at once = once
-
         by : (o : Option (List ℕ × Value)) → slice_get now i ≡ o → OncePerName (told_at is) → OncePerName (told_one o ++ told_at is)
         by None at once = once
-        by (Some e) at once = by_watch e (watches e.0) at once
+        by (Some e) at once = (others_at i e at is apart.0, once)
 
   -- where nothing was noted nothing has changed
-  pub told_unchanged : (start : Values) (noted : List Before) → Tracks start noted now → DifferInName now → length noted ≡ 0 → [] ≡ told watches start now
-  told_unchanged start [] tracks differ none =
-      ap told_at (changed_are start now [] [] [] tracks (λ i. refl) differ (IsPermutation-refl []) (λ k d low high. absurd (omega (arith, high)))) ∙ told_changed start
-  told_unchanged start (b ∷ noted) tracks differ none = absurd (omega (arith, none))
-
-  pub one_watched : (e : List ℕ × Value) → watches e.0 ≡ true → told_one (Some e) ≡ change_of e ∷ []
-  one_watched e is = ap (λ b. cond b (change_of e ∷ []) []) is
-
-  pub one_unwatched : (e : List ℕ × Value) → watches e.0 ≡ false → told_one (Some e) ≡ []
-  one_unwatched e is = ap (λ b. cond b (change_of e ∷ []) []) is
+  pub told_unchanged : (watches : List ℕ → Bool) (start : Values) (noted : List Before) → Tracks start noted now → DifferInName now → length noted ≡ 0 → [] ≡ told watches start now
+  told_unchanged watches start [] tracks differ none =
+      ap told_at (changed_are watches start now [] [] [] tracks (λ i. refl) differ (IsPermutation-refl []) (λ k d low high. absurd (omega (arith, high)))) ∙ told_changed watches start
+  told_unchanged watches start (b ∷ noted) tracks differ none = absurd (omega (arith, none))
 
 -- where nobody watches nothing is told
 pub told_nobody : {W : Type 0} (rows : Rows W) (start now : Values) → has_rows rows ≡ false → [] ≡ told (watches rows) start now

@@ -1,8 +1,9 @@
 -- Calls of external functions, beside the definitions (docs/HOST.md, "Calls").
-use Rattle.std.specs.Prelude.{◌≡◌, ◌⊎◌, ℕ, List, [], ◌∷◌, Bool, true, false, if◌then◌else◌, Option, Some, None, is_some, Result, Ok, Err}
+use Rattle.std.specs.Prelude.{◌≡◌, ◌⊎◌, ℕ, List, [], ◌∷◌, Bool, true, false, if◌then◌else◌, Option, Some, None, Result, Ok, Err}
 use Rattle.std.specs.List.{list_all}
 use Rattle.ink_model.specs.Effect.{Effect, Fields, Asks}
 use Rattle.ink_model.specs.Events.{Made, calls}
+use Rattle.ink_model.specs.Memory.{given_asks}
 use Rattle.ink_model.specs.Step.Host.{answering, arguments_on, is_argument}
 use Rattle.ink_model.specs.Tree.{StoryTree, leaf}
 use Rattle.ink_model.specs.declared.content.Leaf.TheVariants as leaves
@@ -55,6 +56,6 @@ is_asking e = false
 -- that, and nothing was called. Performing another calls nothing. The events count on from a stamp.
 abbrev pub PerformsCall : StoryTree → ℕ → Bool → Effect → List Event → Fields → Result Transfer Fault → Type 0
 PerformsCall s n asks (Asks name arguments left) es new result =
-    ((gave : Option Given) × (es ≡ calls n (made_call name arguments gave ∷ [])) × Performs s (is_some gave) (answering gave left) new result)
+    ((gave : Option Given) × (es ≡ calls n (made_call name arguments gave ∷ [])) × Performs s (given_asks arguments left gave) (answering gave left) new result)
     ⊎ ((es ≡ []) × (result ≡ Err OutOfMemory) × (asks ≡ true))
 PerformsCall s n asks e es new result = (es ≡ []) × Performs s asks e new result

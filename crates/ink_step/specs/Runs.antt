@@ -1,12 +1,12 @@
 -- How runs end, with the calls that they made.
-use Rattle.std.specs.Prelude.{◌≡◌, ◌⊎◌, List, [], Some, Result, Ok, Err}
+use Rattle.std.specs.Prelude.{◌≡◌, ◌⊎◌, List, [], true, Some, Result, Ok, Err}
 use Rattle.std.specs.List.{AllByRecursion}
 use Rattle.ink_model.specs.Configuration.{Configuration, settled}
 use Rattle.ink_model.specs.Host.{Bound, turn_function}
 use Rattle.ink_model.specs.Memory.{CallsAt, FallsShort, GetsTo}
 use Rattle.ink_model.specs.Run as run
-use Rattle.ink_model.specs.Run.{Faulted, Made, answers_of, cut_off, moment, through}
-use Rattle.ink_model.specs.Session.{passage}
+use Rattle.ink_model.specs.Passage.{passage, passage_asks}
+use Rattle.ink_model.specs.Run.{Broke, EndsThrough, Faulted, Kept, Made, RunEnd, answers_of, cut_off, moment}
 use Rattle.ink_model.specs.Store.{Values}
 use Rattle.ink_model.specs.Tree.{StoryTree}
 use Rattle.ink_model.specs.declared.fault.Fault.{Fault}
@@ -31,19 +31,13 @@ abbrev pub RunsToStop : StoryTree → Bound → Configuration → List Made → 
 RunsToStop s b old made new (Ok u) = moment s b old (answers_of made) MAX_STEPS ≡ run.Stopped new [] made
 RunsToStop s b old made new (Err f) = RunFalls s b old made new.shared.globals f
 
--- A running command, with these calls made, comes to its end, with the passage, and what it leaves.
-pub record ComesTo (s : StoryTree) (b : Bound) (old : Configuration) (made : List Made) (passed : Passage) (new : Configuration) : Type 0 where
-  pub stop : Configuration
-  pub got_there : through s b old (answers_of made) ≡ run.Stopped stop [] made
-  pub tells : passed ≡ passage stop
-  pub leaves : new ≡ settled stop
+-- What a running command hands out and leaves, by how its run ends. Where memory is refused for the passage, the globals stay.
+abbrev pub EndsWith : RunEnd → Configuration → Result Passage Fault → Type 0
+EndsWith (Kept c) new (Ok passed) = (passed ≡ passage c) × (new ≡ settled c)
+EndsWith (Kept c) new (Err f) = (f ≡ OutOfMemory) × (passage_asks c ≡ true) × (new.shared.globals ≡ c.shared.globals)
+EndsWith (Broke f globals) new result = (result ≡ Err f) × (new.shared.globals ≡ globals)
 
--- Or its run ends with a fault, or falls short, and leaves these globals.
-pub record ComesToFault (s : StoryTree) (b : Bound) (old : Configuration) (made : List Made) (f : Fault) (globals : Values) : Type 0 where
-  pub before : Configuration
-  pub got_there : through s b old (answers_of made) ≡ Faulted f before [] made
-  pub leaves : globals ≡ before.shared.globals
-
+-- A running command, with these calls made, comes to its end; or memory was refused to its run, and it leaves these globals.
 abbrev pub RunsThrough : StoryTree → Bound → Configuration → List Made → Configuration → Result Passage Fault → Type 0
-RunsThrough s b old made new (Ok passed) = ComesTo s b old made passed new
-RunsThrough s b old made new (Err f) = ComesToFault s b old made f new.shared.globals ⊎ ((f ≡ OutOfMemory) × FallsShort s b old made new.shared.globals)
+RunsThrough s b old made new result = ((end : RunEnd) × EndsThrough s b old made end × EndsWith end new result)
+    ⊎ ((result ≡ Err OutOfMemory) × FallsShort s b old made new.shared.globals)

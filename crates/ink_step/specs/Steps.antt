@@ -1,10 +1,10 @@
 -- How steps end, beside the definitions, and what opening and choosing come to.
-use Rattle.std.specs.Prelude.{◌≡◌, ⊤, ℕ, List, [], ◌∷◌, ◌⊎◌, Bool, true, false, Option, Some, None, is_some, Result, Ok, Err}
+use Rattle.std.specs.Prelude.{◌≡◌, ⊤, ℕ, List, [], ◌∷◌, ◌⊎◌, Bool, true, false, Option, Some, None, Result, Ok, Err}
 use Rattle.ink_model.specs.Choosing.{chosen}
 use Rattle.ink_model.specs.Configuration.{ChoiceOf, Configuration}
 use Rattle.ink_model.specs.Events.{calls}
 use Rattle.ink_model.specs.Host.{Bound, turn_function}
-use Rattle.ink_model.specs.Memory.{OpensShort}
+use Rattle.ink_model.specs.Memory.{OpensShort, answered_asks}
 use Rattle.ink_model.specs.Move.{Outcome, Next, Stop, Wants, Faults}
 use Rattle.ink_model.specs.Opening.{opening}
 use Rattle.ink_model.specs.Run.{answered}
@@ -41,7 +41,7 @@ wants outcome = false
 -- count on from a stamp.
 abbrev pub StepMakes : StoryTree → Bound → ℕ → Bool → Outcome → List Event → Values → Configuration → Result StepEnd Fault → Type 0
 StepMakes s b n asks (Wants name arguments f d) es globals new result =
-    ((gave : Option Given) × (b name ≡ Some turn_function) × (es ≡ calls n (made_call name arguments gave ∷ [])) × StepEnds (is_some gave) (answered s f d gave) globals new result)
+    ((gave : Option Given) × (b name ≡ Some turn_function) × (es ≡ calls n (made_call name arguments gave ∷ [])) × StepEnds (answered_asks s arguments f d gave) (answered s f d gave) globals new result)
     ⊎ ((es ≡ []) × (result ≡ Err OutOfMemory) × (asks ≡ true) × (new.shared.globals ≡ globals))
 StepMakes s b n asks outcome es globals new result = (es ≡ []) × StepEnds asks outcome globals new result
 

@@ -8,6 +8,7 @@ ghost use Rattle.ink_host.specs.declared.objects.Bound.TheVariants as bound;
 ghost use Rattle.ink_model.specs.Effect.{Fields};
 ghost use Rattle.ink_model.specs.Asks.{binding_asks, external_asks, takes_arguments};
 ghost use Rattle.ink_model.specs.Host.{fits_given, pure_function, turn_function};
+ghost use Rattle.ink_model.specs.Memory.{given_asks};
 ghost use Rattle.ink_model.specs.Page.{Page};
 ghost use Rattle.ink_model.specs.Step.Host as rules;
 ghost use Rattle.ink_model.specs.Store.{Values};
@@ -19,7 +20,7 @@ ghost use Rattle.ink_step.specs.External.{PerformsCall, call_of, external_in, is
 ghost use Rattle.ink_step.specs.Performs.{Performs, fields};
 
 use crate::diverting::is_wanted;
-use crate::operands::push;
+use crate::operands::put_over;
 use crate::transfer::{Landing, Transfer, moving};
 use ink_check::Story;
 use ink_host::{Desk, FnKind, PureFn, TurnFn, Watcher};
@@ -190,17 +191,18 @@ fn lend_arguments(stack: &EvalStack, count: usize) -> Result<&[Value], Fault>
     Ok(values)
 }
 
-// The arguments are dropped, and what was given is pushed in their place.
+// What was given is put in the place of the arguments. `TooDeep` for a text over its limit. Only where there are no arguments it may
+// be `TooDeep` for a stack that is full, and `OutOfMemory` for a refused request for memory.
 fn answer<'a>(stack: &mut EvalStack, count: usize, given: Given) -> Result<Transfer<'a>, Fault>
     requires { count ≤ length stack.old.items }
-    ensures { (s : StoryTree) (evaluating : Bool) (fresh : Option ℕ) (page : Page) (globals : Values) (left : List Data) → option_map (λ r. r.1) (rules.arguments_on count stack.old.items) ≡ Some left
-        → Performs s true (rules.answering (Some given) (fields evaluating fresh left page globals)) (fields evaluating fresh stack.new.items page globals) result }
+    ensures { (s : StoryTree) (evaluating : Bool) (fresh : Option ℕ) (page : Page) (globals : Values) (arguments left : List Data) → rules.arguments_on count stack.old.items ≡ Some (arguments, left)
+        → let f = fields evaluating fresh left page globals in
+        Performs s (given_asks arguments f (Some given)) (rules.answering (Some given) f) (fields evaluating fresh stack.new.items page globals) result }
 {
-    stack.drop_top(count);
     if !fits(&given) {
         return Err(Fault::TooDeep);
     }
-    moving(push(stack, value_given(given)))
+    moving(put_over(stack, count, value_given(given)))
 }
 
 /// Whether a call calls a turn function where it is performed: exactly then does its effect ask one.

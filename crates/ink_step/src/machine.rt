@@ -2,7 +2,7 @@
 
 ghost use Rattle.std.specs.Prelude.{◌≡◌, IfErr, OnOk, OnErr, is_ok, is_some};
 ghost use Rattle.ink_model.specs.Configuration.{begun, settled, can_go_on, with_globals};
-ghost use Rattle.ink_model.specs.Session.{is_loose};
+ghost use Rattle.ink_model.specs.Passage.{is_loose};
 ghost use Rattle.ink_model.specs.Store.{store, stored};
 ghost use Rattle.ink_model.specs.Tree.{StoryTree};
 ghost use Rattle.ink_vars.specs.Changes.{Tracks};

@@ -1,9 +1,13 @@
 //! Values at the top of the evaluation stack.
 
-ghost use Rattle.std.specs.Prelude.{◌≡◌, true, false, Err, IfErr, OnOk};
+ghost use Rattle.std.specs.Prelude.{◌≡◌, ◌≤◌, ◌&&◌, List, Some, Err, IfErr, OnOk, length, nat_lt, not, true, false};
 ghost use Rattle.ink_model.specs.Asks.{has_room};
+ghost use Rattle.ink_model.specs.Choices.{has_any};
 ghost use Rattle.ink_model.specs.Memory.{Leaves};
 ghost use Rattle.ink_model.specs.Stack.{popped, pushed};
+ghost use Rattle.ink_model.specs.Step.Host.{arguments_on};
+ghost use Rattle.ink_model.specs.declared.limits.TheConstants.{MAX_STACK};
+ghost use Rattle.ink_model.specs.declared.value.Value.{Value as Data};
 ghost use Rattle.ink_step.specs.Stacks.{Pops, CopiesTop};
 
 use ink_model::{Fault, MAX_STACK, Value};
@@ -30,6 +34,23 @@ pub(crate) fn check_room(stack: &EvalStack) -> Result<(), Fault>
         Ok(())
     } else {
         Err(Fault::TooDeep)
+    }
+}
+
+/// Puts a value in the place of those on top, so many of them. Where it takes the place of none it is put on top as `push` does;
+/// else there is no error.
+pub(crate) fn put_over(stack: &mut EvalStack, count: usize, value: Value) -> Result<(), Fault>
+    requires { count ≤ length stack.old.items }
+    ensures stack { (over left : List Data) → arguments_on count stack.old.items ≡ Some (over, left) → Leaves (pushed value left) left stack.new.items result }
+    ensures memory { (over left : List Data) → arguments_on count stack.old.items ≡ Some (over, left) → result ≡ Err Fault.OutOfMemory → (not (has_any over) && nat_lt (length left) MAX_STACK) ≡ true }
+{
+    let Some(below) = count.checked_sub(1) else {
+        return stack.push(value);
+    };
+    stack.drop_top(below);
+    match stack.replace_top(value) {
+        Ok(()) => Ok(()),
+        Err(_) => unreachable!(),
     }
 }
 

@@ -1,10 +1,10 @@
 //! A running command: steps to the stop, and the passage (docs/RUNNING.md, "Runs").
 
-ghost use Rattle.std.specs.Prelude.{◌≡◌, ◌≢◌, [], List, IfOk, OnErr};
+ghost use Rattle.std.specs.Prelude.{◌≡◌, ◌≢◌, [], List, true, IfOk, OnErr};
 ghost use Rattle.ink_check.specs.Words.{story_tree};
 ghost use Rattle.ink_host.specs.Desk.{Grew, bound_by};
 ghost use Rattle.ink_model.specs.Events.{Made, calls};
-ghost use Rattle.ink_model.specs.Session.{passage};
+ghost use Rattle.ink_model.specs.Passage.{passage, passage_asks};
 ghost use Rattle.ink_model.specs.Store.{Values};
 ghost use Rattle.ink_model.specs.Tree.{StoryTree};
 ghost use Rattle.ink_model.specs.Turns.{open_choices};
@@ -73,9 +73,11 @@ impl Machine {
         self.choices.visible(self.alloc)
     }
 
-    /// The passage of the machine as a running command ends. The one error is a refused request for memory.
+    /// The passage of the machine as a running command ends. The one error is a refused request for memory, which is made only
+    /// where a text is shown, or there are tags or visible choices.
     fn passage(&self) -> Result<Passage, AllocError>
-        ensures { (s : StoryTree) → IfOk result (λ p. p ≡ passage (config_of s self.now)) }
+        ensures passage { (s : StoryTree) → IfOk result (λ p. p ≡ passage (config_of s self.now)) }
+        ensures memory { (s : StoryTree) → OnErr result (passage_asks (config_of s self.now) ≡ true) }
     {
         let text = self.output.text()?;
         let tags = self.output.tags()?;

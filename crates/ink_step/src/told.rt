@@ -16,25 +16,25 @@ use std::alloc::{AllocError, Global};
 
 impl Machine {
     /// The watched globals that have another value than when the last running command began, or were not there then, in order of
-    /// declaration. The one error is a refused request for memory, which is made only where a global was assigned since then.
+    /// declaration. The one error is a refused request for memory, which is made only where there are such globals.
     pub fn told<P: PureFn, T: TurnFn, W: Watcher>(
         &self,
         desk: &Desk<P, T, W>,
     ) -> Result<Seq<Change>, AllocError>
         ensures told { (start : Values) → Tracks start self.now.changes self.now.globals → IfOk result (λ changes. changes ≡ told (watches desk.now.watchers) start self.now.globals) }
         ensures once { IfOk result (λ cs. OncePerName cs) }
-        ensures memory { OnErr result (self.now.changes ≢ []) }
+        ensures memory { (start : Values) → Tracks start self.now.changes self.now.globals → OnErr result (told (watches desk.now.watchers) start self.now.globals ≢ []) }
     {
         if self.globals.len() == 0 || !desk.has_watchers() || self.changes.is_empty() {
             return Ok(Seq::new(self.alloc));
         }
         let mut told = Vec::new(self.alloc);
-        let numbers = changed(self.alloc, &self.changes, &self.globals)?;
+        let numbers = changed(self.alloc, &self.changes, &self.globals, |name| {
+            desk.watches(name)
+        })?;
         for number in &numbers {
             if let Some((name, value)) = self.globals.pair(*number) {
-                if desk.watches(name) {
-                    told.push(change(self.alloc, name, value)?)?;
-                }
+                told.push(change(self.alloc, name, value)?)?;
             }
         }
         Ok(Seq::from_vec(told))

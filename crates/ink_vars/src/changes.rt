@@ -1,11 +1,11 @@
 //! Which globals were assigned since a moment, and what they were then.
 
-ghost use Rattle.std.specs.Prelude.{◌≡◌, ◌==◌, ◌≢◌, ◌<◌, ◌⊎◌, ◌++◌, ◌∷◌, ℕ, [], false, true, None, is_some, length, nat_eq, slice_get, slice_index_or, IfOk, OnOk, OnErr};
+ghost use Rattle.std.specs.Prelude.{◌≡◌, ◌==◌, ◌≢◌, ◌<◌, ◌⊎◌, ◌++◌, ◌∷◌, ℕ, List, [], Bool, false, true, None, is_some, length, nat_eq, slice_get, slice_index_or, IfOk, OnOk, OnErr};
 ghost use Rattle.std.specs.List.{IsDistinct};
 ghost use Rattle.std.specs.Option.{option_copied};
 ghost use Rattle.ink_model.specs.Store.{Values, store, stored};
 ghost use Rattle.ink_model.specs.declared.value.Value.{Value};
-ghost use Rattle.ink_vars.specs.Changes.{Marks, Tracks, changed_numbers, changed_to, noted_at, number_of, with_noted};
+ghost use Rattle.ink_vars.specs.Changes.{AnswersAs, Marks, Tracks, changed_numbers, changed_to, noted_at, number_of, with_noted};
 
 use crate::globals::Globals;
 use ink_model::Value;
@@ -143,21 +143,23 @@ impl Changes {
     }
 }
 
-/// The numbers of the globals that were not there at the moment, or had another value, in order of declaration. The one error
-/// is a refused request for memory, which is never made where nothing was noted.
-pub fn changed(
+/// The numbers of the globals that are wanted, by their names, and were not there at the moment, or had another value, in order of
+/// declaration. The one error is a refused request for memory, which is made only where there are such globals.
+pub fn changed<F: Fn(&str) -> bool>(
     alloc: Global,
     changes: &Changes,
     globals: &Globals,
+    is_wanted: F,
 ) -> Result<Vec<usize>, AllocError>
-    ensures numbers { (start : Values) → Tracks start changes.now globals.now → IfOk result (λ numbers. numbers.items ≡ changed_numbers start globals.now) }
-    ensures once { IfOk result (λ numbers. IsDistinct nat_eq numbers.items) }
-    ensures memory { OnErr result (changes.now ≢ []) }
+    requires { F.IsAlwaysCallable is_wanted }
+    ensures numbers { (wanted : List ℕ → Bool) (start : Values) → AnswersAs (F.post is_wanted) wanted → Tracks start changes.now globals.now → IfOk result (λ numbers. numbers.items ≡ changed_numbers wanted start globals.now) }
+    ensures once { (wanted : List ℕ → Bool) → AnswersAs (F.post is_wanted) wanted → IfOk result (λ numbers. IsDistinct nat_eq numbers.items) }
+    ensures memory { (wanted : List ℕ → Bool) (start : Values) → AnswersAs (F.post is_wanted) wanted → Tracks start changes.now globals.now → OnErr result (changed_numbers wanted start globals.now ≢ []) }
 {
     let there = globals.len();
     let mut numbers = Vec::new(alloc);
     for before in &changes.noted {
-        if before.number < there && has_changed(before, globals) {
+        if before.number < there && has_changed(before, globals, &is_wanted) {
             numbers.push(before.number)?;
         }
     }
@@ -165,16 +167,19 @@ pub fn changed(
     Ok(numbers)
 }
 
-fn has_changed(before: &Before, globals: &Globals) -> bool
-    ensures { result ≡ changed_to before.now.value (slice_get globals.now before.now.number) }
+// Whether a global is there now that is wanted, and was not there, or was another value.
+fn has_changed<F: Fn(&str) -> bool>(before: &Before, globals: &Globals, is_wanted: &F) -> bool
+    requires { F.IsAlwaysCallable is_wanted.now }
+    ensures { (wanted : List ℕ → Bool) → AnswersAs (F.post is_wanted.now) wanted → result ≡ changed_to wanted before.now.value (slice_get globals.now before.now.number) }
 {
-    let Some((_, value)) = globals.pair(before.number) else {
+    let Some((name, value)) = globals.pair(before.number) else {
         return false;
     };
-    match &before.value {
+    let is_other = match &before.value {
         Some(was) => !same_value(was, value),
         None => true,
-    }
+    };
+    is_wanted(name) && is_other
 }
 
 fn copied(alloc: Global, value: Option<&Value>) -> Result<Option<Value>, AllocError>

@@ -1,7 +1,7 @@
 use Rattle.std.proofs.Common.{◌≡◌, ◌∙◌, ap, refl, rules, sym, Err, []}
 use Rattle.ink_host.proofs.Laws.{grew-none}
 use Rattle.ink_step.specs.Performs.{fields}
-use Rattle.ink_step.proofs.Calls.{left_by, turn_failed, turn_gave, unlent_turn, unsafe_turn}
+use Rattle.ink_step.proofs.Calls.{there, turn_failed, turn_gave, unlent_turn, unsafe_turn}
 use Rattle.ink_step.proofs.external.call_turn.Goals as goal
 
 pub returns-then-in_string-clause-call : goal.returns-then-in_string-clause-call
@@ -31,7 +31,7 @@ returns-in-Ok-clause-call g c s evaluating fresh globals =
     let safe = sym c.in_string.ensures ∙ c.if-in_string.false in
     turn_gave s call.name.now call.arguments f new safe c.in_ok-arguments.arguments.now c.in_ok-arguments.ensures.ok g.T.TurnFn.log g.W.Watcher.log c.args.desk.now c.call.new.self c.in-Ok.given
     (c.in-Ok.ensures.answer c.in-Ok.given refl) c.answer.result
-    (c.answer.ensures s evaluating fresh page globals _ (left_by s call.name.now call.arguments f new safe c.in_ok-arguments.arguments.now c.in_ok-arguments.ensures.ok))
+    (c.answer.ensures s evaluating fresh page globals _ _ (there s call.name.now call.arguments f new safe c.in_ok-arguments.arguments.now c.in_ok-arguments.ensures.ok))
 
 pub returns-in-Err-clause-call : goal.returns-in-Err-clause-call
 returns-in-Err-clause-call g c s evaluating fresh globals =

@@ -26,7 +26,7 @@ returns-in_err-passage-clause-runs g c =
     let new = config_of s c.run.new.self in
     let ran = c.in_ok-run.ensures.runs in
     let is : c.from_residual-in_err-passage.result ≡ Err OutOfMemory = search rules in
-    (ran.0, ran.1, subst (RunsThrough s b old ran.0 new) (sym is) (falls_after s b ran.0 old (config_of s c.begin.new.self) (c.begin.ensures.begun s) new ran.2))
+    (ran.0, ran.1, subst (RunsThrough s b old ran.0 new) (sym is) (falls_after s b ran.0 old (config_of s c.begin.new.self) (c.begin.ensures.begun s) new ran.2 (c.in_err-passage.ensures.memory s)))
 
 pub returns-clause-runs : goal.returns-clause-runs
 returns-clause-runs g c =
@@ -36,7 +36,7 @@ returns-clause-runs g c =
       ran.0,
       ran.1,
       comes_to s b ran.0 (config_of s c.args.self.now) (config_of s c.begin.new.self) (c.begin.ensures.begun s) (config_of s c.run.new.self) (config_of s c.settle.new.self) _
-          ran.2 (c.in_ok-passage.ensures s) (c.settle.ensures.settled s),
+          ran.2 (c.in_ok-passage.ensures.passage s) (c.settle.ensures.settled s),
     )
 
 -- the changes are those since the beginning
