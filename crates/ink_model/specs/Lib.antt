@@ -52,6 +52,7 @@ pub mod Asks
 pub mod Memory
 pub mod Changed
 pub mod Turns
+pub mod Unread
 pub mod Session
 pub mod PathExamples
 pub mod StoryExamples
@@ -78,4 +79,6 @@ pub mod HostExamples
 pub mod ToldExamples
 pub mod JumpExamples
 pub mod TurnExamples
+pub mod NameExamples
+pub mod LimitExamples
 pub mod Examples

@@ -1,5 +1,5 @@
 use Rattle.std.proofs.Common.{◌∙◌}
-use Rattle.ink_player.specs.Replies.{reply_by}
+use Rattle.ink_protocol.specs.Replies.{reply_by}
 use Rattle.ink_player.proofs.Sessions.{answered_by}
 use Rattle.ink_player.proofs.session.answer_line.Goals as goal
 
