@@ -15,9 +15,7 @@ pub use ink_host::{
     Bound, Desk, FnKind, HostDesk, PureBox, PureFn, TurnBox, TurnFn, Watcher, WatcherBox,
 };
 pub use ink_model::{Event, Fault, Halt, Passage, Refusal, Shown};
-pub use ink_protocol::{
-    ReadFailed, RunFault, Sink, Source, Watched, WriteFailed, print_values,
-};
+pub use ink_protocol::{ReadFailed, RunFault, Sink, Source, Watched, WriteFailed, print_values};
 pub use player::{OpenFault, Player};
 pub use playing::{open_story, play, serve_story};
 pub use session::{run, serve};

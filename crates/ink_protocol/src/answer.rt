@@ -74,11 +74,7 @@ fn done_text() -> &'static str
 
 /// What a command's call returned, as the line that is written, its newline at the end, in the memory of a buffer whose
 /// bytes go. The one error is a refused request for memory.
-pub fn answer_text(
-    alloc: Global,
-    buffer: Vec<u8>,
-    outcome: Outcome,
-) -> Result<Vec<u8>, AllocError>
+pub fn answer_text(alloc: Global, buffer: Vec<u8>, outcome: Outcome) -> Result<Vec<u8>, AllocError>
     ensures { IfOk result (λ text. text.items ≡ answer (reply_by outcome)) }
 {
     let mut empty = buffer;

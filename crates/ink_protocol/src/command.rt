@@ -28,10 +28,7 @@ pub enum LineCommand<'a> {
 
 /// The command of a line, without its newline (docs/PROTOCOL.md, "Command lines"). A line that is no text, or no
 /// command, has none. The one error is a refused request for memory, which only a `set` makes, for its JSON.
-pub fn read_command(
-    alloc: Global,
-    line: &[u8],
-) -> Result<Option<LineCommand<'_>>, AllocError>
+pub fn read_command(alloc: Global, line: &[u8]) -> Result<Option<LineCommand<'_>>, AllocError>
     ensures command { IfOk result (λ command. option_map command_by command ≡ command_of line.now) }
     ensures memory { OnErr result (line_asks (command_of line.now) ≡ true) }
 {

@@ -25,6 +25,13 @@ impl<X> Watched<X> {
     {
         Watched { inner, failures: 0 }
     }
+
+    /// The reader or the writer, as it is now.
+    pub fn into_inner(self) -> X
+        ensures { result ≡ self.inner }
+    {
+        self.inner
+    }
 }
 
 impl<R: Read> Source for Watched<R> {
