@@ -1,10 +1,12 @@
 -- Answers (docs/PROTOCOL.md, "Answers").
-use Rattle.std.specs.Prelude.{ℕ, ℤ, List, [], ◌∷◌, ◌++◌, map, codes, Result, Ok, Err}
+use Rattle.std.specs.Prelude.{ℕ, ℤ, List, [], ◌∷◌, ◌++◌, map, codes, Bool, true, false, Result, Ok, Err}
 pub use Rattle.ink_model.specs.Events.{items_of}
 use Rattle.ink_model.specs.ValueJson.{value_data}
 use Rattle.serde_json.specs.Data.{Data, boolean, number, string, array, object, no_members, member}
 use Rattle.serde_json.specs.Find.{of_integer}
 use Rattle.serde_json.specs.Written.{compact_text}
+use Rattle.ink_model.specs.declared.fault.Cause.{Cause}
+use Rattle.ink_model.specs.declared.fault.Cause.TheVariants as cause
 use Rattle.ink_model.specs.declared.fault.Fault.{Fault}
 use Rattle.ink_model.specs.declared.fault.Fault.TheVariants as fault
 use Rattle.ink_model.specs.declared.fault.Refusal.{Refusal}
@@ -53,7 +55,17 @@ abbrev pub reply_of_landing : Result (Unit {0}) Refusal → Reply
 reply_of_landing (Ok u) = Acts []
 reply_of_landing (Err r) = Refuses r
 
--- ---- replies as JSON
+-- ---- names
+
+-- why a story is refused, as the program prints it
+abbrev pub cause_name : Cause → List ℕ
+cause_name cause.NotJson = codes "NotJson"
+cause_name cause.Version = codes "Version"
+cause_name cause.Shape = codes "Shape"
+cause_name cause.Unsupported = codes "Unsupported"
+cause_name cause.BadPath = codes "BadPath"
+cause_name cause.Limit = codes "Limit"
+cause_name cause.OutOfMemory = codes "OutOfMemory"
 
 abbrev pub fault_name : Fault → List ℕ
 fault_name fault.StackEmpty = codes "StackEmpty"
@@ -82,6 +94,8 @@ refusal_name refusal.BadValue = codes "BadValue"
 refusal_name refusal.BadCommand = codes "BadCommand"
 refusal_name (refusal.Broken f) = codes "Broken"
 refusal_name refusal.OutOfMemory = codes "OutOfMemory"
+
+-- ---- replies as JSON
 
 abbrev pub texts_data : List (List ℕ) → Data
 texts_data ts = array (items_of (map string ts))
@@ -118,3 +132,8 @@ reply_data (Breaks f events) =
 -- a reply as it is written: compact JSON and a newline
 unfoldable pub answer : Reply → List ℕ
 answer reply = compact_text (reply_data reply) ++ 10 ∷ []
+
+-- the text of an answer is made in memory, but for the one of what is done and tells nothing
+abbrev pub answer_asks : Reply → Bool
+answer_asks (Acts []) = false
+answer_asks reply = true

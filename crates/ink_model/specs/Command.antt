@@ -1,5 +1,5 @@
 -- Command lines (docs/PROTOCOL.md, "Command lines").
-use Rattle.std.specs.Prelude.{ℕ, List, [], ◌∷◌, ◌==◌, length, bytes_eq, codes, nat_le, ◌&&◌, is_none, option_and_then, Option, Some, None, if◌then◌else◌}
+use Rattle.std.specs.Prelude.{ℕ, List, [], ◌∷◌, Bool, true, false, ◌==◌, length, bytes_eq, codes, nat_le, ◌&&◌, is_none, option_and_then, Option, Some, None, if◌then◌else◌}
 use Rattle.std.specs.List.{list_all}
 use Rattle.std.specs.Option.{option_or}
 use Rattle.std.specs.Str.{is_utf8}
@@ -12,8 +12,6 @@ use Rattle.ink_model.specs.declared.command.Command.TheVariants as command
 abbrev pub lines_of : List ℕ → List (List ℕ)
 lines_of [] = []
 lines_of (c ∷ cs) = if c == 10 then [] ∷ lines_of cs else onto c (lines_of cs)
-
--- ---- JSON of values
 
 -- ---- commands
 
@@ -51,13 +49,7 @@ command_word line = option_or (plain_command line) (option_or (option_and_then g
 unfoldable pub command_of : List ℕ → Option Command
 command_of line = if is_utf8 line then command_word line else None
 
--- only a command that has a name or a path needs memory to be read
-abbrev pub NeedsMemory : Option Command → Type 0
-NeedsMemory None = ⊥
-NeedsMemory (Some command.Through) = ⊥
-NeedsMemory (Some (command.Set name value)) = Unit {0}
-NeedsMemory (Some (command.Get name)) = Unit {0}
-NeedsMemory (Some (command.Visits path)) = Unit {0}
-NeedsMemory (Some (command.Choose number)) = ⊥
-NeedsMemory (Some (command.Jump path)) = Unit {0}
-NeedsMemory (Some command.Restart) = ⊥
+-- Memory is asked for reading a line only where it may have JSON to be parsed: names, paths and numbers stand in the line.
+abbrev pub line_asks : Option Command → Bool
+line_asks (Some (command.Set name value)) = true
+line_asks k = false

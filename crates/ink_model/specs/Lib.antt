@@ -53,6 +53,7 @@ pub mod Memory
 pub mod Changed
 pub mod Turns
 pub mod Passage
+pub mod Unread
 pub mod Session
 pub mod PathExamples
 pub mod StoryExamples
@@ -79,4 +80,6 @@ pub mod HostExamples
 pub mod ToldExamples
 pub mod JumpExamples
 pub mod TurnExamples
+pub mod NameExamples
+pub mod LimitExamples
 pub mod Examples

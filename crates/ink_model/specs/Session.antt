@@ -10,13 +10,14 @@ use Rattle.ink_model.specs.Passage.{passage, passage_asks}
 use Rattle.ink_model.specs.Run.{Made, RunEnd, Kept, Broke, EndsThrough}
 use Rattle.ink_model.specs.Memory.{FallsShort, OpensShort, holds_memory}
 pub use Rattle.ink_model.specs.Changed.{FailsAllocation, Keeps}
-use Rattle.ink_model.specs.Command.{command_of, NeedsMemory}
+use Rattle.ink_model.specs.Command.{command_of}
 use Rattle.ink_model.specs.Answer.{Reply, Tells, Acts, Shows, Counts, Refuses, Breaks, answer}
 use Rattle.ink_model.specs.State.{State, Condition, Ready, Broken, globals_of}
 use Rattle.ink_model.specs.Store.{Values, stored, store}
 use Rattle.ink_model.specs.Told.{ToldAs, told}
 use Rattle.ink_model.specs.Opening.{opening, Unopened}
 use Rattle.ink_model.specs.Turns.{Choose, Jump}
+use Rattle.ink_model.specs.Unread.{LineFails}
 use Rattle.ink_model.specs.Visits.{visits_by}
 use Rattle.ink_model.specs.declared.command.Command.{Command}
 use Rattle.ink_model.specs.declared.command.Command.TheVariants as command
@@ -167,10 +168,6 @@ Does s h es (Some (command.Visits path)) old reply new = (es ≡ []) × Visits s
 Does s h es (Some (command.Choose number)) old reply new = (es ≡ []) × Choose s number old reply new
 Does s h es (Some (command.Jump path)) old reply new = (es ≡ []) × Jump s path old reply new
 Does s h es (Some command.Restart) old reply new = Restart s h es old reply new
-
--- memory was refused for reading a line, or the path in it, which only a line with a name or a path needs
-abbrev pub LineFails : Option Command → State → Reply → State → Type 0
-LineFails command old reply new = NeedsMemory command × FailsAllocation old reply new
 
 -- one line: its events, its reply, and the state after it
 unfoldable pub Serves : StoryTree → Bindings → List Event → List ℕ → State → Reply → State → Type 0

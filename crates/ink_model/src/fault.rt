@@ -99,6 +99,25 @@ pub enum Halt {
     Fault { fault: Fault, events: Seq<Event> },
 }
 
+impl Cause {
+    ghost use Rattle.ink_model.specs.Answer.{cause_name};
+
+    /// The cause's name, as the program prints it (docs/PROTOCOL.md, "The program").
+    pub fn name(self) -> &'static str
+        ensures { result.now ≡ cause_name self }
+    {
+        match self {
+            Cause::NotJson => "NotJson",
+            Cause::Version => "Version",
+            Cause::Shape => "Shape",
+            Cause::Unsupported => "Unsupported",
+            Cause::BadPath => "BadPath",
+            Cause::Limit => "Limit",
+            Cause::OutOfMemory => "OutOfMemory",
+        }
+    }
+}
+
 impl Fault {
     ghost use Rattle.ink_model.specs.Answer.{fault_name};
 

@@ -1,12 +1,6 @@
-pub mod Commands
-pub mod Answering
-pub mod Writing
-pub mod Reading
 pub mod Sessions
 pub mod Refusing
 pub mod Playings
-pub mod Spelling
 pub mod Paths
-pub mod Numbers
 pub mod Tellings
 pub mod Restarts

@@ -9,19 +9,20 @@ use Rattle.ink_model.specs.State.{State}
 use Rattle.ink_model.specs.Host.{Bindings}
 use Rattle.ink_model.specs.declared.host.Event.{Event}
 use Rattle.ink_host.specs.Desk.{DeskView}
-use Rattle.ink_player.specs.Buffered.{Buffered}
-use Rattle.ink_player.specs.Input.{Takes}
-use Rattle.ink_player.specs.Lines.{TakesLine, GivesLine}
+use Rattle.ink_protocol.specs.Buffered.{Buffered}
+use Rattle.ink_protocol.specs.Input.{Takes}
+use Rattle.ink_protocol.specs.Lines.{TakesLine, GivesLine}
 use Rattle.ink_player.specs.Playing.{IsStoryLine, PlaysOn, EndsEarly, PlayFails, PlayEnds, Plays, play_fault, OpenFails, Opens}
-use Rattle.ink_player.specs.Serving.{HasRoom, RunEnds, Runs}
+use Rattle.ink_player.specs.Serving.{RunEnds, Runs}
+use Rattle.ink_protocol.specs.Spelled.{HasRoom}
 use Rattle.ink_player.specs.Words.{state_of, story_of}
 use Rattle.ink_player.specs.declared.end.PlayEnd.{PlayEnd}
 use Rattle.ink_player.specs.declared.end.PlayFault.{PlayFault}
 use Rattle.ink_player.specs.declared.end.PlayFault.TheVariants as play
-use Rattle.ink_player.specs.declared.end.RunFault.{RunFault}
-use Rattle.ink_player.specs.declared.end.RunFault.TheVariants as fault
+use Rattle.ink_protocol.specs.declared.fault.RunFault.{RunFault}
+use Rattle.ink_protocol.specs.declared.fault.RunFault.TheVariants as fault
 use Rattle.ink_player.specs.declared.player.Player.{Player}
-use Rattle.ink_player.proofs.Reading.{has_room}
+use Rattle.ink_protocol.proofs.Reading.{has_room}
 use Rattle.ink_player.proofs.Sessions.{none_left}
 
 abbrev fresh : Buffered

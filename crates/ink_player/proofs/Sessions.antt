@@ -1,13 +1,13 @@
 -- How a session goes on by a line, and how it ends.
-use Rattle.std.proofs.Common.{◌≡◌, ◌⊎◌, ℕ, ◌+◌, ◌<◌, ◌≤◌, List, [], ◌∷◌, ◌++◌, length, false, cond, ◌==◌, Option, Some, None, Result, Ok, Err, ap, ◌∙◌, sym, refl, subst, inl, inr, arith, append_assoc, append-nil, length-append}
+use Rattle.std.proofs.Common.{◌≡◌, ◌⊎◌, ℕ, ◌+◌, ◌<◌, ◌≤◌, List, [], ◌∷◌, ◌++◌, length, true, false, cond, ◌==◌, Option, Some, None, Result, Ok, Err, ap, ◌∙◌, sym, refl, subst, inl, inr, arith, append_assoc, append-nil, length-append}
 use Rattle.std.specs.List.{AllByRecursion}
 use Rattle.std.specs.Option.{option_map}
 use Rattle.std.specs.Io.KnownBytes.{Appends, IsAtEnd}
 use Rattle.std.proofs.KnownBytes.{Appends-nil, Appends-trans, Consumes-trans}
 use Rattle.ink_model.specs.Answer.{Reply, Refuses, answer}
 use Rattle.ink_model.specs.Bytes.{has_newline, onto}
-use Rattle.ink_model.specs.Command.{NeedsMemory, command_of, lines_of}
-use Rattle.ink_model.specs.Session.{Does, LineFails, Serves, Session}
+use Rattle.ink_model.specs.Command.{command_of, line_asks, lines_of}
+use Rattle.ink_model.specs.Session.{Does, Serves, Session}
 use Rattle.ink_model.specs.State.{State}
 use Rattle.ink_model.specs.Host.{Bindings}
 use Rattle.ink_model.specs.Tree.{StoryTree}
@@ -15,18 +15,19 @@ use Rattle.ink_model.specs.declared.command.Command.{Command}
 use Rattle.ink_model.specs.declared.command.Command.TheVariants as command
 use Rattle.ink_model.specs.declared.host.Event.{Event}
 use Rattle.ink_model.specs.declared.fault.Refusal.TheVariants as refusal
-use Rattle.ink_player.specs.Buffered.{Buffered}
-use Rattle.ink_player.specs.Commands.{command_by}
-use Rattle.ink_player.specs.declared.command.LineCommand.{LineCommand}
-use Rattle.ink_player.specs.Ends.{Falls}
-use Rattle.ink_player.specs.Input.{Takes}
-use Rattle.ink_player.specs.Lines.{TakesLine, GivesLine}
-use Rattle.ink_player.specs.Serving.{IsLine, spelled, Splits, IsFirst, ServesFront, IsLongInput, HasRoom, RunEnds, Runs, Answered, Answers, WritesText, ServesLine}
-use Rattle.ink_player.specs.Paths.{PathFails}
+use Rattle.ink_protocol.specs.Buffered.{Buffered}
+use Rattle.ink_protocol.specs.Commands.{command_by}
+use Rattle.ink_protocol.specs.declared.command.LineCommand.{LineCommand}
+use Rattle.ink_protocol.specs.Ends.{Falls, WritesText}
+use Rattle.ink_protocol.specs.Input.{Takes}
+use Rattle.ink_protocol.specs.Lines.{TakesLine, GivesLine}
+use Rattle.ink_player.specs.Serving.{ServesFront, RunEnds, Runs, Answered, Answers, ServesLine}
+use Rattle.ink_protocol.specs.Spelled.{IsLine, spelled, Splits, IsFirst, IsLongInput, HasRoom}
+use Rattle.ink_model.specs.Unread.{LineFails, PathFails}
 use Rattle.ink_model.specs.declared.limits.TheConstants.{MAX_LINE}
-use Rattle.ink_player.specs.declared.end.RunFault.{RunFault}
-use Rattle.ink_player.specs.declared.end.RunFault.TheVariants as fault
-use Rattle.ink_player.proofs.Reading.{neither, has_room}
+use Rattle.ink_protocol.specs.declared.fault.RunFault.{RunFault}
+use Rattle.ink_protocol.specs.declared.fault.RunFault.TheVariants as fault
+use Rattle.ink_protocol.proofs.Reading.{neither, has_room}
 
 -- ---- lines of an input
 
@@ -232,7 +233,7 @@ module _ (s : StoryTree) (host : Bindings) (a b h : Option (List ℕ)) (o n : Bu
           events = refl;
           mid = old;
           served = none_served s host _ old;
-          next = inr (p.reply, record { line = line; is_line = l; first = first; serves = p.serves });
+          next = inr (p.reply, p.asks, record { line = line; is_line = l; first = first; serves = p.serves });
         })
 
     pub whole_unserved : (f : RunFault) → TakesLine a b o n (MAX_LINE + 1) (line ++ 10 ∷ []) line × length line ≤ MAX_LINE → Answers s host made line h i old new (Err f)
@@ -269,14 +270,7 @@ module _ (s : StoryTree) (host : Bindings) (made : List Event) where
 -- memory was refused for reading the path
 path_unread : (s : StoryTree) (host : Bindings) (line : List ℕ) (k : Option Command) (old : State) (reply : Reply) (new : State) → k ≡ command_of line → PathFails k old reply new → Serves s host [] line old reply new
 unfolding Serves
-path_unread s host line (Some (command.Visits path)) old reply new e p = inr (refl, subst (λ x. LineFails x old reply new) e (tt, p.1))
-path_unread s host line (Some (command.Jump path)) old reply new e p = inr (refl, subst (λ x. LineFails x old reply new) e (tt, p.1))
-path_unread s host line None old reply new e p = absurd p
-path_unread s host line (Some command.Through) old reply new e p = absurd p
-path_unread s host line (Some (command.Set name value)) old reply new e p = absurd p
-path_unread s host line (Some (command.Get name)) old reply new e p = absurd p
-path_unread s host line (Some (command.Choose number)) old reply new e p = absurd p
-path_unread s host line (Some command.Restart) old reply new e p = absurd p
+path_unread s host line k old reply new e p = inr (refl, subst (λ x. LineFails x old reply new) e (inr p))
 
 pub serves_command : (s : StoryTree) (host : Bindings) (line : List ℕ) (k : Option Command) (old : State) (reply : Reply) (new : State) → k ≡ command_of line
     → (es : List Event) → Does s host es k old reply new ⊎ ((es ≡ []) × PathFails k old reply new) → Serves s host es line old reply new
@@ -285,9 +279,9 @@ serves_command s host line k old reply new e es (inr p) =
     subst (λ x. Serves s host x line old reply new) (sym p.0) (path_unread s host line k old reply new e p.1)
 
 -- memory was refused for reading the line
-pub serves_unread : (s : StoryTree) (host : Bindings) (line : List ℕ) (st : State) → NeedsMemory (command_of line) → Serves s host [] line st (Refuses refusal.OutOfMemory) st
+pub serves_unread : (s : StoryTree) (host : Bindings) (line : List ℕ) (st : State) → line_asks (command_of line) ≡ true → Serves s host [] line st (Refuses refusal.OutOfMemory) st
 unfolding Serves
-serves_unread s host line st h = inr (refl, (h, (refl, refl)))
+serves_unread s host line st h = inr (refl, inl (h, (refl, refl)))
 
 -- the text of a reply's answer is written, or a front of it
 pub answered_by : (s : StoryTree) (host : Bindings) (es : List Event) (line : List ℕ) (h i : Option (List ℕ)) (old new : State) (r : Result (Unit {0}) RunFault) (reply : Reply) (text : List ℕ)

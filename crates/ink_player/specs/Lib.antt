@@ -1,12 +1,6 @@
 pub mod Words
-pub mod Answers
-pub mod Replies
 pub mod Ends
-pub mod Buffered
-pub mod Input
-pub mod Lines
 pub mod Serving
 pub mod Playing
-pub mod Commands
 pub mod Paths
 pub mod Visits

@@ -1,14 +1,13 @@
--- Where a host's path leads, and which commands ask for memory to read one (docs/PROTOCOL.md, "Command lines").
+-- Where a host's path leads, and where memory is asked for to read it (docs/PROTOCOL.md, "Command lines").
 use Rattle.std.specs.Prelude.{◌≡◌, ◌⊎◌, ℕ, List, IsSome, Option, Some, None, Result, Ok, Err}
 use Rattle.ink_model.specs.Answer.{Reply}
 use Rattle.ink_model.specs.Choosing.{jump_place}
 use Rattle.ink_model.specs.Path.{read_path}
-use Rattle.ink_model.specs.Session.{FailsAllocation}
-use Rattle.ink_model.specs.State.{State, Condition, Ready, Broken}
+use Rattle.ink_model.specs.Changed.{FailsAllocation}
+use Rattle.ink_model.specs.State.{State}
 use Rattle.ink_model.specs.Tree.{StoryTree}
 use Rattle.ink_model.specs.Turns.{Jump}
-use Rattle.ink_model.specs.declared.command.Command.{Command}
-use Rattle.ink_model.specs.declared.command.Command.TheVariants as command
+pub use Rattle.ink_model.specs.Unread.{ReadsPath}
 use Rattle.ink_model.specs.declared.fault.Cause.{Cause}
 use Rattle.ink_model.specs.declared.fault.Cause.TheVariants as cause
 use Rattle.ink_model.specs.declared.fault.Refusal.{Refusal}
@@ -26,17 +25,6 @@ abbrev pub FindsPlace : StoryTree → List ℕ → Result Spot Refusal → Type 
 FindsPlace s path (Ok spot) = jump_place s path ≡ Some (place_of s spot)
 FindsPlace s path (Err r) = ((r ≡ refusal.NoSuchPath) × (jump_place s path ≡ None)) ⊎ ((r ≡ refusal.OutOfMemory) × IsSome (read_path path))
 
--- memory is asked for a path, and a broken player reads none
-abbrev pub ReadsPath : List ℕ → Condition → Type 0
-ReadsPath path (Broken f globals) = ⊥
-ReadsPath path (Ready c) = IsSome (read_path path)
-
 -- `jump`, for whose path memory may be refused
 abbrev pub JumpsTo : StoryTree → List ℕ → State → Reply → State → Type 0
 JumpsTo s path old reply new = Jump s path old reply new ⊎ (ReadsPath path old.condition × FailsAllocation old reply new)
-
--- of a command whose line was read only the path may still need memory
-abbrev pub PathFails : Option Command → State → Reply → State → Type 0
-PathFails (Some (command.Visits path)) old reply new = ReadsPath path old.condition × FailsAllocation old reply new
-PathFails (Some (command.Jump path)) old reply new = ReadsPath path old.condition × FailsAllocation old reply new
-PathFails k old reply new = ⊥

@@ -17,14 +17,15 @@ use Rattle.ink_model.specs.Tree.{StoryTree}
 use Rattle.ink_model.specs.declared.fault.Cause.TheVariants as cause
 use Rattle.ink_model.specs.declared.fault.Fault.{Fault}
 use Rattle.ink_model.specs.declared.fault.ReadRefusal.{ReadRefusal}
-use Rattle.ink_player.specs.Serving.{HasRoom, RunEnds}
+use Rattle.ink_player.specs.Serving.{RunEnds}
+use Rattle.ink_protocol.specs.Spelled.{HasRoom}
 use Rattle.ink_step.specs.Steps.{FailsToOpen}
 use Rattle.ink_player.specs.Words.{anew, desk_of, state_of, story_of}
 use Rattle.ink_player.specs.declared.end.PlayEnd.{PlayEnd}
 use Rattle.ink_player.specs.declared.end.PlayFault.{PlayFault}
 use Rattle.ink_player.specs.declared.end.PlayFault.TheVariants as play
-use Rattle.ink_player.specs.declared.end.RunFault.{RunFault}
-use Rattle.ink_player.specs.declared.end.RunFault.TheVariants as fault
+use Rattle.ink_protocol.specs.declared.fault.RunFault.{RunFault}
+use Rattle.ink_protocol.specs.declared.fault.RunFault.TheVariants as fault
 use Rattle.ink_player.specs.declared.player.Player.{Player}
 
 -- The story is the first line, within its limit: up to its newline, with the session's input behind it, or up to the

@@ -1,9 +1,9 @@
 -- What a session over bytes does, and how it may end (docs/PROTOCOL.md, "Sessions").
-use Rattle.std.specs.Prelude.{◌≡◌, ◌<◌, ◌≤◌, ◌+◌, ℕ, List, [], ◌∷◌, ◌++◌, length, false, ◌⊎◌, Option, Result, Ok, Err}
+use Rattle.std.specs.Prelude.{◌≡◌, ◌<◌, ◌≤◌, ◌+◌, ℕ, List, [], ◌∷◌, ◌++◌, length, true, false, ◌⊎◌, Option, Result, Ok, Err}
 use Rattle.std.specs.List.{AllByRecursion}
 use Rattle.std.specs.Io.KnownBytes.{Appends, Consumes, IsAtEnd}
-use Rattle.ink_model.specs.Answer.{Reply, answer}
-use Rattle.ink_model.specs.Bytes.{has_newline, is_newline}
+use Rattle.ink_model.specs.Answer.{Reply, answer, answer_asks}
+use Rattle.ink_model.specs.Bytes.{has_newline}
 use Rattle.ink_model.specs.Command.{lines_of}
 use Rattle.ink_model.specs.Session.{Serves, Session}
 use Rattle.ink_model.specs.State.{State}
@@ -11,33 +11,14 @@ use Rattle.ink_model.specs.Host.{Bindings}
 use Rattle.ink_model.specs.Tree.{StoryTree}
 use Rattle.ink_model.specs.declared.host.Event.{Event}
 use Rattle.ink_model.specs.declared.limits.TheConstants.{MAX_LINE}
-use Rattle.ink_player.specs.Buffered.{Buffered}
-use Rattle.ink_player.specs.Ends.{Falls}
-use Rattle.ink_player.specs.Input.{Takes}
-use Rattle.ink_player.specs.declared.end.RunFault.{RunFault}
-use Rattle.ink_player.specs.declared.end.RunFault.TheVariants as fault
+use Rattle.ink_protocol.specs.Buffered.{Buffered}
+use Rattle.ink_protocol.specs.Ends.{Falls}
+use Rattle.ink_protocol.specs.Input.{Takes}
+use Rattle.ink_protocol.specs.Spelled.{IsLine, Splits, IsFirst, IsLongLine, IsLongInput, HasRoom}
+use Rattle.ink_protocol.specs.declared.fault.RunFault.{RunFault}
+use Rattle.ink_protocol.specs.declared.fault.RunFault.TheVariants as fault
 use Rattle.ink_player.specs.declared.session.Served.{Served}
 use Rattle.ink_player.specs.declared.session.Served.TheVariants.{More, Done}
-
--- ---- lines
-
-pub record IsLine (line : List ℕ) : Type 0 where
-  pub plain : has_newline line ≡ false
-  pub within : length line ≤ MAX_LINE
-
--- lines as they stand in an input, each with its newline
-abbrev pub spelled : List (List ℕ) → List ℕ
-spelled [] = []
-spelled (line ∷ lines) = line ++ 10 ∷ spelled lines
-
--- The input begins with these lines, each whole and within its limit, and behind them stands rest.
-pub record Splits (input : List ℕ) (lines : List (List ℕ)) (rest : List ℕ) : Type 0 where
-  pub whole : input ≡ spelled lines ++ rest
-  pub each : AllByRecursion IsLine lines
-
--- rest begins with this line and its newline, or is this line, which the reader's end ends
-abbrev pub IsFirst : Option (List ℕ) → List ℕ → List ℕ → Type 0
-IsFirst left rest line = ((more : List ℕ) × (rest ≡ line ++ 10 ∷ more)) ⊎ ((rest ≡ line) × (0 < length line) × IsAtEnd left)
 
 -- ---- how a session ends: with what is bound and the events of it, from the state old, with what is left of the reader, over the
 -- input, with what was written
@@ -61,23 +42,6 @@ pub record LosesReader (s : StoryTree) (h : Bindings) (es : List Event) (input :
   pub served : ServesFront s h es input old written new
   pub plain : has_newline served.rest ≡ false
 
--- rest begins with more bytes than a line may have, and no newline among them
-pub record IsLongLine (rest : List ℕ) : Type 0 where
-  pub front : List ℕ
-  pub more : List ℕ
-  pub whole : rest ≡ front ++ more
-  pub plain : has_newline front ≡ false
-  pub long : MAX_LINE < length front
-
--- more bytes stand there than an input may have, and no further newline among as many as it may have
-pub record IsLongInput (most : ℕ) (served : List (List ℕ)) (rest : List ℕ) : Type 0 where
-  pub front : List ℕ
-  pub more : List ℕ
-  pub whole : rest ≡ front ++ more
-  pub plain : has_newline front ≡ false
-  pub count : length (spelled served) + length front ≡ most
-  pub long : 0 < length more
-
 -- the next line, or the input, is over its limit: the lines before were served
 pub record GoesOver (s : StoryTree) (h : Bindings) (es : List Event) (most : ℕ) (input : List ℕ) (old : State) (written : List ℕ) (new : State) : Type 0 where
   pub served : ServesFront s h es input old written new
@@ -90,25 +54,15 @@ pub record ServesFirst (s : StoryTree) (h : Bindings) (es : List Event) (left : 
   pub first : IsFirst left rest line
   pub serves : Serves s h es line old reply new
 
--- Memory may be refused for a byte of the line with which rest begins: there is such a byte, and what was read shows neither the
--- line nor the input over its limit.
-pub record HasRoom (limit most : ℕ) (input rest : List ℕ) : Type 0 where
-  pub byte : ℕ
-  pub more : List ℕ
-  pub whole : rest ≡ byte ∷ more
-  pub plain : is_newline byte ≡ false
-  pub in_line : length rest ≤ limit
-  pub in_input : length input ≤ most
-
--- Memory was refused: for a line, and the lines before it were served; or for an answer's text, and its command has taken
--- effect too.
+-- Memory was refused: for a line, and the lines before it were served; or for an answer's text that is made in memory, and its
+-- command has taken effect too.
 pub record RunsOutOfMemory (s : StoryTree) (h : Bindings) (es : List Event) (most : ℕ) (left : Option (List ℕ)) (input : List ℕ) (old : State) (written : List ℕ) (new : State) : Type 0 where
   pub before : List Event
   pub after : List Event
   pub events : es ≡ before ++ after
   pub mid : State
   pub served : ServesFront s h before input old written mid
-  pub next : (HasRoom MAX_LINE most input served.rest × (after ≡ []) × (new ≡ mid)) ⊎ ((reply : Reply) × ServesFirst s h after left served.rest mid reply new)
+  pub next : (HasRoom MAX_LINE most input served.rest × (after ≡ []) × (new ≡ mid)) ⊎ ((reply : Reply) × (answer_asks reply ≡ true) × ServesFirst s h after left served.rest mid reply new)
 
 -- The writer failed or took no byte: the lines before were served, the next command has taken effect, and of its answer a
 -- front is written with something left behind it.
@@ -154,6 +108,7 @@ pub record Answered (s : StoryTree) (h : Bindings) (es : List Event) (line : Lis
 
 pub record Unanswered (s : StoryTree) (h : Bindings) (es : List Event) (line : List ℕ) (held held' : Option (List ℕ)) (old new : State) : Type 0 where
   pub reply : Reply
+  pub asks : answer_asks reply ≡ true
   pub serves : Serves s h es line old reply new
   pub appended : Appends held held' []
 
@@ -161,14 +116,6 @@ pub record HalfAnswered (s : StoryTree) (h : Bindings) (es : List Event) (line :
   pub reply : Reply
   pub serves : Serves s h es line old reply new
   pub falls : Falls held held' (answer reply)
-
--- a text is written whole, or a front of it
-abbrev pub WritesText : Option (List ℕ) → Option (List ℕ) → List ℕ → Result (Unit {0}) RunFault → Type 0
-WritesText held held' text (Ok x) = Appends held held' text
-WritesText held held' text (Err fault.Read) = ⊥
-WritesText held held' text (Err fault.Write) = Falls held held' text
-WritesText held held' text (Err fault.TooLong) = ⊥
-WritesText held held' text (Err fault.OutOfMemory) = ⊥
 
 abbrev pub Answers : StoryTree → Bindings → List Event → List ℕ → Option (List ℕ) → Option (List ℕ) → State → State → Result (Unit {0}) RunFault → Type 0
 Answers s h es line held held' old new (Ok x) = Answered s h es line held held' old new

@@ -1,25 +1,8 @@
-//! How sessions end before their reader does.
+//! How plays end before their reader does.
 
 use ink_host::Desk;
 use ink_model::{Fault, ReadRefusal};
-
-/// Why a session ended before its reader did. What was answered before stands.
-#[derive(Clone, Copy, Debug, PartialEq, Eq, thiserror::Error)]
-pub enum RunFault {
-    /// The reader failed.
-    #[error("Read")]
-    Read,
-    /// The writer failed, or took no byte. The command whose answer could not be written has taken effect.
-    #[error("Write")]
-    Write,
-    /// A line or the input is longer than its limit.
-    #[error("TooLong")]
-    TooLong,
-    /// Memory was refused: for a line, which was not served then, or for the text of an answer, whose command has taken
-    /// effect.
-    #[error("OutOfMemory")]
-    OutOfMemory,
-}
+use ink_protocol::RunFault;
 
 /// Why a story could not be played to its reader's end.
 #[derive(Drop)]

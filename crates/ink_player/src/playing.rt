@@ -5,21 +5,19 @@ ghost use Rattle.ink_check.specs.Words.{story_tree};
 ghost use Rattle.ink_host.specs.Desk.{Resting};
 ghost use Rattle.ink_model.specs.Acceptance as rules;
 ghost use Rattle.ink_model.specs.declared.host.Event.{Event};
-ghost use Rattle.ink_player.specs.Ends.{Reports, play_reads_fail, play_writes_fail};
+ghost use Rattle.ink_player.specs.Ends.{play_reads_fail, play_writes_fail};
 ghost use Rattle.ink_player.specs.Playing.{IsRefused, Opens, OpensDesk, Plays, desk_left, play_fault};
 ghost use Rattle.ink_player.specs.Words.{DealtAnew, bindings};
+ghost use Rattle.ink_protocol.specs.Ends.{Reports};
 
-use crate::end::{PlayEnd, PlayFault, RunFault};
-use crate::input::{Ahead, Source};
-use crate::lines::{Line, next_line};
-use crate::output::Sink;
+use crate::end::{PlayEnd, PlayFault};
 use crate::player::{OpenFault, Player};
 use crate::session::serve_lines;
-use crate::watched::Watched;
 use ink_check::{Story, check};
 use ink_host::{Desk, PureFn, TurnFn, Watcher};
 use ink_json::read_story;
 use ink_model::{Cause, MAX_INPUT, MAX_STORY, ReadRefusal};
+use ink_protocol::{Ahead, Lent, Line, RunFault, Sink, Source, next_line};
 use std::alloc::Global;
 use std::io::{Read, Write};
 
@@ -40,13 +38,14 @@ pub fn play<R: Read, W: Write, P: PureFn, F: TurnFn, O: Watcher>(
         × DealtAnew F.log O.log desk es (desk_left result) }
     ensures rest { Resting O.at_rest (desk_left result).watchers }
 {
-    let mut source = Watched::over(reader);
-    let mut sink = Watched::over(writer);
+    let mut source = Lent::over(reader);
+    let mut sink = Lent::over(writer);
     serve_story(alloc, &mut source, &mut sink, desk)
 }
 
-/// Plays a story as `play` does, over a source and a sink, which say whether they have failed: the source has failed in this
-/// call exactly where the error is `Read`, and the sink, or it took no byte, exactly where it is `Write`.
+/// Plays a story as `play` does, over a source and a sink, which count their failures: the source has failed in this call
+/// exactly where the error is `Read`, and the sink, or it took no byte, exactly where it is `Write`. `Watched` makes a source of
+/// any reader, and a sink of any writer.
 pub fn serve_story<S: Source, T: Sink, P: PureFn, F: TurnFn, O: Watcher>(
     alloc: Global,
     source: &mut S,
@@ -57,8 +56,8 @@ pub fn serve_story<S: Source, T: Sink, P: PureFn, F: TurnFn, O: Watcher>(
     ensures plays { (es : List Event) × Plays (bindings P.meaning desk) es (S.remaining source.old) (S.remaining source.new) (T.contents sink.old) (T.contents sink.new) result
         × DealtAnew F.log O.log desk es (desk_left result) }
     ensures rest { Resting O.at_rest (desk_left result).watchers }
-    ensures source { Reports (play_reads_fail result) (S.has_failed source.old) (S.has_failed source.new) (S.name source.old) (S.name source.new) }
-    ensures sink { Reports (play_writes_fail result) (T.has_failed sink.old) (T.has_failed sink.new) (T.name sink.old) (T.name sink.new) }
+    ensures source { Reports (play_reads_fail result) (S.failures source.old) (S.failures source.new) (S.name source.old) (S.name source.new) }
+    ensures sink { Reports (play_writes_fail result) (T.failures sink.old) (T.failures sink.new) (T.name sink.old) (T.name sink.new) }
 {
     let mut ahead = Ahead::new(MAX_INPUT);
     let line = match next_line(Vec::new(alloc), &mut ahead, source, MAX_STORY) {

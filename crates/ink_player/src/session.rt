@@ -5,24 +5,21 @@ ghost use Rattle.ink_model.specs.Answer.{Refuses};
 ghost use Rattle.ink_model.specs.Session.{Does, Serves, Set};
 ghost use Rattle.ink_model.specs.Host.{Bindings};
 ghost use Rattle.ink_model.specs.declared.host.Event.{Event};
-ghost use Rattle.ink_player.specs.Commands.{command_by};
-ghost use Rattle.ink_player.specs.Replies.{reply_by};
+ghost use Rattle.ink_protocol.specs.Commands.{command_by};
+ghost use Rattle.ink_protocol.specs.Replies.{reply_by};
 ghost use Rattle.ink_player.specs.Words.{Dealt, Idle, bindings, desk_of, state_of, story_of};
-ghost use Rattle.ink_player.specs.Ends.{Reports, reads_fail, writes_fail};
-ghost use Rattle.ink_player.specs.Serving.{Answers, Runs, ServesNext, WritesText};
-ghost use Rattle.ink_player.specs.Paths.{PathFails};
+ghost use Rattle.ink_protocol.specs.Ends.{Reports, reads_fail, writes_fail};
+ghost use Rattle.ink_player.specs.Serving.{Answers, Runs, ServesNext};
+ghost use Rattle.ink_model.specs.Unread.{PathFails};
 ghost use Rattle.ink_model.specs.declared.limits.TheConstants.{MAX_INPUT};
 
-use crate::answer::{Outcome, answer_text, fixed_answer};
-use crate::command::{LineCommand, read_command};
-use crate::end::RunFault;
-use crate::input::{Ahead, Source};
-use crate::lines::{Line, next_line};
-use crate::output::{Sink, WriteFailed, write_whole};
 use crate::player::Player;
-use crate::watched::Watched;
 use ink_host::{PureFn, TurnFn, Watcher};
 use ink_model::{Given, MAX_INPUT, MAX_LINE, Refusal};
+use ink_protocol::{
+    Ahead, Lent, Line, LineCommand, Outcome, RunFault, Sink, Source, answer_text, fixed_answer,
+    next_line, read_command, write_answer,
+};
 use std::alloc::{AllocError, Global};
 use std::io::{Read, Write};
 use std::mem;
@@ -70,13 +67,14 @@ pub fn run<R: Read, W: Write, P: PureFn, F: TurnFn, O: Watcher>(
     ensures idle { Idle O.at_rest (desk_of player.new) }
     ensures story { story_of player.new ≡ story_of player.old }
 {
-    let mut source = Watched::over(reader);
-    let mut sink = Watched::over(writer);
+    let mut source = Lent::over(reader);
+    let mut sink = Lent::over(writer);
     serve(alloc, &mut source, &mut sink, player)
 }
 
-/// Serves command lines as `run` does, over a source and a sink, which say whether they have failed: the source has failed
-/// in this call exactly where the error is `Read`, and the sink, or it took no byte, exactly where it is `Write`.
+/// Serves command lines as `run` does, over a source and a sink, which count their failures: the source has failed in this
+/// call exactly where the error is `Read`, and the sink, or it took no byte, exactly where it is `Write`. `Watched` makes a
+/// source of any reader, and a sink of any writer.
 pub fn serve<S: Source, T: Sink, P: PureFn, F: TurnFn, O: Watcher>(
     alloc: Global,
     source: &mut S,
@@ -89,8 +87,8 @@ pub fn serve<S: Source, T: Sink, P: PureFn, F: TurnFn, O: Watcher>(
         × Dealt F.log O.log (desk_of player.old) es (desk_of player.new) }
     ensures idle { Idle O.at_rest (desk_of player.new) }
     ensures story { story_of player.new ≡ story_of player.old }
-    ensures source { Reports (reads_fail result) (S.has_failed source.old) (S.has_failed source.new) (S.name source.old) (S.name source.new) }
-    ensures sink { Reports (writes_fail result) (T.has_failed sink.old) (T.has_failed sink.new) (T.name sink.old) (T.name sink.new) }
+    ensures source { Reports (reads_fail result) (S.failures source.old) (S.failures source.new) (S.name source.old) (S.name source.new) }
+    ensures sink { Reports (writes_fail result) (T.failures sink.old) (T.failures sink.new) (T.name sink.old) (T.name sink.new) }
 {
     let mut ahead = Ahead::new(MAX_INPUT);
     serve_lines(alloc, &mut ahead, source, sink, player)
@@ -110,8 +108,8 @@ pub(crate) fn serve_lines<S: Source, T: Sink, P: PureFn, F: TurnFn, O: Watcher>(
         × Dealt F.log O.log (desk_of player.old) es (desk_of player.new) }
     ensures idle { Idle O.at_rest (desk_of player.new) }
     ensures story { story_of player.new ≡ story_of player.old }
-    ensures source { Reports (reads_fail result) (S.has_failed source.old) (S.has_failed source.new) (S.name source.old) (S.name source.new) }
-    ensures sink { Reports (writes_fail result) (T.has_failed sink.old) (T.has_failed sink.new) (T.name sink.old) (T.name sink.new) }
+    ensures source { Reports (reads_fail result) (S.failures source.old) (S.failures source.new) (S.name source.old) (S.name source.new) }
+    ensures sink { Reports (writes_fail result) (T.failures sink.old) (T.failures sink.new) (T.name sink.old) (T.name sink.new) }
 {
     let mut buffers = Buffers::new(alloc);
     'lines: loop {
@@ -138,8 +136,8 @@ fn serve_line<S: Source, T: Sink, P: PureFn, F: TurnFn, O: Watcher>(
         × Dealt F.log O.log (desk_of player.old) es (desk_of player.new) }
     ensures idle { Idle O.at_rest (desk_of player.new) }
     ensures story { story_of player.new ≡ story_of player.old }
-    ensures source { Reports (reads_fail result) (S.has_failed source.old) (S.has_failed source.new) (S.name source.old) (S.name source.new) }
-    ensures sink { Reports (writes_fail result) (T.has_failed sink.old) (T.has_failed sink.new) (T.name sink.old) (T.name sink.new) }
+    ensures source { Reports (reads_fail result) (S.failures source.old) (S.failures source.new) (S.name source.old) (S.name source.new) }
+    ensures sink { Reports (writes_fail result) (T.failures sink.old) (T.failures sink.new) (T.name sink.old) (T.name sink.new) }
 {
     ahead.bounds();
     let buffer = mem::replace(&mut buffers.line, Vec::new(alloc));
@@ -180,7 +178,7 @@ fn answer_line<T: Sink, P: PureFn, F: TurnFn, O: Watcher>(
         × Dealt F.log O.log (desk_of player.old) es (desk_of player.new) }
     ensures idle { Idle O.at_rest (desk_of player.new) }
     ensures story { story_of player.new ≡ story_of player.old }
-    ensures sink { Reports (writes_fail result) (T.has_failed sink.old) (T.has_failed sink.new) (T.name sink.old) (T.name sink.new) }
+    ensures sink { Reports (writes_fail result) (T.failures sink.old) (T.failures sink.new) (T.name sink.old) (T.name sink.new) }
 {
     let outcome = outcome_of(alloc, player, line);
     if let Some(text) = fixed_answer(&outcome) {
@@ -192,16 +190,6 @@ fn answer_line<T: Sink, P: PureFn, F: TurnFn, O: Watcher>(
     };
     *buffer = text;
     write_answer(sink, buffer.as_slice())
-}
-
-fn write_answer<T: Sink>(sink: &mut T, text: &[u8]) -> Result<(), RunFault>
-    ensures written { WritesText (T.contents sink.old) (T.contents sink.new) text.now result }
-    ensures sink { Reports (writes_fail result) (T.has_failed sink.old) (T.has_failed sink.new) (T.name sink.old) (T.name sink.new) }
-{
-    match write_whole(sink, text) {
-        Ok(()) => Ok(()),
-        Err(WriteFailed) => Err(RunFault::Write),
-    }
 }
 
 // Performs the command of a line, unless memory is refused for reading it, or the path in it.

@@ -1,6 +1,3 @@
-pub mod Reading
-pub mod Writing
-pub mod Back
 pub mod Nodes
 pub mod Standing
 pub mod Stepping

@@ -12,13 +12,12 @@ mod lookup;
 mod moving;
 mod names;
 mod naming;
-mod path;
 mod resolving;
 mod spot;
 mod tree;
 mod upward;
 
-pub use path::{print_path, read_path};
+pub use ink_path::{print_path, read_path};
 pub use spot::{NodeId, Spot};
 pub use tree::Tree;
 pub use upward::Upward;

@@ -4,7 +4,7 @@
 
 use crate::answer::{Answer, NoAnswer};
 use ink_model::{Cause, Given, Part, ReadRefusal, Shared, Text, Value};
-use ink_tree::{print_path, read_path};
+use ink_path::{print_path, read_path};
 use std::alloc::{AllocError, Global};
 use std::str::FromStr;
 

@@ -82,8 +82,8 @@ fn tell<R: Print + Drop>(rt: &impl Print, game: &mut Game<R>) -> io::Result<()>
 {
     match game.through() {
         Ok(passage) => show(rt, &passage),
-        Err(Halt::Refused(refusal)) => println!(rt; "{refusal}"),
-        Err(Halt::Fault { fault, events: _ }) => println!(rt; "{fault}"),
+        Err(Halt::Refused(refusal)) => println!(rt; "{}", refusal.name()),
+        Err(Halt::Fault { fault, events: _ }) => println!(rt; "{}", fault.name()),
     }
 }
 

@@ -13,12 +13,11 @@ mod options;
 mod report;
 
 use binding::{PlayDesk, bind_words};
-use ink_player::{PlayEnd, PlayFault, open_story, play, run};
+use ink_player::{PlayEnd, PlayFault, Sink, Source, Watched, open_story, serve, serve_story};
 use options::command;
 use report::{refuse_file, refuse_words, tell};
 use std::alloc::Global;
 use std::fs::Files;
-use std::io::{Read, Write};
 use std::process::ExitCode;
 use std::rt::Env;
 use std::{env, io};
@@ -42,11 +41,11 @@ fn main(rt: HostRuntime) -> ExitCode {
         let _objects = desk.close();
         return ExitCode::from(refuse_words(&rt));
     }
-    let mut reader = rt.reader();
-    let mut writer = io::writer(&rt);
+    let mut source = Watched::new(rt.reader());
+    let mut sink = Watched::new(io::writer(&rt));
     ExitCode::from(match matches.get_str("STORY") {
-        Some(path) => serve_file(&rt, alloc, path, desk, &mut reader, &mut writer),
-        None => serve_input(&rt, alloc, desk, &mut reader, &mut writer),
+        Some(path) => serve_file(&rt, alloc, path, desk, &mut source, &mut sink),
+        None => serve_input(&rt, alloc, desk, &mut source, &mut sink),
     })
 }
 
@@ -57,16 +56,16 @@ fn words<R: Env + Alloc>(rt: &R) -> io::Result<Vec<String<R::A>, R::A>> {
 }
 
 /// Plays the story that is the first line of the input.
-fn serve_input<R: Read, W: Write>(
+fn serve_input<S: Source, T: Sink>(
     rt: &impl Eprint,
     alloc: Global,
     desk: PlayDesk,
-    reader: &mut R,
-    writer: &mut W,
+    source: &mut S,
+    sink: &mut T,
 ) -> u8
     requires { Resting rests desk.watchers }
 {
-    match play(alloc, reader, writer, desk) {
+    match serve_story(alloc, source, sink, desk) {
         Ok(desk) => {
             let _objects = desk.close();
             SERVED
@@ -79,13 +78,13 @@ fn serve_input<R: Read, W: Write>(
 }
 
 /// Plays the story of a file.
-fn serve_file<R: Read, W: Write>(
+fn serve_file<S: Source, T: Sink>(
     rt: &(impl Eprint + Files),
     alloc: Global,
     path: &str,
     desk: PlayDesk,
-    reader: &mut R,
-    writer: &mut W,
+    source: &mut S,
+    sink: &mut T,
 ) -> u8
     requires { Resting rests desk.watchers }
 {
@@ -100,7 +99,7 @@ fn serve_file<R: Read, W: Write>(
             return tell(rt, &fault);
         }
     };
-    let outcome = run(alloc, reader, writer, &mut player);
+    let outcome = serve(alloc, source, sink, &mut player);
     let _objects = player.close().close();
     match outcome {
         Ok(()) => SERVED,

@@ -1,7 +1,7 @@
 //! The objects that the program binds to names (docs/PROGRAM.md).
 
 ghost use Rattle.std.specs.Prelude.{◌≡◌, bytes_eq, option_map};
-ghost use Rattle.ink_player.specs.Answers.{values_text};
+ghost use Rattle.ink_protocol.specs.Answers.{values_text};
 ghost use Rattle.inkplay.specs.Tables.{answer_in};
 
 use ink_host::{Called, PureFn, TurnFn, copied_values};

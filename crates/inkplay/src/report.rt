@@ -29,11 +29,11 @@ pub(crate) fn tell(rt: &impl Eprint, fault: &PlayFault) -> u8 {
             REFUSED
         }
         PlayFault::Start(fault) => {
-            let _ = eprintln!(rt; "inkplay: story fault: {fault}");
+            let _ = eprintln!(rt; "inkplay: story fault: {}", fault.name());
             REFUSED
         }
         PlayFault::Run(fault) => {
-            let _ = eprintln!(rt; "inkplay: run fault: {fault}");
+            let _ = eprintln!(rt; "inkplay: run fault: {}", fault.name());
             RUN_FAULT
         }
     }
@@ -41,7 +41,7 @@ pub(crate) fn tell(rt: &impl Eprint, fault: &PlayFault) -> u8 {
 
 fn tell_refusal(rt: &impl Eprint, refusal: &ReadRefusal) -> io::Result<()> {
     let cause = refusal.cause;
-    eprint!(rt; "inkplay: story refused: {cause}")?;
+    eprint!(rt; "inkplay: story refused: {}", cause.name())?;
     if has_place(cause) {
         eprint!(rt; " at ")?;
         tell_place(rt, &refusal.place)?;

@@ -8,7 +8,8 @@
 //! cut             the reader also fails behind each byte, and the writer before each
 //! ```
 //!
-//! A session is played at once, and a short one also by seven bytes at a time and by `open_story` and `run`.
+//! A session is played at once, and a short one also by seven bytes at a time, by `serve_story`, and by `open_story` with `run` and
+//! with `serve`.
 
 ghost use Rattle.std.specs.Prelude.{◌≡◌};
 ghost use Rattle.ink_host.specs.Desk.{empty_desk};
@@ -16,11 +17,13 @@ ghost use Rattle.ink_host.specs.Desk.{empty_desk};
 use crate::streams::{Page, Pieces};
 use ink_host::{Desk, Nobody};
 use ink_model::Fault;
-use ink_player::{PlayEnd, PlayFault, RunFault, open_story, play, run};
+use ink_player::{
+    PlayEnd, PlayFault, RunFault, Watched, open_story, play, run, serve, serve_story,
+};
 use inkcases::{Answer, NoAnswer, Table, Tally, Verdict, expand, is_comment, refused, told};
 use std::alloc::{AllocError, Global};
 
-/// The longest input that is also played by `open_story` and `run`, and by few bytes at a time.
+/// The longest input that is also played by `open_story` with `run` and `serve`, and by few bytes at a time.
 const SHORT: usize = 65_536;
 
 /// What is answered where a command found no memory, but for `through`.
@@ -114,6 +117,9 @@ fn verdict(alloc: Global, text: &str) -> Result<Verdict, AllocError> {
     if is_held(&verdict) && input.len() <= SHORT {
         verdict = opened_and_run(alloc, input, wanted)?;
     }
+    if is_held(&verdict) && input.len() <= SHORT {
+        verdict = opened_and_served(alloc, input, wanted)?;
+    }
     if is_held(&verdict) && session.is_cut {
         verdict = cut(alloc, input, wanted)?;
     }
@@ -140,7 +146,15 @@ fn played(
     mut writer: Page,
     wanted: Wanted<'_>,
 ) -> Result<Verdict, AllocError> {
-    let end = match play(alloc, &mut reader, &mut writer, nobody(alloc)) {
+    let end = let_go(play(alloc, &mut reader, &mut writer, nobody(alloc)));
+    compared(alloc, &writer, end, wanted)
+}
+
+/// Why a play ended early, if it did. Its desk is let go.
+fn let_go(
+    outcome: Result<Desk<Nobody, Nobody, Nobody>, PlayEnd<Nobody, Nobody, Nobody>>,
+) -> Option<PlayFault> {
+    match outcome {
         Ok(desk) => {
             let _objects = desk.close();
             None
@@ -149,8 +163,7 @@ fn played(
             let _objects = desk.close();
             Some(fault)
         }
-    };
-    compared(alloc, &writer, end, wanted)
+    }
 }
 
 /// A desk with no object.
@@ -160,20 +173,22 @@ fn nobody(alloc: Global) -> Desk<Nobody, Nobody, Nobody>
     Desk::new(alloc)
 }
 
-/// Plays by few bytes at a time.
+/// Plays by few bytes at a time, from a source to a sink.
 fn slowly_played(alloc: Global, input: &[u8], wanted: Wanted<'_>) -> Result<Verdict, AllocError> {
     let mut reader = Pieces::whole(input);
     reader.size = 7;
     let mut writer = Page::new(alloc);
     writer.size = 7;
-    played(alloc, reader, writer, wanted)
+    let mut source = Watched::new(reader);
+    let mut sink = Watched::new(writer);
+    let end = let_go(serve_story(alloc, &mut source, &mut sink, nobody(alloc)));
+    compared(alloc, &sink.into_inner(), end, wanted)
 }
 
 /// Opens the first line as a story, and runs over the others.
 fn opened_and_run(alloc: Global, input: &[u8], wanted: Wanted<'_>) -> Result<Verdict, AllocError> {
-    let mut lines = input.splitn(2, |byte| *byte == b'\n');
-    let story = lines.next().unwrap_or(b"");
-    let mut reader = Pieces::whole(lines.next().unwrap_or(b""));
+    let (story, rest) = first_line(input);
+    let mut reader = Pieces::whole(rest);
     let mut writer = Page::new(alloc);
     let end = match open_story(alloc, story, nobody(alloc)) {
         Ok(mut player) => {
@@ -181,12 +196,36 @@ fn opened_and_run(alloc: Global, input: &[u8], wanted: Wanted<'_>) -> Result<Ver
             let _objects = player.close().close();
             outcome.err().map(PlayFault::Run)
         }
-        Err(PlayEnd { fault, desk }) => {
-            let _objects = desk.close();
-            Some(fault)
-        }
+        Err(end) => let_go(Err(end)),
     };
     compared(alloc, &writer, end, wanted)
+}
+
+/// Opens the first line as a story, and serves the others from a source to a sink.
+fn opened_and_served(
+    alloc: Global,
+    input: &[u8],
+    wanted: Wanted<'_>,
+) -> Result<Verdict, AllocError> {
+    let (story, rest) = first_line(input);
+    let mut source = Watched::new(Pieces::whole(rest));
+    let mut sink = Watched::new(Page::new(alloc));
+    let end = match open_story(alloc, story, nobody(alloc)) {
+        Ok(mut player) => {
+            let outcome = serve(alloc, &mut source, &mut sink, &mut player);
+            let _objects = player.close().close();
+            outcome.err().map(PlayFault::Run)
+        }
+        Err(end) => let_go(Err(end)),
+    };
+    compared(alloc, &sink.into_inner(), end, wanted)
+}
+
+/// The first line, and what stands behind its newline.
+fn first_line(input: &[u8]) -> (&[u8], &[u8]) {
+    let mut lines = input.splitn(2, |byte| *byte == b'\n');
+    let first = lines.next().unwrap_or(b"");
+    (first, lines.next().unwrap_or(b""))
 }
 
 /// Plays with a reader that fails behind each number of bytes, and with a writer that fails, or takes nothing, behind each.

@@ -1,6 +1,6 @@
 use Rattle.std.proofs.Common.{◌∙◌, [], None, Some, ap, inl, inr, refl}
 use Rattle.ink_player.specs.Words.{desk_of}
-use Rattle.ink_player.specs.declared.command.LineCommand.TheVariants as line
+use Rattle.ink_protocol.specs.declared.command.LineCommand.TheVariants as line
 use Rattle.ink_player.proofs.Sessions.{command_does}
 use Rattle.ink_player.proofs.Tellings.{dealt-kept, dealt-none}
 use Rattle.ink_player.proofs.session.perform.Goals as goal

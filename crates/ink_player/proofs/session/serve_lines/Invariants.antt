@@ -3,7 +3,7 @@ use Rattle.ink_model.specs.State.{State}
 use Rattle.ink_model.specs.declared.host.Event.{Event}
 use Rattle.ink_player.specs.Words.{Dealt, Idle, bindings, desk_of, state_of, story_of}
 use Rattle.ink_player.specs.Serving.{Runs}
-use Rattle.ink_player.specs.declared.end.RunFault.{RunFault}
+use Rattle.ink_protocol.specs.declared.fault.RunFault.{RunFault}
 use Rattle.ink_player.proofs.session.serve_lines.Given as goal
 
 -- however the session goes on from here, so it goes from the start, with what happened before
@@ -19,8 +19,8 @@ invariant-lines g l =
           → Runs (story_of l.fn.player) (bindings meaning (desk_of l.fn.player)) (before ++ es) l.fn.ahead.spare l.fn.ahead.unread (left l.fn.source) left' (held l.fn.sink) held' (state_of l.fn.player) new r;
       idle : Idle g.O.Watcher.at_rest (desk_of l.player);
       story : story_of l.player ≡ story_of l.fn.player;
-      read_cause : g.S.Source.has_failed l.source ≡ g.S.Source.has_failed l.fn.source;
-      write_cause : g.T.Sink.has_failed l.sink ≡ g.T.Sink.has_failed l.fn.sink;
+      read_cause : g.S.Source.failures l.source ≡ g.S.Source.failures l.fn.source;
+      write_cause : g.T.Sink.failures l.sink ≡ g.T.Sink.failures l.fn.sink;
       source_name : g.S.Source.name l.source ≡ g.S.Source.name l.fn.source;
       sink_name : g.T.Sink.name l.sink ≡ g.T.Sink.name l.fn.sink;
     }

@@ -1,0 +1,24 @@
+-- Where memory is refused before a command is performed: for its line, or for the path in it (docs/PROTOCOL.md, "Command lines").
+use Rattle.std.specs.Prelude.{◌≡◌, ◌⊎◌, ℕ, List, true, IsSome, Option, Some}
+use Rattle.ink_model.specs.Answer.{Reply}
+use Rattle.ink_model.specs.Changed.{FailsAllocation}
+use Rattle.ink_model.specs.Command.{line_asks}
+use Rattle.ink_model.specs.Path.{read_path}
+use Rattle.ink_model.specs.State.{State, Condition, Ready, Broken}
+use Rattle.ink_model.specs.declared.command.Command.{Command}
+use Rattle.ink_model.specs.declared.command.Command.TheVariants as command
+
+-- memory is asked for a path, and a broken player reads none
+abbrev pub ReadsPath : List ℕ → Condition → Type 0
+ReadsPath path (Broken f globals) = ⊥
+ReadsPath path (Ready c) = IsSome (read_path path)
+
+-- memory was refused for the path, which only `visits` and `jump` have
+abbrev pub PathFails : Option Command → State → Reply → State → Type 0
+PathFails (Some (command.Visits path)) old reply new = ReadsPath path old.condition × FailsAllocation old reply new
+PathFails (Some (command.Jump path)) old reply new = ReadsPath path old.condition × FailsAllocation old reply new
+PathFails k old reply new = ⊥
+
+-- memory was refused for the line, or for the path in it
+abbrev pub LineFails : Option Command → State → Reply → State → Type 0
+LineFails k old reply new = ((line_asks k ≡ true) × FailsAllocation old reply new) ⊎ PathFails k old reply new

@@ -1,0 +1,7 @@
+use Rattle.std.proofs.Common.{◌≡◌, ◌++◌, map, take, string_bytes}
+use Rattle.ink_model.specs.Path.{part_text}
+use Rattle.ink_model.specs.Bytes.{joined}
+use Rattle.ink_path.proofs.path.push_parts.Given as goal
+
+abbrev pub invariant-loop-index : goal.invariant-loop-index
+invariant-loop-index l = string_bytes l.text ≡ string_bytes l.fn.text ++ joined 46 (map part_text (take l.index l.parts))

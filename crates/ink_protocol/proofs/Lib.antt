@@ -1,0 +1,6 @@
+pub mod Commands
+pub mod Answering
+pub mod Writing
+pub mod Reading
+pub mod Spelling
+pub mod Numbers

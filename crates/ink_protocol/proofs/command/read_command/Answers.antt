@@ -1,0 +1,18 @@
+use Rattle.std.proofs.Common.{◌≡◌, IfOk, OnErr, subst, sym, ap, true, ◌∙◌, option_map}
+use Rattle.ink_model.specs.Command.{command_word, line_asks}
+use Rattle.ink_protocol.specs.Commands.{command_by}
+use Rattle.ink_protocol.proofs.Commands.{command_of_text, command_of_no_text}
+use Rattle.ink_protocol.proofs.command.read_command.Goals as goal
+
+pub returns-in-Ok-clause-command : goal.returns-in-Ok-clause-command
+returns-in-Ok-clause-command c =
+    subst (λ k. IfOk c.command_in.result (λ command. option_map command_by command ≡ k)) (ap command_word c.in-Ok.ensures.cases.0 ∙ sym (command_of_text _ c.in-Ok.ensures.cases.1))
+    c.command_in.ensures.command
+
+pub returns-in-Ok-clause-memory : goal.returns-in-Ok-clause-memory
+returns-in-Ok-clause-memory c =
+    subst (λ k. OnErr c.command_in.result (line_asks k ≡ true)) (ap command_word c.in-Ok.ensures.cases.0 ∙ sym (command_of_text _ c.in-Ok.ensures.cases.1))
+    c.command_in.ensures.memory
+
+pub returns-in-Err : goal.returns-in-Err
+returns-in-Err c = record { command = sym (command_of_no_text _ c.in-Err.ensures.cases.0); memory = tt }

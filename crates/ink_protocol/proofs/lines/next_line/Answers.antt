@@ -1,0 +1,38 @@
+use Rattle.std.proofs.Common.{◌-◌, ◌≤◌, max, length, ◌∙◌, inr, arith}
+use Rattle.ink_protocol.proofs.Reading.{stays, goes_whole, goes_further, not_cut}
+use Rattle.ink_protocol.proofs.lines.next_line.Goals as goal
+
+pub returns-in-TooMany-clause-gives : goal.returns-in-TooMany-clause-gives
+returns-in-TooMany-clause-gives g c =
+    let room : length c.next.new.self.unread ≤ max (length c.pieces.ahead.unread) (max (c.args.limit - length c.pieces.line.items) 1) = omega (arith, c.in-Ok.ensures.room) in
+    let gives = rw c.in-TooMany.is at c.in-Ok.ensures.gives in (
+      record { part = c.pieces.line.items; takes = stays _ _ _ _ _ _ _ _ c.pieces.invariant.takes c.pieces.invariant.within gives.0 room },
+      inr (c.pieces.invariant.within, gives.1, gives.2),
+    )
+
+pub returns-in-Ok-Newline-clause-gives : goal.returns-in-Ok-Newline-clause-gives
+returns-in-Ok-Newline-clause-gives g c =
+    let room : length c.next.new.self.unread ≤ max (length c.pieces.ahead.unread) (max (c.args.limit - length c.pieces.line.items) 1) = omega (arith, c.in-Ok.ensures.room) in
+    let gives = rw c.in-Bytes.is at c.in-Ok.ensures.gives in
+    let cut = rw c.in-Ok-Newline.field-0-is at c.in-Ok-Newline.ensures in
+    goes_whole _ _ _ _ _ _ _ _ c.pieces.invariant.takes c.pieces.invariant.within gives.0 room _ cut.0 _ cut.1 cut.2
+
+pub pieces-preserved : goal.pieces-preserved
+pieces-preserved g c =
+    let room : length c.next.new.self.unread ≤ max (length c.pieces.ahead.unread) (max (c.args.limit - length c.pieces.line.items) 1) = omega (arith, c.in-Ok.ensures.room) in
+    let gives = rw c.in-Bytes.is at c.in-Ok.ensures.gives in
+    let cut = rw c.in-Ok-More.field-0-is at c.in-Ok-More.ensures in
+    let further = goes_further _ _ _ _ _ _ _ _ c.pieces.invariant.takes c.pieces.invariant.within gives.0 room _ cut.0 _ cut.1 cut.2 cut.3 in
+    record {
+      takes = further.0;
+      within = further.1;
+      cause = c.in-Ok.ensures.cause ∙ c.pieces.invariant.cause;
+      name = c.in-Ok.ensures.name ∙ c.pieces.invariant.name;
+    }
+
+pub returns-in-Err-clause-gives : goal.returns-in-Err-clause-gives
+returns-in-Err-clause-gives g c =
+    let room : length c.next.new.self.unread ≤ max (length c.pieces.ahead.unread) (max (c.args.limit - length c.pieces.line.items) 1) = omega (arith, c.in-Ok.ensures.room) in
+    let gives = rw c.in-Bytes.is at c.in-Ok.ensures.gives in
+    let cut = c.in-Err.ensures in
+    not_cut _ _ _ _ _ _ _ _ c.pieces.invariant.takes c.pieces.invariant.within gives.0 room _ cut.0 c.cut.new.line.items c.in-Err.fault gives.2 cut.1 cut.2

@@ -1,0 +1,9 @@
+pub mod Answers
+pub mod Replies
+pub mod Ends
+pub mod NameExamples
+pub mod Buffered
+pub mod Input
+pub mod Lines
+pub mod Spelled
+pub mod Commands

@@ -1,0 +1,451 @@
+//! Answers as they are written (docs/PROTOCOL.md, "Answers").
+
+ghost use Rattle.std.specs.Fmt.{signed_decimal};
+ghost use Rattle.std.specs.Prelude.{◌≡◌, [], ◌∷◌, ◌++◌, OnOk, IfOk, IfNone, IfSome, true, map, codes, pos};
+ghost use Rattle.json.specs.Print.{IsPrintable};
+ghost use Rattle.json.specs.Reads.{token_of};
+ghost use Rattle.json.specs.Token as tokens;
+ghost use Rattle.serde_json.specs.Data.{Data, array, string, number};
+ghost use Rattle.serde_json.specs.Find.{of_integer};
+ghost use Rattle.ink_model.specs.Answer.{answer, answer_asks, refusal_data, reply_data, reply_of_events, reply_of_halt, Acts, Breaks, Counts, Shows, items_of, passage_data, shown_data};
+ghost use Rattle.ink_model.specs.Events.{call_data, event_data};
+ghost use Rattle.ink_model.specs.Host.{value_given};
+ghost use Rattle.ink_model.specs.ValueJson.{value_data};
+ghost use Rattle.ink_protocol.specs.Answers.{Added, data_tokens, outcome_tokens, values_text};
+ghost use Rattle.ink_protocol.specs.Replies.{reply_by};
+
+use ink_model::{
+    Event, Fault, Given, Halt, Passage, Path, Refusal, Seq, Shared, Shown, Text, Value,
+};
+use ink_path::print_path;
+use json::{Token, Writer};
+use std::alloc::{AllocError, Global};
+
+/// What a command's call returned, or its refusal where none was made.
+#[derive(Drop)]
+pub enum Outcome {
+    Passage(Result<Passage, Halt>),
+    Events(Result<Seq<Event>, Halt>),
+    Value(Result<Value, Refusal>),
+    Visits(Result<i32, Refusal>),
+    Landing(Result<(), Refusal>),
+    Refused(Refusal),
+}
+
+/// The line that is written where a command's call was done and tells nothing, its newline at the end; none of any other
+/// outcome. Takes no memory.
+pub fn fixed_answer(outcome: &Outcome) -> Option<&'static str>
+    ensures text { IfSome result (λ text. text.now ≡ answer (reply_by outcome.now)) }
+    ensures none { IfNone result (answer_asks (reply_by outcome.now) ≡ true) }
+{
+    match outcome {
+        Outcome::Events(events) => done_answer(events),
+        Outcome::Landing(Ok(())) => Some(done_text()),
+        _ => None,
+    }
+}
+
+fn done_answer(events: &Result<Seq<Event>, Halt>) -> Option<&'static str>
+    ensures text { IfSome result (λ text. text.now ≡ answer (reply_of_events events.now)) }
+    ensures none { IfNone result (answer_asks (reply_of_events events.now) ≡ true) }
+{
+    match events {
+        Ok(events) => untold_answer(events.as_slice()),
+        Err(_) => None,
+    }
+}
+
+// The line where nothing happened.
+fn untold_answer(events: &[Event]) -> Option<&'static str>
+    ensures text { IfSome result (λ text. text.now ≡ answer (Acts events.now)) }
+    ensures none { IfNone result (answer_asks (Acts events.now) ≡ true) }
+{
+    match events {
+        [] => Some(done_text()),
+        [..] => None,
+    }
+}
+
+fn done_text() -> &'static str
+    ensures { result.now ≡ answer (Acts []) }
+{
+    "{\"events\":[]}\n"
+}
+
+/// What a command's call returned, as the line that is written, its newline at the end, in the memory of a buffer whose
+/// bytes go. The one error is a refused request for memory.
+pub fn answer_text(alloc: Global, buffer: Vec<u8>, outcome: Outcome) -> Result<Vec<u8>, AllocError>
+    ensures { IfOk result (λ text. text.items ≡ answer (reply_by outcome)) }
+{
+    let mut empty = buffer;
+    empty.clear();
+    match told_number(&outcome) {
+        Some((front, number)) => number_text(empty, front, number),
+        None => written_text(alloc, empty, outcome),
+    }
+}
+
+// The number that a command's call returned, if it returned one, and what stands before it in the answer.
+fn told_number(outcome: &Outcome) -> Option<(&'static str, i32)>
+    ensures { IfSome result (λ told. answer (reply_by outcome.now) ≡ told.0.now ++ (signed_decimal told.1 ++ codes "}\n")) }
+{
+    match outcome {
+        Outcome::Value(Ok(Value::Int(number))) => Some(("{\"value\":", *number)),
+        Outcome::Visits(Ok(visits)) => Some(("{\"visits\":", *visits)),
+        _ => None,
+    }
+}
+
+// An answer that tells a number, without the writer of JSON.
+fn number_text(empty: Vec<u8>, front: &str, number: i32) -> Result<Vec<u8>, AllocError>
+    requires { empty.items ≡ [] }
+    ensures { IfOk result (λ text. text.items ≡ front.now ++ (signed_decimal number ++ codes "}\n")) }
+{
+    let mut digits = itoa::Buffer::new();
+    let mut text = empty;
+    text.extend_from_slice(front.as_bytes())?;
+    text.extend_from_slice(digits.format(number).as_bytes())?;
+    text.extend_from_slice(b"}\n")?;
+    Ok(text)
+}
+
+fn written_text(alloc: Global, empty: Vec<u8>, outcome: Outcome) -> Result<Vec<u8>, AllocError>
+    requires { empty.items ≡ [] }
+    ensures { IfOk result (λ text. text.items ≡ answer (reply_by outcome)) }
+{
+    let mut out = Writer::new(empty);
+    write_reply(alloc, &mut out, outcome)?;
+    let mut text = out.into_inner();
+    text.push(b'\n')?;
+    Ok(text)
+}
+
+/// Values as the JSON array that answers tell them as (docs/PROTOCOL.md, "Answers"). The one error is a refused request for
+/// memory.
+pub fn print_values(alloc: Global, values: &[Value]) -> Result<Vec<u8>, AllocError>
+    ensures { IfOk result (λ text. text.items ≡ values_text values.now) }
+{
+    let mut out = Writer::new(Vec::new(alloc));
+    write_list(alloc, &mut out, values)?;
+    Ok(out.into_inner())
+}
+
+fn write_reply(alloc: Global, out: &mut Writer, outcome: Outcome) -> Result<(), AllocError>
+    ensures { OnOk result (Added out.old out.new (data_tokens (reply_data (reply_by outcome)))) }
+{
+    match outcome {
+        Outcome::Passage(Ok(passage)) => write_passage(alloc, out, &passage),
+        Outcome::Events(Ok(events)) => write_acts(alloc, out, events.as_slice()),
+        Outcome::Value(Ok(value)) => write_shown(alloc, out, &value),
+        Outcome::Visits(Ok(visits)) => write_visits(out, visits),
+        Outcome::Landing(Ok(())) => write_acts(alloc, out, &[]),
+        Outcome::Passage(Err(halt)) | Outcome::Events(Err(halt)) => write_halt(alloc, out, halt),
+        Outcome::Value(Err(refusal))
+        | Outcome::Visits(Err(refusal))
+        | Outcome::Landing(Err(refusal))
+        | Outcome::Refused(refusal) => write_refusal(out, refusal),
+    }
+}
+
+// ---- parts of answers
+
+// One token. A number's text is a number of JSON.
+fn put(out: &mut Writer, token: Token<'_>) -> Result<(), AllocError>
+    requires { IsPrintable (token_of token) }
+    ensures { OnOk result (Added out.old out.new (token_of token.entry ∷ [])) }
+{
+    out.token(token)
+}
+
+fn put_integer(out: &mut Writer, integer: i32) -> Result<(), AllocError>
+    ensures { OnOk result (Added out.old out.new (data_tokens (number (of_integer integer)))) }
+{
+    out.i64(integer as i64)
+}
+
+// A member with a text.
+fn put_text(out: &mut Writer, name: &str, text: &str) -> Result<(), AllocError>
+    ensures { OnOk result (Added out.old out.new (tokens.key name.now ∷ tokens.string text.now ∷ [])) }
+{
+    put(out, Token::Key(name))?;
+    put(out, Token::String(text))
+}
+
+// A member with a truth value.
+fn put_flag(out: &mut Writer, name: &str, truth: bool) -> Result<(), AllocError>
+    ensures { OnOk result (Added out.old out.new (tokens.key name.now ∷ tokens.boolean truth ∷ [])) }
+{
+    put(out, Token::Key(name))?;
+    put(out, Token::Bool(truth))
+}
+
+// The member with an event's stamp.
+fn put_stamp(out: &mut Writer, stamp: u64) -> Result<(), AllocError>
+    ensures { OnOk result (Added out.old out.new (tokens.key (codes "stamp") ∷ data_tokens (number (of_integer (pos stamp))))) }
+{
+    put(out, Token::Key("stamp"))?;
+    put_natural(out, stamp)
+}
+
+fn put_natural(out: &mut Writer, natural: u64) -> Result<(), AllocError>
+    ensures { OnOk result (Added out.old out.new (data_tokens (number (of_integer (pos natural))))) }
+{
+    out.u64(natural)
+}
+
+// What stands in lists of answers.
+trait Listed {
+    ghost json: { Self → Data };
+
+    fn put(&self, alloc: Global, out: &mut Writer) -> Result<(), AllocError>
+        ensures { OnOk result (Added out.old out.new (data_tokens (json self.now))) };
+}
+
+impl Listed for Shared<Text> {
+    ghost json = { λ t. string t };
+
+    fn put(&self, _alloc: Global, out: &mut Writer) -> Result<(), AllocError> {
+        put(out, Token::String(self.get().as_str()))
+    }
+}
+
+impl Listed for Shown {
+    ghost json = { λ s. shown_data s };
+
+    fn put(&self, alloc: Global, out: &mut Writer) -> Result<(), AllocError> {
+        put(out, Token::BeginObject)?;
+        put_list(alloc, out, "tags", self.tags.as_slice())?;
+        put_text(out, "text", self.text.as_str())?;
+        put(out, Token::EndObject)
+    }
+}
+
+impl Listed for Value {
+    ghost json = { λ v. value_data v };
+
+    fn put(&self, alloc: Global, out: &mut Writer) -> Result<(), AllocError> {
+        write_value(alloc, out, self)
+    }
+}
+
+impl Listed for Event {
+    ghost json = { λ e. event_data e };
+
+    fn put(&self, alloc: Global, out: &mut Writer) -> Result<(), AllocError> {
+        match self {
+            Event::Call {
+                name,
+                arguments,
+                gave,
+                stamp,
+            } => write_call(alloc, out, name, arguments.as_slice(), gave, *stamp),
+            Event::Saw { name, stamp, value } => write_saw(alloc, out, name, *stamp, value),
+        }
+    }
+}
+
+// A member with a list.
+fn put_list<T: Listed>(
+    alloc: Global,
+    out: &mut Writer,
+    name: &str,
+    items: &[T],
+) -> Result<(), AllocError>
+    ensures { OnOk result (Added out.old out.new (tokens.key name.now ∷ data_tokens (array (items_of (map T.json items.now))))) }
+{
+    put(out, Token::Key(name))?;
+    write_list(alloc, out, items)
+}
+
+fn write_list<T: Listed>(alloc: Global, out: &mut Writer, items: &[T]) -> Result<(), AllocError>
+    ensures { OnOk result (Added out.old out.new (data_tokens (array (items_of (map T.json items.now))))) }
+{
+    put(out, Token::BeginArray)?;
+    for item in items {
+        item.put(alloc, out)?;
+    }
+    put(out, Token::EndArray)
+}
+
+// ---- answers
+
+fn write_acts(alloc: Global, out: &mut Writer, events: &[Event]) -> Result<(), AllocError>
+    ensures { OnOk result (Added out.old out.new (data_tokens (reply_data (Acts events.now)))) }
+{
+    put(out, Token::BeginObject)?;
+    put_list(alloc, out, "events", events)?;
+    put(out, Token::EndObject)
+}
+
+fn write_passage(alloc: Global, out: &mut Writer, passage: &Passage) -> Result<(), AllocError>
+    ensures { OnOk result (Added out.old out.new (data_tokens (passage_data passage.now))) }
+{
+    put(out, Token::BeginObject)?;
+    put_list(alloc, out, "choices", passage.choices.as_slice())?;
+    put_list(alloc, out, "events", passage.events.as_slice())?;
+    put_flag(out, "loose", passage.loose)?;
+    put_flag(out, "more", passage.more)?;
+    put_list(alloc, out, "tags", passage.tags.as_slice())?;
+    put_text(out, "text", passage.text.as_str())?;
+    put(out, Token::EndObject)
+}
+
+fn write_shown(alloc: Global, out: &mut Writer, value: &Value) -> Result<(), AllocError>
+    ensures { OnOk result (Added out.old out.new (data_tokens (reply_data (Shows value.now)))) }
+{
+    put(out, Token::BeginObject)?;
+    put(out, Token::Key("value"))?;
+    write_value(alloc, out, value)?;
+    put(out, Token::EndObject)
+}
+
+fn write_visits(out: &mut Writer, visits: i32) -> Result<(), AllocError>
+    ensures { OnOk result (Added out.old out.new (data_tokens (reply_data (Counts visits)))) }
+{
+    put(out, Token::BeginObject)?;
+    put(out, Token::Key("visits"))?;
+    put_integer(out, visits)?;
+    put(out, Token::EndObject)
+}
+
+fn write_value(alloc: Global, out: &mut Writer, value: &Value) -> Result<(), AllocError>
+    ensures { OnOk result (Added out.old out.new (data_tokens (value_data value.now))) }
+{
+    match value {
+        Value::Int(number) => put_integer(out, *number),
+        Value::Bool(truth) => put(out, Token::Bool(*truth)),
+        Value::Text(text) => put(out, Token::String(text.get().as_str())),
+        Value::Target(path) => write_target(alloc, out, path.get()),
+        Value::Pointer(frame, name) => write_pointer(out, *frame, name.get()),
+        Value::Void => put(out, Token::Null),
+        Value::Tag(text) => write_tag(out, text.get()),
+    }
+}
+
+fn write_target(alloc: Global, out: &mut Writer, path: &Path) -> Result<(), AllocError>
+    ensures { OnOk result (Added out.old out.new (data_tokens (value_data (Value.Target path.now)))) }
+{
+    let text = print_path(alloc, path)?;
+    put(out, Token::BeginObject)?;
+    put_text(out, "->", text.as_str())?;
+    put(out, Token::EndObject)
+}
+
+fn write_pointer(out: &mut Writer, frame: i32, name: &Text) -> Result<(), AllocError>
+    ensures { OnOk result (Added out.old out.new (data_tokens (value_data (Value.Pointer frame name.now)))) }
+{
+    put(out, Token::BeginObject)?;
+    put(out, Token::Key("ci"))?;
+    put_integer(out, frame)?;
+    put_text(out, "var", name.as_str())?;
+    put(out, Token::EndObject)
+}
+
+fn write_tag(out: &mut Writer, text: &Text) -> Result<(), AllocError>
+    ensures { OnOk result (Added out.old out.new (data_tokens (value_data (Value.Tag text.now)))) }
+{
+    put(out, Token::BeginObject)?;
+    put_text(out, "tag", text.as_str())?;
+    put(out, Token::EndObject)
+}
+
+fn write_halt(alloc: Global, out: &mut Writer, halt: Halt) -> Result<(), AllocError>
+    ensures { OnOk result (Added out.old out.new (data_tokens (reply_data (reply_of_halt halt)))) }
+{
+    match halt {
+        Halt::Refused(refusal) => write_refusal(out, refusal),
+        Halt::Fault { fault, events } => write_fault(alloc, out, fault, events.as_slice()),
+    }
+}
+
+fn write_refusal(out: &mut Writer, refusal: Refusal) -> Result<(), AllocError>
+    ensures { OnOk result (Added out.old out.new (data_tokens (refusal_data refusal))) }
+{
+    put(out, Token::BeginObject)?;
+    if let Refusal::Broken(fault) = refusal {
+        put_text(out, "fault", fault.name())?;
+    }
+    put_text(out, "refused", refusal.name())?;
+    put(out, Token::EndObject)
+}
+
+fn write_fault(
+    alloc: Global,
+    out: &mut Writer,
+    fault: Fault,
+    events: &[Event],
+) -> Result<(), AllocError>
+    ensures { OnOk result (Added out.old out.new (data_tokens (reply_data (Breaks fault events.now)))) }
+{
+    put(out, Token::BeginObject)?;
+    put_list(alloc, out, "events", events)?;
+    put_text(out, "fault", fault.name())?;
+    put(out, Token::EndObject)
+}
+
+// ---- events
+
+// A call of a turn function, and what came of it.
+fn write_call(
+    alloc: Global,
+    out: &mut Writer,
+    name: &Text,
+    arguments: &[Value],
+    gave: &Option<Given>,
+    stamp: u64,
+) -> Result<(), AllocError>
+    ensures { OnOk result (Added out.old out.new (data_tokens (call_data name.now arguments.now gave.now stamp))) }
+{
+    put(out, Token::BeginObject)?;
+    put_list(alloc, out, "args", arguments)?;
+    put_text(out, "call", name.as_str())?;
+    put_outcome(out, gave)?;
+    put_stamp(out, stamp)?;
+    put(out, Token::EndObject)
+}
+
+// The member that tells what a call gave, or that it was refused.
+fn put_outcome(out: &mut Writer, gave: &Option<Given>) -> Result<(), AllocError>
+    ensures { OnOk result (Added out.old out.new (outcome_tokens gave.now)) }
+{
+    match gave {
+        Some(given) => put_given(out, given),
+        None => put_flag(out, "refused", true),
+    }
+}
+
+fn put_given(out: &mut Writer, given: &Given) -> Result<(), AllocError>
+    ensures { OnOk result (Added out.old out.new (tokens.key (codes "gave") ∷ data_tokens (value_data (value_given given.now)))) }
+{
+    put(out, Token::Key("gave"))?;
+    write_given(out, given)
+}
+
+fn write_given(out: &mut Writer, given: &Given) -> Result<(), AllocError>
+    ensures { OnOk result (Added out.old out.new (data_tokens (value_data (value_given given.now)))) }
+{
+    match given {
+        Given::Int(number) => put_integer(out, *number),
+        Given::Bool(truth) => put(out, Token::Bool(*truth)),
+        Given::Text(text) => put(out, Token::String(text.get().as_str())),
+        Given::Void => put(out, Token::Null),
+    }
+}
+
+// A change that a watcher saw.
+fn write_saw(
+    alloc: Global,
+    out: &mut Writer,
+    name: &Text,
+    stamp: u64,
+    value: &Value,
+) -> Result<(), AllocError>
+    ensures { OnOk result (Added out.old out.new (data_tokens (event_data (Event.Saw name.now stamp value.now)))) }
+{
+    put(out, Token::BeginObject)?;
+    put_text(out, "saw", name.as_str())?;
+    put_stamp(out, stamp)?;
+    put(out, Token::Key("value"))?;
+    write_value(alloc, out, value)?;
+    put(out, Token::EndObject)
+}

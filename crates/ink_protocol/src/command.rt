@@ -1,0 +1,166 @@
+//! The commands that lines spell (docs/PROTOCOL.md, "Command lines").
+
+ghost use Rattle.std.specs.Prelude.{◌≡◌, ◌≤◌, ◌<◌, length, true, IfOk, OnErr, option_map, option_and_then};
+ghost use Rattle.std.specs.List.{list_all};
+ghost use Rattle.ink_model.specs.Command.{choose_command as choose_of, command_of, command_word, get_command as get_of, jump_command as jump_of, line_asks, set_command as set_of, visits_command as visits_of};
+ghost use Rattle.ink_model.specs.Bytes.{after as after_word, at_space as parts_at_space, is_digit as digit, number_from};
+ghost use Rattle.ink_protocol.specs.Commands.{command_by};
+
+use crate::given::given_of;
+use ink_model::Given;
+use std::alloc::{AllocError, Global};
+
+// The most digits of a choice's number.
+const MAX_DIGITS: usize = 9;
+
+/// A command of a line, with the name or the path where it stands in the line. The value of `Set` is none where the line has
+/// JSON of another kind than a value has, or no JSON.
+#[derive(Drop)]
+pub enum LineCommand<'a> {
+    Through,
+    Set { name: &'a str, value: Option<Given> },
+    Get { name: &'a str },
+    Visits { path: &'a str },
+    Choose { number: u32 },
+    Jump { path: &'a str },
+    Restart,
+}
+
+/// The command of a line, without its newline (docs/PROTOCOL.md, "Command lines"). A line that is no text, or no
+/// command, has none. The one error is a refused request for memory, which only a `set` makes, for its JSON.
+pub fn read_command(alloc: Global, line: &[u8]) -> Result<Option<LineCommand<'_>>, AllocError>
+    ensures command { IfOk result (λ command. option_map command_by command ≡ command_of line.now) }
+    ensures memory { OnErr result (line_asks (command_of line.now) ≡ true) }
+{
+    match str::from_utf8(line) {
+        Ok(text) => command_in(alloc, text),
+        Err(_) => Ok(None),
+    }
+}
+
+fn command_in(alloc: Global, text: &str) -> Result<Option<LineCommand<'_>>, AllocError>
+    ensures command { IfOk result (λ command. option_map command_by command ≡ command_word text.now) }
+    ensures memory { OnErr result (line_asks (command_word text.now) ≡ true) }
+{
+    if text == "through" {
+        return Ok(Some(LineCommand::Through));
+    }
+    if text == "restart" {
+        return Ok(Some(LineCommand::Restart));
+    }
+    if let Some(name) = after("get ", text) {
+        return Ok(get_command(name));
+    }
+    if let Some(rest) = after("set ", text) {
+        return set_line(alloc, rest);
+    }
+    if let Some(path) = after("visits ", text) {
+        return Ok(visits_command(path));
+    }
+    if let Some(number) = after("choose ", text) {
+        return Ok(choose_command(number));
+    }
+    match after("jump ", text) {
+        Some(path) => Ok(jump_command(path)),
+        None => Ok(None),
+    }
+}
+
+// What follows a word at a line's beginning.
+fn after<'a>(word: &str, text: &'a str) -> Option<&'a str>
+    ensures { option_map (λ rest. rest.now) result ≡ after_word word.now text.now }
+{
+    text.strip_prefix(word)
+}
+
+// What stands before the first space, and what stands after it.
+fn at_space(text: &str) -> Option<(&str, &str)>
+    ensures { option_map (λ r. (r.0.now, r.1.now)) result ≡ parts_at_space text.now }
+{
+    text.split_once(' ')
+}
+
+fn get_command(name: &str) -> Option<LineCommand<'_>>
+    ensures { option_map command_by result ≡ get_of name.now }
+{
+    if name.is_empty() || at_space(name).is_some() {
+        return None;
+    }
+    Some(LineCommand::Get { name })
+}
+
+fn visits_command(path: &str) -> Option<LineCommand<'_>>
+    ensures { option_map command_by result ≡ visits_of path.now }
+{
+    if path.is_empty() {
+        return None;
+    }
+    Some(LineCommand::Visits { path })
+}
+
+// A number has 1 to 9 digits.
+fn choose_command(digits: &str) -> Option<LineCommand<'_>>
+    ensures { option_map command_by result ≡ choose_of digits.now }
+{
+    if digits.is_empty() || digits.len() > MAX_DIGITS || !is_number(digits) {
+        return None;
+    }
+    let number = number_of(digits);
+    Some(LineCommand::Choose { number })
+}
+
+fn is_number(text: &str) -> bool
+    ensures { result ≡ list_all digit text.now }
+{
+    text.as_bytes().iter().all(|byte| is_digit(*byte))
+}
+
+fn is_digit(byte: u8) -> bool
+    ensures { result ≡ digit byte }
+{
+    b'0' <= byte && byte <= b'9'
+}
+
+// The number that digits are.
+fn number_of(digits: &str) -> u32
+    requires filled { 0 < length digits.now }
+    requires few { length digits.now ≤ 9 }
+    requires digits { list_all digit digits.now ≡ true }
+    ensures { result ≡ number_from 0 digits.now }
+{
+    digits.parse::<u32>().unwrap()
+}
+
+fn jump_command(target: &str) -> Option<LineCommand<'_>>
+    ensures { option_map command_by result ≡ jump_of target.now }
+{
+    if target.is_empty() {
+        return None;
+    }
+    Some(LineCommand::Jump { path: target })
+}
+
+fn set_line(alloc: Global, text: &str) -> Result<Option<LineCommand<'_>>, AllocError>
+    ensures command { IfOk result (λ command. option_map command_by command ≡ option_and_then set_of (parts_at_space text.now)) }
+    ensures memory { OnErr result (line_asks (option_and_then set_of (parts_at_space text.now)) ≡ true) }
+{
+    match at_space(text) {
+        Some((name, value)) => set_command(alloc, name, value),
+        None => Ok(None),
+    }
+}
+
+fn set_command<'a>(
+    alloc: Global,
+    name: &'a str,
+    text: &str,
+) -> Result<Option<LineCommand<'a>>, AllocError>
+    ensures command { IfOk result (λ command. option_map command_by command ≡ set_of (name.now, text.now)) }
+    ensures memory { OnErr result (line_asks (set_of (name.now, text.now)) ≡ true) }
+{
+    if name.is_empty() || text.is_empty() {
+        return Ok(None);
+    }
+    let value = given_of(alloc, text)?;
+    Ok(Some(LineCommand::Set { name, value }))
+}

@@ -1,0 +1,36 @@
+//! How sessions end before their reader does.
+
+ghost use Rattle.std.specs.Prelude.{◌≡◌};
+ghost use Rattle.ink_protocol.specs.Ends.{run_fault_name};
+
+/// Why a session ended before its reader did. What was answered before stands.
+#[derive(Clone, Copy, Debug, PartialEq, Eq, thiserror::Error)]
+pub enum RunFault {
+    /// The reader failed.
+    #[error("Read")]
+    Read,
+    /// The writer failed, or took no byte. The command whose answer could not be written has taken effect.
+    #[error("Write")]
+    Write,
+    /// A line or the input is longer than its limit.
+    #[error("TooLong")]
+    TooLong,
+    /// Memory was refused: for a line, which was not served then, or for the text of an answer, whose command has taken
+    /// effect.
+    #[error("OutOfMemory")]
+    OutOfMemory,
+}
+
+impl RunFault {
+    /// The fault's name, as the program prints it (docs/PROTOCOL.md, "The program").
+    pub fn name(self) -> &'static str
+        ensures { result.now ≡ run_fault_name self }
+    {
+        match self {
+            RunFault::Read => "Read",
+            RunFault::Write => "Write",
+            RunFault::TooLong => "TooLong",
+            RunFault::OutOfMemory => "OutOfMemory",
+        }
+    }
+}

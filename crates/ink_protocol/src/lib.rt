@@ -1,0 +1,19 @@
+//! Command lines, answers, and the reading and writing of lines (docs/PROTOCOL.md). Nothing here knows of a story or runs one.
+#![tactic(auto)]
+
+mod answer;
+mod command;
+mod fault;
+mod given;
+mod input;
+mod lines;
+mod output;
+mod watched;
+
+pub use answer::{Outcome, answer_text, fixed_answer, print_values};
+pub use command::{LineCommand, read_command};
+pub use fault::RunFault;
+pub use input::{Ahead, ReadFailed, Source};
+pub use lines::{Line, next_line};
+pub use output::{Sink, WriteFailed, write_answer};
+pub use watched::{Lent, Watched};

@@ -1,0 +1,48 @@
+//! Taking lines from a source.
+
+ghost use Rattle.std.specs.Prelude.{◌≡◌, ◌≤◌, ◌+◌, length};
+ghost use Rattle.ink_protocol.specs.Ends.{after_call, reads_fail};
+ghost use Rattle.ink_protocol.specs.Lines.{GivesLine};
+
+use crate::fault::RunFault;
+use crate::input::{Ahead, Cut, Next, Source};
+
+/// A line: one that ended at its newline, without it, or what stands before the source's end.
+#[derive(Drop)]
+pub enum Line {
+    Whole(Vec<u8>),
+    Last(Vec<u8>),
+}
+
+/// The next line, of at most so many bytes, in the memory of a buffer whose bytes go. No more is read than tells that it is
+/// longer. Errors: `Read`, where the source failed; `TooLong`, where the line is longer, or all bytes were taken that may be and
+/// more are there, whatever memory there is; `OutOfMemory`, where memory was refused for a byte that the line may have.
+pub fn next_line<S: Source>(
+    buffer: Vec<u8>,
+    ahead: &mut Ahead,
+    source: &mut S,
+    limit: usize,
+) -> Result<Line, RunFault>
+    ensures gives { GivesLine (S.remaining source.old) (S.remaining source.new) ahead.old ahead.new limit result }
+    ensures bound { length ahead.new.unread ≤ ahead.new.spare + 1 }
+    ensures cause { S.failures source.new ≡ after_call (reads_fail result) (S.failures source.old) }
+    ensures name { S.name source.new ≡ S.name source.old }
+{
+    let mut line = buffer;
+    line.clear();
+    'pieces: loop {
+        let Ok(next) = ahead.next(source, limit - line.len()) else {
+            return Err(RunFault::Read);
+        };
+        match next {
+            Next::Bytes => {}
+            Next::End => return Ok(Line::Last(line)),
+            Next::TooMany => return Err(RunFault::TooLong),
+        }
+        match ahead.cut(&mut line, limit) {
+            Ok(Cut::Newline) => return Ok(Line::Whole(line)),
+            Ok(Cut::More) => {}
+            Err(fault) => return Err(fault),
+        }
+    }
+}
