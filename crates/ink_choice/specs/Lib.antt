@@ -1,2 +1,3 @@
+pub mod Choices
 pub mod Words
 pub mod Operands

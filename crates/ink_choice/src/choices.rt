@@ -18,13 +18,13 @@ pub struct Choices<P> {
 }
 
 impl<P> Model for Choices<P> {
-    ghost use Rattle.std.specs.Prelude.{◌≤◌, List, length};
-    ghost use Rattle.ink_model.specs.Configuration.{ChoiceOf};
+    ghost use Rattle.std.specs.Prelude.{◌≤◌, length};
+    ghost use Rattle.ink_choice.specs.Choices.{ChoicesView};
     ghost use Rattle.ink_model.specs.declared.limits.TheConstants.{MAX_CHOICES};
 
-    ghost Value = { List (ChoiceOf P) };
+    ghost Value = { ChoicesView P };
 
-    ghost view = { λ c. c.items.items };
+    ghost view = { λ c. record { items = c.items.items } };
 
     ghost invariant = { λ c. length c.items.items ≤ MAX_CHOICES };
 }
@@ -32,7 +32,7 @@ impl<P> Model for Choices<P> {
 impl<P: Copy> Choices<P> {
     /// No choices, which take no memory.
     pub fn new(alloc: Global) -> Choices<P>
-        ensures { result ≡ [] }
+        ensures { result.items ≡ [] }
     {
         Choices {
             items: Vec::new(alloc),
@@ -41,8 +41,8 @@ impl<P: Copy> Choices<P> {
 
     /// A copy. The one error is a refused request for memory, which no choices never make.
     pub fn clone_in(&self, alloc: Global) -> Result<Choices<P>, AllocError>
-        ensures copy { IfOk result (λ copy. copy ≡ self.now) }
-        ensures memory { OnErr result (self.now ≢ []) }
+        ensures copy { IfOk result (λ copy. copy.items ≡ self.now.items) }
+        ensures memory { OnErr result (self.now.items ≢ []) }
     {
         let items = copied_choices(alloc, self.items.as_slice())?;
         Ok(Choices { items })
@@ -50,7 +50,7 @@ impl<P: Copy> Choices<P> {
 
     /// How many there are, the invisible ones counted: 1,000 at the most. Takes no memory.
     pub fn len(&self) -> usize
-        ensures count { result ≡ length self.now }
+        ensures count { result ≡ length self.now.items }
         ensures most { result ≤ MAX_CHOICES }
     {
         self.items.len()
@@ -60,7 +60,7 @@ impl<P: Copy> Choices<P> {
     /// error nothing has changed (docs/CHOICES.md, "The list").
     #[tactic(auto, using(crate::proofs::Lists::full))]
     pub fn add(&mut self, choice: Choice<P>) -> Result<(), Fault>
-        ensures { Adds (rules.added choice self.old) self.old self.new result }
+        ensures { Adds (rules.added choice self.old.items) self.old.items self.new.items result }
     {
         if self.len() >= MAX_CHOICES {
             return Err(Fault::TooDeep);
@@ -74,8 +74,8 @@ impl<P: Copy> Choices<P> {
     /// The visible ones, as they are shown. The one error is a refused request for memory, which is made only where one is
     /// visible.
     pub fn visible(&self, alloc: Global) -> Result<Seq<Shown>, AllocError>
-        ensures shown { IfOk result (λ shown. shown ≡ rules.shown self.now) }
-        ensures memory { OnErr result (rules.visible self.now ≢ []) }
+        ensures shown { IfOk result (λ shown. shown ≡ rules.shown self.now.items) }
+        ensures memory { OnErr result (rules.visible self.now.items ≢ []) }
     {
         let mut shown = Vec::new(alloc);
         for choice in &self.items {
@@ -88,7 +88,7 @@ impl<P: Copy> Choices<P> {
 
     /// How many are visible. Takes no memory.
     pub fn count_visible(&self) -> usize
-        ensures { result ≡ length (rules.visible self.now) }
+        ensures { result ≡ length (rules.visible self.now.items) }
     {
         self.items
             .iter()
@@ -98,14 +98,14 @@ impl<P: Copy> Choices<P> {
 
     /// Whether there are choices and none is visible. Takes no memory.
     pub fn only_invisible(&self) -> bool
-        ensures { result ≡ rules.only_invisible self.now }
+        ensures { result ≡ rules.only_invisible self.now.items }
     {
         !self.items.is_empty() && none_visible(self.items.as_slice())
     }
 
     /// The n-th visible one, counted from 0; none where there are not so many. Takes no memory.
     pub fn visible_at(&self, number: usize) -> Option<&Choice<P>>
-        ensures { option_map (λ c. c.now) result ≡ slice_get (rules.visible self.now) number }
+        ensures { option_map (λ c. c.now) result ≡ slice_get (rules.visible self.now.items) number }
     {
         match index_of(self.items.as_slice(), number, false) {
             Some(index) => Some(&self.items[index]),
@@ -116,7 +116,7 @@ impl<P: Copy> Choices<P> {
     /// Takes a choice out of the list: the n-th visible one, counted from 0, or where none is visible the n-th. None where there
     /// is no such choice, and then nothing has changed. Takes no memory (docs/CHOICES.md, "Taking a choice").
     pub fn take(&mut self, number: usize) -> Option<Choice<P>>
-        ensures { Takes (rules.taken number self.old) self.old self.new result }
+        ensures { Takes (rules.taken number self.old.items) self.old.items self.new.items result }
     {
         let any = none_visible(self.items.as_slice());
         match index_of(self.items.as_slice(), number, any) {
@@ -127,14 +127,14 @@ impl<P: Copy> Choices<P> {
 
     /// No frame of the choices' threads has the number of its mark any more. Takes no memory.
     pub fn clear_numbers(&mut self)
-        ensures { self.new ≡ map unnumbered_choice self.old }
+        ensures { self.new.items ≡ map unnumbered_choice self.old.items }
     {
         clear_numbers_of(self.items.as_mut_slice());
     }
 
     /// All choices go. Takes no memory.
     pub fn clear(&mut self)
-        ensures { self.new ≡ [] }
+        ensures { self.new.items ≡ [] }
     {
         self.items.clear();
     }

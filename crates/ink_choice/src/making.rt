@@ -31,7 +31,7 @@ pub fn make<P: Copy>(
     visited: bool,
     threads: &Threads<P>,
 ) -> Result<Option<Choice<P>>, Fault>
-    ensures { Makes (rules.make flags target visited threads.now.thread stack.old.items) stack.old.items stack.new.items result }
+    ensures { Makes (rules.make flags target visited threads.now.threads.thread stack.old.items) stack.old.items stack.new.items result }
 {
     match found(alloc, flags, target, stack, visited, threads) {
         Ok((choice, count)) => {
@@ -51,7 +51,7 @@ fn found<P: Copy>(
     visited: bool,
     threads: &Threads<P>,
 ) -> Result<(Option<Choice<P>>, usize), Fault>
-    ensures { Finds (rules.make flags target visited threads.now.thread stack.now.items) (reverse stack.now.items) result }
+    ensures { Finds (rules.make flags target visited threads.now.threads.thread stack.now.items) (reverse stack.now.items) result }
 {
     match find_operands(stack, flags) {
         Ok(operands) => {
@@ -83,7 +83,7 @@ fn choice_of<P: Copy>(
     threads: &Threads<P>,
     operands: &Operands<'_>,
 ) -> Result<Choice<P>, Fault>
-    ensures { Chooses (rules.choice flags target threads.now.thread (operands_of (reverse stack.now.items) operands.now)) result }
+    ensures { Chooses (rules.choice flags target threads.now.threads.thread (operands_of (reverse stack.now.items) operands.now)) result }
 {
     match joined(alloc, operands.start.text, operands.choice_only.text) {
         Ok(text) => {

@@ -1,3 +1,4 @@
+pub mod Threads
 pub mod Words
 pub mod Quiet
 pub mod Rows

@@ -21,17 +21,17 @@ pub struct Threads<P> {
 
 impl<P> Model for Threads<P> {
     ghost use Rattle.std.specs.Prelude.{reverse};
-    ghost use Rattle.ink_model.specs.Frames.{ThreadsOf};
+    ghost use Rattle.ink_stack.specs.Threads.{ThreadsView};
 
-    ghost Value = { ThreadsOf P };
+    ghost Value = { ThreadsView P };
 
-    ghost view = { λ ts. record { thread = ts.thread; below = reverse ts.below.items } };
+    ghost view = { λ ts. record { threads = record { thread = ts.thread; below = reverse ts.below.items } } };
 }
 
 impl<P: Copy> Threads<P> {
     /// One thread of one base frame, outside evaluation mode, which takes no memory.
     pub fn new(alloc: Global, place: Option<P>) -> Threads<P>
-        ensures { result ≡ base_threads place }
+        ensures { result.threads ≡ base_threads place }
     {
         Threads {
             thread: Thread::new(alloc, place),
@@ -42,21 +42,21 @@ impl<P: Copy> Threads<P> {
 
     /// The top thread.
     pub fn top(&self) -> &Thread<P>
-        ensures { result.now ≡ self.now.thread }
+        ensures { result.now ≡ self.now.threads.thread }
     {
         &self.thread
     }
 
     /// Where flow is; none where it has stopped.
     pub fn place(&self) -> Option<P>
-        ensures { result ≡ place_in self.now }
+        ensures { result ≡ place_in self.now.threads }
     {
         self.thread.place()
     }
 
     /// Whether the top frame is in evaluation mode.
     pub fn is_evaluating(&self) -> bool
-        ensures { result ≡ self.now.thread.frame.evaluating }
+        ensures { result ≡ self.now.threads.thread.frame.evaluating }
     {
         self.thread.is_evaluating()
     }
@@ -64,35 +64,35 @@ impl<P: Copy> Threads<P> {
     /// How many sections are open below the one in which the top frame is a fresh function; none where it is no such
     /// function.
     pub fn fresh_depth(&self) -> Option<usize>
-        ensures { result ≡ fresh_depth self.now.thread.frame }
+        ensures { result ≡ fresh_depth self.now.threads.thread.frame }
     {
         self.thread.fresh_depth()
     }
 
     /// Flow goes to a place, or to none. The one that it leaves becomes the previous one.
     pub fn go(&mut self, place: Option<P>)
-        ensures { self.new ≡ on_top (gone place) self.old }
+        ensures { self.new.threads ≡ on_top (gone place) self.old.threads }
     {
         self.thread.go(place);
     }
 
     /// Puts the top frame at a place, or at none. The previous place stays.
     pub fn put(&mut self, place: Option<P>)
-        ensures { self.new ≡ on_top (put_in place) self.old }
+        ensures { self.new.threads ≡ on_top (put_in place) self.old.threads }
     {
         self.thread.put(place);
     }
 
     /// Evaluation mode begins or ends in the top frame.
     pub fn set_mode(&mut self, evaluating: bool)
-        ensures { self.new ≡ on_top (mode_in evaluating) self.old }
+        ensures { self.new.threads ≡ on_top (mode_in evaluating) self.old.threads }
     {
         self.thread.set_mode(evaluating);
     }
 
     /// The top frame has this number of its mark on the line.
     pub fn set_number(&mut self, number: u64)
-        ensures { self.new ≡ on_top (number_in number) self.old }
+        ensures { self.new.threads ≡ on_top (number_in number) self.old.threads }
     {
         self.thread.set_number(number);
     }
@@ -100,14 +100,14 @@ impl<P: Copy> Threads<P> {
     /// A text was written where so many sections are open: the top frame is a fresh function no more, and neither are the
     /// function frames directly below it, of all these the ones that were pushed there (docs/FRAMES.md, "Freshness").
     pub fn end_freshness(&mut self, depth: usize)
-        ensures { self.new ≡ on_top (staled depth) self.old }
+        ensures { self.new.threads ≡ on_top (staled depth) self.old.threads }
     {
         self.thread.end_freshness(depth);
     }
 
     /// No frame has the number of its mark any more.
     pub fn clear_numbers(&mut self)
-        ensures { self.new ≡ unnumbered_threads self.old }
+        ensures { self.new.threads ≡ unnumbered_threads self.old.threads }
     {
         self.thread.clear_numbers();
         clear_numbers_of(self.below.as_mut_slice());
@@ -117,7 +117,7 @@ impl<P: Copy> Threads<P> {
     /// `depth` says how many sections are open. `TooDeep` where the thread has 1,000 frames; `OutOfMemory` for a refused
     /// request for memory. On an error nothing has changed (docs/FRAMES.md, "Frames").
     pub fn push_frame(&mut self, kind: FrameKind, depth: usize) -> Result<(), Fault>
-        ensures { Grows (top_result (pushed kind depth self.old.thread) self.old) self.old self.new result }
+        ensures { Grows (top_result (pushed kind depth self.old.threads.thread) self.old.threads) self.old.threads self.new.threads result }
     {
         self.thread.push(kind, depth)
     }
@@ -126,7 +126,7 @@ impl<P: Copy> Threads<P> {
     /// another number of sections is open than at its push. On an error nothing has changed. Takes no memory
     /// (docs/FRAMES.md, "Frames").
     pub fn pop_frame(&mut self, kind: FrameKind, depth: usize) -> Result<(), Fault>
-        ensures { Changes (top_result (popped kind depth self.old.thread) self.old) self.old self.new result }
+        ensures { Changes (top_result (popped kind depth self.old.threads.thread) self.old.threads) self.old.threads self.new.threads result }
     {
         self.thread.pop(kind, depth)
     }
@@ -134,7 +134,7 @@ impl<P: Copy> Threads<P> {
     /// Puts a copy of the top thread on top. `TooDeep` where there are 100 threads; `OutOfMemory` for a refused request for
     /// memory. On an error nothing has changed (docs/FRAMES.md, "Threads").
     pub fn push_thread(&mut self) -> Result<(), Fault>
-        ensures { Grows (doubled self.old) self.old self.new result }
+        ensures { Grows (doubled self.old.threads) self.old.threads self.new.threads result }
     {
         if self.below.len() >= MAX_THREADS - 1 {
             return Err(Fault::TooDeep);
@@ -151,8 +151,8 @@ impl<P: Copy> Threads<P> {
     /// Drops the top thread. False where it is the last one, and then nothing has changed. Takes no memory (docs/FRAMES.md,
     /// "Threads").
     pub fn pop_thread(&mut self) -> bool
-        ensures dropped { result ≡ is_some (dropped self.old) }
-        ensures new { self.new ≡ unwrap_or (dropped self.old) self.old }
+        ensures dropped { result ≡ is_some (dropped self.old.threads) }
+        ensures new { self.new.threads ≡ unwrap_or (dropped self.old.threads) self.old.threads }
     {
         let Some(next) = self.below.pop() else {
             return false;
@@ -163,7 +163,7 @@ impl<P: Copy> Threads<P> {
 
     /// Whether the top thread is the only one. Takes no memory.
     pub fn is_last(&self) -> bool
-        ensures { result ≡ is_last self.now }
+        ensures { result ≡ is_last self.now.threads }
     {
         self.below.is_empty()
     }
@@ -171,9 +171,9 @@ impl<P: Copy> Threads<P> {
     /// A copy of the top thread. The one error is `OutOfMemory` for a refused request for memory, which a frame alone
     /// without temporaries never makes.
     pub fn fork(&self) -> Result<Thread<P>, Fault>
-        ensures copy { IfOk result (λ copy. copy ≡ self.now.thread) }
+        ensures copy { IfOk result (λ copy. copy ≡ self.now.threads.thread) }
         ensures fault { IfErr result (λ f. f ≡ Fault.OutOfMemory) }
-        ensures memory { OnErr result ((self.now.thread.frame.temps ≢ []) ⊎ (self.now.thread.below ≢ [])) }
+        ensures memory { OnErr result ((self.now.threads.thread.frame.temps ≢ []) ⊎ (self.now.threads.thread.below ≢ [])) }
     {
         let copy = self.thread.clone_in(self.alloc)?;
         Ok(copy)
@@ -182,7 +182,7 @@ impl<P: Copy> Threads<P> {
     /// What a frame of the top thread has by a name; none where there is no such frame, or the frame has no such name. The
     /// bottom frame has number 1. Takes no memory.
     pub fn temp(&self, frame: usize, name: &str) -> Option<&Value>
-        ensures { option_map (λ value. value.now) result ≡ temp_in frame name.now self.now.thread }
+        ensures { option_map (λ value. value.now) result ≡ temp_in frame name.now self.now.threads.thread }
     {
         self.thread.temp(frame, name)
     }
@@ -192,11 +192,11 @@ impl<P: Copy> Threads<P> {
     /// leaves all as it was.
     pub fn set_temp(&mut self, frame: usize, name: &str, value: Value) -> Result<(), Fault>
         requires from { 0 < frame }
-        requires there { frame ≤ frame_count self.old.thread }
-        ensures ok { OnOk result (self.new ≡ on_top (with_temp frame name.now value) self.old) }
+        requires there { frame ≤ frame_count self.old.threads.thread }
+        ensures ok { OnOk result (self.new.threads ≡ on_top (with_temp frame name.now value) self.old.threads) }
         ensures fault { IfErr result (λ f. f ≡ Fault.OutOfMemory) }
-        ensures kept { OnErr result (self.new ≡ self.old) }
-        ensures memory { OnErr result (temp_in frame name.now self.old.thread ≡ None) }
+        ensures kept { OnErr result (self.new.threads ≡ self.old.threads) }
+        ensures memory { OnErr result (temp_in frame name.now self.old.threads.thread ≡ None) }
     {
         self.thread.set_temp(frame, name, value)?;
         Ok(())
@@ -204,7 +204,7 @@ impl<P: Copy> Threads<P> {
 
     /// This thread becomes the only one. Takes no memory.
     pub fn replace(&mut self, thread: Thread<P>)
-        ensures { self.new ≡ alone thread }
+        ensures { self.new.threads ≡ alone thread }
     {
         self.thread = thread;
         self.below.clear();
@@ -212,7 +212,7 @@ impl<P: Copy> Threads<P> {
 
     /// All threads go, and one base frame is left that stands nowhere. Takes no memory.
     pub fn reset(&mut self)
-        ensures { self.new ≡ base_threads None }
+        ensures { self.new.threads ≡ base_threads None }
     {
         self.replace(Thread::new(self.alloc, None));
     }

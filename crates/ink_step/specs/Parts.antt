@@ -10,15 +10,15 @@ use Rattle.ink_tree.specs.Nodes.{place_of}
 
 abbrev pub config_of_fields : StoryTree → Fields → Configuration
 config_of_fields s m = record {
-  flow = record { threads = map_threads (place_of s) m.threads; stack = m.stack.items; choices = map (map_choice (place_of s)) m.choices; safe = m.safe };
-  shared = record { globals = m.globals; counts = counts_in s m.counts; turn = m.turn };
+  flow = record { threads = map_threads (place_of s) m.threads.threads; stack = m.stack.items; choices = map (map_choice (place_of s)) m.choices.items; safe = m.safe };
+  shared = record { globals = m.globals.rows; counts = counts_in s m.counts.rows; turn = m.turn };
   page = m.output.page;
 }
 
 -- the same of what is lent
 abbrev pub config_of_parts : StoryTree → Parts → Configuration
 config_of_parts s m = record {
-  flow = record { threads = map_threads (place_of s) m.threads.now; stack = m.stack.now.items; choices = map (map_choice (place_of s)) m.choices.now; safe = m.safe };
-  shared = record { globals = m.globals.now; counts = counts_in s m.counts.now; turn = m.turn };
+  flow = record { threads = map_threads (place_of s) m.threads.now.threads; stack = m.stack.now.items; choices = map (map_choice (place_of s)) m.choices.now.items; safe = m.safe };
+  shared = record { globals = m.globals.now.rows; counts = counts_in s m.counts.now.rows; turn = m.turn };
   page = m.output.now.page;
 }

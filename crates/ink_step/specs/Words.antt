@@ -28,8 +28,8 @@ counts_in s counts = record { visits = rows_in s counts.visits; turns = rows_in 
 -- the configuration of a machine, over the places that its spots and numbers stand for
 abbrev pub config_of : StoryTree → Machine → Configuration
 config_of s m = record {
-  flow = record { threads = map_threads (place_of s) m.threads; stack = m.stack.items; choices = map (map_choice (place_of s)) m.choices; safe = m.safe };
-  shared = record { globals = m.globals; counts = counts_in s m.counts; turn = m.turn };
+  flow = record { threads = map_threads (place_of s) m.threads.threads; stack = m.stack.items; choices = map (map_choice (place_of s)) m.choices.items; safe = m.safe };
+  shared = record { globals = m.globals.rows; counts = counts_in s m.counts.rows; turn = m.turn };
   page = m.output.page;
 }
 
@@ -40,7 +40,7 @@ pub record Rest : Type 0 where
   pub turn : ℕ
 
 abbrev pub rest_of : Machine → Rest
-rest_of m = record { choices = m.choices; counts = m.counts; turn = m.turn }
+rest_of m = record { choices = m.choices.items; counts = m.counts.rows; turn = m.turn }
 
 -- what content may look at and not change, as `context_of` gives it
 abbrev pub seen_by : StoryTree → ThreadsOf Spot → Rest → Context
@@ -52,4 +52,4 @@ seen_by s threads rest = record {
 }
 
 abbrev pub globals_of : Machine → Values
-globals_of m = m.globals
+globals_of m = m.globals.rows

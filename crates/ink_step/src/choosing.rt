@@ -25,8 +25,8 @@ impl Machine {
     #[inline(never)]
     pub(crate) fn follow_default(&mut self, story: &Story) -> Result<StepEnd, Fault>
         ensures ends { let s = story_tree story.now in let c = config_of s self.old in let choice = default_choice c.flow.choices in
-            StepEnds (default_asks s choice c) (stopped_by s choice c) self.old.globals (config_of s self.new) result }
-        ensures globals { self.new.globals ≡ self.old.globals }
+            StepEnds (default_asks s choice c) (stopped_by s choice c) self.old.globals.rows (config_of s self.new) result }
+        ensures globals { self.new.globals.rows ≡ self.old.globals.rows }
         ensures changes { self.new.changes ≡ self.old.changes }
     {
         if !self.choices.only_invisible() {
@@ -47,7 +47,7 @@ impl Machine {
     // Flow is where a choice leads, in the choice's thread alone, and no choice is left.
     fn take_up(&mut self, choice: Choice<Spot>)
         ensures taken { (s : StoryTree) → config_of s self.new ≡ taken_up (map_choice (place_of s) choice) (config_of s self.old) }
-        ensures globals { self.new.globals ≡ self.old.globals }
+        ensures globals { self.new.globals.rows ≡ self.old.globals.rows }
         ensures changes { self.new.changes ≡ self.old.changes }
     {
         let Choice { target, thread, .. } = choice;

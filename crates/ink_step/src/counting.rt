@@ -24,7 +24,7 @@ use ink_vars::{Counts, Turn};
 /// How often a container was visited. `NotCounted` where its visits are not counted. Takes no memory.
 pub(crate) fn visits_of(tree: &Tree, counts: &Counts, container: NodeId) -> Result<i32, Fault>
     ensures { let s = story_tree tree.now in let q = node_place s container in
-        result ≡ rules.visits_of place_order q (flags_at (at s q)) (counts_in s counts.now) }
+        result ≡ rules.visits_of place_order q (flags_at (at s q)) (counts_in s counts.now.rows) }
 {
     counts.visits_of(tree.number_of(container), tree.flags(container))
 }
@@ -38,7 +38,7 @@ pub(crate) fn turns_since(
     turn: Turn,
 ) -> Result<i32, Fault>
     ensures { let s = story_tree tree.now in let q = node_place s container in
-        result ≡ rules.turns_since place_order q (flags_at (at s q)) turn (counts_in s counts.now) }
+        result ≡ rules.turns_since place_order q (flags_at (at s q)) turn (counts_in s counts.now.rows) }
 {
     counts.turns_since(tree.number_of(container), tree.flags(container), turn)
 }
@@ -48,10 +48,10 @@ pub(crate) fn turns_since(
 #[inline(never)]
 fn enter(tree: &Tree, counts: &mut Counts, container: NodeId, turn: Turn) -> Result<(), Fault>
     ensures ok { let s = story_tree tree.now in let q = node_place s container in
-        OnOk result (counts_in s counts.new ≡ rules.visited place_order q (flags_at (at s q)) true turn (counts_in s counts.old)) }
+        OnOk result (counts_in s counts.new.rows ≡ rules.visited place_order q (flags_at (at s q)) true turn (counts_in s counts.old.rows)) }
     ensures fault { IfErr result (λ f. f ≡ Fault.OutOfMemory) }
     ensures memory { let s = story_tree tree.now in let q = node_place s container in
-        OnErr result (rules.adds_row place_order q (flags_at (at s q)) (counts_in s counts.old) ≡ true) }
+        OnErr result (rules.adds_row place_order q (flags_at (at s q)) (counts_in s counts.old.rows) ≡ true) }
 {
     counts.visit(tree.number_of(container), tree.flags(container), true, turn)
 }
@@ -67,9 +67,9 @@ fn enter_passed<'a>(
 ) -> Result<(Spot, Option<&'a Leaf>), Fault>
     ensures here { let s = story_tree tree.now in IfOk result (λ r. place_of s r.0 ≡ entered s (node_place s node)) }
     ensures found { let s = story_tree tree.now in IfOk result (λ r. option_map (λ l. l.now) r.1 ≡ leaf_in (at s (place_of s r.0))) }
-    ensures ok { let s = story_tree tree.now in OnOk result (counts_in s counts.new ≡ all_visited s turn (passed_places s (node_place s node)) (counts_in s counts.old)) }
+    ensures ok { let s = story_tree tree.now in OnOk result (counts_in s counts.new.rows ≡ all_visited s turn (passed_places s (node_place s node)) (counts_in s counts.old.rows)) }
     ensures fault { IfErr result (λ f. f ≡ Fault.OutOfMemory) }
-    ensures memory { let s = story_tree tree.now in OnErr result (adds_rows s (passed_places s (node_place s node)) (counts_in s counts.old) ≡ true) }
+    ensures memory { let s = story_tree tree.now in OnErr result (adds_rows s (passed_places s (node_place s node)) (counts_in s counts.old.rows) ≡ true) }
 {
     let mut last = node;
     while let Some(first) = tree.first(last) {
@@ -97,10 +97,10 @@ pub(crate) fn enter_landed(
     place: Spot,
     turn: Turn,
 ) -> Result<(), Fault>
-    ensures ok { let s = story_tree tree.now in OnOk result (counts_in s counts.new ≡ all_visited s turn (entered_places s (option_map (place_of s) previous) (place_of s place)) (counts_in s counts.old)) }
+    ensures ok { let s = story_tree tree.now in OnOk result (counts_in s counts.new.rows ≡ all_visited s turn (entered_places s (option_map (place_of s) previous) (place_of s place)) (counts_in s counts.old.rows)) }
     ensures fault { IfErr result (λ f. f ≡ Fault.OutOfMemory) }
-    ensures kept { OnErr result (counts.new ≡ counts.old) }
-    ensures memory { let s = story_tree tree.now in OnErr result (adds_rows s (entered_places s (option_map (place_of s) previous) (place_of s place)) (counts_in s counts.old) ≡ true) }
+    ensures kept { OnErr result (counts.new.rows ≡ counts.old.rows) }
+    ensures memory { let s = story_tree tree.now in OnErr result (adds_rows s (entered_places s (option_map (place_of s) previous) (place_of s place)) (counts_in s counts.old.rows) ≡ true) }
 {
     enter_all(tree, counts, previous, tree.upward(place), turn)
 }
@@ -113,10 +113,10 @@ fn enter_all(
     rest: Upward,
     turn: Turn,
 ) -> Result<(), Fault>
-    ensures ok { let s = story_tree tree.now in OnOk result (counts_in s counts.new ≡ all_visited s turn (still_entered s (option_map (place_of s) previous) rest) (counts_in s counts.old)) }
+    ensures ok { let s = story_tree tree.now in OnOk result (counts_in s counts.new.rows ≡ all_visited s turn (still_entered s (option_map (place_of s) previous) rest) (counts_in s counts.old.rows)) }
     ensures fault { IfErr result (λ f. f ≡ Fault.OutOfMemory) }
-    ensures kept { OnErr result (counts.new ≡ counts.old) }
-    ensures memory { let s = story_tree tree.now in OnErr result (adds_rows s (still_entered s (option_map (place_of s) previous) rest) (counts_in s counts.old) ≡ true) }
+    ensures kept { OnErr result (counts.new.rows ≡ counts.old.rows) }
+    ensures memory { let s = story_tree tree.now in OnErr result (adds_rows s (still_entered s (option_map (place_of s) previous) rest) (counts_in s counts.old.rows) ≡ true) }
 {
     let Some(next) = tree.next_entered(previous, rest) else {
         return Ok(());
@@ -157,7 +157,7 @@ impl Machine {
         ensures ok { let s = story_tree tree.now in OnOk result (config_of s self.new ≡ gone_in s (place_of s place) (config_of s self.old)) }
         ensures fault { IfErr result (λ f. f ≡ Fault.OutOfMemory) }
         ensures memory { let s = story_tree tree.now in OnErr result (going_in_asks s (place_of s place) (config_of s self.old) ≡ true) }
-        ensures globals { self.new.globals ≡ self.old.globals }
+        ensures globals { self.new.globals.rows ≡ self.old.globals.rows }
         ensures changes { self.new.changes ≡ self.old.changes }
     {
         let Some(node) = tree.node(place) else {
@@ -178,7 +178,7 @@ impl Machine {
         ensures memory { let s = story_tree tree.now in let c = config_of s self.old in
             OnErr result ((enters && adds_rows s (around s c.flow.threads) c.shared.counts) ≡ true) }
         ensures kept { let s = story_tree tree.now in OnErr result (config_of s self.new ≡ config_of s self.old) }
-        ensures globals { self.new.globals ≡ self.old.globals }
+        ensures globals { self.new.globals.rows ≡ self.old.globals.rows }
         ensures changes { self.new.changes ≡ self.old.changes }
     {
         match self.threads.place() {

@@ -41,7 +41,7 @@ pub(crate) fn divert(
     requires on { transfer.old ≡ Transfer.Next }
     requires path { let s = story_tree story.now in written_target s (place_of s here) ≡ lands_to s (place_of s here) to.now }
     ensures { let s = story_tree story.now in (evaluating : Bool) (fresh : Option ℕ) (page : Page) (rest : Rest)
-        → Performs s false (divert s (place_of s here) (seen_by s threads.now rest) to.now conditional (fields evaluating fresh stack.old.items page globals.now)) (fields evaluating fresh stack.new.items page globals.now) (leading result transfer.new) }
+        → Performs s false (divert s (place_of s here) (seen_by s threads.now.threads rest) to.now conditional (fields evaluating fresh stack.old.items page globals.now.rows)) (fields evaluating fresh stack.new.items page globals.now.rows) (leading result transfer.new) }
 {
     match is_wanted(conditional, stack) {
         Ok(true) => match destination(story, here, to, globals, threads) {
@@ -84,7 +84,7 @@ pub(crate) fn destination(
 ) -> Result<Landing, Fault>
     requires { let s = story_tree story.now in written_target s (place_of s here) ≡ lands_to s (place_of s here) to.now }
     ensures { let s = story_tree story.now in (rest : Rest)
-        → led_as s result ≡ led_to s (place_of s here) (seen_by s threads.now rest) to.now globals.now }
+        → led_as s result ≡ led_to s (place_of s here) (seen_by s threads.now.threads rest) to.now globals.now.rows }
 {
     match to {
         Destination::Path(_) => match written_landing(story, here) {
@@ -108,7 +108,7 @@ fn landing_in(
     threads: &Threads<Spot>,
     name: &str,
 ) -> Result<Landing, Fault>
-    ensures { let s = story_tree story.now in led_as s result ≡ rules.led_by s (read globals.now threads.now.thread name.now) }
+    ensures { let s = story_tree story.now in led_as s result ≡ rules.led_by s (read globals.now.rows threads.now.threads.thread name.now) }
 {
     match look(globals, threads, name, number_of(story, here)) {
         Ok(Some(value)) => landing_by(story, value).ok_or(Fault::BadTarget),

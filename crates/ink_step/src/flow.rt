@@ -44,8 +44,8 @@ pub(crate) fn move_on(
     stack: &mut EvalStack,
     output: &mut Output,
 ) -> Result<StepEnd, Fault>
-    ensures { let s = story_tree tree.now in let ts = map_threads (place_of s) threads.old in let w = written stack.old output.old in
-        ReachesAs (moved_asks (next_place s) ts w) (moved_on (next_place s) ts w) (map_threads (place_of s) threads.new) (written stack.new output.new) result }
+    ensures { let s = story_tree tree.now in let ts = map_threads (place_of s) threads.old.threads in let w = written stack.old output.old in
+        ReachesAs (moved_asks (next_place s) ts w) (moved_on (next_place s) ts w) (map_threads (place_of s) threads.new.threads) (written stack.new output.new) result }
 {
     if let Some(place) = next_of(tree, threads) {
         return Ok(land(threads, place));
@@ -56,9 +56,9 @@ pub(crate) fn move_on(
 /// The same where the place after is known. Takes no memory.
 #[inline(always)]
 pub(crate) fn move_to(tree: &Tree, threads: &mut Threads<Spot>, next: Spot)
-    requires { let s = story_tree tree.now in option_and_then (next_place s) (place_in (map_threads (place_of s) threads.old)) ≡ Some (place_of s next) }
-    ensures { (w : Written) → let s = story_tree tree.now in let ts = map_threads (place_of s) threads.old in
-        ReachesAs (moved_asks (next_place s) ts w) (moved_on (next_place s) ts w) (map_threads (place_of s) threads.new) w (Ok Went) }
+    requires { let s = story_tree tree.now in option_and_then (next_place s) (place_in (map_threads (place_of s) threads.old.threads)) ≡ Some (place_of s next) }
+    ensures { (w : Written) → let s = story_tree tree.now in let ts = map_threads (place_of s) threads.old.threads in
+        ReachesAs (moved_asks (next_place s) ts w) (moved_on (next_place s) ts w) (map_threads (place_of s) threads.new.threads) w (Ok Went) }
 {
     threads.go(Some(next));
 }
@@ -71,8 +71,8 @@ fn move_out(
     stack: &mut EvalStack,
     output: &mut Output,
 ) -> Result<StepEnd, Fault>
-    ensures { let s = story_tree tree.now in let ts = map_threads (place_of s) threads.old in let w = written stack.old output.old in
-        ReachesAs (moved_asks (next_place s) ts w) (moved_on (next_place s) ts w) (map_threads (place_of s) threads.new) (written stack.new output.new) result }
+    ensures { let s = story_tree tree.now in let ts = map_threads (place_of s) threads.old.threads in let w = written stack.old output.old in
+        ReachesAs (moved_asks (next_place s) ts w) (moved_on (next_place s) ts w) (map_threads (place_of s) threads.new.threads) (written stack.new output.new) result }
 {
     loop {
         if let Some(place) = next_of(tree, threads) {
@@ -93,7 +93,7 @@ fn move_out(
 /// Flow goes to a place. Takes no memory.
 #[inline(always)]
 pub(crate) fn land(threads: &mut Threads<Spot>, place: Spot) -> StepEnd
-    ensures { (s : StoryTree) (w : Written) → ReachesAs false (reach (place_of s place) (map_threads (place_of s) threads.old) w) (map_threads (place_of s) threads.new) w (Ok result) }
+    ensures { (s : StoryTree) (w : Written) → ReachesAs false (reach (place_of s place) (map_threads (place_of s) threads.old.threads) w) (map_threads (place_of s) threads.new.threads) w (Ok result) }
 {
     threads.go(Some(place));
     StepEnd::Went
@@ -108,8 +108,8 @@ pub(crate) fn call(
     kind: FrameKind,
     place: Spot,
 ) -> Result<StepEnd, Fault>
-    ensures { (s : StoryTree) (values : List Data) → let ts = map_threads (place_of s) threads.old in let w : Written = record { stack = values; page = output.old.page } in
-        ReachesAs (nat_lt (frame_count ts.thread) MAX_FRAMES) (called kind (place_of s place) ts w) (map_threads (place_of s) threads.new) (record { stack = values; page = output.new.page }) result }
+    ensures { (s : StoryTree) (values : List Data) → let ts = map_threads (place_of s) threads.old.threads in let w : Written = record { stack = values; page = output.old.page } in
+        ReachesAs (nat_lt (frame_count ts.thread) MAX_FRAMES) (called kind (place_of s place) ts w) (map_threads (place_of s) threads.new.threads) (record { stack = values; page = output.new.page }) result }
 {
     threads.push_frame(kind, output.depth())?;
     enter(threads, output, kind)?;
@@ -127,8 +127,8 @@ pub(crate) fn give_back(
     kind: FrameKind,
     to: Option<Spot>,
 ) -> Result<StepEnd, Fault>
-    ensures { let s = story_tree tree.now in let ts = map_threads (place_of s) threads.old in let w = written stack.old output.old in let q = option_map (place_of s) to in
-        ReachesAs (returned_asks (next_place s) kind q ts w) (returned (next_place s) kind q ts w) (map_threads (place_of s) threads.new) (written stack.new output.new) result }
+    ensures { let s = story_tree tree.now in let ts = map_threads (place_of s) threads.old.threads in let w = written stack.old output.old in let q = option_map (place_of s) to in
+        ReachesAs (returned_asks (next_place s) kind q ts w) (returned (next_place s) kind q ts w) (map_threads (place_of s) threads.new.threads) (written stack.new output.new) result }
 {
     leave(threads, output, kind)?;
     match to {
@@ -146,8 +146,8 @@ pub(crate) fn fork(
     stack: &mut EvalStack,
     output: &mut Output,
 ) -> Result<StepEnd, Fault>
-    ensures { let s = story_tree tree.now in let ts = map_threads (place_of s) threads.old in let w = written stack.old output.old in
-        ReachesAs (forked_asks (next_place s) ts w) (forked (next_place s) ts w) (map_threads (place_of s) threads.new) (written stack.new output.new) result }
+    ensures { let s = story_tree tree.now in let ts = map_threads (place_of s) threads.old.threads in let w = written stack.old output.old in
+        ReachesAs (forked_asks (next_place s) ts w) (forked (next_place s) ts w) (map_threads (place_of s) threads.new.threads) (written stack.new output.new) result }
 {
     let end = move_on(tree, threads, stack, output)?;
     if let StepEnd::Went = end {
@@ -165,8 +165,8 @@ pub(crate) fn done(
     stack: &mut EvalStack,
     output: &mut Output,
 ) -> Result<StepEnd, Fault>
-    ensures { let s = story_tree tree.now in let ts = map_threads (place_of s) threads.old in let w = written stack.old output.old in
-        ReachesAs (dropped_asks (next_place s) (dropped ts) w) (done (next_place s) ts w) (map_threads (place_of s) threads.new) (written stack.new output.new) result }
+    ensures { let s = story_tree tree.now in let ts = map_threads (place_of s) threads.old.threads in let w = written stack.old output.old in
+        ReachesAs (dropped_asks (next_place s) (dropped ts) w) (done (next_place s) ts w) (map_threads (place_of s) threads.new.threads) (written stack.new output.new) result }
 {
     if threads.pop_thread() {
         return move_on(tree, threads, stack, output);
@@ -178,7 +178,7 @@ pub(crate) fn done(
 /// Flow stops, and of where it was nothing is left. `StopInString` while a string or a tag is open. Takes no memory.
 #[inline(never)]
 pub(crate) fn end(threads: &mut Threads<Spot>, output: &Output) -> Result<StepEnd, Fault>
-    ensures { (s : StoryTree) (values : List Data) → let w : Written = record { stack = values; page = output.now.page } in ReachesAs false (halt (base_threads None) w) (map_threads (place_of s) threads.new) w result }
+    ensures { (s : StoryTree) (values : List Data) → let w : Written = record { stack = values; page = output.now.page } in ReachesAs false (halt (base_threads None) w) (map_threads (place_of s) threads.new.threads) w result }
 {
     threads.reset();
     stop(output)
@@ -198,7 +198,7 @@ fn stop(output: &Output) -> Result<StepEnd, Fault>
 /// The place after the one where flow is; none where there is none, or flow has stopped.
 #[inline(always)]
 pub(crate) fn next_of(tree: &Tree, threads: &Threads<Spot>) -> Option<Spot>
-    ensures { let s = story_tree tree.now in option_map (place_of s) result ≡ option_and_then (next_place s) (place_in (map_threads (place_of s) threads.now)) }
+    ensures { let s = story_tree tree.now in option_map (place_of s) result ≡ option_and_then (next_place s) (place_in (map_threads (place_of s) threads.now.threads)) }
 {
     match threads.place() {
         Some(here) => tree.next(here),
@@ -212,8 +212,8 @@ fn end_function(
     stack: &mut EvalStack,
     output: &mut Output,
 ) -> Result<(), Fault>
-    ensures { (s : StoryTree) → let ts = map_threads (place_of s) threads.old in let w = written stack.old output.old in
-        PassesAs (left_asks kind.Function (popped kind.Function (depth_of w) ts.thread)) (ended ts w) (map_threads (place_of s) threads.new) (written stack.new output.new) result }
+    ensures { (s : StoryTree) → let ts = map_threads (place_of s) threads.old.threads in let w = written stack.old output.old in
+        PassesAs (left_asks kind.Function (popped kind.Function (depth_of w) ts.thread)) (ended ts w) (map_threads (place_of s) threads.new.threads) (written stack.new output.new) result }
 {
     leave(threads, output, FrameKind::Function)?;
     push_void(stack, threads.is_evaluating())
@@ -233,8 +233,8 @@ fn push_void(stack: &mut EvalStack, evaluating: bool) -> Result<(), Fault>
 /// A function that was called has its mark in the text, and its frame the mark's number. `TooDeep` for more than 100,000 marks in
 /// the line, and where no number is left; `OutOfMemory` for a refused request for memory.
 fn enter(threads: &mut Threads<Spot>, output: &mut Output, kind: FrameKind) -> Result<(), Fault>
-    ensures { (s : StoryTree) (values : List Data) → let ts = map_threads (place_of s) threads.old in let w : Written = record { stack = values; page = output.old.page } in
-        PassesAs (is_function kind) (entered kind ts w) (map_threads (place_of s) threads.new) (record { stack = values; page = output.new.page }) result }
+    ensures { (s : StoryTree) (values : List Data) → let ts = map_threads (place_of s) threads.old.threads in let w : Written = record { stack = values; page = output.old.page } in
+        PassesAs (is_function kind) (entered kind ts w) (map_threads (place_of s) threads.new.threads) (record { stack = values; page = output.new.page }) result }
 {
     match kind {
         FrameKind::Function => {
@@ -250,8 +250,8 @@ fn enter(threads: &mut Threads<Spot>, output: &mut Output, kind: FrameKind) -> R
 /// only one, else `BadMode` where another number of strings and tags is open than at its push, else `TooDeep` for more than
 /// 100,000 marks in the line, and `OutOfMemory` for a refused request for memory.
 fn leave(threads: &mut Threads<Spot>, output: &mut Output, kind: FrameKind) -> Result<(), Fault>
-    ensures { (s : StoryTree) (values : List Data) → let ts = map_threads (place_of s) threads.old in let w : Written = record { stack = values; page = output.old.page } in
-        PassesAs (left_asks kind (popped kind (depth_of w) ts.thread)) (left kind ts w) (map_threads (place_of s) threads.new) (record { stack = values; page = output.new.page }) result }
+    ensures { (s : StoryTree) (values : List Data) → let ts = map_threads (place_of s) threads.old.threads in let w : Written = record { stack = values; page = output.old.page } in
+        PassesAs (left_asks kind (popped kind (depth_of w) ts.thread)) (left kind ts w) (map_threads (place_of s) threads.new.threads) (record { stack = values; page = output.new.page }) result }
 {
     let number = threads.top().number();
     threads.pop_frame(kind, output.depth())?;

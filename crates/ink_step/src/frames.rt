@@ -38,7 +38,7 @@ pub(crate) fn call(
     requires on { transfer.old ≡ Transfer.Next }
     requires path { let s = story_tree story.now in written_target s (place_of s here) ≡ lands_to s (place_of s here) to.now }
     ensures { let s = story_tree story.now in (evaluating : Bool) (fresh : Option ℕ) (page : Page) (rest : Rest)
-        → Performs s false (call kind s (place_of s here) (seen_by s threads.now rest) to.now conditional (fields evaluating fresh stack.old.items page globals.now)) (fields evaluating fresh stack.new.items page globals.now) (leading result transfer.new) }
+        → Performs s false (call kind s (place_of s here) (seen_by s threads.now.threads rest) to.now conditional (fields evaluating fresh stack.old.items page globals.now.rows)) (fields evaluating fresh stack.new.items page globals.now.rows) (leading result transfer.new) }
 {
     match is_wanted(conditional, stack) {
         Ok(true) => match destination(story, here, to, globals, threads) {

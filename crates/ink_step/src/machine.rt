@@ -43,7 +43,7 @@ impl Machine {
 
     /// The globals. Takes no memory.
     pub fn globals(&self) -> &Globals
-        ensures { result.now ≡ globals_of self.now }
+        ensures { result.now.rows ≡ globals_of self.now }
     {
         &self.globals
     }
@@ -64,7 +64,7 @@ impl Machine {
     pub(crate) fn begin(&mut self)
         ensures begun { (s : StoryTree) → config_of s self.new ≡ begun (config_of s self.old) }
         ensures globals { globals_of self.new ≡ globals_of self.old }
-        ensures tracks { Tracks (globals_of self.new) self.new.changes self.new.globals }
+        ensures tracks { Tracks (globals_of self.new) self.new.changes self.new.globals.rows }
     {
         self.safe = false;
         self.changes.start();

@@ -45,11 +45,11 @@ pub(crate) fn offer(
 ) -> Result<(), Fault>
     requires { let s = story_tree story.now in at s (place_of s here) ≡ Some (leaf (Point text.now flags)) }
     ensures effect { let s = story_tree story.now in let p = place_of s here in (rest : Rest) (evaluating : Bool) (fresh : Option ℕ) (page : Page) (globals : Values)
-        → let seen = seen_by s threads.now (record rest { choices = choices.old; counts = counts.now }) in let f = fields evaluating fresh stack.old.items page globals in
+        → let seen = seen_by s threads.now.threads (record rest { choices = choices.old.items; counts = counts.now.rows }) in let f = fields evaluating fresh stack.old.items page globals in
         Changes (offer_asks s p seen text.now flags f (lands s p text.now)) (offer s p seen text.now flags f) (fields evaluating fresh stack.new.items page globals) result }
     ensures choices { let s = story_tree story.now in let p = place_of s here in (rest : Rest) (evaluating : Bool) (fresh : Option ℕ) (page : Page) (globals : Values)
-        → let seen = seen_by s threads.now (record rest { choices = choices.old; counts = counts.now }) in let f = fields evaluating fresh stack.old.items page globals in
-        OnOk result (KeepsChoices s (offer s p seen text.now flags f) choices.old choices.new) }
+        → let seen = seen_by s threads.now.threads (record rest { choices = choices.old.items; counts = counts.now.rows }) in let f = fields evaluating fresh stack.old.items page globals in
+        OnOk result (KeepsChoices s (offer s p seen text.now flags f) choices.old.items choices.new.items) }
 {
     let Some(target) = written_landing(story, here) else {
         return Err(Fault::BadTarget);
@@ -64,7 +64,7 @@ pub(crate) fn offer(
 
 /// Whether the container for whose visits a content asks was visited; what is not counted was not.
 fn was_visited(story: &Story, here: Spot, counts: &Counts) -> bool
-    ensures { let s = story_tree story.now in result ≡ is_visited (visits_in s (counts_in s counts.now) (counted_container s (place_of s here))) }
+    ensures { let s = story_tree story.now in result ≡ is_visited (visits_in s (counts_in s counts.now.rows) (counted_container s (place_of s here))) }
 {
     match visits_in(story, counts, counted(story, here)) {
         Ok(visits) => visits > 0,
@@ -75,7 +75,7 @@ fn was_visited(story: &Story, here: Spot, counts: &Counts) -> bool
 /// How many choices were made is pushed, the invisible ones counted.
 pub(crate) fn push_choice_count(stack: &mut EvalStack, choices: &Choices<Spot>) -> Result<(), Fault>
     ensures { (s : StoryTree) (threads : ThreadsOf Place) (rest : Rest) (evaluating : Bool) (fresh : Option ℕ) (page : Page) (globals : Values)
-        → Changes (has_room stack.old.items) (push_choice_count (seen_by s threads (record rest { choices = choices.now })) (fields evaluating fresh stack.old.items page globals)) (fields evaluating fresh stack.new.items page globals) result }
+        → Changes (has_room stack.old.items) (push_choice_count (seen_by s threads (record rest { choices = choices.now.items })) (fields evaluating fresh stack.old.items page globals)) (fields evaluating fresh stack.new.items page globals) result }
 {
     push(stack, Value::Int(choices.len() as i32))
 }

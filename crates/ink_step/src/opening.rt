@@ -37,7 +37,7 @@ impl Machine {
     /// `OutOfMemory`. A story without declarations needs no memory.
     pub fn open(alloc: Global, story: &Story) -> Result<Machine, Unopened>
         ensures ok { let s = story_tree story.now in IfOk result (λ m. opening s ≡ Ok (config_of s m)) }
-        ensures err { IfErr result (λ e. FailsToOpen (story_tree story.now) e.fault e.globals) }
+        ensures err { IfErr result (λ e. FailsToOpen (story_tree story.now) e.fault e.globals.rows) }
     {
         let Some(place) = first_declaration(story) else {
             return Ok(Machine::at_start(alloc, story, Globals::new(alloc)));
@@ -64,8 +64,8 @@ impl Machine {
     /// A machine at the story's start with these globals. Takes no memory.
     #[tactic(auto, unfolding(ink_model::specs::Configuration::start, ink_model::specs::Configuration::fresh_at))]
     pub fn at_start(alloc: Global, story: &Story, globals: Globals) -> Machine
-        ensures at_start { let s = story_tree story.now in config_of s result ≡ start s globals }
-        ensures globals { globals_of result ≡ globals }
+        ensures at_start { let s = story_tree story.now in config_of s result ≡ start s globals.rows }
+        ensures globals { globals_of result ≡ globals.rows }
     {
         Machine::fresh(alloc, story.tree().start(), globals)
     }
@@ -73,8 +73,8 @@ impl Machine {
     /// A machine at a place with these globals, where nothing has happened yet. Takes no memory.
     #[tactic(auto, unfolding(ink_model::specs::Configuration::fresh_at))]
     fn fresh(alloc: Global, place: Spot, globals: Globals) -> Machine
-        ensures fresh { (s : StoryTree) → config_of s result ≡ with_globals globals (fresh_at (place_of s place)) }
-        ensures globals { globals_of result ≡ globals }
+        ensures fresh { (s : StoryTree) → config_of s result ≡ with_globals globals.rows (fresh_at (place_of s place)) }
+        ensures globals { globals_of result ≡ globals.rows }
     {
         Machine {
             threads: Threads::new(alloc, Some(place)),

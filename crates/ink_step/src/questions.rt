@@ -39,7 +39,7 @@ pub(crate) fn push_count(
 ) -> Result<(), Fault>
     requires { let s = story_tree story.now in at s (place_of s here) ≡ Some (leaf (Count path.now)) }
     ensures { let s = story_tree story.now in (threads : ThreadsOf Place) (rest : Rest) (evaluating : Bool) (fresh : Option ℕ) (page : Page) (globals : Values)
-        → let seen = seen_by s threads (record rest { counts = counts.now }) in Changes (visit_asks s seen (leads s (place_of s here) path.now) && has_room stack.old.items)
+        → let seen = seen_by s threads (record rest { counts = counts.now.rows }) in Changes (visit_asks s seen (leads s (place_of s here) path.now) && has_room stack.old.items)
         (push_count s seen (place_of s here) path.now (fields evaluating fresh stack.old.items page globals)) (fields evaluating fresh stack.new.items page globals) result }
 {
     let visits = visits_in(story, counts, counted(story, here))?;
@@ -54,7 +54,7 @@ pub(crate) fn push_visit(
     stack: &mut EvalStack,
 ) -> Result<(), Fault>
     ensures { let s = story_tree story.now in (threads : ThreadsOf Place) (rest : Rest) (evaluating : Bool) (fresh : Option ℕ) (page : Page) (globals : Values)
-        → let seen = seen_by s threads (record rest { counts = counts.now }) in Changes (visit_asks s seen (above (reverse (place_of s here))) && has_room stack.old.items)
+        → let seen = seen_by s threads (record rest { counts = counts.now.rows }) in Changes (visit_asks s seen (above (reverse (place_of s here))) && has_room stack.old.items)
         (push_visit s seen (place_of s here) (fields evaluating fresh stack.old.items page globals)) (fields evaluating fresh stack.new.items page globals) result }
 {
     let visits = visits_in(story, counts, holder(story, here))?;
@@ -79,7 +79,7 @@ pub(crate) fn push_turns(
     turn: Turn,
 ) -> Result<(), Fault>
     ensures { let s = story_tree story.now in (threads : ThreadsOf Place) (rest : Rest) (evaluating : Bool) (fresh : Option ℕ) (page : Page) (globals : Values)
-        → Changes false (push_turns s (seen_by s threads (record rest { counts = counts.now; turn = turn })) (fields evaluating fresh stack.old.items page globals)) (fields evaluating fresh stack.new.items page globals) result }
+        → Changes false (push_turns s (seen_by s threads (record rest { counts = counts.now.rows; turn = turn })) (fields evaluating fresh stack.old.items page globals)) (fields evaluating fresh stack.new.items page globals) result }
 {
     let place = asked_place(story, stack)?;
     let turns = turns_there(story, counts, place, turn)?;
@@ -95,7 +95,7 @@ pub(crate) fn push_read_count(
     stack: &mut EvalStack,
 ) -> Result<(), Fault>
     ensures { let s = story_tree story.now in (threads : ThreadsOf Place) (rest : Rest) (evaluating : Bool) (fresh : Option ℕ) (page : Page) (globals : Values)
-        → Changes false (push_read_count s (seen_by s threads (record rest { counts = counts.now })) (fields evaluating fresh stack.old.items page globals)) (fields evaluating fresh stack.new.items page globals) result }
+        → Changes false (push_read_count s (seen_by s threads (record rest { counts = counts.now.rows })) (fields evaluating fresh stack.old.items page globals)) (fields evaluating fresh stack.new.items page globals) result }
 {
     let place = asked_place(story, stack)?;
     let visits = visits_there(story, counts, place)?;
@@ -128,7 +128,7 @@ pub(crate) fn visits_in(
     counts: &Counts,
     container: Option<NodeId>,
 ) -> Result<i32, Fault>
-    ensures { let s = story_tree story.now in result ≡ visits_in s (counts_in s counts.now) (option_map (node_place s) container) }
+    ensures { let s = story_tree story.now in result ≡ visits_in s (counts_in s counts.now.rows) (option_map (node_place s) container) }
 {
     match container {
         Some(container) => visits_of(story.tree(), counts, container),
@@ -154,7 +154,7 @@ fn asked_place(story: &Story, stack: &EvalStack) -> Result<Spot, Fault>
 /// `NotCounted` where its turns are not noted.
 fn turns_there(story: &Story, counts: &Counts, place: Spot, turn: Turn) -> Result<i32, Fault>
     ensures { let s = story_tree story.now in (threads : ThreadsOf Place) (rest : Rest)
-        → result ≡ rules.turns_there s (seen_by s threads (record rest { counts = counts.now; turn = turn })) (place_of s place) }
+        → result ≡ rules.turns_there s (seen_by s threads (record rest { counts = counts.now.rows; turn = turn })) (place_of s place) }
 {
     match container(story, place) {
         Some(container) => turns_since(story.tree(), counts, container, turn),
@@ -166,7 +166,7 @@ fn turns_there(story: &Story, counts: &Counts, place: Spot, turn: Turn) -> Resul
 /// counted.
 fn visits_there(story: &Story, counts: &Counts, place: Spot) -> Result<i32, Fault>
     ensures { let s = story_tree story.now in (threads : ThreadsOf Place) (rest : Rest)
-        → result ≡ rules.visits_there s (seen_by s threads (record rest { counts = counts.now })) (place_of s place) }
+        → result ≡ rules.visits_there s (seen_by s threads (record rest { counts = counts.now.rows })) (place_of s place) }
 {
     match container(story, place) {
         Some(container) => visits_of(story.tree(), counts, container),

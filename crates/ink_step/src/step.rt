@@ -63,11 +63,11 @@ impl Machine {
         quiet: bool,
     ) -> Result<StepEnd, Fault>
         ensures step { let s = story_tree story.now in let b = bound_by P.meaning desk.old.functions in let c = config_of s self.old in
-            (es : List Happening) × Grew T.log W.log desk.old es desk.new × Steps quiet s b desk.old.next (asks s b c) (step s b c) es self.old.globals c (config_of s self.new) result }
+            (es : List Happening) × Grew T.log W.log desk.old es desk.new × Steps quiet s b desk.old.next (asks s b c) (step s b c) es self.old.globals.rows c (config_of s self.new) result }
         ensures watchers { desk.new.watchers ≡ desk.old.watchers }
         ensures machine { result ≡ Ok WantsCall → self.new ≡ self.old }
         ensures desk { result ≡ Ok WantsCall → desk.new ≡ desk.old }
-        ensures tracks { (start : Values) → Tracks start self.old.changes self.old.globals → Tracks start self.new.changes self.new.globals }
+        ensures tracks { (start : Values) → Tracks start self.old.changes self.old.globals.rows → Tracks start self.new.changes self.new.globals.rows }
     {
         let Some(place) = self.threads.place() else {
             return Ok(StepEnd::Stopped);
@@ -87,13 +87,13 @@ impl Machine {
         quiet: bool,
         place: Spot,
     ) -> Result<StepEnd, Fault>
-        requires { self.old.threads.thread.frame.place ≡ Some place }
+        requires { self.old.threads.threads.thread.frame.place ≡ Some place }
         ensures step { let s = story_tree story.now in let b = bound_by P.meaning desk.old.functions in let c = config_of s self.old in
-            (es : List Happening) × Grew T.log W.log desk.old es desk.new × Steps quiet s b desk.old.next (asks s b c) (step s b c) es self.old.globals c (config_of s self.new) result }
+            (es : List Happening) × Grew T.log W.log desk.old es desk.new × Steps quiet s b desk.old.next (asks s b c) (step s b c) es self.old.globals.rows c (config_of s self.new) result }
         ensures watchers { desk.new.watchers ≡ desk.old.watchers }
         ensures machine { result ≡ Ok WantsCall → self.new ≡ self.old }
         ensures desk { result ≡ Ok WantsCall → desk.new ≡ desk.old }
-        ensures tracks { (start : Values) → Tracks start self.old.changes self.old.globals → Tracks start self.new.changes self.new.globals }
+        ensures tracks { (start : Values) → Tracks start self.old.changes self.old.globals.rows → Tracks start self.new.changes self.new.globals.rows }
     {
         if quiet && self.wants_call(story, desk, place) {
             return Ok(StepEnd::WantsCall);
@@ -109,10 +109,10 @@ impl Machine {
     /// then nothing has changed. Most steps are of this kind.
     #[inline(always)]
     fn pass(&mut self, story: &Story, place: Spot) -> Result<Option<StepEnd>, Fault>
-        requires { self.old.threads.thread.frame.place ≡ Some place }
-        ensures passes { (b : Bound) → let s = story_tree story.now in let c = config_of s self.old in Passes (asks s b c) (step s b c) self.old.globals (config_of s self.new) result }
+        requires { self.old.threads.threads.thread.frame.place ≡ Some place }
+        ensures passes { (b : Bound) → let s = story_tree story.now in let c = config_of s self.old in Passes (asks s b c) (step s b c) self.old.globals.rows (config_of s self.new) result }
         ensures kept { result ≡ Ok None → self.new ≡ self.old }
-        ensures tracks { (start : Values) → Tracks start self.old.changes self.old.globals → Tracks start self.new.changes self.new.globals }
+        ensures tracks { (start : Values) → Tracks start self.old.changes self.old.globals.rows → Tracks start self.new.changes self.new.globals.rows }
     {
         match story.tree().leaf_at(place) {
             Some(content) if !is_external(content) => {
@@ -131,7 +131,7 @@ impl Machine {
         desk: &Desk<P, T, W>,
         place: Spot,
     ) -> bool
-        requires { self.now.threads.thread.frame.place ≡ Some place }
+        requires { self.now.threads.threads.thread.frame.place ≡ Some place }
         ensures { let s = story_tree story.now in result ≡ wants (step s (bound_by P.meaning desk.now.functions) (config_of s self.now)) }
     {
         let (_, found) = story.tree().first_leaf(place);
@@ -152,9 +152,9 @@ impl Machine {
         ensures step { let s = story_tree story.now in let b = bound_by P.meaning desk.old.functions in let c = config_of s self.old in let k = call_of call.now in
             let e = call_external s b k.name k.arguments k.conditional (fields_of c) in
             (es : List Happening) × Grew T.log W.log desk.old es desk.new
-            × StepMakes s b desk.old.next ((external_asks (b k.name) k.arguments k.conditional (fields_of c) || move_asks s e c) || following_asks s (moved s e c)) (following s (moved s e c)) es self.old.globals (config_of s self.new) result }
+            × StepMakes s b desk.old.next ((external_asks (b k.name) k.arguments k.conditional (fields_of c) || move_asks s e c) || following_asks s (moved s e c)) (following s (moved s e c)) es self.old.globals.rows (config_of s self.new) result }
         ensures watchers { desk.new.watchers ≡ desk.old.watchers }
-        ensures tracks { (start : Values) → Tracks start self.old.changes self.old.globals → Tracks start self.new.changes self.new.globals }
+        ensures tracks { (start : Values) → Tracks start self.old.changes self.old.globals.rows → Tracks start self.new.changes self.new.globals.rows }
     {
         let mut transfer = external::call_external(
             story,
@@ -173,8 +173,8 @@ impl Machine {
         requires other { external_in (option_map (λ l. leaf l.now) found) ≡ None }
         ensures ends { (b : Bound) → let s = story_tree story.now in let p = place_of s here in let stands = option_map (λ l. leaf l.now) found.entry in let c = config_of s self.old in
             let e = effect s b p stands (context_of c) (fields_of c) in
-            StepEnds ((content_asks s b p stands (context_of c) (fields_of c) || move_asks s e c) || following_asks s (moved s e c)) (following s (moved s e c)) self.old.globals (config_of s self.new) result }
-        ensures tracks { (start : Values) → Tracks start self.old.changes self.old.globals → Tracks start self.new.changes self.new.globals }
+            StepEnds ((content_asks s b p stands (context_of c) (fields_of c) || move_asks s e c) || following_asks s (moved s e c)) (following s (moved s e c)) self.old.globals.rows (config_of s self.new) result }
+        ensures tracks { (start : Values) → Tracks start self.old.changes self.old.globals.rows → Tracks start self.new.changes self.new.globals.rows }
     {
         let mut transfer = Transfer::Next;
         self.perform(story, here, found, &mut transfer)?;
@@ -189,7 +189,7 @@ impl Machine {
     #[inline(always)]
     fn next_after(&self, story: &Story, transfer: &Transfer<'_>) -> Option<Spot>
         ensures { let s = story_tree story.now in
-            IfSome result (λ next. (transfer.now ≡ Transfer.Next) × (option_and_then (next_place s) (place_in (map_threads (place_of s) self.now.threads)) ≡ Some (place_of s next))) }
+            IfSome result (λ next. (transfer.now ≡ Transfer.Next) × (option_and_then (next_place s) (place_in (map_threads (place_of s) self.now.threads.threads)) ≡ Some (place_of s next))) }
     {
         match transfer {
             Transfer::Next => next_of(story.tree(), &self.threads),
@@ -200,10 +200,10 @@ impl Machine {
     /// Flow goes on to the place after its own, which is known.
     #[inline(always)]
     fn go_to_next(&mut self, story: &Story, next: Spot)
-        requires { let s = story_tree story.now in option_and_then (next_place s) (place_in (map_threads (place_of s) self.old.threads)) ≡ Some (place_of s next) }
+        requires { let s = story_tree story.now in option_and_then (next_place s) (place_in (map_threads (place_of s) self.old.threads.threads)) ≡ Some (place_of s next) }
         ensures ends { let s = story_tree story.now in let c = config_of s self.old in
-            StepEnds (moved_asks (next_place s) c.flow.threads (written_in c)) (going (moved_on (next_place s)) c) self.old.globals (config_of s self.new) (Ok Went) }
-        ensures globals { self.new.globals ≡ self.old.globals }
+            StepEnds (moved_asks (next_place s) c.flow.threads (written_in c)) (going (moved_on (next_place s)) c) self.old.globals.rows (config_of s self.new) (Ok Went) }
+        ensures globals { self.new.globals.rows ≡ self.old.globals.rows }
         ensures changes { self.new.changes ≡ self.old.changes }
     {
         move_to(story.tree(), &mut self.threads, next);
@@ -212,10 +212,10 @@ impl Machine {
     /// After a content was performed flow goes where it sends it, and a global is stored.
     #[inline(never)]
     fn finish(&mut self, story: &Story, transfer: &mut Transfer<'_>) -> Result<StepEnd, Fault>
-        ensures ends { let s = story_tree story.now in (old : Before) (asks : Bool) (e : Effect) → Performs s asks e (fields_of (config_of s self.old)) (Ok transfer.old) → Keeps s e old.threads self.old.threads → KeepsChoices s e old.choices self.old.choices
-            → self.old.safe ≡ old.safe → self.old.counts ≡ old.counts → self.old.turn ≡ old.turn → self.old.globals ≡ old.globals → let c = config_of s old in
-            StepEnds ((asks || move_asks s e c) || following_asks s (moved s e c)) (following s (moved s e c)) old.globals (config_of s self.new) result }
-        ensures tracks { (start : Values) → Tracks start self.old.changes self.old.globals → Tracks start self.new.changes self.new.globals }
+        ensures ends { let s = story_tree story.now in (old : Before) (asks : Bool) (e : Effect) → Performs s asks e (fields_of (config_of s self.old)) (Ok transfer.old) → Keeps s e old.threads.threads self.old.threads.threads → KeepsChoices s e old.choices.items self.old.choices.items
+            → self.old.safe ≡ old.safe → self.old.counts.rows ≡ old.counts.rows → self.old.turn ≡ old.turn → self.old.globals.rows ≡ old.globals.rows → let c = config_of s old in
+            StepEnds ((asks || move_asks s e c) || following_asks s (moved s e c)) (following s (moved s e c)) old.globals.rows (config_of s self.new) result }
+        ensures tracks { (start : Values) → Tracks start self.old.changes self.old.globals.rows → Tracks start self.new.changes self.new.globals.rows }
     {
         let end = self.go(story, transfer)?;
         self.store(transfer, end)
@@ -224,10 +224,10 @@ impl Machine {
     /// Flow goes where a content sends it; where it stops it may follow a choice. No global is stored yet.
     #[inline(always)]
     fn go(&mut self, story: &Story, transfer: &Transfer<'_>) -> Result<StepEnd, Fault>
-        ensures ends { let s = story_tree story.now in (asks : Bool) (e : Effect) → Performs s asks e (fields_of (config_of s self.old)) (Ok transfer.now) → Keeps s e self.old.threads self.old.threads → KeepsChoices s e self.old.choices self.old.choices
-            → let o = moved s (unstored self.old.globals e) (config_of s self.old) in
-            StepEnds ((asks || move_asks s e (config_of s self.old)) || following_asks s o) (following s o) self.old.globals (config_of s self.new) result }
-        ensures globals { self.new.globals ≡ self.old.globals }
+        ensures ends { let s = story_tree story.now in (asks : Bool) (e : Effect) → Performs s asks e (fields_of (config_of s self.old)) (Ok transfer.now) → Keeps s e self.old.threads.threads self.old.threads.threads → KeepsChoices s e self.old.choices.items self.old.choices.items
+            → let o = moved s (unstored self.old.globals.rows e) (config_of s self.old) in
+            StepEnds ((asks || move_asks s e (config_of s self.old)) || following_asks s o) (following s o) self.old.globals.rows (config_of s self.new) result }
+        ensures globals { self.new.globals.rows ≡ self.old.globals.rows }
         ensures changes { self.new.changes ≡ self.old.changes }
     {
         match self.follow(story, transfer) {
@@ -240,9 +240,9 @@ impl Machine {
     /// `OutOfMemory` for a refused request for memory, which leaves the globals as they were.
     #[inline(always)]
     fn store(&mut self, transfer: &mut Transfer<'_>, end: StepEnd) -> Result<StepEnd, Fault>
-        ensures tracks { (start : Values) → Tracks start self.old.changes self.old.globals → Tracks start self.new.changes self.new.globals }
-        ensures stored { (s : StoryTree) (asks whole : Bool) (e : Effect) (f : Fields) (o : Outcome) → (asks ≡ true → whole ≡ true) → f.globals ≡ self.old.globals → Performs s asks e f (Ok transfer.old)
-            → StepEnds whole o self.old.globals (config_of s self.old) (Ok end) → StepEnds whole (storing_in e o) self.old.globals (config_of s self.new) result }
+        ensures tracks { (start : Values) → Tracks start self.old.changes self.old.globals.rows → Tracks start self.new.changes self.new.globals.rows }
+        ensures stored { (s : StoryTree) (asks whole : Bool) (e : Effect) (f : Fields) (o : Outcome) → (asks ≡ true → whole ≡ true) → f.globals ≡ self.old.globals.rows → Performs s asks e f (Ok transfer.old)
+            → StepEnds whole o self.old.globals.rows (config_of s self.old) (Ok end) → StepEnds whole (storing_in e o) self.old.globals.rows (config_of s self.new) result }
     {
         match transfer {
             Transfer::Store(to) => {
@@ -272,13 +272,13 @@ impl Machine {
         ensures effect { (b : Bound) → let s = story_tree story.now in let p = place_of s here in let stands = option_map (λ l. leaf l.now) found.entry in let c = config_of s self.old in
             Performs s (content_asks s b p stands (context_of c) (fields_of c)) (effect s b p stands (context_of c) (fields_of c)) (fields_of (config_of s self.new)) (leading result transfer.new) }
         ensures threads { (b : Bound) → let s = story_tree story.now in let stands = option_map (λ l. leaf l.now) found.entry in let c = config_of s self.old in
-            OnOk result (Keeps s (effect s b (place_of s here) stands (context_of c) (fields_of c)) self.old.threads self.new.threads) }
+            OnOk result (Keeps s (effect s b (place_of s here) stands (context_of c) (fields_of c)) self.old.threads.threads self.new.threads.threads) }
         ensures choices { (b : Bound) → let s = story_tree story.now in let stands = option_map (λ l. leaf l.now) found.entry in let c = config_of s self.old in
-            OnOk result (KeepsChoices s (effect s b (place_of s here) stands (context_of c) (fields_of c)) self.old.choices self.new.choices) }
-        ensures counts { self.new.counts ≡ self.old.counts }
+            OnOk result (KeepsChoices s (effect s b (place_of s here) stands (context_of c) (fields_of c)) self.old.choices.items self.new.choices.items) }
+        ensures counts { self.new.counts.rows ≡ self.old.counts.rows }
         ensures turn { self.new.turn ≡ self.old.turn }
         ensures safe { self.new.safe ≡ self.old.safe }
-        ensures globals { self.new.globals ≡ self.old.globals }
+        ensures globals { self.new.globals.rows ≡ self.old.globals.rows }
         ensures changes { self.new.changes ≡ self.old.changes }
     {
         match found {
@@ -302,13 +302,13 @@ impl Machine {
         ensures effect { (b : Bound) → let s = story_tree story.now in let p = place_of s here in let c = config_of s self.old in
             Performs s (leaf_asks s b p (context_of c) content.now (fields_of c)) (leaf_effect s b p (context_of c) content.now (fields_of c)) (fields_of (config_of s self.new)) (leading result transfer.new) }
         ensures threads { (b : Bound) → let s = story_tree story.now in let c = config_of s self.old in
-            OnOk result (Keeps s (leaf_effect s b (place_of s here) (context_of c) content.now (fields_of c)) self.old.threads self.new.threads) }
+            OnOk result (Keeps s (leaf_effect s b (place_of s here) (context_of c) content.now (fields_of c)) self.old.threads.threads self.new.threads.threads) }
         ensures choices { (b : Bound) → let s = story_tree story.now in let c = config_of s self.old in
-            OnOk result (KeepsChoices s (leaf_effect s b (place_of s here) (context_of c) content.now (fields_of c)) self.old.choices self.new.choices) }
-        ensures counts { self.new.counts ≡ self.old.counts }
+            OnOk result (KeepsChoices s (leaf_effect s b (place_of s here) (context_of c) content.now (fields_of c)) self.old.choices.items self.new.choices.items) }
+        ensures counts { self.new.counts.rows ≡ self.old.counts.rows }
         ensures turn { self.new.turn ≡ self.old.turn }
         ensures safe { self.new.safe ≡ self.old.safe }
-        ensures globals { self.new.globals ≡ self.old.globals }
+        ensures globals { self.new.globals.rows ≡ self.old.globals.rows }
         ensures changes { self.new.changes ≡ self.old.changes }
     {
         let evaluating = self.threads.is_evaluating();
@@ -437,12 +437,12 @@ impl Machine {
         requires { transfer.old ≡ Transfer.Next }
         ensures effect { let s = story_tree story.now in let p = place_of s here in let c = config_of s self.old in
             Performs s (control_asks s p (context_of c) control (fields_of c)) (control_effect s p (context_of c) control (fields_of c)) (fields_of (config_of s self.new)) (leading result transfer.new) }
-        ensures choices { self.new.choices ≡ self.old.choices }
+        ensures choices { self.new.choices.items ≡ self.old.choices.items }
         ensures turn { self.new.turn ≡ self.old.turn }
-        ensures counts { self.new.counts ≡ self.old.counts }
-        ensures threads { self.new.threads ≡ on_top (mode_in self.new.threads.thread.frame.evaluating) self.old.threads }
+        ensures counts { self.new.counts.rows ≡ self.old.counts.rows }
+        ensures threads { self.new.threads.threads ≡ on_top (mode_in self.new.threads.threads.thread.frame.evaluating) self.old.threads.threads }
         ensures safe { self.new.safe ≡ self.old.safe }
-        ensures globals { self.new.globals ≡ self.old.globals }
+        ensures globals { self.new.globals.rows ≡ self.old.globals.rows }
         ensures changes { self.new.changes ≡ self.old.changes }
     {
         let mut evaluating = self.threads.is_evaluating();
@@ -495,9 +495,9 @@ impl Machine {
     /// global is stored after that.
     #[inline(always)]
     fn follow(&mut self, story: &Story, transfer: &Transfer<'_>) -> Result<StepEnd, Fault>
-        ensures ends { let s = story_tree story.now in (asks : Bool) (e : Effect) → Performs s asks e (fields_of (config_of s self.old)) (Ok transfer.now) → Keeps s e self.old.threads self.old.threads → KeepsChoices s e self.old.choices self.old.choices
-            → StepEnds (asks || move_asks s e (config_of s self.old)) (moved s (unstored self.old.globals e) (config_of s self.old)) self.old.globals (config_of s self.new) result }
-        ensures globals { self.new.globals ≡ self.old.globals }
+        ensures ends { let s = story_tree story.now in (asks : Bool) (e : Effect) → Performs s asks e (fields_of (config_of s self.old)) (Ok transfer.now) → Keeps s e self.old.threads.threads self.old.threads.threads → KeepsChoices s e self.old.choices.items self.old.choices.items
+            → StepEnds (asks || move_asks s e (config_of s self.old)) (moved s (unstored self.old.globals.rows e) (config_of s self.old)) self.old.globals.rows (config_of s self.new) result }
+        ensures globals { self.new.globals.rows ≡ self.old.globals.rows }
         ensures changes { self.new.changes ≡ self.old.changes }
     {
         match transfer {
@@ -537,8 +537,8 @@ impl Machine {
     #[inline(always)]
     fn go_to(&mut self, story: &Story, to: Landing) -> Result<StepEnd, Fault>
         ensures ends { let s = story_tree story.now in let c = config_of s self.old in let how = reach (place_of s to.place) in
-            StepEnds (landed_asks s to.enters c.shared.counts (how c.flow.threads (written_in c))) (landing s to.enters how c) self.old.globals (config_of s self.new) result }
-        ensures globals { self.new.globals ≡ self.old.globals }
+            StepEnds (landed_asks s to.enters c.shared.counts (how c.flow.threads (written_in c))) (landing s to.enters how c) self.old.globals.rows (config_of s self.new) result }
+        ensures globals { self.new.globals.rows ≡ self.old.globals.rows }
         ensures changes { self.new.changes ≡ self.old.changes }
     {
         let end = land(&mut self.threads, to.place);
@@ -551,8 +551,8 @@ impl Machine {
     fn go_into(&mut self, story: &Story, kind: FrameKind, to: Landing) -> Result<StepEnd, Fault>
         ensures ends { let s = story_tree story.now in let c = config_of s self.old in let how = called kind (place_of s to.place) in
             StepEnds (nat_lt (frame_count c.flow.threads.thread) MAX_FRAMES || landed_asks s to.enters c.shared.counts (how c.flow.threads (written_in c)))
-            (landing s to.enters how c) self.old.globals (config_of s self.new) result }
-        ensures globals { self.new.globals ≡ self.old.globals }
+            (landing s to.enters how c) self.old.globals.rows (config_of s self.new) result }
+        ensures globals { self.new.globals.rows ≡ self.old.globals.rows }
         ensures changes { self.new.changes ≡ self.old.changes }
     {
         let end = flow::call(&mut self.threads, &mut self.output, kind, to.place)?;
@@ -570,8 +570,8 @@ impl Machine {
     ) -> Result<StepEnd, Fault>
         ensures ends { let s = story_tree story.now in let c = config_of s self.old in let goal = option_map (landing_of s) to in let how = returned (next_place s) kind (place_to goal) in
             StepEnds (returned_asks (next_place s) kind (place_to goal) c.flow.threads (written_in c) || landed_asks s (may_enter goal) c.shared.counts (how c.flow.threads (written_in c)))
-            (landing s (may_enter goal) how c) self.old.globals (config_of s self.new) result }
-        ensures globals { self.new.globals ≡ self.old.globals }
+            (landing s (may_enter goal) how c) self.old.globals.rows (config_of s self.new) result }
+        ensures globals { self.new.globals.rows ≡ self.old.globals.rows }
         ensures changes { self.new.changes ≡ self.old.changes }
     {
         let end = give_back(
@@ -590,8 +590,8 @@ impl Machine {
     #[inline(always)]
     fn go_on(&mut self, story: &Story) -> Result<StepEnd, Fault>
         ensures ends { let s = story_tree story.now in let c = config_of s self.old in
-            StepEnds (moved_asks (next_place s) c.flow.threads (written_in c)) (going (moved_on (next_place s)) c) self.old.globals (config_of s self.new) result }
-        ensures globals { self.new.globals ≡ self.old.globals }
+            StepEnds (moved_asks (next_place s) c.flow.threads (written_in c)) (going (moved_on (next_place s)) c) self.old.globals.rows (config_of s self.new) result }
+        ensures globals { self.new.globals.rows ≡ self.old.globals.rows }
         ensures changes { self.new.changes ≡ self.old.changes }
     {
         move_on(

@@ -37,8 +37,8 @@ pub(crate) fn push_variable(
     number: Option<usize>,
 ) -> Result<(), Fault>
     ensures { (s : StoryTree) (rest : Rest) (evaluating : Bool) (fresh : Option ℕ) (page : Page)
-        → let seen = seen_by s threads.now rest in Changes (is_ok (rules.read globals.now seen.thread name.now) && has_room stack.old.items)
-        (effects.push_variable name.now seen (fields evaluating fresh stack.old.items page globals.now)) (fields evaluating fresh stack.new.items page globals.now) result }
+        → let seen = seen_by s threads.now.threads rest in Changes (is_ok (rules.read globals.now.rows seen.thread name.now) && has_room stack.old.items)
+        (effects.push_variable name.now seen (fields evaluating fresh stack.old.items page globals.now.rows)) (fields evaluating fresh stack.new.items page globals.now.rows) result }
 {
     match look(globals, threads, name.as_str(), number) {
         Ok(Some(value)) => push_copy(alloc, stack, value),
@@ -68,7 +68,7 @@ pub(crate) fn push_pointer(
     frame: i32,
 ) -> Result<(), Fault>
     ensures { (s : StoryTree) (rest : Rest) (fresh : Option ℕ) (page : Page) (globals : Values)
-        → Changes (evaluating && has_room stack.old.items) (effects.push_pointer name.now frame (seen_by s threads.now rest) (fields evaluating fresh stack.old.items page globals))
+        → Changes (evaluating && has_room stack.old.items) (effects.push_pointer name.now frame (seen_by s threads.now.threads rest) (fields evaluating fresh stack.old.items page globals))
         (fields evaluating fresh stack.new.items page globals) result }
 {
     if !evaluating {
@@ -94,11 +94,11 @@ pub(crate) fn declare<'a>(
 ) -> Result<(), Fault>
     requires { transfer.old ≡ Transfer.Next }
     ensures effect { (s : StoryTree) (rest : Rest) (evaluating : Bool) (fresh : Option ℕ) (page : Page)
-        → let seen = seen_by s threads.old rest in Performs s (on_popped (popped stack.old.items) (declare_asks globals.now seen.thread scope name.now))
-        (effects.declare scope name.now seen (fields evaluating fresh stack.old.items page globals.now)) (fields evaluating fresh stack.new.items page globals.now) (leading result transfer.new) }
+        → let seen = seen_by s threads.old.threads rest in Performs s (on_popped (popped stack.old.items) (declare_asks globals.now.rows seen.thread scope name.now))
+        (effects.declare scope name.now seen (fields evaluating fresh stack.old.items page globals.now.rows)) (fields evaluating fresh stack.new.items page globals.now.rows) (leading result transfer.new) }
     ensures threads { (s : StoryTree) (rest : Rest) (evaluating : Bool) (fresh : Option ℕ) (page : Page)
-        → OnOk result (Keeps s (effects.declare scope name.now (seen_by s threads.old rest) (fields evaluating fresh stack.old.items page globals.now)) threads.old threads.new) }
-    ensures frame { threads.new.thread.frame ≡ record threads.old.thread.frame { temps = threads.new.thread.frame.temps } }
+        → OnOk result (Keeps s (effects.declare scope name.now (seen_by s threads.old.threads rest) (fields evaluating fresh stack.old.items page globals.now.rows)) threads.old.threads threads.new.threads) }
+    ensures frame { threads.new.threads.thread.frame ≡ record threads.old.threads.thread.frame { temps = threads.new.threads.thread.frame.temps } }
 {
     let Some(value) = top(stack) else {
         return Err(Fault::StackEmpty);
@@ -124,11 +124,11 @@ pub(crate) fn assign<'a>(
 ) -> Result<(), Fault>
     requires { transfer.old ≡ Transfer.Next }
     ensures effect { (s : StoryTree) (rest : Rest) (evaluating : Bool) (fresh : Option ℕ) (page : Page)
-        → let seen = seen_by s threads.old rest in Performs s (on_popped (popped stack.old.items) (assign_asks globals.now seen.thread name.now))
-        (effects.assign name.now seen (fields evaluating fresh stack.old.items page globals.now)) (fields evaluating fresh stack.new.items page globals.now) (leading result transfer.new) }
+        → let seen = seen_by s threads.old.threads rest in Performs s (on_popped (popped stack.old.items) (assign_asks globals.now.rows seen.thread name.now))
+        (effects.assign name.now seen (fields evaluating fresh stack.old.items page globals.now.rows)) (fields evaluating fresh stack.new.items page globals.now.rows) (leading result transfer.new) }
     ensures threads { (s : StoryTree) (rest : Rest) (evaluating : Bool) (fresh : Option ℕ) (page : Page)
-        → OnOk result (Keeps s (effects.assign name.now (seen_by s threads.old rest) (fields evaluating fresh stack.old.items page globals.now)) threads.old threads.new) }
-    ensures frame { threads.new.thread.frame ≡ record threads.old.thread.frame { temps = threads.new.thread.frame.temps } }
+        → OnOk result (Keeps s (effects.assign name.now (seen_by s threads.old.threads rest) (fields evaluating fresh stack.old.items page globals.now.rows)) threads.old.threads threads.new.threads) }
+    ensures frame { threads.new.threads.thread.frame ≡ record threads.old.threads.thread.frame { temps = threads.new.threads.thread.frame.temps } }
 {
     let Some(value) = top(stack) else {
         return Err(Fault::StackEmpty);
@@ -149,11 +149,11 @@ fn store<'a>(
     transfer: &mut Transfer<'a>,
 ) -> Result<(), Fault>
     requires on { transfer.old ≡ Transfer.Next }
-    requires within { variable.frame ≤ frame_count threads.old.thread }
-    ensures effect { (s : StoryTree) (f : Fields) → let w = with_variable f.globals threads.old.thread variable.entry value in
-        Performs s (writing_asks f.globals threads.old.thread variable.entry) (Stores (map_thread (place_of s) w.1) (record f { globals = w.0 })) f (leading result transfer.new) }
-    ensures threads { (globals : Values) → OnOk result (threads.new ≡ record threads.old { thread = (with_variable globals threads.old.thread variable.entry value).1 }) }
-    ensures frame { threads.new.thread.frame ≡ record threads.old.thread.frame { temps = threads.new.thread.frame.temps } }
+    requires within { variable.frame ≤ frame_count threads.old.threads.thread }
+    ensures effect { (s : StoryTree) (f : Fields) → let w = with_variable f.globals threads.old.threads.thread variable.entry value in
+        Performs s (writing_asks f.globals threads.old.threads.thread variable.entry) (Stores (map_thread (place_of s) w.1) (record f { globals = w.0 })) f (leading result transfer.new) }
+    ensures threads { (globals : Values) → OnOk result (threads.new.threads ≡ record threads.old.threads { thread = (with_variable globals threads.old.threads.thread variable.entry value).1 }) }
+    ensures frame { threads.new.threads.thread.frame ≡ record threads.old.threads.thread.frame { temps = threads.new.threads.thread.frame.temps } }
 {
     if variable.frame == 0 {
         *transfer = Transfer::Store(Assignment {

@@ -21,9 +21,9 @@ impl Machine {
         &self,
         desk: &Desk<P, T, W>,
     ) -> Result<Seq<Change>, AllocError>
-        ensures told { (start : Values) → Tracks start self.now.changes self.now.globals → IfOk result (λ changes. changes ≡ told (watches desk.now.watchers) start self.now.globals) }
+        ensures told { (start : Values) → Tracks start self.now.changes self.now.globals.rows → IfOk result (λ changes. changes ≡ told (watches desk.now.watchers) start self.now.globals.rows) }
         ensures once { IfOk result (λ cs. OncePerName cs) }
-        ensures memory { (start : Values) → Tracks start self.now.changes self.now.globals → OnErr result (told (watches desk.now.watchers) start self.now.globals ≢ []) }
+        ensures memory { (start : Values) → Tracks start self.now.changes self.now.globals.rows → OnErr result (told (watches desk.now.watchers) start self.now.globals.rows ≢ []) }
     {
         if self.globals.len() == 0 || !desk.has_watchers() || self.changes.is_empty() {
             return Ok(Seq::new(self.alloc));
@@ -49,9 +49,9 @@ pub fn told_between<P: PureFn, T: TurnFn, W: Watcher>(
     new: &Globals,
     desk: &Desk<P, T, W>,
 ) -> Result<Seq<Change>, AllocError>
-    ensures told { IfOk result (λ changes. changes ≡ told (watches desk.now.watchers) old.now new.now) }
+    ensures told { IfOk result (λ changes. changes ≡ told (watches desk.now.watchers) old.now.rows new.now.rows) }
     ensures once { IfOk result (λ cs. OncePerName cs) }
-    ensures memory { OnErr result (told (watches desk.now.watchers) old.now new.now ≢ []) }
+    ensures memory { OnErr result (told (watches desk.now.watchers) old.now.rows new.now.rows ≢ []) }
 {
     let mut told = Vec::new(alloc);
     for number in 0..new.len() {

@@ -1,3 +1,4 @@
+pub mod Views
 pub mod Globals
 pub mod Slots
 pub mod Words

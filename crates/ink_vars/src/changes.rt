@@ -91,11 +91,11 @@ impl Changes {
         name: &str,
         number: Option<usize>,
     ) -> Result<(), AllocError>
-        ensures ok { OnOk result (self.new ≡ with_noted name.now globals.now self.old) }
+        ensures ok { OnOk result (self.new ≡ with_noted name.now globals.now.rows self.old) }
         ensures err { OnErr result (self.new ≡ self.old) }
-        ensures memory { OnErr result (noted_at (number_of name.now globals.now) self.old ≡ None) }
-        ensures tracks { (start : Values) → Tracks start self.old globals.now → Tracks start self.new globals.now }
-        ensures stored { OnOk result ((start : Values) (value : Value) → Tracks start self.old globals.now → Tracks start self.new (store name.now value globals.now)) }
+        ensures memory { OnErr result (noted_at (number_of name.now globals.now.rows) self.old ≡ None) }
+        ensures tracks { (start : Values) → Tracks start self.old globals.now.rows → Tracks start self.new globals.now.rows }
+        ensures stored { OnOk result ((start : Values) (value : Value) → Tracks start self.old globals.now.rows → Tracks start self.new (store name.now value globals.now.rows)) }
     {
         let place = globals.number_at(name, number);
         if is_marked(&self.marked, place) {
@@ -115,11 +115,11 @@ impl Changes {
         number: Option<usize>,
         value: Value,
     ) -> Result<(), AllocError>
-        ensures ok { OnOk result (globals.new ≡ store name.now value globals.old) }
-        ensures noted { OnOk result (self.new ≡ with_noted name.now globals.old self.old) }
-        ensures err { OnErr result (globals.new ≡ globals.old) }
-        ensures memory { OnErr result ((noted_at (number_of name.now globals.old) self.old ≡ None) ⊎ (is_some (stored name.now globals.old) ≡ false)) }
-        ensures tracks { (start : Values) → Tracks start self.old globals.old → Tracks start self.new globals.new }
+        ensures ok { OnOk result (globals.new.rows ≡ store name.now value globals.old.rows) }
+        ensures noted { OnOk result (self.new ≡ with_noted name.now globals.old.rows self.old) }
+        ensures err { OnErr result (globals.new.rows ≡ globals.old.rows) }
+        ensures memory { OnErr result ((noted_at (number_of name.now globals.old.rows) self.old ≡ None) ⊎ (is_some (stored name.now globals.old.rows) ≡ false)) }
+        ensures tracks { (start : Values) → Tracks start self.old globals.old.rows → Tracks start self.new globals.new.rows }
     {
         if let Some((index, _)) = globals.found(name, number) {
             if is_marked(&self.marked, index) {
@@ -152,9 +152,9 @@ pub fn changed<F: Fn(&str) -> bool>(
     is_wanted: F,
 ) -> Result<Vec<usize>, AllocError>
     requires { F.IsAlwaysCallable is_wanted }
-    ensures numbers { (wanted : List ℕ → Bool) (start : Values) → AnswersAs (F.post is_wanted) wanted → Tracks start changes.now globals.now → IfOk result (λ numbers. numbers.items ≡ changed_numbers wanted start globals.now) }
+    ensures numbers { (wanted : List ℕ → Bool) (start : Values) → AnswersAs (F.post is_wanted) wanted → Tracks start changes.now globals.now.rows → IfOk result (λ numbers. numbers.items ≡ changed_numbers wanted start globals.now.rows) }
     ensures once { (wanted : List ℕ → Bool) → AnswersAs (F.post is_wanted) wanted → IfOk result (λ numbers. IsDistinct nat_eq numbers.items) }
-    ensures memory { (wanted : List ℕ → Bool) (start : Values) → AnswersAs (F.post is_wanted) wanted → Tracks start changes.now globals.now → OnErr result (changed_numbers wanted start globals.now ≢ []) }
+    ensures memory { (wanted : List ℕ → Bool) (start : Values) → AnswersAs (F.post is_wanted) wanted → Tracks start changes.now globals.now.rows → OnErr result (changed_numbers wanted start globals.now.rows ≢ []) }
 {
     let there = globals.len();
     let mut numbers = Vec::new(alloc);
@@ -170,7 +170,7 @@ pub fn changed<F: Fn(&str) -> bool>(
 // Whether a global is there now that is wanted, and was not there, or was another value.
 fn has_changed<F: Fn(&str) -> bool>(before: &Before, globals: &Globals, is_wanted: &F) -> bool
     requires { F.IsAlwaysCallable is_wanted.now }
-    ensures { (wanted : List ℕ → Bool) → AnswersAs (F.post is_wanted.now) wanted → result ≡ changed_to wanted before.now.value (slice_get globals.now before.now.number) }
+    ensures { (wanted : List ℕ → Bool) → AnswersAs (F.post is_wanted.now) wanted → result ≡ changed_to wanted before.now.value (slice_get globals.now.rows before.now.number) }
 {
     let Some((name, value)) = globals.pair(before.number) else {
         return false;

@@ -21,13 +21,12 @@ pub struct Counts {
 }
 
 impl Model for Counts {
-    ghost use Rattle.std.specs.Prelude.{ℕ};
-    ghost use Rattle.ink_model.specs.Counts.{CountsOf};
     ghost use Rattle.ink_vars.specs.Slots.{AreCounts, rows_from};
+    ghost use Rattle.ink_vars.specs.Views.{CountsView};
 
-    ghost Value = { CountsOf ℕ };
+    ghost Value = { CountsView };
 
-    ghost view = { λ c. record { visits = rows_from 0 c.visits.items; turns = rows_from 0 c.turns.items } };
+    ghost view = { λ c. record { rows = record { visits = rows_from 0 c.visits.items; turns = rows_from 0 c.turns.items } } };
 
     ghost invariant = { λ c. AreCounts c.visits.items × AreCounts c.turns.items };
 }
@@ -53,7 +52,7 @@ impl Model for Noted {
 impl Counts {
     /// No container was visited, which takes no memory.
     pub fn new(alloc: Global) -> Counts
-        ensures { result ≡ record { visits = []; turns = [] } }
+        ensures { result.rows ≡ record { visits = []; turns = [] } }
     {
         Counts {
             visits: Vec::new(alloc),
@@ -63,7 +62,7 @@ impl Counts {
 
     /// A copy. The one error is a refused request for memory.
     pub fn clone_in(&self, alloc: Global) -> Result<Counts, AllocError>
-        ensures { IfOk result (λ copy. copy ≡ self.now) }
+        ensures { IfOk result (λ copy. copy.rows ≡ self.now.rows) }
     {
         let mut visits = Vec::new(alloc);
         visits.extend_from_slice(self.visits.as_slice())?;
@@ -77,10 +76,10 @@ impl Counts {
     /// error is `OutOfMemory` for a refused request for memory, which is made only for a container that has no such row yet,
     /// and leaves all as it was (docs/VARIABLES.md, "Counts").
     pub fn visit(&mut self, node: usize, flags: u8, at_start: bool, turn: Turn) -> Result<(), Fault>
-        ensures ok { OnOk result (self.new ≡ rules.visited nat_cmp node flags at_start turn self.old) }
+        ensures ok { OnOk result (self.new.rows ≡ rules.visited nat_cmp node flags at_start turn self.old.rows) }
         ensures fault { IfErr result (λ f. f ≡ Fault.OutOfMemory) }
-        ensures kept { OnErr result (self.new ≡ self.old) }
-        ensures memory { OnErr result ((rules.counts flags at_start && rules.adds_row nat_cmp node flags self.old) ≡ true) }
+        ensures kept { OnErr result (self.new.rows ≡ self.old.rows) }
+        ensures memory { OnErr result ((rules.counts flags at_start && rules.adds_row nat_cmp node flags self.old.rows) ≡ true) }
     {
         if !at_start && flags::counts_at_start(flags) {
             return Ok(());
@@ -97,7 +96,7 @@ impl Counts {
     /// How often a container with these flags was visited. `NotCounted` where flag 1 is not set. Takes no memory
     /// (docs/VARIABLES.md, "Counts").
     pub fn visits_of(&self, node: usize, flags: u8) -> Result<i32, Fault>
-        ensures { result ≡ rules.visits_of nat_cmp node flags self.now }
+        ensures { result ≡ rules.visits_of nat_cmp node flags self.now.rows }
     {
         if !flags::counts_visits(flags) {
             return Err(Fault::NotCounted);
@@ -110,7 +109,7 @@ impl Counts {
 
     /// What is known of a container, which `restore` puts back. Takes no memory.
     pub fn noted(&self, node: usize) -> Noted
-        ensures { result ≡ (row nat_cmp node self.now.visits, row nat_cmp node self.now.turns) }
+        ensures { result ≡ (row nat_cmp node self.now.rows.visits, row nat_cmp node self.now.rows.turns) }
     {
         Noted {
             visits: slot(self.visits.as_slice(), node),
@@ -122,7 +121,7 @@ impl Counts {
     /// no memory.
     pub fn restore(&mut self, node: usize, noted: Noted)
         ensures { (before : CountsOf ℕ) → noted ≡ (row nat_cmp node before.visits, row nat_cmp node before.turns)
-            → (flags : ℕ) (at_start : Bool) (turn : ℕ) → self.old ≡ rules.visited nat_cmp node flags at_start turn before → self.new ≡ before }
+            → (flags : ℕ) (at_start : Bool) (turn : ℕ) → self.old.rows ≡ rules.visited nat_cmp node flags at_start turn before → self.new.rows ≡ before }
     {
         put_back(self.visits.as_mut_slice(), node, noted.visits);
         put_back(self.turns.as_mut_slice(), node, noted.turn);
@@ -131,7 +130,7 @@ impl Counts {
     /// How many turns ago a container with these flags was entered last, counted from this turn; -1 where it never was.
     /// `NotCounted` where flag 2 is not set. Takes no memory (docs/VARIABLES.md, "Counts").
     pub fn turns_since(&self, node: usize, flags: u8, turn: Turn) -> Result<i32, Fault>
-        ensures { result ≡ rules.turns_since nat_cmp node flags turn self.now }
+        ensures { result ≡ rules.turns_since nat_cmp node flags turn self.now.rows }
     {
         if !flags::notes_turns(flags) {
             return Err(Fault::NotCounted);

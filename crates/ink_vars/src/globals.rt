@@ -22,18 +22,18 @@ pub struct Globals {
 }
 
 impl Model for Globals {
-    ghost use Rattle.ink_model.specs.Store.{Values};
     ghost use Rattle.ink_vars.specs.Globals.{values_of};
+    ghost use Rattle.ink_vars.specs.Views.{GlobalsView};
 
-    ghost Value = { Values };
+    ghost Value = { GlobalsView };
 
-    ghost view = { λ g. values_of g.values.entries };
+    ghost view = { λ g. record { rows = values_of g.values.entries } };
 }
 
 impl Globals {
     /// No globals, which take no memory.
     pub fn new(alloc: Global) -> Globals
-        ensures { result ≡ [] }
+        ensures { result.rows ≡ [] }
     {
         Globals {
             values: IndexMap::new(alloc),
@@ -44,8 +44,8 @@ impl Globals {
 
     /// A copy. The one error is a refused request for memory, which no globals never make.
     pub fn clone_in(&self, alloc: Global) -> Result<Globals, AllocError>
-        ensures copy { IfOk result (λ copy. copy ≡ self.now) }
-        ensures memory { OnErr result (self.now ≢ []) }
+        ensures copy { IfOk result (λ copy. copy.rows ≡ self.now.rows) }
+        ensures memory { OnErr result (self.now.rows ≢ []) }
     {
         let mut copy = Globals::new(alloc);
         for index in 0..self.values.len() {
@@ -62,7 +62,7 @@ impl Globals {
 
     /// The value of a global, none where there is no such global.
     pub fn get(&self, name: &str) -> Option<&Value>
-        ensures { option_map (λ value. value.now) result ≡ stored name.now self.now }
+        ensures { option_map (λ value. value.now) result ≡ stored name.now self.now.rows }
     {
         self.values.get(name)
     }
@@ -70,7 +70,7 @@ impl Globals {
     /// The same by a name and its number.
     #[inline(always)]
     pub fn get_at(&self, name: &str, number: Option<usize>) -> Option<&Value>
-        ensures { option_map (λ value. value.now) result ≡ stored name.now self.now }
+        ensures { option_map (λ value. value.now) result ≡ stored name.now self.now.rows }
     {
         match self.found(name, number) {
             Some((_, value)) => Some(value),
@@ -80,15 +80,15 @@ impl Globals {
 
     /// Whether there is such a global.
     pub fn contains(&self, name: &str) -> bool
-        ensures { result ≡ is_some (stored name.now self.now) }
+        ensures { result ≡ is_some (stored name.now self.now.rows) }
     {
         self.values.contains_key(name)
     }
 
     /// How many globals there are, each with a name of its own.
     pub fn len(&self) -> usize
-        ensures len { result ≡ length self.now }
-        ensures names { DifferInName self.now }
+        ensures len { result ≡ length self.now.rows }
+        ensures names { DifferInName self.now.rows }
     {
         self.values.len()
     }
@@ -96,7 +96,7 @@ impl Globals {
     /// The number of a global in order of declaration, which is its index; where there is no such global, that of the next
     /// new one.
     pub fn number_of(&self, name: &str) -> usize
-        ensures { result ≡ number_of name.now self.now }
+        ensures { result ≡ number_of name.now self.now.rows }
     {
         let next = self.values.len();
         self.values.get_index_of(name).unwrap_or(next)
@@ -104,7 +104,7 @@ impl Globals {
 
     /// The same by a name and its number.
     pub fn number_at(&self, name: &str, number: Option<usize>) -> usize
-        ensures { result ≡ number_of name.now self.now }
+        ensures { result ≡ number_of name.now self.now.rows }
     {
         match self.found(name, number) {
             Some((index, _)) => index,
@@ -115,7 +115,7 @@ impl Globals {
     /// The global that the slot of a number leads to, with its index, where it has that name.
     #[inline(always)]
     pub(crate) fn found(&self, name: &str, number: Option<usize>) -> Option<(usize, &Value)>
-        ensures { IfSome result (λ f. (f.0 ≡ number_of name.now self.now) × (Some f.1.now ≡ stored name.now self.now)) }
+        ensures { IfSome result (λ f. (f.0 ≡ number_of name.now self.now.rows) × (Some f.1.now ≡ stored name.now self.now.rows)) }
     {
         let index = *self.slots.get(number?)?;
         if index >= self.values.len() {
@@ -132,7 +132,7 @@ impl Globals {
     /// The name and the value of the global at an index, in the order in which they were declared; none past the last. Takes
     /// no memory.
     pub fn pair(&self, index: usize) -> Option<(&str, &Value)>
-        ensures { option_map (λ pair. (pair.0.now, pair.1.now)) result ≡ slice_get self.now index }
+        ensures { option_map (λ pair. (pair.0.now, pair.1.now)) result ≡ slice_get self.now.rows index }
     {
         match self.values.get_index(index) {
             Some((name, value)) => Some((name.as_str(), value)),
@@ -142,10 +142,10 @@ impl Globals {
 
     /// Gives a global that is there a value, without memory. Where there is none, the value is handed back.
     pub fn replace(&mut self, name: &str, value: Value) -> Result<(), Value>
-        ensures found { is_ok result ≡ is_some (stored name.now self.old) }
-        ensures ok { OnOk result (self.new ≡ store name.now value self.old) }
+        ensures found { is_ok result ≡ is_some (stored name.now self.old.rows) }
+        ensures ok { OnOk result (self.new.rows ≡ store name.now value self.old.rows) }
         ensures err { IfErr result (λ handed_back. handed_back ≡ value) }
-        ensures kept { OnErr result (self.new ≡ self.old) }
+        ensures kept { OnErr result (self.new.rows ≡ self.old.rows) }
     {
         if let Some(place) = self.values.get_mut(name) {
             *place = value;
@@ -157,9 +157,9 @@ impl Globals {
     /// Gives a global a value: one that is there keeps its place, and a new one comes last. The one error is a refused
     /// request for memory, which is made only for a new one, and leaves the globals as they were.
     pub fn put(&mut self, name: &str, value: Value) -> Result<(), AllocError>
-        ensures ok { OnOk result (self.new ≡ store name.now value self.old) }
-        ensures err { OnErr result (self.new ≡ self.old) }
-        ensures memory { OnErr result (is_some (stored name.now self.old) ≡ false) }
+        ensures ok { OnOk result (self.new.rows ≡ store name.now value self.old.rows) }
+        ensures err { OnErr result (self.new.rows ≡ self.old.rows) }
+        ensures memory { OnErr result (is_some (stored name.now self.old.rows) ≡ false) }
     {
         match self.replace(name, value) {
             Ok(()) => Ok(()),
@@ -174,9 +174,9 @@ impl Globals {
         number: Option<usize>,
         value: Value,
     ) -> Result<(), AllocError>
-        ensures ok { OnOk result (self.new ≡ store name.now value self.old) }
-        ensures err { OnErr result (self.new ≡ self.old) }
-        ensures memory { OnErr result (is_some (stored name.now self.old) ≡ false) }
+        ensures ok { OnOk result (self.new.rows ≡ store name.now value self.old.rows) }
+        ensures err { OnErr result (self.new.rows ≡ self.old.rows) }
+        ensures memory { OnErr result (is_some (stored name.now self.old.rows) ≡ false) }
     {
         match self.replace_at(name, number, value) {
             Ok(()) => Ok(()),
@@ -186,10 +186,10 @@ impl Globals {
 
     // As `replace`, by a name and its number.
     fn replace_at(&mut self, name: &str, number: Option<usize>, value: Value) -> Result<(), Value>
-        ensures found { is_ok result ≡ is_some (stored name.now self.old) }
-        ensures ok { OnOk result (self.new ≡ store name.now value self.old) }
+        ensures found { is_ok result ≡ is_some (stored name.now self.old.rows) }
+        ensures ok { OnOk result (self.new.rows ≡ store name.now value self.old.rows) }
         ensures err { IfErr result (λ handed_back. handed_back ≡ value) }
-        ensures kept { OnErr result (self.new ≡ self.old) }
+        ensures kept { OnErr result (self.new.rows ≡ self.old.rows) }
     {
         if let Some((index, _)) = self.found(name, number) {
             if let Some(slot) = self.values.get_index_mut(index) {
@@ -209,11 +209,11 @@ impl Globals {
         number: Option<usize>,
         value: Value,
     ) -> Result<(), AllocError>
-        requires index { index ≡ number_of name.now self.old }
-        requires there { is_some (stored name.now self.old) ≡ true }
-        ensures ok { OnOk result (self.new ≡ store name.now value self.old) }
-        ensures err { OnErr result (self.new ≡ self.old) }
-        ensures memory { OnErr result (is_some (stored name.now self.old) ≡ false) }
+        requires index { index ≡ number_of name.now self.old.rows }
+        requires there { is_some (stored name.now self.old.rows) ≡ true }
+        ensures ok { OnOk result (self.new.rows ≡ store name.now value self.old.rows) }
+        ensures err { OnErr result (self.new.rows ≡ self.old.rows) }
+        ensures memory { OnErr result (is_some (stored name.now self.old.rows) ≡ false) }
     {
         if let Some(slot) = self.values.get_index_mut(index) {
             *slot = value;
@@ -224,8 +224,8 @@ impl Globals {
 
     // As `add`, and the slot of the number leads there.
     fn add_at(&mut self, name: &str, number: Option<usize>, value: Value) -> Result<(), AllocError>
-        ensures ok { OnOk result (self.new ≡ store name.now value self.old) }
-        ensures err { OnErr result (self.new ≡ self.old) }
+        ensures ok { OnOk result (self.new.rows ≡ store name.now value self.old.rows) }
+        ensures err { OnErr result (self.new.rows ≡ self.old.rows) }
     {
         let index = self.values.len();
         if let Some(number) = number {
@@ -237,8 +237,8 @@ impl Globals {
 
     // As `put`, with a copy of the name.
     fn add(&mut self, name: &str, value: Value) -> Result<(), AllocError>
-        ensures ok { OnOk result (self.new ≡ store name.now value self.old) }
-        ensures err { OnErr result (self.new ≡ self.old) }
+        ensures ok { OnOk result (self.new.rows ≡ store name.now value self.old.rows) }
+        ensures err { OnErr result (self.new.rows ≡ self.old.rows) }
     {
         let key = String::from_str(self.alloc, name)?;
         self.values.insert(key, value)?;

@@ -15,7 +15,7 @@ pub(crate) fn named<'a, P: Copy>(
     name: &str,
     number: Option<usize>,
 ) -> Option<&'a Value>
-    ensures { option_map (λ value. value.now) result ≡ rules.named globals.now threads.now.thread name.now }
+    ensures { option_map (λ value. value.now) result ≡ rules.named globals.now.rows threads.now.threads.thread name.now }
 {
     match globals.get_at(name, number) {
         Some(value) => Some(value),
@@ -30,7 +30,7 @@ pub(crate) fn held<'a, P: Copy>(
     frame: i32,
     name: &str,
 ) -> Option<&'a Value>
-    ensures { option_map (λ value. value.now) result ≡ rules.held globals.now threads.now.thread frame name.now }
+    ensures { option_map (λ value. value.now) result ≡ rules.held globals.now.rows threads.now.threads.thread frame name.now }
 {
     match usize::try_from(frame) {
         Ok(0) => globals.get(name),
@@ -46,7 +46,7 @@ pub(crate) fn stands<P: Copy>(
     frame: i32,
     name: &str,
 ) -> bool
-    ensures { result ≡ rules.stands globals.now threads.now.thread frame name.now }
+    ensures { result ≡ rules.stands globals.now.rows threads.now.threads.thread frame name.now }
 {
     match usize::try_from(frame) {
         Ok(0) => globals.contains(name),
@@ -63,7 +63,7 @@ pub(crate) fn chain_end<'a, P: Copy>(
     frame: i32,
     name: &'a Shared<Text>,
 ) -> Option<(i32, &'a Shared<Text>)>
-    ensures { option_map (λ p. (p.0, p.1.now)) result ≡ rules.chain_end globals.now threads.now.thread frame name.now }
+    ensures { option_map (λ p. (p.0, p.1.now)) result ≡ rules.chain_end globals.now.rows threads.now.threads.thread frame name.now }
 {
     let mut frame = frame;
     let mut name = name;

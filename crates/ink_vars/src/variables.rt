@@ -26,7 +26,7 @@ pub fn read<P: Copy>(
     threads: &Threads<P>,
     name: &str,
 ) -> Result<Value, Fault>
-    ensures { Copies (rules.read globals.now threads.now.thread name.now) result }
+    ensures { Copies (rules.read globals.now.rows threads.now.threads.thread name.now) result }
 {
     read_at(alloc, globals, threads, name, None)
 }
@@ -40,7 +40,7 @@ pub fn read_at<P: Copy>(
     name: &str,
     number: Option<usize>,
 ) -> Result<Value, Fault>
-    ensures { Copies (rules.read globals.now threads.now.thread name.now) result }
+    ensures { Copies (rules.read globals.now.rows threads.now.threads.thread name.now) result }
 {
     match look(globals, threads, name, number) {
         Ok(Some(value)) => copied(alloc, value),
@@ -58,7 +58,7 @@ pub fn look<'a, P: Copy>(
     name: &str,
     number: Option<usize>,
 ) -> Result<Option<&'a Value>, Fault>
-    ensures { looked result ≡ rules.read globals.now threads.now.thread name.now }
+    ensures { looked result ≡ rules.read globals.now.rows threads.now.threads.thread name.now }
 {
     match named(globals, threads, name, number) {
         None => Ok(None),
@@ -75,8 +75,8 @@ fn look_at<'a, P: Copy>(
     frame: i32,
     name: &'a Shared<Text>,
 ) -> Result<Option<&'a Value>, Fault>
-    ensures { let end = rules.chain_end globals.now threads.now.thread frame name.now in
-        looked result ≡ rules.value_at globals.now threads.now.thread end }
+    ensures { let end = rules.chain_end globals.now.rows threads.now.threads.thread frame name.now in
+        looked result ≡ rules.value_at globals.now.rows threads.now.threads.thread end }
 {
     let Some((frame, name)) = chain_end(globals, threads, frame, name) else {
         return Err(Fault::BadPointer);
@@ -108,9 +108,9 @@ pub fn assign<P: Copy>(
     name: &str,
     value: Value,
 ) -> Result<(), Fault>
-    ensures { let rule = rules.assign globals.old threads.old.thread name.now value in
-        let asks = is_pointer (rules.named globals.old threads.old.thread name.now) in
-        Writes asks rule globals.old globals.new threads.old threads.new result }
+    ensures { let rule = rules.assign globals.old.rows threads.old.threads.thread name.now value in
+        let asks = is_pointer (rules.named globals.old.rows threads.old.threads.thread name.now) in
+        Writes asks rule globals.old.rows globals.new.rows threads.old.threads threads.new.threads result }
 {
     match assigned(globals, threads, name, None) {
         Ok(variable) => write(globals, threads, variable, value),
@@ -126,7 +126,7 @@ pub fn assigned<'a, P: Copy>(
     name: &'a str,
     number: Option<usize>,
 ) -> Result<Variable<'a>, Fault>
-    ensures { LeadsTo globals.now threads.now.thread name.now result }
+    ensures { LeadsTo globals.now.rows threads.now.threads.thread name.now result }
 {
     if let Some(value) = globals.get_at(name, number) {
         return assigned_in(globals, threads, 0, name, number, value);
@@ -147,11 +147,11 @@ fn assigned_in<'a, P: Copy>(
     number: Option<usize>,
     value: &Value,
 ) -> Result<Variable<'a>, Fault>
-    requires named { rules.named globals.now threads.now.thread name.now ≡ Some value.now }
-    requires there { is_some (rules.held globals.now threads.now.thread (pos frame) name.now) ≡ true }
-    requires within { frame ≤ frame_count threads.now.thread }
-    requires same { (v : Data) → rules.with_named globals.now threads.now.thread name.now v ≡ rules.with_held globals.now threads.now.thread (pos frame) name.now v }
-    ensures { LeadsTo globals.now threads.now.thread name.now result }
+    requires named { rules.named globals.now.rows threads.now.threads.thread name.now ≡ Some value.now }
+    requires there { is_some (rules.held globals.now.rows threads.now.threads.thread (pos frame) name.now) ≡ true }
+    requires within { frame ≤ frame_count threads.now.threads.thread }
+    requires same { (v : Data) → rules.with_named globals.now.rows threads.now.threads.thread name.now v ≡ rules.with_held globals.now.rows threads.now.threads.thread (pos frame) name.now v }
+    ensures { LeadsTo globals.now.rows threads.now.threads.thread name.now result }
 {
     match value {
         Value::Pointer(frame, to) => pointed(globals, threads, *frame, to),
@@ -169,8 +169,8 @@ fn pointed<'a, P: Copy>(
     frame: i32,
     name: &Shared<Text>,
 ) -> Result<Variable<'a>, Fault>
-    ensures { let end = rules.chain_end globals.now threads.now.thread frame name.now in
-        LeadsInto globals.now threads.now.thread end result }
+    ensures { let end = rules.chain_end globals.now.rows threads.now.threads.thread frame name.now in
+        LeadsInto globals.now.rows threads.now.threads.thread end result }
 {
     let Some((frame, name)) = chain_end(globals, threads, frame, name) else {
         return Err(Fault::BadPointer);
@@ -200,12 +200,12 @@ fn write<P: Copy>(
     variable: Variable<'_>,
     value: Value,
 ) -> Result<(), Fault>
-    requires { variable.frame ≤ frame_count threads.old.thread }
-    ensures ok { OnOk result (Are (with_variable globals.old threads.old.thread variable.entry value) globals.new threads.old threads.new) }
+    requires { variable.frame ≤ frame_count threads.old.threads.thread }
+    ensures ok { OnOk result (Are (with_variable globals.old.rows threads.old.threads.thread variable.entry value) globals.new.rows threads.old.threads threads.new.threads) }
     ensures fault { IfErr result (λ f. f ≡ Fault.OutOfMemory) }
-    ensures globals_kept { OnErr result (globals.new ≡ globals.old) }
-    ensures threads_kept { OnErr result (threads.new ≡ threads.old) }
-    ensures memory { OnErr result (is_some (held_by globals.old threads.old.thread variable.entry) ≡ false) }
+    ensures globals_kept { OnErr result (globals.new.rows ≡ globals.old.rows) }
+    ensures threads_kept { OnErr result (threads.new.threads ≡ threads.old.threads) }
+    ensures memory { OnErr result (is_some (held_by globals.old.rows threads.old.threads.thread variable.entry) ≡ false) }
 {
     if variable.frame == 0 {
         globals.put_at(variable.name.as_str(), variable.name.number(), value)?;
@@ -225,9 +225,9 @@ pub fn declare<P: Copy>(
     name: &str,
     value: Value,
 ) -> Result<(), Fault>
-    ensures { let rule = rules.declare globals.old threads.old.thread scope name.now value in
-        let asks = declaring_asks globals.old threads.old.thread scope name.now value in
-        Writes asks rule globals.old globals.new threads.old threads.new result }
+    ensures { let rule = rules.declare globals.old.rows threads.old.threads.thread scope name.now value in
+        let asks = declaring_asks globals.old.rows threads.old.threads.thread scope name.now value in
+        Writes asks rule globals.old.rows globals.new.rows threads.old.threads threads.new.threads result }
 {
     match kept(globals, threads, value) {
         Ok(value) => {
@@ -246,8 +246,8 @@ pub fn declared<'a, P: Copy>(
     name: &'a str,
     number: Option<usize>,
 ) -> Variable<'a>
-    ensures within { result.frame ≤ frame_count threads.now.thread }
-    ensures variable { (globals : Values) → Declares globals threads.now.thread scope name.now result }
+    ensures within { result.frame ≤ frame_count threads.now.threads.thread }
+    ensures variable { (globals : Values) → Declares globals threads.now.threads.thread scope name.now result }
 {
     let frame = match scope {
         Scope::Global => 0,
@@ -262,7 +262,7 @@ pub fn declared<'a, P: Copy>(
 /// What a variable keeps of a value: of a pointer the last of its chain. `BadPointer` where that chain is too long;
 /// `OutOfMemory` where the name of what the pointer leads to has as many owners as can be.
 pub fn kept<P: Copy>(globals: &Globals, threads: &Threads<P>, value: Value) -> Result<Value, Fault>
-    ensures { HandsOut (is_pointer (Some value)) (rules.kept globals.now threads.now.thread value) result }
+    ensures { HandsOut (is_pointer (Some value)) (rules.kept globals.now.rows threads.now.threads.thread value) result }
 {
     match &value {
         Value::Pointer(frame, name) => kept_pointer(globals, threads, *frame, name),
@@ -276,7 +276,7 @@ fn kept_pointer<P: Copy>(
     frame: i32,
     name: &Shared<Text>,
 ) -> Result<Value, Fault>
-    ensures { let end = rules.chain_end globals.now threads.now.thread frame name.now in
+    ensures { let end = rules.chain_end globals.now.rows threads.now.threads.thread frame name.now in
         HandsOut true (rules.kept_pointer end) result }
 {
     let Some((frame, name)) = chain_end(globals, threads, frame, name) else {
@@ -290,7 +290,7 @@ fn kept_pointer<P: Copy>(
 /// frame where that has the name, and else to the globals. `OutOfMemory` where the name has as many owners as can be
 /// (docs/VARIABLES.md, "Pointers").
 pub fn point<P: Copy>(threads: &Threads<P>, frame: i32, name: &Shared<Text>) -> Result<Value, Fault>
-    ensures { HandsOut true (Ok (rules.point threads.now.thread frame name.now)) result }
+    ensures { HandsOut true (Ok (rules.point threads.now.threads.thread frame name.now)) result }
 {
     let frame = if frame < 0 {
         frame_of(threads, name.get().as_str())
@@ -303,8 +303,8 @@ pub fn point<P: Copy>(threads: &Threads<P>, frame: i32, name: &Shared<Text>) -> 
 
 // The number of the current frame where that has the name, else 0.
 fn frame_of<P: Copy>(threads: &Threads<P>, name: &str) -> i32
-    ensures { let own = is_some (row name_order name.now threads.now.thread.frame.temps) in
-        result ≡ (if own then pos (frame_count threads.now.thread) else pos 0) }
+    ensures { let own = is_some (row name_order name.now threads.now.threads.thread.frame.temps) in
+        result ≡ (if own then pos (frame_count threads.now.threads.thread) else pos 0) }
 {
     let frame = threads.top().frames();
     if threads.temp(frame, name).is_some() {

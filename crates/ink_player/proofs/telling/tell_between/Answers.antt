@@ -13,5 +13,5 @@ returns-clause-tells g c =
     let w = watches desk.watchers in
     subst (λ cs. TellsWatchers g.F.TurnFn.log g.O.Watcher.log desk cs c.tell.result c.tell.new.desk)
     (ap (λ (cs : List Change). filter (λ x. w x.name) cs)
-    (c.as_slice.ensures ∙ c.in_ok-changes.ensures.told ∙ ap (λ x. told w x c.globals-2.result.now) c.globals.ensures ∙ ap (told w (globals_of c.args.old.now)) c.globals-2.ensures)
+    (c.as_slice.ensures ∙ c.in_ok-changes.ensures.told ∙ ap (λ x. told w x c.globals-2.result.now.rows) c.globals.ensures ∙ ap (told w (globals_of c.args.old.now)) c.globals-2.ensures)
     ∙ told-watched w (globals_of c.args.old.now) (globals_of c.args.new.now)) c.tell.ensures.tells

@@ -9,26 +9,26 @@ pub returns-in_err-visit-clause-memory : goal.returns-in_err-visit-clause-memory
 returns-in_err-visit-clause-memory t c =
     let s = story_tree c.args.tree.now in
     let found = c.number_of-container.ensures.found in
-    let adds = sym (adds_at s c.number_of-container.ensures.order c.number_of-container.result found.0 c.args.counts.now _ _ _ found.1 c.flags.ensures) ∙ c.in_err-visit.ensures.memory in
+    let adds = sym (adds_at s c.number_of-container.ensures.order c.number_of-container.result found.0 c.args.counts.now.rows _ _ _ found.1 c.flags.ensures) ∙ c.in_err-visit.ensures.memory in
     let p = err_from_is_err_and c.from_residual.result c.from_residual.ensures.1 in
-    rw p.1 (first_adds s c.args.turn _ _ _ c.in-Some.ensures.1 c.args.counts.now adds)
+    rw p.1 (first_adds s c.args.turn _ _ _ c.in-Some.ensures.1 c.args.counts.now.rows adds)
 
 pub returns-in-Ok-clause-ok : goal.returns-in-Ok-clause-ok
 returns-in-Ok-clause-ok t c =
     let s = story_tree c.args.tree.now in
     let found = c.number_of-container.ensures.found in
     let visit = ap (counts_in s) c.in_ok-visit.ensures.ok
-    ∙ visited_at s c.number_of-container.ensures.order c.number_of-container.result found.0 c.args.counts.now _ _ _ found.1 c.flags.ensures c.args.turn in
-    c.in-Ok.ensures.ok ∙ (first_entered s c.args.turn _ _ _ c.in-Some.ensures.1 c.args.counts.now c.visit.new.self visit).0
+    ∙ visited_at s c.number_of-container.ensures.order c.number_of-container.result found.0 c.args.counts.now.rows _ _ _ found.1 c.flags.ensures c.args.turn in
+    c.in-Ok.ensures.ok ∙ (first_entered s c.args.turn _ _ _ c.in-Some.ensures.1 c.args.counts.now.rows c.visit.new.self.rows visit).0
 
 pub returns-in-Err-clause-kept : goal.returns-in-Err-clause-kept
 returns-in-Err-clause-kept t c =
-    c.restore.ensures c.args.counts.now c.noted-noted.ensures c.flags.result true c.args.turn (c.in-Err.ensures.kept ∙ c.in_ok-visit.ensures.ok)
+    c.restore.ensures c.args.counts.now.rows c.noted-noted.ensures c.flags.result true c.args.turn (c.in-Err.ensures.kept ∙ c.in_ok-visit.ensures.ok)
 
 pub returns-in-Err-clause-memory : goal.returns-in-Err-clause-memory
 returns-in-Err-clause-memory t c =
     let s = story_tree c.args.tree.now in
     let found = c.number_of-container.ensures.found in
     let visit = ap (counts_in s) c.in_ok-visit.ensures.ok
-    ∙ visited_at s c.number_of-container.ensures.order c.number_of-container.result found.0 c.args.counts.now _ _ _ found.1 c.flags.ensures c.args.turn in
-    (first_entered s c.args.turn _ _ _ c.in-Some.ensures.1 c.args.counts.now c.visit.new.self visit).1 c.in-Err.ensures.memory
+    ∙ visited_at s c.number_of-container.ensures.order c.number_of-container.result found.0 c.args.counts.now.rows _ _ _ found.1 c.flags.ensures c.args.turn in
+    (first_entered s c.args.turn _ _ _ c.in-Some.ensures.1 c.args.counts.now.rows c.visit.new.self.rows visit).1 c.in-Err.ensures.memory

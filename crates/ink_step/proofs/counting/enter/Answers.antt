@@ -10,7 +10,7 @@ returns-clause-ok c =
     let s = story_tree c.args.tree.now in
     let found = c.number_of.ensures.found in
     on_ok_weaker c.visit.result
-    (λ is. ap (counts_in s) is ∙ visited_at s c.number_of.ensures.order c.number_of.result found.0 c.args.counts.now _ _ _ found.1 c.flags.ensures c.args.turn)
+    (λ is. ap (counts_in s) is ∙ visited_at s c.number_of.ensures.order c.number_of.result found.0 c.args.counts.now.rows _ _ _ found.1 c.flags.ensures c.args.turn)
     c.visit.ensures.ok
 
 pub returns-clause-memory : goal.returns-clause-memory
@@ -18,5 +18,5 @@ returns-clause-memory c =
     let s = story_tree c.args.tree.now in
     let found = c.number_of.ensures.found in
     on_err_weaker c.visit.result
-    (λ is. sym (adds_at s c.number_of.ensures.order c.number_of.result found.0 c.args.counts.now _ _ _ found.1 c.flags.ensures) ∙ is)
+    (λ is. sym (adds_at s c.number_of.ensures.order c.number_of.result found.0 c.args.counts.now.rows _ _ _ found.1 c.flags.ensures) ∙ is)
     c.visit.ensures.memory

@@ -11,5 +11,5 @@ loop-first-preserved c =
     let way = c.in-Some.ensures.goes_in in
     record {
       way = sym way.0 ∙ c.loop-first.invariant.way;
-      still = enters_more s c.args.turn all c.args.counts.now _ _ _ c.loop-first.counts way.1 c.loop-first.invariant.still c.enter.new.counts c.in_ok-enter.ensures.ok;
+      still = enters_more s c.args.turn all c.args.counts.now.rows _ _ _ c.loop-first.counts.rows way.1 c.loop-first.invariant.still c.enter.new.counts.rows c.in_ok-enter.ensures.ok;
     }

@@ -11,7 +11,7 @@ invariant-loop-first l =
     let s = story_tree l.tree in
     record {
       way : entered s (node_place s l.last) ≡ entered s (node_place s l.fn.node);
-      still : StillEnters s l.fn.turn (passed_places s (node_place s l.fn.node)) l.initial.counts (passed_places s (node_place s l.last)) l.counts;
+      still : StillEnters s l.fn.turn (passed_places s (node_place s l.fn.node)) l.initial.counts.rows (passed_places s (node_place s l.last)) l.counts.rows;
     }
 
 abbrev pub decreases-loop-first : goal.decreases-loop-first

@@ -9,6 +9,6 @@ use Rattle.ink_step.specs.Words.{seen_by}
 pub returns-in-Variable : goal.returns-in-Variable
 returns-in-Variable c rest =
     let s = story_tree c.args.story.now in
-    let globals = c.args.globals.now in
-    let thread = c.args.threads.now.thread in
-    held_to s _ (seen_by s c.args.threads.now rest) _ globals _ thread _ c.in-Variable.is refl (c.landing_in.ensures ∙ ap (λ name. led_by s (read globals thread name)) c.as_str.ensures)
+    let globals = c.args.globals.now.rows in
+    let thread = c.args.threads.now.threads.thread in
+    held_to s _ (seen_by s c.args.threads.now.threads rest) _ globals _ thread _ c.in-Variable.is refl (c.landing_in.ensures ∙ ap (λ name. led_by s (read globals thread name)) c.as_str.ensures)

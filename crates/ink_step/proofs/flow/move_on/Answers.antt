@@ -11,5 +11,5 @@ pub returns-in-Some : goal.returns-in-Some
 returns-in-Some c =
     let s = story_tree c.args.tree.now in
     let w = written c.args.stack.now c.args.output.now in
-    let ts = map_threads (place_of s) c.args.threads.now in
-    reached (place_of s) (next_place s) ts w w c.args.threads.now (record { same = refl; asks = λ h. h }) (moved_asks (next_place s) ts w) (place_of s c.in-Some.place) (sym c.in-Some.ensures) _ (Ok c.land.result) (c.land.ensures s w)
+    let ts = map_threads (place_of s) c.args.threads.now.threads in
+    reached (place_of s) (next_place s) ts w w c.args.threads.now.threads (record { same = refl; asks = λ h. h }) (moved_asks (next_place s) ts w) (place_of s c.in-Some.place) (sym c.in-Some.ensures) _ (Ok c.land.result) (c.land.ensures s w)

@@ -10,19 +10,19 @@ pub returns-in-Some : goal.returns-in-Some
 returns-in-Some c =
     let s = story_tree c.args.tree.now in
     let w = written c.loop-place.stack c.loop-place.output in
-    reached (place_of s) (next_place s) _ _ w c.loop-place.threads c.loop-place.invariant _ (place_of s c.in-Some.place) (sym c.in-Some.ensures) _ (Ok c.land.result) (c.land.ensures s w)
+    reached (place_of s) (next_place s) _ _ w c.loop-place.threads.threads c.loop-place.invariant _ (place_of s c.in-Some.place) (sym c.in-Some.ensures) _ (Ok c.land.result) (c.land.ensures s w)
 
 pub loop-place-preserved-in-Continue-1 : goal.loop-place-preserved-in-Continue-1
 loop-place-preserved-in-Continue-1 c =
     let s = story_tree c.args.tree.now in
     let w = written c.loop-place.stack c.loop-place.output in
-    let kind : c.loop-place.threads.thread.frame.kind ≡ Function = ap (λ t. t.frame.kind) (sym c.top.ensures) ∙ sym c.in-Function.ensures in
-    function_ended (place_of s) (next_place s) _ _ w c.loop-place.threads c.loop-place.invariant (sym c.in_default.ensures) kind _ _ c.in_ok-end_function-in-Function.field-0 (c.in_ok-end_function-in-Function.ensures s)
+    let kind : c.loop-place.threads.threads.thread.frame.kind ≡ Function = ap (λ t. t.frame.kind) (sym c.top.ensures) ∙ sym c.in-Function.ensures in
+    function_ended (place_of s) (next_place s) _ _ w c.loop-place.threads.threads c.loop-place.invariant (sym c.in_default.ensures) kind _ _ c.in_ok-end_function-in-Function.field-0 (c.in_ok-end_function-in-Function.ensures s)
 
 pub returns-in_err-end_function-in-Function : goal.returns-in_err-end_function-in-Function
 returns-in_err-end_function-in-Function c =
     let s = story_tree c.args.tree.now in
     let w = written c.loop-place.stack c.loop-place.output in
-    let kind : c.loop-place.threads.thread.frame.kind ≡ Function = ap (λ t. t.frame.kind) (sym c.top.ensures) ∙ sym c.in-Function.ensures in
+    let kind : c.loop-place.threads.threads.thread.frame.kind ≡ Function = ap (λ t. t.frame.kind) (sym c.top.ensures) ∙ sym c.in-Function.ensures in
     let is : c.from_residual.result ≡ Err c.in_err-end_function-in-Function.field-0.0 = search rules in
-    rw is (function_broke (place_of s) (next_place s) _ _ w c.loop-place.threads c.loop-place.invariant (sym c.in_default.ensures) kind _ _ c.in_err-end_function-in-Function.field-0.0 _ _ (c.in_err-end_function-in-Function.ensures s))
+    rw is (function_broke (place_of s) (next_place s) _ _ w c.loop-place.threads.threads c.loop-place.invariant (sym c.in_default.ensures) kind _ _ c.in_err-end_function-in-Function.field-0.0 _ _ (c.in_err-end_function-in-Function.ensures s))

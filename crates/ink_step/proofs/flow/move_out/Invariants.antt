@@ -9,7 +9,7 @@ use Rattle.ink_tree.specs.Nodes.{place_of, story_tree}
 abbrev pub invariant-loop-place : goal.invariant-loop-place
 invariant-loop-place l =
     let s = story_tree l.tree in
-    OnTheWay (next_place s) (map_threads (place_of s) l.fn.threads) (written l.fn.stack l.fn.output) (map_threads (place_of s) l.threads) (written l.stack l.output)
+    OnTheWay (next_place s) (map_threads (place_of s) l.fn.threads.threads) (written l.fn.stack l.fn.output) (map_threads (place_of s) l.threads.threads) (written l.stack l.output)
 
 abbrev pub decreases-loop-place : goal.decreases-loop-place
-decreases-loop-place l = all_frames (map_threads (place_of (story_tree l.tree)) l.threads)
+decreases-loop-place l = all_frames (map_threads (place_of (story_tree l.tree)) l.threads.threads)

@@ -10,6 +10,6 @@ use Rattle.ink_tree.specs.Nodes.{place_of, story_tree}
 pub returns : goal.returns
 returns c w =
     let s = story_tree c.args.tree.now in
-    let ts = map_threads (place_of s) c.args.threads.now in
-    reached (place_of s) (next_place s) ts w w c.args.threads.now (record { same = refl; asks = λ h. h }) (moved_asks (next_place s) ts w) (place_of s c.args.next) c.requires _ (Ok Went)
+    let ts = map_threads (place_of s) c.args.threads.now.threads in
+    reached (place_of s) (next_place s) ts w w c.args.threads.now.threads (record { same = refl; asks = λ h. h }) (moved_asks (next_place s) ts w) (place_of s c.args.next) c.requires _ (Ok Went)
     (ap (map_threads (place_of s)) c.go.ensures, refl)

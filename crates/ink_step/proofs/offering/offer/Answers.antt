@@ -9,41 +9,41 @@ use Rattle.ink_tree.specs.Nodes.{place_of}
 pub returns-in_default-clause-effect : goal.returns-in_default-clause-effect
 returns-in_default-clause-effect c rest evaluating fresh page globals =
     let s = story_tree c.args.story.now in
-    offers_nowhere s (place_of s c.args.here) (record rest { choices = c.args.choices.now; counts = c.args.counts.now }) c.args.threads.now c.args.text.now c.args.flags c.requires
+    offers_nowhere s (place_of s c.args.here) (record rest { choices = c.args.choices.now.items; counts = c.args.counts.now.rows }) c.args.threads.now.threads c.args.text.now c.args.flags c.requires
     evaluating fresh page globals c.args.stack.now.items c.in_default.ensures c.args.stack.now.items
 
 pub returns-in-Ok-Some-clause-effect : goal.returns-in-Ok-Some-clause-effect
 returns-in-Ok-Some-clause-effect c rest evaluating fresh page globals t =
     let s = story_tree c.args.story.now in
-    offers_one s (place_of s c.args.here) (record rest { choices = c.args.choices.now; counts = c.args.counts.now }) c.args.threads.now c.args.text.now c.args.flags c.requires
+    offers_one s (place_of s c.args.here) (record rest { choices = c.args.choices.now.items; counts = c.args.counts.now.rows }) c.args.threads.now.threads c.args.text.now c.args.flags c.requires
     evaluating fresh page globals c.args.stack.now.items c.in-Some.target c.in-Some.ensures c.was_visited-visited.result c.was_visited-visited.ensures t c.make.new.stack.items
-    c.in-Ok-Some.choice c.add.new.self c.add.result
-    (subst (λ made. Makes (make c.args.flags c.in-Some.target c.was_visited-visited.result c.args.threads.now.thread c.args.stack.now.items) c.args.stack.now.items c.make.new.stack.items (Ok made)) c.in-Ok-Some.field-0-is c.in-Ok-Some.ensures) c.add.ensures
+    c.in-Ok-Some.choice c.add.new.self.items c.add.result
+    (subst (λ made. Makes (make c.args.flags c.in-Some.target c.was_visited-visited.result c.args.threads.now.threads.thread c.args.stack.now.items) c.args.stack.now.items c.make.new.stack.items (Ok made)) c.in-Ok-Some.field-0-is c.in-Ok-Some.ensures) c.add.ensures
 
 pub returns-in-Ok-Some-clause-choices : goal.returns-in-Ok-Some-clause-choices
 returns-in-Ok-Some-clause-choices c rest evaluating fresh page globals =
     let s = story_tree c.args.story.now in
-    keeps_one s (place_of s c.args.here) (record rest { choices = c.args.choices.now; counts = c.args.counts.now }) c.args.threads.now c.args.text.now c.args.flags c.requires
+    keeps_one s (place_of s c.args.here) (record rest { choices = c.args.choices.now.items; counts = c.args.counts.now.rows }) c.args.threads.now.threads c.args.text.now c.args.flags c.requires
     evaluating fresh page globals c.args.stack.now.items c.in-Some.target c.in-Some.ensures c.was_visited-visited.result c.was_visited-visited.ensures c.make.new.stack.items
-    c.in-Ok-Some.choice c.add.new.self c.add.result
-    (subst (λ made. Makes (make c.args.flags c.in-Some.target c.was_visited-visited.result c.args.threads.now.thread c.args.stack.now.items) c.args.stack.now.items c.make.new.stack.items (Ok made)) c.in-Ok-Some.field-0-is c.in-Ok-Some.ensures) c.add.ensures
+    c.in-Ok-Some.choice c.add.new.self.items c.add.result
+    (subst (λ made. Makes (make c.args.flags c.in-Some.target c.was_visited-visited.result c.args.threads.now.threads.thread c.args.stack.now.items) c.args.stack.now.items c.make.new.stack.items (Ok made)) c.in-Ok-Some.field-0-is c.in-Ok-Some.ensures) c.add.ensures
 
 pub returns-in-Ok-None-clause-effect : goal.returns-in-Ok-None-clause-effect
 returns-in-Ok-None-clause-effect c rest evaluating fresh page globals t =
     let s = story_tree c.args.story.now in
-    offers_none s (place_of s c.args.here) (record rest { choices = c.args.choices.now; counts = c.args.counts.now }) c.args.threads.now c.args.text.now c.args.flags c.requires
+    offers_none s (place_of s c.args.here) (record rest { choices = c.args.choices.now.items; counts = c.args.counts.now.rows }) c.args.threads.now.threads c.args.text.now c.args.flags c.requires
     evaluating fresh page globals c.args.stack.now.items c.in-Some.target c.in-Some.ensures c.was_visited-visited.result c.was_visited-visited.ensures t c.make.new.stack.items
-    (subst (λ made. Makes (make c.args.flags c.in-Some.target c.was_visited-visited.result c.args.threads.now.thread c.args.stack.now.items) c.args.stack.now.items c.make.new.stack.items (Ok made)) c.in-Ok-None.field-0-is c.in-Ok-None.ensures)
+    (subst (λ made. Makes (make c.args.flags c.in-Some.target c.was_visited-visited.result c.args.threads.now.threads.thread c.args.stack.now.items) c.args.stack.now.items c.make.new.stack.items (Ok made)) c.in-Ok-None.field-0-is c.in-Ok-None.ensures)
 
 pub returns-in-Ok-None-clause-choices : goal.returns-in-Ok-None-clause-choices
 returns-in-Ok-None-clause-choices c rest evaluating fresh page globals =
     let s = story_tree c.args.story.now in
-    keeps_none s (place_of s c.args.here) (record rest { choices = c.args.choices.now; counts = c.args.counts.now }) c.args.threads.now c.args.text.now c.args.flags c.requires
+    keeps_none s (place_of s c.args.here) (record rest { choices = c.args.choices.now.items; counts = c.args.counts.now.rows }) c.args.threads.now.threads c.args.text.now c.args.flags c.requires
     evaluating fresh page globals c.args.stack.now.items c.in-Some.target c.in-Some.ensures c.was_visited-visited.result c.was_visited-visited.ensures c.make.new.stack.items
-    (subst (λ made. Makes (make c.args.flags c.in-Some.target c.was_visited-visited.result c.args.threads.now.thread c.args.stack.now.items) c.args.stack.now.items c.make.new.stack.items (Ok made)) c.in-Ok-None.field-0-is c.in-Ok-None.ensures)
+    (subst (λ made. Makes (make c.args.flags c.in-Some.target c.was_visited-visited.result c.args.threads.now.threads.thread c.args.stack.now.items) c.args.stack.now.items c.make.new.stack.items (Ok made)) c.in-Ok-None.field-0-is c.in-Ok-None.ensures)
 
 pub returns-in-Err-clause-effect : goal.returns-in-Err-clause-effect
 returns-in-Err-clause-effect c rest evaluating fresh page globals t =
     let s = story_tree c.args.story.now in
-    offers_fault s (place_of s c.args.here) (record rest { choices = c.args.choices.now; counts = c.args.counts.now }) c.args.threads.now c.args.text.now c.args.flags c.requires
+    offers_fault s (place_of s c.args.here) (record rest { choices = c.args.choices.now.items; counts = c.args.counts.now.rows }) c.args.threads.now.threads c.args.text.now c.args.flags c.requires
     evaluating fresh page globals c.args.stack.now.items c.in-Some.target c.in-Some.ensures c.was_visited-visited.result c.was_visited-visited.ensures t c.make.new.stack.items c.in-Err.fault c.in-Err.ensures

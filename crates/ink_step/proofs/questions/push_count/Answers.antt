@@ -22,7 +22,7 @@ pub returns-in_err-visits : goal.returns-in_err-visits
 returns-in_err-visits c threads rest evaluating fresh page globals =
     let s = story_tree c.args.story.now in
     let p = place_of s c.args.here in
-    let seen = seen_by s threads (record rest { counts = c.args.counts.now }) in
+    let seen = seen_by s threads (record rest { counts = c.args.counts.now.rows }) in
     let is : c.from_residual.result ≡ Err c.in_err-visits.field-0.0 = search rules in
     rw is (visits_fail s seen (λ r. r) (λ f. refl) evaluating fresh page globals c.args.stack.now.items c.args.stack.now.items (leads s p c.args.path.now) c.in_err-visits.field-0.0
     (c.in_err-visits.ensures ∙ ap (visits_in s seen.counts) (there (goal.at.returns-in_err-visits c).After-counted)))
@@ -31,7 +31,7 @@ pub returns : goal.returns
 returns c threads rest evaluating fresh page globals =
     let s = story_tree c.args.story.now in
     let p = place_of s c.args.here in
-    let seen = seen_by s threads (record rest { counts = c.args.counts.now }) in
+    let seen = seen_by s threads (record rest { counts = c.args.counts.now.rows }) in
     let old = c.args.stack.now.items in
     let new = c.push.new.stack.items in
     let z = c.in_ok-visits.visits in

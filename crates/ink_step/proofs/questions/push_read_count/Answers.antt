@@ -11,7 +11,7 @@ use Rattle.ink_tree.specs.Nodes.{place_of}
 pub returns-in_err-visits : goal.returns-in_err-visits
 returns-in_err-visits c threads rest evaluating fresh page globals t =
     let s = story_tree c.args.story.now in
-    let seen = seen_by s threads (record rest { counts = c.args.counts.now }) in
+    let seen = seen_by s threads (record rest { counts = c.args.counts.now.rows }) in
     let is : c.from_residual-in_err-visits.result ≡ Err c.in_err-visits.field-0.0 = search rules in
     rw is (asks_in_vain s seen (visits_there s seen) evaluating fresh page globals c.args.stack.now.items t c.args.stack.now.items (place_of s c.in_ok-place.place) c.in_err-visits.field-0.0
     c.in_ok-place.ensures (c.in_err-visits.ensures threads rest))
@@ -19,7 +19,7 @@ returns-in_err-visits c threads rest evaluating fresh page globals t =
 pub returns : goal.returns
 returns c threads rest evaluating fresh page globals t =
     let s = story_tree c.args.story.now in
-    let seen = seen_by s threads (record rest { counts = c.args.counts.now }) in
+    let seen = seen_by s threads (record rest { counts = c.args.counts.now.rows }) in
     let old = c.args.stack.now.items in
     let new = c.answer.new.stack.items in
     let z = c.in_ok-visits.visits in

@@ -4,17 +4,17 @@ use Rattle.ink_step.proofs.storing.declare.Goals as goal
 
 pub returns-in-Ok-clause-effect : goal.returns-in-Ok-clause-effect
 returns-in-Ok-clause-effect c s rest evaluating fresh page =
-    let f = fields evaluating fresh c.args.stack.now.items page c.args.globals.now in
-    declares_there s c.args.threads.now rest f c.args.scope c.args.name.now c.top.new.stack.items c.in-Some.value c.in-Some.ensures c.in-Ok.value c.declared-variable.result (leading c.store.result c.store.new.transfer) c.in-Ok.ensures
-    (rw c.as_str.ensures at (c.declared-variable.ensures.variable c.args.globals.now)) (c.store.ensures.effect s (record f { stack = c.top.new.stack.items }))
+    let f = fields evaluating fresh c.args.stack.now.items page c.args.globals.now.rows in
+    declares_there s c.args.threads.now.threads rest f c.args.scope c.args.name.now c.top.new.stack.items c.in-Some.value c.in-Some.ensures c.in-Ok.value c.declared-variable.result (leading c.store.result c.store.new.transfer) c.in-Ok.ensures
+    (rw c.as_str.ensures at (c.declared-variable.ensures.variable c.args.globals.now.rows)) (c.store.ensures.effect s (record f { stack = c.top.new.stack.items }))
 
 pub returns-in-Ok-clause-threads : goal.returns-in-Ok-clause-threads
 returns-in-Ok-clause-threads c s rest evaluating fresh page =
-    let f = fields evaluating fresh c.args.stack.now.items page c.args.globals.now in
-    declares_keeping s c.args.threads.now rest f c.args.scope c.args.name.now c.top.new.stack.items c.in-Some.value c.in-Some.ensures c.in-Ok.value c.declared-variable.result c.store.new.threads c.store.result c.in-Ok.ensures
-    (rw c.as_str.ensures at (c.declared-variable.ensures.variable c.args.globals.now)) (c.store.ensures.threads c.args.globals.now)
+    let f = fields evaluating fresh c.args.stack.now.items page c.args.globals.now.rows in
+    declares_keeping s c.args.threads.now.threads rest f c.args.scope c.args.name.now c.top.new.stack.items c.in-Some.value c.in-Some.ensures c.in-Ok.value c.declared-variable.result c.store.new.threads.threads c.store.result c.in-Ok.ensures
+    (rw c.as_str.ensures at (c.declared-variable.ensures.variable c.args.globals.now.rows)) (c.store.ensures.threads c.args.globals.now.rows)
 
 pub returns-in-Err-clause-effect : goal.returns-in-Err-clause-effect
 returns-in-Err-clause-effect c s rest evaluating fresh page =
-    let f = fields evaluating fresh c.args.stack.now.items page c.args.globals.now in
-    declares_nowhere s c.args.threads.now rest f c.args.scope c.args.name.now c.top.new.stack.items c.in-Some.value c.in-Some.ensures c.in-Err.fault c.in-Err.ensures
+    let f = fields evaluating fresh c.args.stack.now.items page c.args.globals.now.rows in
+    declares_nowhere s c.args.threads.now.threads rest f c.args.scope c.args.name.now c.top.new.stack.items c.in-Some.value c.in-Some.ensures c.in-Err.fault c.in-Err.ensures

@@ -12,11 +12,11 @@ use Rattle.ink_step.proofs.told.told_between.Goals as goal
 use Rattle.ink_step.proofs.told.told_between.Goals.{Then-is_other}
 
 -- there is something to be told
-is_there : (g : given.Over) (c : Then-is_other g) → told (watches c.args.desk.now.watchers) c.args.old.now c.args.new.now ≢ []
+is_there : (g : given.Over) (c : Then-is_other g) → told (watches c.args.desk.now.watchers) c.args.old.now.rows c.args.new.now.rows ≢ []
 is_there g c =
-    let other : is_other (stored c.in-Some.name.now c.args.old.now) c.in-Some.value.now ≡ true =
+    let other : is_other (stored c.in-Some.name.now c.args.old.now.rows) c.in-Some.value.now ≡ true =
     ap (λ o. is_other o c.in-Some.value.now) (sym c.get.ensures) ∙ sym c.is_other.ensures ∙ c.if-is_other.true in
-    told_some (watches c.args.desk.now.watchers) c.args.old.now c.args.new.now c.loop-number.number (c.in-Some.name.now, c.in-Some.value.now)
+    told_some (watches c.args.desk.now.watchers) c.args.old.now.rows c.args.new.now.rows c.loop-number.number (c.in-Some.name.now, c.in-Some.value.now)
     (sym c.in-Some.ensures) (sym c.watches.ensures ∙ c.if-watches.true) other
 
 pub returns-in_err-change-clause-memory : goal.returns-in_err-change-clause-memory
@@ -28,8 +28,8 @@ returns-in_err-push-clause-memory g c = on_error c.from_residual-in_err-push.res
 pub loop-number-preserved : goal.loop-number-preserved
 loop-number-preserved g c =
     let watched = watches c.args.desk.now.watchers in
-    let old = c.args.old.now in
-    let new = c.args.new.now in
+    let old = c.args.old.now.rows in
+    let new = c.args.new.now.rows in
     let i = c.loop-number.number in
     elim c.match-pair.branch [
       | in-Some+then-watches+then-is_other+in_ok-change+in_ok-push w ↦
@@ -54,6 +54,6 @@ loop-number-preserved g c =
 pub returns-clause-once : goal.returns-clause-once
 returns-clause-once g c =
     let watched = watches c.args.desk.now.watchers in
-    let past : length c.args.new.now ≤ c.loop-number.number = omega (arith, c.loop-number-test.false, c.len-number-end.ensures.len) in
-    let all = c.from_vec.ensures ∙ c.loop-number.invariant ∙ ap (told watched c.args.old.now) (take_all c.loop-number.number c.args.new.now past) in
-    subst (λ cs. OncePerName cs) (sym all) (told_once watched c.args.old.now c.args.new.now c.len-number-end.ensures.names)
+    let past : length c.args.new.now.rows ≤ c.loop-number.number = omega (arith, c.loop-number-test.false, c.len-number-end.ensures.len) in
+    let all = c.from_vec.ensures ∙ c.loop-number.invariant ∙ ap (told watched c.args.old.now.rows) (take_all c.loop-number.number c.args.new.now.rows past) in
+    subst (λ cs. OncePerName cs) (sym all) (told_once watched c.args.old.now.rows c.args.new.now.rows c.len-number-end.ensures.names)

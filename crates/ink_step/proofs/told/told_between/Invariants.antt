@@ -4,4 +4,4 @@ use Rattle.ink_model.specs.Told.{told}
 use Rattle.ink_step.proofs.told.told_between.Given as goal
 
 abbrev pub invariant-loop-number : goal.invariant-loop-number
-invariant-loop-number g l = l.told.items ≡ told (watches l.desk.watchers) l.old (take l.number l.new)
+invariant-loop-number g l = l.told.items ≡ told (watches l.desk.watchers) l.old.rows (take l.number l.new.rows)

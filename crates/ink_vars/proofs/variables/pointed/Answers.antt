@@ -6,8 +6,8 @@ use Rattle.ink_vars.proofs.variables.pointed.Goals as goal
 
 pub returns-in-Err : goal.returns-in-Err
 returns-in-Err g c =
-    let globals = c.args.globals.now in
-    let thread = c.args.threads.now.thread in
+    let globals = c.args.globals.now.rows in
+    let thread = c.args.threads.now.threads.thread in
     let frame = c.in-Ok.frame in
     let name = c.in-Some.name.now in
     let end : chain_end globals thread c.args.frame c.args.name.now ≡ Some (pos frame, name) = search (rules, to_z-of_z) in

@@ -6,6 +6,6 @@ use Rattle.ink_choice.proofs.choices.Choices.count_visible.Goals as goal
 
 pub returns : goal.returns
 returns g c =
-    rw (visible_is c.args.self.now)
+    rw (visible_is c.args.self.now.items)
     (count_from_yields_List c.filter.result c.count.result c.count.ensures.ran
-    (YieldsList-from_filter _ (λ d. not d.hidden) (YieldsList-from_slice c.args.self.now cc) c.filter.ensures.closure (λ x r q k. search (rules, tests))))
+    (YieldsList-from_filter _ (λ d. not d.hidden) (YieldsList-from_slice c.args.self.now.items cc) c.filter.ensures.closure (λ x r q k. search (rules, tests))))

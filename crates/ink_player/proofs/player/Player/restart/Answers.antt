@@ -1,7 +1,7 @@
 use Rattle.std.proofs.Common.{◌∙◌, [], ap}
 use Rattle.ink_model.specs.Answer.{Breaks, reply_of_halt}
 use Rattle.ink_player.specs.Words.{bindings, desk_of, state_of, story_of}
-use Rattle.ink_step.specs.Words.{config_of}
+use Rattle.ink_step.specs.Words.{config_of, globals_of}
 use Rattle.ink_player.proofs.Restarts.{restart-broken, restart-opened, restart-refused}
 use Rattle.ink_player.proofs.Tellings.{dealt-none, dealt-quiet, globals-by}
 use Rattle.ink_player.proofs.player.Player.restart.Goals as goal
@@ -12,7 +12,7 @@ returns-in-Ok-clause-does g c =
     let s = story_of p in
     let does = c.begin_anew.ensures.does in (
       does.0,
-      restart-opened s (bindings g.P.PureFn.meaning (desk_of p)) (state_of p) (config_of s c.in-Ok.machine) p.machine.globals does.0 _ _ c.in-Ok.ensures.ok
+      restart-opened s (bindings g.P.PureFn.meaning (desk_of p)) (state_of p) (config_of s c.in-Ok.machine) (globals_of p.machine) does.0 _ _ c.in-Ok.ensures.ok
           (globals-by p.broken (config_of s p.machine)) does.1,
       does.2,
     )
@@ -21,7 +21,7 @@ pub returns-in-OutOfMemory-clause-does : goal.returns-in-OutOfMemory-clause-does
 returns-in-OutOfMemory-clause-does g c =
     let p = c.args.self.now in (
       [],
-      restart-refused (story_of p) (bindings g.P.PureFn.meaning (desk_of p)) (state_of p) c.in-Err.field-0.globals c.in-Err.field-0.fault c.in-OutOfMemory.is c.in-Err.ensures.err,
+      restart-refused (story_of p) (bindings g.P.PureFn.meaning (desk_of p)) (state_of p) c.in-Err.field-0.globals.rows c.in-Err.field-0.fault c.in-OutOfMemory.is c.in-Err.ensures.err,
       dealt-none g.F.TurnFn.log g.O.Watcher.log (desk_of p),
     )
 
@@ -31,7 +31,7 @@ returns-in_default-clause-does g c =
     let q = c.break_by.new.self in
     let fault = c.in-Err.field-0.fault in (
       [],
-      restart-broken (story_of p) (bindings g.P.PureFn.meaning (desk_of p)) (state_of p) c.in-Err.field-0.globals fault c.at_start.result.globals (reply_of_halt c.break_by.result) (state_of q)
+      restart-broken (story_of p) (bindings g.P.PureFn.meaning (desk_of p)) (state_of p) c.in-Err.field-0.globals.rows fault (globals_of c.at_start.result) (reply_of_halt c.break_by.result) (state_of q)
           c.in_default.not-OutOfMemory c.at_start.ensures.globals c.in-Err.ensures.err (c.break_by.ensures.reply ∙ ap (λ l. Breaks fault l) c.requires.idle.taken) (ap (λ x. state_of x) c.break_by.ensures.player),
       dealt-quiet g.F.TurnFn.log g.O.Watcher.log (desk_of p) (desk_of q) (ap (λ x. desk_of x) c.break_by.ensures.player),
     )

@@ -1,7 +1,7 @@
 use Rattle.std.proofs.Common.{◌≡◌, ◌∙◌, [], true, false, Some, ap, is_some, refl, sym}
 use Rattle.ink_model.specs.Store.{stored}
 use Rattle.ink_player.specs.Words.{bindings, desk_of, story_of}
-use Rattle.ink_step.specs.Words.{config_of}
+use Rattle.ink_step.specs.Words.{config_of, globals_of}
 use Rattle.ink_player.proofs.Tellings.{dealt-none, set-broken, sets, sets-where}
 use Rattle.ink_player.proofs.player.Player.set.Goals as goal
 
@@ -27,7 +27,7 @@ returns-then-not-is_settable-clause-does g c =
 pub returns-then-not-contains-clause-does : goal.returns-then-not-contains-clause-does
 returns-then-not-contains-clause-does g c =
     let p = c.args.self.now in
-    let known : is_some (stored c.args.name.now p.machine.globals) ≡ c.contains.result =
+    let known : is_some (stored c.args.name.now (globals_of p.machine)) ≡ c.contains.result =
     ap (λ vs. is_some (stored c.args.name.now vs)) (sym c.globals.ensures) ∙ sym c.contains.ensures in
     let h = bindings g.P.PureFn.meaning (desk_of p) in (
       [],
@@ -40,7 +40,7 @@ returns-then-not-contains-clause-does g c =
 pub returns-clause-does : goal.returns-clause-does
 returns-clause-does g c =
     let p = c.args.self.now in
-    let known : is_some (stored c.args.name.now p.machine.globals) ≡ c.contains.result =
+    let known : is_some (stored c.args.name.now (globals_of p.machine)) ≡ c.contains.result =
     ap (λ vs. is_some (stored c.args.name.now vs)) (sym c.globals.ensures) ∙ sym c.contains.ensures in
     let h = bindings g.P.PureFn.meaning (desk_of p) in
     let does = c.store.ensures.does in (

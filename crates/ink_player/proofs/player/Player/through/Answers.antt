@@ -4,6 +4,7 @@ use Rattle.ink_model.specs.Answer.{reply_of, reply_of_halt}
 use Rattle.ink_model.specs.Told.{told}
 use Rattle.ink_model.specs.declared.host.Change.{Change}
 use Rattle.ink_player.specs.Words.{desk_of, state_of, story_of}
+use Rattle.ink_step.specs.Words.{globals_of}
 use Rattle.ink_player.proofs.Tellings.{dealt-none, through-broken, through-fault, through-told, through-untold, through-where, told-watched}
 use Rattle.ink_player.proofs.player.Player.through.Goals as goal
 
@@ -36,9 +37,9 @@ returns-in-Ok-tell-clause-does g c =
     let q = c.end_run.new.self in
     let mid = c.through.new.desk in
     let runs = c.in-Ok.ensures.runs in
-    let start = p.machine.globals in
+    let start = globals_of p.machine in
     let w = watches mid.watchers in
-    let all = ap (λ (cs : List Change). filter (λ x. w x.name) cs) (c.as_slice.ensures ∙ c.in-Ok-told.ensures.told start c.in-Ok.ensures.tracks) ∙ told-watched w start c.through.new.self.globals in
+    let all = ap (λ (cs : List Change). filter (λ x. w x.name) cs) (c.as_slice.ensures ∙ c.in-Ok-told.ensures.told start c.in-Ok.ensures.tracks) ∙ told-watched w start (globals_of c.through.new.self) in
     through-told g.F.TurnFn.log g.O.Watcher.log g.P.PureFn.meaning p c.through.new.self mid runs.0 c.in_default.is c.requires.idle.taken
     (sym (c.can_go_on.ensures (story_of p)) ∙ c.if-not-can_go_on.false) runs.1 c.in-Ok.passage c.in-Ok-tell.all c.tell.new.desk (desk_of q) (reply_of c.end_run.result) (state_of q)
     c.in-Ok.ensures.watchers runs.2 (rw all at c.in-Ok-tell.ensures.tells) c.end_run.ensures.reply c.end_run.ensures.state c.end_run.ensures.desk

@@ -47,6 +47,6 @@ returns-clause-step g c =
       called.0,
       called.1,
       makes_ended s b desk.next asking before (config_of s c.finish.new.self) _ before.shared.globals _ c.finish.result
-          (λ asks e call performs. c.finish.ensures.ends old asks e performs (keeps_call b s e old.threads call) (offers_call b s e old.choices call) refl refl refl refl)
+          (λ asks e call performs. c.finish.ensures.ends old asks e performs (keeps_call b s e old.threads.threads call) (offers_call b s e old.choices.items call) refl refl refl refl)
           e called.0 (external_call b s k.name k.arguments k.conditional f) called.2,
     )

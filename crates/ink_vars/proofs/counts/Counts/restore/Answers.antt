@@ -11,7 +11,7 @@ pub returns : goal.returns
 returns c before is flags at_start turn was =
     let n = c.args.node in
     let known = c.noted.view_is ∙ is in
-    let now = c.self.view_is ∙ was in
+    let now = ap (λ c. c.rows) c.self.view_is ∙ was in
     let visits = c.put_back.ensures.rows before.visits (ap (λ r. r.0) known) (differs n (counts flags at_start && counts_visits flags) (one_more (visits_at nat_cmp n before)) _ _
     (ap (rows_from 0) c.as_mut_slice.ensures.value ∙ ap (λ r. r.visits) now)) in
     let turns = c.put_back-2.ensures.rows before.turns (ap (λ r. r.1) known) (differs n (counts flags at_start && notes_turns flags) turn _ _

@@ -15,12 +15,12 @@ loop-index-preserved c =
           let name = w.in-Some.name.now in
           let value = w.in-Some.value.now in
           let entry : slice_get entries i ≡ Some (name, value) = sym w.in-Some.ensures.entry in
-          w.copy-is ∙ w.in_ok-add.ensures.ok
-          ∙ ap (λ n. store n w.in_ok-value.value c.loop-index.copy) w.as_str.ensures.value
-          ∙ ap (λ v. store (string_bytes name) v c.loop-index.copy) w.in_ok-value.ensures.copy
-          ∙ ap (store (string_bytes name) value) (c.loop-index.invariant ∙ ap (take i) (sym c.self.view_is))
+          ap (λ g. g.rows) w.copy-is ∙ w.in_ok-add.ensures.ok
+          ∙ ap (λ n. store n w.in_ok-value.value c.loop-index.copy.rows) w.as_str.ensures.value
+          ∙ ap (λ v. store (string_bytes name) v c.loop-index.copy.rows) w.in_ok-value.ensures.copy
+          ∙ ap (store (string_bytes name) value) (c.loop-index.invariant ∙ ap (take i) (sym (ap (λ g. g.rows) c.self.view_is)))
           ∙ copy_next entries i (name, value) c.len-index-end.ensures.unique entry
-          ∙ ap (take (i + 1)) c.self.view_is
+          ∙ ap (take (i + 1)) (ap (λ g. g.rows) c.self.view_is)
       | in_default w ↦
           let inside : i < index_map_len c.self.inside.values = omega (arith, c.len-index-end.ensures.len) in
           absurd (false≢true (w.in_default.ensures.found.1 inside))

@@ -6,14 +6,14 @@ use Rattle.ink_vars.proofs.globals.Globals.replace.Goals as goal
 
 pub returns-in-Some-clause-found : goal.returns-in-Some-clause-found
 returns-in-Some-clause-found c =
-    ap is_some (c.in-Some.ensures.value ∙ found_value c.args.name.now c.self.inside.values.entries ∙ ap (stored c.args.name.now) c.self.view_is)
+    ap is_some (c.in-Some.ensures.value ∙ found_value c.args.name.now c.self.inside.values.entries ∙ ap (stored c.args.name.now) (ap (λ g. g.rows) c.self.view_is))
 
 pub returns-in-Some-clause-ok : goal.returns-in-Some-clause-ok
 returns-in-Some-clause-ok c =
     ap values_of (c.get_mut.follows.holds c.args.value).0
     ∙ written_value c.args.name.now c.args.value c.self.inside.values.entries (sym (ap is_some (c.in-Some.ensures.value ∙ found_value c.args.name.now c.self.inside.values.entries)))
-    ∙ ap (store c.args.name.now c.args.value) c.self.view_is
+    ∙ ap (store c.args.name.now c.args.value) (ap (λ g. g.rows) c.self.view_is)
 
 pub returns-clause-found : goal.returns-clause-found
 returns-clause-found c =
-    ap is_some (c.in_default.ensures.value ∙ found_value c.args.name.now c.self.inside.values.entries ∙ ap (stored c.args.name.now) c.self.view_is)
+    ap is_some (c.in_default.ensures.value ∙ found_value c.args.name.now c.self.inside.values.entries ∙ ap (stored c.args.name.now) (ap (λ g. g.rows) c.self.view_is))
