@@ -192,8 +192,8 @@ module _ {P F O : Type 0} (turn_log : F → List Called) (watch_log : O → List
         → reply ≡ reply_told all (telling_of passed d2.events) d2.events → new ≡ at_stamp (condition_told all (Ready after)) d2.next → d ≡ record d2 { events = [] }
         → ComesThrough reply new d
     unfolding settled
-    through-told passed all d2 d reply new watching run t replies leaves is =
-        let stopped = stops passed run in
+    through-told passed all d2 d reply new watching ran t replies leaves is =
+        let stopped = stops passed ran in
         let stop = stopped.0 in
         let es = first ++ t.0 in
         let both = grew-grew turn_log watch_log (desk_of p) d1 d2 first t.0 called t.2 in

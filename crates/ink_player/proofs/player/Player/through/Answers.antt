@@ -26,7 +26,7 @@ returns-in_default-told-clause-does g c =
     let start = p.machine.globals in
     let now = c.through.new.self.globals in
     let some : told (watches p.desk.watchers) start now ≢ [] =
-    subst (λ (ws : Rows _). told (watches ws) start now ≢ []) c.in-Ok.ensures.watchers (?) in
+    subst (λ (ws : Rows _). told (watches ws) start now ≢ []) c.in-Ok.ensures.watchers (c.in_default-told.ensures.memory start c.in-Ok.ensures.tracks) in
     through-untold g.F.TurnFn.log g.O.Watcher.log g.P.PureFn.meaning p c.through.new.self mid runs.0 c.in_default.is c.requires.idle.taken
     (sym (c.can_go_on.ensures (story_of p)) ∙ c.if-not-can_go_on.false) runs.1 c.in-Ok.passage c.break_by-in_default-told.new.self mid (reply_of_halt c.break_by-in_default-told.result)
     runs.2 some refl c.break_by-in_default-told.ensures.reply c.break_by-in_default-told.ensures.player
