@@ -1,13 +1,15 @@
 //! A watcher that notes what it is told.
 
 ghost use Rattle.std.specs.Prelude.{◌≡◌, []};
+ghost use Rattle.ink_host.specs.Telling.{refused};
 
 use crate::objects::{Seen, Watcher};
 use ink_model::{Text, Value};
 use std::alloc::{AllocError, Global};
 use std::marker::Model;
 
-/// A watcher that notes what it is told, and does nothing else. A watcher of a host's own can hold one for its notes.
+/// A watcher that notes what it is told, and does nothing else. A watcher of a host's own can hold one for its notes: its state is
+/// then that of its notes.
 #[derive(Drop)]
 pub struct Observer {
     seen: Vec<Seen>,
@@ -51,6 +53,14 @@ impl Observer {
         &self.seen
     }
 
+    /// Counts that the watcher that holds it was itself refused memory for a change.
+    pub fn lack(&mut self) -> AllocError
+        ensures { self.new ≡ refused self.old }
+    {
+        self.refusals = self.refusals.wrapping_add(1);
+        AllocError
+    }
+
     // A change, as it is noted.
     fn copied(&self, stamp: u64, name: &str, value: &Value) -> Result<Seen, AllocError>
         ensures { IfOk result (λ seen. seen ≡ record { stamp = stamp; name = name.now; value = value.now }) }
@@ -71,12 +81,10 @@ impl Watcher for Observer {
 
     fn changed(&mut self, stamp: u64, name: &str, value: &Value) -> Result<(), AllocError> {
         let Ok(seen) = self.copied(stamp, name, value) else {
-            self.refusals = self.refusals.wrapping_add(1);
-            return Err(AllocError);
+            return Err(self.lack());
         };
         if self.seen.push(seen).is_err() {
-            self.refusals = self.refusals.wrapping_add(1);
-            return Err(AllocError);
+            return Err(self.lack());
         }
         Ok(())
     }
