@@ -1,5 +1,5 @@
 -- Telling watchers of changes (docs/HOST.md).
-use Rattle.std.specs.Prelude.{◌≡◌, ℕ, List, [], ◌∷◌, ◌++◌, Bool, true, false, bytes_eq, ◌||◌, if◌then◌else◌}
+use Rattle.std.specs.Prelude.{◌≡◌, ℕ, List, [], ◌∷◌, ◌++◌, Bool, true, false, bytes_eq, length, ◌||◌, if◌then◌else◌}
 use Rattle.ink_model.specs.Events.{after}
 use Rattle.ink_host.specs.declared.objects.Seen.{Seen}
 use Rattle.ink_model.specs.declared.host.Change.{Change}
@@ -11,11 +11,6 @@ use Rattle.ink_host.specs.Desk.{Rows, counted, each, shown}
 abbrev pub named : List ℕ → List Change → Bool
 named n [] = false
 named n (c ∷ cs) = bytes_eq c.name n || named n cs
-
--- no name comes twice
-abbrev pub OncePerName : List Change → Type 0
-OncePerName [] = Unit {0}
-OncePerName (c ∷ cs) = (named c.name cs ≡ false) × OncePerName cs
 
 -- ---- states of watchers
 
@@ -71,13 +66,30 @@ heard n (c ∷ cs) (false ∷ answers) rows = heard n cs answers (change c.name 
 abbrev pub round : ℕ → List Change → List Change → List Bool → Rows Watching → Rows Watching
 round n cs told answers rows = in_turn ended cs (heard n told answers (in_turn begun cs rows))
 
--- what a watcher was told, and whether it is at rest
+-- what a watcher was told
 abbrev pub log_of : {W : Type 0} → (W → Watching) → W → List Seen
 log_of state w = (state w).log
 
+-- it is being told nothing
 abbrev pub rests : {W : Type 0} → (W → Watching) → W → Bool
 rests state w = (state w).resting
 
--- Between two states of the watchers there was one round, with these changes, and these answers of those whose names are watched.
+-- Between two states of the watchers there was one round, with these changes, and these answers of those that were told.
 abbrev pub IsRound : {W : Type 0} → (W → Watching) → ℕ → List Change → List Change → List Bool → Rows W → Rows W → Type 0
 IsRound state n cs told answers old new = each (λ m w. state w) new ≡ round n cs told answers (each (λ m w. state w) old)
+
+-- what a round was of: its first stamp, the changes, and an answer for each
+pub record Round : Type 0 where
+  pub next : ℕ
+  pub changes : List Change
+  pub answers : List Bool
+  pub one_each : length answers ≡ length changes
+
+-- rounds, one after another
+abbrev pub rounds : List Round → Rows Watching → Rows Watching
+rounds [] rows = rows
+rounds (r ∷ rs) rows = rounds rs (round r.next r.changes r.changes r.answers rows)
+
+-- Between two states of the watchers there were these rounds, and nothing else.
+abbrev pub AreRounds : {W : Type 0} → (W → Watching) → List Round → Rows W → Rows W → Type 0
+AreRounds state rs old new = each (λ m w. state w) new ≡ rounds rs (each (λ m w. state w) old)
