@@ -26,6 +26,19 @@ module _ {X : Type 0} where
   found name [] = refl
   found name (e ∷ es) = ap (λ r. if bytes_eq name (string_bytes e.0) then Some e.1 else r) (found name es)
 
+  -- what was found and written is found
+  pub found-written : (name : List ℕ) (x y : X) (es : List (String Global × X)) → lookup (λ k. bytes_eq name (string_bytes k)) es ≡ Some x
+      → at name (rows_of (set_value (λ k. bytes_eq name (string_bytes k)) es y)) ≡ Some y
+  found-written name x y [] h = absurd (cc)
+  found-written name x y (e ∷ es) h = by (bytes_eq name (string_bytes e.0)) refl (found-written name x y es) h
+    where
+      by : (b : Bool) → bytes_eq name (string_bytes e.0) ≡ b
+          → (lookup (λ k. bytes_eq name (string_bytes k)) es ≡ Some x → at name (rows_of (set_value (λ k. bytes_eq name (string_bytes k)) es y)) ≡ Some y)
+          → cond b (Some e.1) (lookup (λ k. bytes_eq name (string_bytes k)) es) ≡ Some x
+          → at name (rows_of (cond b ((e.0, y) ∷ es) (e ∷ set_value (λ k. bytes_eq name (string_bytes k)) es y))) ≡ Some y
+      by true is more k = ap (λ b. if b then Some y else at name (rows_of es)) is
+      by false is more k = ap (λ b. if b then Some e.1 else at name (rows_of (set_value (λ k. bytes_eq name (string_bytes k)) es y))) is ∙ more k
+
   pub kept : (key : String Global) (x : X) (es : List (String Global × X)) → rows_of (insert_entry string_eq es key x) ≡ put (string_bytes key) x (rows_of es)
   kept key x [] = refl
   kept key x (e ∷ es) = by (bytes_eq (string_bytes key) (string_bytes e.0)) (kept key x es)

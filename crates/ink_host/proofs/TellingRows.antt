@@ -1,17 +1,11 @@
 -- Rows of watchers, changed by name.
-use Rattle.std.proofs.Common.{◌≡◌, ◌∙◌, refl, sym, ap, ℕ, List, [], ◌∷◌, ◌++◌, Bool, true, false, cond, if◌then◌else◌, Some, None, String, Global, string_bytes, bytes_eq, append_assoc, Result, Ok, Err, OnOk, OnErr}
+use Rattle.std.proofs.Common.{◌≡◌, ◌∙◌, refl, sym, ap, ℕ, List, [], ◌∷◌, Bool, true, false, cond, if◌then◌else◌, Some, None, String, Global, string_bytes, bytes_eq, Result, Ok, Err, OnOk, OnErr}
 use Rattle.std.specs.Map.{keys_of, lookup, set_value}
 use Rattle.std.specs.String.{string_eq}
 use Rattle.std.specs.List.{IsDistinct, AllByRecursion}
 use Rattle.std.proofs.lemmas.Slice.Eq.{bytes_eq-Decides}
-use Rattle.std.proofs.lemmas.List.{append-nil}
-use Rattle.ink_model.specs.declared.host.Event.{Event}
-use Rattle.ink_model.specs.declared.host.Event.TheVariants.{Saw}
-use Rattle.ink_model.specs.declared.value.Value.{Value}
-use Rattle.ink_host.specs.declared.objects.Seen.{Seen}
-use Rattle.ink_host.specs.Desk.{Rows, Resting, each, seen_by, shown}
-use Rattle.ink_host.proofs.Laws.{seen_by-append}
-use Rattle.ink_host.specs.Telling.{Watching, Stand, change, heard, standing}
+use Rattle.ink_host.specs.Desk.{Rows, Resting, each, shown}
+use Rattle.ink_host.specs.Telling.{Watching, Stand, change, rests, standing}
 
 -- ---- names
 
@@ -35,27 +29,18 @@ pub each-same : {X Y : Type 0} (f g : List ℕ → X → Y) → ((n : List ℕ) 
 each-same f g h [] = refl
 each-same f g h (r ∷ rows) = ap (λ y. (r.0, y) ∷ each f rows) (h r.0 r.1) ∙ ap (λ rs. (r.0, g r.0 r.1) ∷ rs) (each-same f g h rows)
 
-abbrev pub watching : List Seen → Bool → Watching
-watching log resting = record { log = log; resting = resting }
-
-pub known : (l m : List Seen) (r s : Bool) → l ≡ m → r ≡ s → watching l r ≡ watching m s
-known l m r s p q = ap (λ x. watching x r) p ∙ ap (λ x. watching m x) q
-
 -- ---- a write in a map
 
-module _ {W : Type 0} (log : W → List Seen) (at_rest : W → Bool) where
-  abbrev pub state : W → Watching
-  state w = record { log = log w; resting = at_rest w }
-
+module _ {W : Type 0} (state : W → Watching) where
   pub change-absent : (n : List ℕ) (f : Watching → Watching) (es : List (String Global × W)) → lookup (λ k. bytes_eq n (string_bytes k)) es ≡ None
-      → standing string_bytes log at_rest es ≡ change n f (standing string_bytes log at_rest es)
+      → standing string_bytes state es ≡ change n f (standing string_bytes state es)
   change-absent n f [] h = refl
   change-absent n f (e ∷ es) h = by (bytes_eq n (string_bytes e.0)) (change-absent n f es) h
     where
-      by : (b : Bool) → (lookup (λ k. bytes_eq n (string_bytes k)) es ≡ None → standing string_bytes log at_rest es ≡ change n f (standing string_bytes log at_rest es))
+      by : (b : Bool) → (lookup (λ k. bytes_eq n (string_bytes k)) es ≡ None → standing string_bytes state es ≡ change n f (standing string_bytes state es))
           → cond b (Some e.1) (lookup (λ k. bytes_eq n (string_bytes k)) es) ≡ None
-          → (string_bytes e.0, state e.1) ∷ standing string_bytes log at_rest es
-          ≡ (string_bytes e.0, if b then f (state e.1) else state e.1) ∷ change n f (standing string_bytes log at_rest es)
+          → (string_bytes e.0, state e.1) ∷ standing string_bytes state es
+          ≡ (string_bytes e.0, if b then f (state e.1) else state e.1) ∷ change n f (standing string_bytes state es)
       by true more k = absurd (cc)
       by false more k = ap (λ rs. (string_bytes e.0, state e.1) ∷ rs) (more k)
 
@@ -69,39 +54,39 @@ module _ {W : Type 0} (log : W → List Seen) (at_rest : W → Bool) where
 
   pub change-write : (n : List ℕ) (f : Watching → Watching) (es : List (String Global × W)) (w v : W) → IsDistinct string_eq (keys_of es)
       → lookup (λ k. bytes_eq n (string_bytes k)) es ≡ Some w → state v ≡ f (state w)
-      → standing string_bytes log at_rest (set_value (λ k. bytes_eq n (string_bytes k)) es v) ≡ change n f (standing string_bytes log at_rest es)
+      → standing string_bytes state (set_value (λ k. bytes_eq n (string_bytes k)) es v) ≡ change n f (standing string_bytes state es)
   unfolding IsDistinct
   change-write n f [] w v d h s = refl
   change-write n f (e ∷ es) w v d h s = by (bytes_eq n (string_bytes e.0)) refl (change-write n f es w v d.1) h
     where
       by : (b : Bool) → bytes_eq n (string_bytes e.0) ≡ b
-          → (lookup (λ k. bytes_eq n (string_bytes k)) es ≡ Some w → state v ≡ f (state w) → standing string_bytes log at_rest (set_value (λ k. bytes_eq n (string_bytes k)) es v) ≡ change n f (standing string_bytes log at_rest es))
+          → (lookup (λ k. bytes_eq n (string_bytes k)) es ≡ Some w → state v ≡ f (state w) → standing string_bytes state (set_value (λ k. bytes_eq n (string_bytes k)) es v) ≡ change n f (standing string_bytes state es))
           → cond b (Some e.1) (lookup (λ k. bytes_eq n (string_bytes k)) es) ≡ Some w
-          → standing string_bytes log at_rest (cond b ((e.0, v) ∷ es) (e ∷ set_value (λ k. bytes_eq n (string_bytes k)) es v))
-          ≡ (string_bytes e.0, if b then f (state e.1) else state e.1) ∷ change n f (standing string_bytes log at_rest es)
+          → standing string_bytes state (cond b ((e.0, v) ∷ es) (e ∷ set_value (λ k. bytes_eq n (string_bytes k)) es v))
+          ≡ (string_bytes e.0, if b then f (state e.1) else state e.1) ∷ change n f (standing string_bytes state es)
       by true is more k =
           let same : w ≡ e.1 = cc in
-          ap (λ t. (string_bytes e.0, t) ∷ standing string_bytes log at_rest es) (s ∙ ap (λ x. f (state x)) same)
+          ap (λ t. (string_bytes e.0, t) ∷ standing string_bytes state es) (s ∙ ap (λ x. f (state x)) same)
           ∙ ap (λ rs. (string_bytes e.0, f (state e.1)) ∷ rs) (change-absent n f es (past n e.0 es is d.0))
       by false is more k = ap (λ rs. (string_bytes e.0, state e.1) ∷ rs) (more k s)
 
   -- what stands of the one that is found
   pub stands_found : (n : List ℕ) (b : Bool) (es : List (String Global × W)) (w : W) → lookup (λ k. bytes_eq n (string_bytes k)) es ≡ Some w
-      → Stand (bytes_eq n) b (standing string_bytes log at_rest es) → at_rest w ≡ b
+      → Stand (bytes_eq n) b (standing string_bytes state es) → (state w).resting ≡ b
   stands_found n b [] w h a = absurd (cc)
   stands_found n b (e ∷ es) w h a = by (bytes_eq n (string_bytes e.0)) (stands_found n b es w) h a.0 a.1
     where
-      by : (t : Bool) → (lookup (λ k. bytes_eq n (string_bytes k)) es ≡ Some w → Stand (bytes_eq n) b (standing string_bytes log at_rest es) → at_rest w ≡ b)
-          → cond t (Some e.1) (lookup (λ k. bytes_eq n (string_bytes k)) es) ≡ Some w → (t ≡ true → at_rest e.1 ≡ b) → Stand (bytes_eq n) b (standing string_bytes log at_rest es) → at_rest w ≡ b
-      by true more k here rest = let same : w ≡ e.1 = cc in ap at_rest same ∙ here refl
+      by : (t : Bool) → (lookup (λ k. bytes_eq n (string_bytes k)) es ≡ Some w → Stand (bytes_eq n) b (standing string_bytes state es) → (state w).resting ≡ b)
+          → cond t (Some e.1) (lookup (λ k. bytes_eq n (string_bytes k)) es) ≡ Some w → (t ≡ true → (state e.1).resting ≡ b) → Stand (bytes_eq n) b (standing string_bytes state es) → (state w).resting ≡ b
+      by true more k here rest = let same : w ≡ e.1 = cc in ap (λ x. (state x).resting) same ∙ here refl
       by false more k here rest = more k rest
 
   -- all at rest
-  pub stand-resting : (test : List ℕ → Bool) (es : List (String Global × W)) → Resting at_rest (shown string_bytes (λ w. w) es) → Stand test true (standing string_bytes log at_rest es)
+  pub stand-resting : (test : List ℕ → Bool) (es : List (String Global × W)) → Resting (rests state) (shown string_bytes (λ w. w) es) → Stand test true (standing string_bytes state es)
   stand-resting test [] h = tt
   stand-resting test (e ∷ es) h = (λ _. h.0, stand-resting test es h.1)
 
-  pub resting-stand : (es : List (String Global × W)) → Stand (λ n. true) true (standing string_bytes log at_rest es) → Resting at_rest (shown string_bytes (λ w. w) es)
+  pub resting-stand : (es : List (String Global × W)) → Stand (λ n. true) true (standing string_bytes state es) → Resting (rests state) (shown string_bytes (λ w. w) es)
   resting-stand [] h = tt
   resting-stand (e ∷ es) h = (h.0 refl, resting-stand es h.1)
 
@@ -116,43 +101,7 @@ pub stand-fewer : (test over : List ℕ → Bool) (b : Bool) (rows : Rows Watchi
 stand-fewer test over b [] h a = tt
 stand-fewer test over b (r ∷ rows) h a = (λ t. a.0 (h r.0 t), stand-fewer test over b rows h a.1)
 
--- ---- events
-
--- the watcher of one name hears one event
-abbrev pub hears : ℕ → List ℕ → Value → Watching → Watching
-hears stamp n v s = watching (s.log ++ (record { stamp = stamp; name = n; value = v }) ∷ []) s.resting
-
-pub heard-one : (n : List ℕ) (stamp : ℕ) (v : Value) (rows : Rows Watching) → change n (hears stamp n v) rows ≡ heard (Saw n stamp v ∷ []) rows
-heard-one n stamp v [] = refl
-heard-one n stamp v (r ∷ rows) = ap (λ s. (r.0, s) ∷ change n (hears stamp n v) rows) (by (bytes_eq n r.0) refl) ∙ ap (λ rs. (r.0, now) ∷ rs) (heard-one n stamp v rows)
-  where
-    now : Watching
-    now = watching (r.1.log ++ (if bytes_eq r.0 n then (record { stamp = stamp; name = n; value = v }) ∷ [] else [])) r.1.resting
-
-    by : (b : Bool) → bytes_eq n r.0 ≡ b → (if b then hears stamp n v r.1 else r.1)
-        ≡ watching (r.1.log ++ (if bytes_eq r.0 n then (record { stamp = stamp; name = n; value = v }) ∷ [] else [])) r.1.resting
-    by true e =
-        let back : bytes_eq r.0 n ≡ true = (bytes_eq-Decides r.0 n).1 (sym (same_name n r.0 e)) in
-        ap (λ b. watching (r.1.log ++ (if b then (record { stamp = stamp; name = n; value = v }) ∷ [] else [])) r.1.resting) (sym back)
-    by false e =
-        known r.1.log (r.1.log ++ []) r.1.resting r.1.resting (sym (append-nil r.1.log)) refl
-        ∙ ap (λ b. watching (r.1.log ++ (if b then (record { stamp = stamp; name = n; value = v }) ∷ [] else [])) r.1.resting) (sym (other_name n r.0 e))
-
-pub heard-more : (es : List Event) (e : Event) (rows : Rows Watching) → heard (e ∷ []) (heard es rows) ≡ heard (es ++ e ∷ []) rows
-heard-more es e [] = refl
-heard-more es e (r ∷ rows) =
-    let log = r.1.log in
-    ap (λ l. (r.0, watching l r.1.resting) ∷ heard (e ∷ []) (heard es rows))
-    (append_assoc log (seen_by r.0 es) (seen_by r.0 (e ∷ [])) ∙ ap (λ xs. log ++ xs) (sym (seen_by-append r.0 es (e ∷ []))))
-    ∙ ap (λ rs. (r.0, watching (log ++ seen_by r.0 (es ++ e ∷ [])) r.1.resting) ∷ rs) (heard-more es e rows)
-
-pub heard-none : (rows : Rows Watching) → rows ≡ heard [] rows
-heard-none [] = refl
-heard-none (r ∷ rows) = ap (λ l. (r.0, watching l r.1.resting) ∷ rows) (sym (append-nil r.1.log)) ∙ ap (λ rs. (r.0, watching (r.1.log ++ []) r.1.resting) ∷ rs) (heard-none rows)
-
-pub stand-heard : (test : List ℕ → Bool) (b : Bool) (es : List Event) (rows : Rows Watching) → Stand test b rows → Stand test b (heard es rows)
-stand-heard test b es [] a = tt
-stand-heard test b es (r ∷ rows) a = (a.0, stand-heard test b es rows a.1)
+-- ---- results
 
 pub on_ok : {A E P Q : Type 0} (r : Result A E) → (P → Q) → OnOk r P → OnOk r Q
 on_ok (Ok x) f p = f p
@@ -161,14 +110,6 @@ on_ok (Err e) f p = tt
 pub on_err : {A E P Q : Type 0} (r : Result A E) → (P → Q) → OnErr r P → OnErr r Q
 on_err (Ok x) f p = tt
 on_err (Err e) f p = f p
-
-pub change-nothing : (n : List ℕ) (rows : Rows Watching) → change n (λ s. s) rows ≡ rows
-change-nothing n [] = refl
-change-nothing n (r ∷ rows) = ap (λ s. (r.0, s) ∷ change n (λ s. s) rows) (by (bytes_eq n r.0)) ∙ ap (λ rs. r ∷ rs) (change-nothing n rows)
-  where
-    by : (b : Bool) → (if b then r.1 else r.1) ≡ r.1
-    by true = refl
-    by false = refl
 
 pub if_err : {A E P : Type 0} (r : Result A E) → P → OnErr r P
 if_err (Ok x) p = tt

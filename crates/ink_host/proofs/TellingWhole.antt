@@ -6,18 +6,17 @@ use Rattle.ink_model.specs.declared.host.Event.{Event}
 use Rattle.ink_host.specs.declared.objects.Bound.{Bound}
 use Rattle.ink_host.specs.declared.objects.Bound.TheVariants.{Pure, Turn}
 use Rattle.ink_host.specs.declared.objects.Called.{Called}
-use Rattle.ink_host.specs.declared.objects.Seen.{Seen}
 use Rattle.ink_model.specs.declared.host.Change.{Change}
 use Rattle.ink_host.specs.Desk.{Rows, DeskView, Grew, called, called_by, each, grown, logs, shown}
-use Rattle.ink_host.specs.Telling.{begun, ended, for_named, heard, standing}
+use Rattle.ink_host.specs.Telling.{Watching, log_of, round, standing}
 use Rattle.ink_model.specs.Told.{ToldAs, saws}
-use Rattle.ink_host.proofs.TellingLoops.{logs-standing, saws-call, tells-numbered, told-logs}
+use Rattle.ink_host.proofs.TellingLoops.{logs-round, logs-standing, saws-call, tells-numbered}
 
 pub no_items : {X : Type 0} (xs : List X) → length xs ≡ 0 → xs ≡ []
 no_items [] h = refl
 no_items (x ∷ xs) h = absurd (omega arith)
 
-pub tells-same : (n : ℕ) (cs ds : List Change) (a b : Bool) (es : List Event) → cs ≡ ds → a ≡ b → ToldAs n cs a es → ToldAs n ds b es
+abbrev pub tells-same : (n : ℕ) (cs ds : List Change) (a b : Bool) (es : List Event) → cs ≡ ds → a ≡ b → ToldAs n cs a es → ToldAs n ds b es
 tells-same n cs ds a b es p q t = record { answers = t.answers; one_each = t.one_each ∙ ap length p; events = t.events ∙ ap (λ xs. saws n xs t.answers) p; all_told = sym q ∙ t.all_told }
 
 called-none : {P : Type 0} (es : List Event) → ((n : List ℕ) → called_by n es ≡ []) → (rows : Rows (Bound P (List Called))) → rows ≡ each (called es) rows
@@ -28,33 +27,20 @@ called-none {P} es none (r ∷ rows) = ap (λ b. (r.0, b) ∷ rows) (by r.1) ∙
     by (Pure p) = refl
     by (Turn log) = ap (λ l. Turn l) (sym (ap (λ xs. log ++ xs) (none r.0) ∙ append-nil log))
 
-heard-nothing : {W : Type 0} (watch_log : W → List Seen) (es : List (String Global × W)) → each (λ n w. watch_log w) (shown string_bytes (λ w. w) es) ≡ grown [] (each (λ n w. watch_log w) (shown string_bytes (λ w. w) es))
-heard-nothing watch_log [] = refl
-heard-nothing watch_log (e ∷ es) = ap (λ l. (string_bytes e.0, l) ∷ each (λ n w. watch_log w) (shown string_bytes (λ w. w) es)) (sym (append-nil (watch_log e.1)))
-    ∙ ap (λ rs. (string_bytes e.0, watch_log e.1 ++ []) ∷ rs) (heard-nothing watch_log es)
-
-module _ {P T W : Type 0} (turn_log : T → List Called) (watch_log : W → List Seen) (at_rest : W → Bool) where
+module _ {P T W : Type 0} (turn_log : T → List Called) (state : W → Watching) where
   abbrev pub view : Rows (Bound P T) → List (String Global × W) → List Event → ℕ → DeskView P T W
   view functions entries events next = record { functions = functions; watchers = shown string_bytes (λ w. w) entries; events = events; next = next }
 
   pub grew-told : (functions : Rows (Bound P T)) (first last : List (String Global × W)) (old new : List Event) (n next : ℕ) (cs told : List Change) (done : Bool) (es : List Event)
-      → ToldAs n told done es → new ≡ old ++ es → next ≡ later n es
-      → standing string_bytes watch_log at_rest last ≡ for_named cs ended (heard es (for_named cs begun (standing string_bytes watch_log at_rest first)))
-      → Grew turn_log watch_log (view functions first old n) es (view functions last new next)
+      → (t : ToldAs n told done es) → new ≡ old ++ es → next ≡ later n es
+      → standing string_bytes state last ≡ round n cs told t.answers (standing string_bytes state first)
+      → Grew turn_log (log_of state) (view functions first old n) es (view functions last new next)
   grew-told functions first last old new n next cs told done es t e k rows = record {
     events = e;
     numbered = tells-numbered n told done es t;
     next = k;
     functions = called-none es (λ name. ap (called_by name) t.events ∙ saws-call n told t.answers name) (logs turn_log functions);
-    watchers = sym (logs-standing watch_log at_rest last) ∙ ap (each (λ n s. s.log)) rows ∙ told-logs cs es (standing string_bytes watch_log at_rest first)
-        ∙ ap (grown es) (logs-standing watch_log at_rest first);
-  }
-
-  pub grew-nothing : (functions : Rows (Bound P T)) (first : List (String Global × W)) (old : List Event) (n : ℕ) → Grew turn_log watch_log (view functions first old n) [] (view functions first old n)
-  grew-nothing functions first old n = record {
-    events = sym (append-nil old);
-    numbered = tt;
-    next = refl;
-    functions = called-none [] (λ name. refl) (logs turn_log functions);
-    watchers = heard-nothing watch_log first;
+    watchers = sym (logs-standing state last) ∙ ap (each (λ n s. s.log)) rows ∙ logs-round n cs told t.answers (standing string_bytes state first)
+        ∙ ap (λ fs. grown fs (each (λ n s. s.log) (standing string_bytes state first))) (sym t.events)
+        ∙ ap (grown es) (logs-standing state first);
   }

@@ -1,11 +1,13 @@
 -- The desk, as contracts see it: what is bound and who watches, by name, and what happened (docs/HOST.md).
-use Rattle.std.specs.Prelude.{◌≡◌, ℕ, List, [], ◌∷◌, ◌++◌, map, Bool, true, false, bytes_eq, Option, Some, None, if◌then◌else◌}
+use Rattle.std.specs.Prelude.{◌≡◌, ℕ, List, [], ◌∷◌, ◌++◌, ◌+◌, ◌%◌, ◌^◌, map, Bool, true, false, bytes_eq, Option, Some, None, Result, Ok, Err, if◌then◌else◌}
 use Rattle.std.specs.Option.{option_map}
 use Rattle.ink_model.specs.Events.{after, later}
 use Rattle.ink_model.specs.Host as host
 use Rattle.ink_model.specs.declared.host.Event.{Event}
 use Rattle.ink_model.specs.declared.host.Event.TheVariants.{Call, Saw}
 use Rattle.ink_model.specs.declared.host.Given.{Given}
+use Rattle.ink_model.specs.declared.host.HostFault.{HostFault}
+use Rattle.ink_model.specs.declared.host.HostFault.TheVariants as fault
 use Rattle.ink_model.specs.declared.value.Value.{Value}
 use Rattle.ink_host.specs.declared.objects.Bound.{Bound}
 use Rattle.ink_host.specs.declared.objects.Bound.TheVariants as bound
@@ -166,3 +168,24 @@ module _ {P T W : Type 0} (turn_log : T → List Called) (watch_log : W → List
     pub next : new.next ≡ later old.next es
     pub functions : logs turn_log new.functions ≡ each (called es) (logs turn_log old.functions)
     pub watchers : each (λ n w. watch_log w) new.watchers ≡ grown es (each (λ n w. watch_log w) old.watchers)
+
+-- ---- refusals of memory
+
+-- one more, as a counter of 64 bits counts
+abbrev pub counted : ℕ → ℕ
+counted n = (n + 1) % 2 ^ 64
+
+-- how often a function was refused memory, after a call
+abbrev pub refusals_after : {A : Type 0} → Result A HostFault → ℕ → ℕ
+refusals_after (Ok g) n = n
+refusals_after (Err fault.Refused) n = n
+refusals_after (Err fault.OutOfMemory) n = counted n
+
+-- how often what is bound was
+abbrev pub refusals_of : {P T : Type 0} → (T → ℕ) → Bound P T → ℕ
+refusals_of refusals (bound.Pure p) = 0
+refusals_of refusals (bound.Turn t) = refusals t
+
+abbrev pub refusals_at : {P T : Type 0} → (T → ℕ) → Option (Bound P T) → ℕ
+refusals_at refusals None = 0
+refusals_at refusals (Some b) = refusals_of refusals b

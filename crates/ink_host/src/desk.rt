@@ -1,13 +1,14 @@
 //! The desk: what a host has bound and who watches, and what happened.
 
-ghost use Rattle.std.specs.Prelude.{◌≡◌, ◌⊎◌, [], ◌∷◌, List, None, Some, Ok, Err, option_map, string_bytes, IfOk, IfErr, IfSome, OnOk, OnErr, true};
+ghost use Rattle.std.specs.Prelude.{◌≡◌, ◌⊎◌, [], ◌∷◌, List, None, Some, Ok, Err, option_map, string_bytes, IfOk, IfErr, OnOk, OnErr};
 ghost use Rattle.ink_model.specs.Host.{shares};
 ghost use Rattle.ink_model.specs.declared.fault.Fault.TheVariants as fault;
 ghost use Rattle.ink_model.specs.declared.host.Event.{Event as Happening};
 ghost use Rattle.ink_model.specs.declared.host.Event.TheVariants as event;
 ghost use Rattle.ink_model.specs.declared.host.Given.{Given as Answer};
-ghost use Rattle.ink_host.specs.Desk.{DeskView, Grew, Resting, answer_of, at, empty_desk, has_rows, kind_of, put, shown, without};
+ghost use Rattle.ink_host.specs.Desk.{DeskView, Grew, answer_of, at, counted, empty_desk, has_rows, kind_of, put, refusals_at, shown, without};
 ghost use Rattle.ink_host.specs.Desk as view;
+ghost use Rattle.ink_host.specs.Telling.{log_of};
 ghost use Rattle.ink_host.specs.declared.objects.Bound.TheVariants as bound;
 
 use crate::objects::{Bound, FnKind, PureFn, TurnFn, Watcher, copied_values};
@@ -20,6 +21,7 @@ use std::mem;
 
 /// Functions and watchers by name, in the order in which they came, and what happened since the events were last taken. It is
 /// generic in the objects and asks nothing of them but their traits: each that is given is kept or handed back.
+#[derive(Drop)]
 pub struct Desk<P, T, W> {
     pub(crate) functions: IndexMap<String, Bound<P, T>>,
     pub(crate) watchers: IndexMap<String, W>,
@@ -162,10 +164,11 @@ impl<P, T: TurnFn, W: Watcher> Desk<P, T, W> {
     /// the event is kept.
     pub fn call(&mut self, name: &str, arguments: &[Value]) -> Result<Given, Fault>
         requires { (t : T) × (at name.now self.old.functions ≡ Some (bound.Turn t)) }
-        ensures answer { (g : Answer) → result ≡ Ok g → Grew T.log W.log self.old (event.Call name.now arguments.now (Some g) self.old.next ∷ []) self.new }
-        ensures refused { result ≡ Err fault.HostRefused → Grew T.log W.log self.old (event.Call name.now arguments.now None self.old.next ∷ []) self.new }
-        ensures memory { result ≡ Err fault.OutOfMemory → (es : List Happening) × Grew T.log W.log self.old es self.new
-            × ((es ≡ []) ⊎ ((g : Answer) × shares g × (es ≡ event.Call name.now arguments.now (Some g) self.old.next ∷ []))) }
+        ensures answer { (g : Answer) → result ≡ Ok g → Grew T.log (log_of W.state) self.old (event.Call name.now arguments.now (Some g) self.old.next ∷ []) self.new }
+        ensures refused { result ≡ Err fault.HostRefused → Grew T.log (log_of W.state) self.old (event.Call name.now arguments.now None self.old.next ∷ []) self.new }
+        ensures memory { result ≡ Err fault.OutOfMemory → (self.new ≡ self.old)
+            ⊎ ((Grew T.log (log_of W.state) self.old [] self.new × (refusals_at T.refusals (at name.now self.new.functions) ≡ counted (refusals_at T.refusals (at name.now self.old.functions))))
+            ⊎ ((g : Answer) × shares g × Grew T.log (log_of W.state) self.old (event.Call name.now arguments.now (Some g) self.old.next ∷ []) self.new)) }
         ensures faults { IfErr result (λ f. (f ≡ fault.HostRefused) ⊎ (f ≡ fault.OutOfMemory)) }
         ensures watchers { self.new.watchers ≡ self.old.watchers }
     {
@@ -207,12 +210,8 @@ impl<P, T, W: Watcher> Desk<P, T, W> {
     /// Has a watcher told the new values of a global, and hands back who was told them before. The one error is a refused
     /// request for memory; it hands back the watcher, and nothing has changed.
     pub fn watch(&mut self, name: &str, watcher: W) -> Result<Option<W>, W>
-        requires given { W.at_rest watcher ≡ true }
-        requires rest { Resting W.at_rest self.old.watchers }
         ensures old { IfOk result (λ old. old ≡ at name.now self.old.watchers) }
         ensures kept { OnOk result (self.new ≡ record self.old { watchers = put name.now watcher self.old.watchers }) }
-        ensures rest { Resting W.at_rest self.new.watchers }
-        ensures old_rest { IfOk result (λ old. IfSome old (λ w. W.at_rest w ≡ true)) }
         ensures back { IfErr result (λ w. w ≡ watcher) }
         ensures err { OnErr result (self.new ≡ self.old) }
     {
@@ -221,21 +220,18 @@ impl<P, T, W: Watcher> Desk<P, T, W> {
 
     /// Takes the watcher of a global away and hands it back; none where nobody watches it. Takes no memory.
     pub fn unwatch(&mut self, name: &str) -> Option<W>
-        requires rest { Resting W.at_rest self.old.watchers }
         ensures old { result ≡ at name.now self.old.watchers }
         ensures left { self.new ≡ record self.old { watchers = without name.now self.old.watchers } }
-        ensures rest { Resting W.at_rest self.new.watchers }
-        ensures old_rest { IfSome result (λ w. W.at_rest w ≡ true) }
     {
         self.watchers.shift_remove(name)
     }
+}
 
+impl<P, T, W> Desk<P, T, W> {
     /// Hands back all that was bound and all who watch, each by its name.
     pub fn close(self) -> (IndexMap<String, Bound<P, T>>, IndexMap<String, W>)
-        requires rest { Resting W.at_rest self.watchers }
         ensures functions { shown string_bytes (λ b. b) result.0.entries ≡ self.functions }
         ensures watchers { shown string_bytes (λ w. w) result.1.entries ≡ self.watchers }
-        ensures rest { Resting W.at_rest (shown string_bytes (λ w. w) result.1.entries) }
     {
         let Desk {
             functions,

@@ -1,11 +1,12 @@
 //! The objects of a host: functions that a story calls, and watchers of its globals.
 
-ghost use Rattle.std.specs.Prelude.{◌≡◌, ◌≢◌, ◌++◌, ◌∷◌, [], Bool, false, true, List, Option, None, Some, Ok, Err, IfOk, OnOk, OnErr, not};
+ghost use Rattle.std.specs.Prelude.{◌≡◌, ℕ, ◌≢◌, ◌++◌, ◌∷◌, [], Bool, false, true, List, Option, None, Some, Ok, Err, IfOk, OnOk, OnErr, not};
 ghost use Rattle.ink_model.specs.declared.host.Given.{Given as Answer};
 ghost use Rattle.ink_model.specs.declared.host.HostFault.TheVariants as fault;
 ghost use Rattle.ink_model.specs.declared.value.Value.{Value as Data};
 ghost use Rattle.ink_host.specs.declared.objects.Called.{Called as Call};
-ghost use Rattle.ink_host.specs.declared.objects.Seen.{Seen as Sight};
+ghost use Rattle.ink_host.specs.Desk.{refusals_after};
+ghost use Rattle.ink_host.specs.Telling.{Watching, begun, ended, refused, taken};
 
 use ink_model::{Given, HostFault, Seq, Text, Value};
 use std::alloc::{AllocError, Global};
@@ -56,40 +57,36 @@ pub trait TurnFn {
     /// The calls that it answered or refused.
     ghost log: { Self → List Call };
 
+    /// How often it was refused memory.
+    ghost refusals: { Self → ℕ };
+
     /// Acts, and answers. `Refused` where it refuses the call, `OutOfMemory` where it was refused memory, and then it has not
     /// acted.
     fn call(&mut self, stamp: u64, arguments: &[Value]) -> Result<Given, HostFault>
         ensures answer { (g : Answer) → result ≡ Ok g → log self.new ≡ log self.old ++ (record { stamp = stamp; arguments = arguments.now; gave = Some g }) ∷ [] }
         ensures refused { result ≡ Err fault.Refused → log self.new ≡ log self.old ++ (record { stamp = stamp; arguments = arguments.now; gave = None }) ∷ [] }
-        ensures memory { result ≡ Err fault.OutOfMemory → log self.new ≡ log self.old };
+        ensures memory { result ≡ Err fault.OutOfMemory → log self.new ≡ log self.old }
+        ensures refusals { refusals self.new ≡ refusals_after result (refusals self.old) };
 }
 
-/// Who is told the new values of a global.
+/// Who is told the new values of a global. Its methods require nothing.
 pub trait Watcher {
-    /// What it was told.
-    ghost log: { Self → List Sight };
-
-    /// Whether nothing is being told.
-    ghost at_rest: { Self → Bool };
+    /// What it was told, whether it is at rest, and how often it was begun, ended and refused memory.
+    ghost state: { Self → Watching };
 
     /// Something is about to be told.
     fn begin(&mut self)
-        requires { at_rest self.old ≡ true }
-        ensures log { log self.new ≡ log self.old }
-        ensures begun { at_rest self.new ≡ false };
+        ensures { state self.new ≡ begun (state self.old) };
 
-    /// A global has a new value. The one error is a refused request for memory, and then it was not told.
+    /// A global has a new value. The one error is a refused request for memory, and then it was not told. A watcher that was
+    /// not begun owes nothing.
     fn changed(&mut self, stamp: u64, name: &str, value: &Value) -> Result<(), AllocError>
-        requires { at_rest self.old ≡ false }
-        ensures told { OnOk result (log self.new ≡ log self.old ++ (record { stamp = stamp; name = name.now; value = value.now }) ∷ []) }
-        ensures untold { OnErr result (log self.new ≡ log self.old) }
-        ensures begun { at_rest self.new ≡ false };
+        ensures told { (state self.old).resting ≡ false → OnOk result (state self.new ≡ taken (record { stamp = stamp; name = name.now; value = value.now }) (state self.old)) }
+        ensures untold { (state self.old).resting ≡ false → OnErr result (state self.new ≡ refused (state self.old)) };
 
     /// All is told.
     fn end(&mut self)
-        requires { at_rest self.old ≡ false }
-        ensures log { log self.new ≡ log self.old }
-        ensures ended { at_rest self.new ≡ true };
+        ensures { state self.new ≡ ended (state self.old) };
 }
 
 /// A function that is bound to a name.
@@ -111,6 +108,9 @@ pub enum FnKind {
 #[derive(Drop)]
 pub struct Nobody {
     is_told: bool,
+    begins: u64,
+    ends: u64,
+    refusals: u64,
 }
 
 impl PureFn for Nobody {
@@ -124,25 +124,29 @@ impl PureFn for Nobody {
 impl TurnFn for Nobody {
     ghost log = { λ nobody. [] };
 
+    ghost refusals = { λ nobody. nobody.refusals };
+
     fn call(&mut self, _stamp: u64, _arguments: &[Value]) -> Result<Given, HostFault> {
+        self.refusals = self.refusals.wrapping_add(1);
         Err(HostFault::OutOfMemory)
     }
 }
 
 impl Watcher for Nobody {
-    ghost log = { λ nobody. [] };
-
-    ghost at_rest = { λ nobody. not nobody.is_told };
+    ghost state = { λ n. record { log = []; resting = not n.is_told; begins = n.begins; ends = n.ends; refusals = n.refusals } };
 
     fn begin(&mut self) {
         self.is_told = true;
+        self.begins = self.begins.wrapping_add(1);
     }
 
     fn changed(&mut self, _stamp: u64, _name: &str, _value: &Value) -> Result<(), AllocError> {
+        self.refusals = self.refusals.wrapping_add(1);
         Err(AllocError)
     }
 
     fn end(&mut self) {
         self.is_told = false;
+        self.ends = self.ends.wrapping_add(1);
     }
 }

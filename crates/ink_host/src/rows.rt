@@ -5,7 +5,7 @@ ghost use Rattle.ink_model.specs.Events.{after};
 ghost use Rattle.ink_model.specs.declared.host.Event.TheVariants as event;
 ghost use Rattle.ink_model.specs.declared.host.Given.{Given as Answer};
 ghost use Rattle.ink_model.specs.declared.host.HostFault.TheVariants as fault;
-ghost use Rattle.ink_host.specs.Desk.{answer_of, at, by_log, called, each, logs, noting, put, shown};
+ghost use Rattle.ink_host.specs.Desk.{answer_of, at, by_log, called, each, logs, noting, put, refusals_after, refusals_at, refusals_of, shown};
 ghost use Rattle.ink_host.specs.declared.objects.Bound.TheVariants as bound;
 
 use crate::objects::{Bound, PureFn, TurnFn};
@@ -66,6 +66,7 @@ pub(crate) fn call_at<P, T: TurnFn>(
     ensures answer { (g : Answer) → result ≡ Ok g → logs T.log (shown string_bytes (λ b. b) functions.new.entries) ≡ each (called (event.Call name.now arguments.now (Some g) stamp ∷ [])) (logs T.log (shown string_bytes (λ b. b) functions.old.entries)) }
     ensures refused { result ≡ Err fault.Refused → logs T.log (shown string_bytes (λ b. b) functions.new.entries) ≡ each (called (event.Call name.now arguments.now None stamp ∷ [])) (logs T.log (shown string_bytes (λ b. b) functions.old.entries)) }
     ensures memory { result ≡ Err fault.OutOfMemory → logs T.log (shown string_bytes (λ b. b) functions.new.entries) ≡ logs T.log (shown string_bytes (λ b. b) functions.old.entries) }
+    ensures refusals { refusals_at T.refusals (at name.now (shown string_bytes (λ b. b) functions.new.entries)) ≡ refusals_after result (refusals_at T.refusals (at name.now (shown string_bytes (λ b. b) functions.old.entries))) }
 {
     match functions.get_mut(name) {
         Some(object) => call_bound(object, stamp, arguments),
@@ -83,6 +84,7 @@ fn call_bound<P, T: TurnFn>(
     ensures answer { (g : Answer) → result ≡ Ok g → by_log T.log object.new ≡ noting (record { stamp = stamp; arguments = arguments.now; gave = Some g }) (by_log T.log object.old) }
     ensures refused { result ≡ Err fault.Refused → by_log T.log object.new ≡ noting (record { stamp = stamp; arguments = arguments.now; gave = None }) (by_log T.log object.old) }
     ensures memory { result ≡ Err fault.OutOfMemory → by_log T.log object.new ≡ by_log T.log object.old }
+    ensures refusals { refusals_of T.refusals object.new ≡ refusals_after result (refusals_of T.refusals object.old) }
 {
     match object {
         Bound::Turn(function) => function.call(stamp, arguments),

@@ -1,11 +1,10 @@
 //! Telling the watchers what has changed.
 
-ghost use Rattle.std.specs.Prelude.{◌≡◌, ◌≢◌, ◌+◌, ◌≤◌, [], ◌∷◌, ◌++◌, List, true, false, bytes_eq, filter, is_ok, not, string_bytes, vec_capacity, vec_len, IfOk, OnErr, OnOk, Err};
+ghost use Rattle.std.specs.Prelude.{◌≡◌, ◌≢◌, ◌+◌, ◌≤◌, [], ◌∷◌, ◌++◌, List, Bool, false, bytes_eq, filter, is_ok, string_bytes, vec_capacity, vec_len, IfOk, OnErr, OnOk, Err};
 ghost use Rattle.ink_model.specs.Events.{later};
 ghost use Rattle.ink_model.specs.declared.host.Event.{Event as Happening};
-ghost use Rattle.ink_model.specs.declared.host.Event.TheVariants.{Saw};
 ghost use Rattle.ink_host.specs.Desk.{Grew, Resting, shown, watches};
-ghost use Rattle.ink_host.specs.Telling.{OncePerName, Stand, change, for_named, heard, named, standing, with_resting};
+ghost use Rattle.ink_host.specs.Telling.{IsRound, Stand, begun, change, ended, heard, in_turn, log_of, named, refused, rests, standing, taken};
 ghost use Rattle.ink_host.specs.declared.telling.TellFault.TheVariants.{NoRoom};
 ghost use Rattle.ink_model.specs.Told.{ToldAs};
 
@@ -25,31 +24,28 @@ pub enum TellFault {
 
 impl<P, T: TurnFn, W: Watcher> Desk<P, T, W> {
     /// Tells the watchers of these globals their new values, each as one event; a change of a global that nobody watches is
-    /// passed over. Each watcher concerned is begun, told and ended once, and is at rest afterwards whatever comes of it
-    /// (docs/HOST.md). `NoRoom` where memory for the events was refused, or a value can have no further owner, which both
-    /// come only where somebody watches, and then nothing was done; `Watcher` where a watcher was refused memory, and then
-    /// there is no event of its change, and the others were told.
+    /// passed over. Each watcher concerned is begun, then each told, then each ended, in the order of the changes and once for
+    /// each of them, whatever comes of it (docs/HOST.md). `NoRoom` where memory for the events was refused, or a value can have
+    /// no further owner, which both come only where somebody watches, and then nothing was done; `Watcher` where a watcher was
+    /// refused memory, and then there is no event of its change, and the others were told.
     pub fn tell(&mut self, changes: &[Change]) -> Result<(), TellFault>
-        requires once { OncePerName changes.now }
-        requires rest { Resting W.at_rest self.old.watchers }
-        ensures rest { Resting W.at_rest self.new.watchers }
         ensures functions { self.new.functions ≡ self.old.functions }
         ensures no_room { result ≡ Err NoRoom → self.new ≡ self.old }
         ensures memory { result ≡ Err NoRoom → filter (λ c. watches self.old.watchers c.name) changes.now ≢ [] }
-        ensures told { result ≢ Err NoRoom → (es : List Happening) × ToldAs self.old.next (filter (λ c. watches self.old.watchers c.name) changes.now) (is_ok result) es × Grew T.log W.log self.old es self.new }
+        ensures told { result ≢ Err NoRoom → (es : List Happening) × (t : ToldAs self.old.next (filter (λ c. watches self.old.watchers c.name) changes.now) (is_ok result) es)
+            × IsRound W.state self.old.next changes.now (filter (λ c. watches self.old.watchers c.name) changes.now) t.answers self.old.watchers self.new.watchers
+            × Grew T.log (log_of W.state) self.old es self.new }
+        ensures rest { Resting (rests W.state) self.old.watchers → Resting (rests W.state) self.new.watchers }
     {
         let Ok(told) = watched_among(&self.watchers, self.alloc, changes) else {
             return Err(TellFault::NoRoom);
         };
-        if told.is_empty() {
-            return Ok(());
-        }
         if self.events.reserve(told.len()).is_err() {
             return Err(TellFault::NoRoom);
         }
-        set_resting(&mut self.watchers, changes, false);
+        begin_all(&mut self.watchers, changes);
         let outcome = change_all(&mut self.watchers, &mut self.events, &mut self.next, told);
-        set_resting(&mut self.watchers, changes, true);
+        end_all(&mut self.watchers, changes);
         outcome
     }
 }
@@ -81,14 +77,21 @@ fn copied(alloc: Global, change: &Change) -> Result<Change, AllocError>
     Ok(Change { name, value })
 }
 
-// Brings the watcher of each name back to rest, or out of it.
-fn set_resting<W: Watcher>(watchers: &mut IndexMap<String, W>, changes: &[Change], resting: bool)
-    requires once { OncePerName changes.now }
-    requires stand { Stand (λ n. named n changes.now) (not resting) (standing string_bytes W.log W.at_rest watchers.old.entries) }
-    ensures { standing string_bytes W.log W.at_rest watchers.new.entries ≡ for_named changes.now (with_resting resting) (standing string_bytes W.log W.at_rest watchers.old.entries) }
+// Begins the watcher of each name, in order.
+fn begin_all<W: Watcher>(watchers: &mut IndexMap<String, W>, changes: &[Change])
+    ensures { standing string_bytes W.state watchers.new.entries ≡ in_turn begun changes.now (standing string_bytes W.state watchers.old.entries) }
 {
     for change in changes {
-        set_resting_at(watchers, change.name.as_str(), resting);
+        begin_at(watchers, change.name.as_str());
+    }
+}
+
+// Ends the watcher of each name, in order.
+fn end_all<W: Watcher>(watchers: &mut IndexMap<String, W>, changes: &[Change])
+    ensures { standing string_bytes W.state watchers.new.entries ≡ in_turn ended changes.now (standing string_bytes W.state watchers.old.entries) }
+{
+    for change in changes {
+        end_at(watchers, change.name.as_str());
     }
 }
 
@@ -100,12 +103,12 @@ fn change_all<W: Watcher>(
     changes: Vec<Change>,
 ) -> Result<(), TellFault>
     requires room { vec_len events.old + vec_len changes ≤ vec_capacity events.old }
-    requires begun { Stand (λ n. named n changes.items) false (standing string_bytes W.log W.at_rest watchers.old.entries) }
+    requires begun { Stand (λ n. named n changes.items) false (standing string_bytes W.state watchers.old.entries) }
     ensures fault { result ≢ Err NoRoom }
-    ensures told { (es : List Happening) × ToldAs next.old changes.items (is_ok result) es
+    ensures told { (es : List Happening) × (t : ToldAs next.old changes.items (is_ok result) es)
         × (events.new.items ≡ events.old.items ++ es)
         × (next.new ≡ later next.old es)
-        × (standing string_bytes W.log W.at_rest watchers.new.entries ≡ heard es (standing string_bytes W.log W.at_rest watchers.old.entries)) }
+        × (standing string_bytes W.state watchers.new.entries ≡ heard next.old changes.items t.answers (standing string_bytes W.state watchers.old.entries)) }
 {
     let mut outcome = Ok(());
     for change in changes {
@@ -124,19 +127,24 @@ fn change_all<W: Watcher>(
     outcome
 }
 
-// Ends the watcher of a name, if there is one, or begins it.
-fn set_resting_at<W: Watcher>(watchers: &mut IndexMap<String, W>, name: &str, resting: bool)
-    requires { Stand (bytes_eq name.now) (not resting) (standing string_bytes W.log W.at_rest watchers.old.entries) }
-    ensures { standing string_bytes W.log W.at_rest watchers.new.entries ≡ change name.now (with_resting resting) (standing string_bytes W.log W.at_rest watchers.old.entries) }
+// Begins the watcher of a name, if there is one.
+fn begin_at<W: Watcher>(watchers: &mut IndexMap<String, W>, name: &str)
+    ensures { standing string_bytes W.state watchers.new.entries ≡ change name.now begun (standing string_bytes W.state watchers.old.entries) }
 {
     let Some(watcher) = watchers.get_mut(name) else {
         return;
     };
-    if resting {
-        watcher.end();
-    } else {
-        watcher.begin();
-    }
+    watcher.begin();
+}
+
+// Ends the watcher of a name, if there is one.
+fn end_at<W: Watcher>(watchers: &mut IndexMap<String, W>, name: &str)
+    ensures { standing string_bytes W.state watchers.new.entries ≡ change name.now ended (standing string_bytes W.state watchers.old.entries) }
+{
+    let Some(watcher) = watchers.get_mut(name) else {
+        return;
+    };
+    watcher.end();
 }
 
 // Tells the watcher of a name, if there is one.
@@ -146,9 +154,9 @@ fn changed_at<W: Watcher>(
     name: &str,
     value: &Value,
 ) -> Result<(), AllocError>
-    requires begun { Stand (bytes_eq name.now) false (standing string_bytes W.log W.at_rest watchers.old.entries) }
-    ensures told { OnOk result (standing string_bytes W.log W.at_rest watchers.new.entries ≡ heard (Saw name.now stamp value.now ∷ []) (standing string_bytes W.log W.at_rest watchers.old.entries)) }
-    ensures untold { OnErr result (standing string_bytes W.log W.at_rest watchers.new.entries ≡ standing string_bytes W.log W.at_rest watchers.old.entries) }
+    requires begun { Stand (bytes_eq name.now) false (standing string_bytes W.state watchers.old.entries) }
+    ensures told { OnOk result (standing string_bytes W.state watchers.new.entries ≡ change name.now (taken (record { stamp = stamp; name = name.now; value = value.now })) (standing string_bytes W.state watchers.old.entries)) }
+    ensures untold { OnErr result (standing string_bytes W.state watchers.new.entries ≡ change name.now refused (standing string_bytes W.state watchers.old.entries)) }
 {
     let Some(watcher) = watchers.get_mut(name) else {
         return Ok(());

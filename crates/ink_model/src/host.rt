@@ -20,6 +20,14 @@ pub enum Given {
 
 impl Given {
     ghost use Rattle.ink_model.specs.Host.{shares};
+    ghost use Rattle.ink_model.specs.declared.host.Given.TheVariants as given;
+
+    /// A text of its own. The one error is a refused request for memory.
+    pub fn text(alloc: Global, text: &str) -> Result<Given, AllocError>
+        ensures { IfOk result (λ answer. answer ≡ given.Text text.now) }
+    {
+        Ok(Given::Text(Shared::new(alloc, Text::from_str(alloc, text)?)?))
+    }
 
     /// A copy, which shares a text: it asks for no memory. The one error is a count of owners that is full.
     pub fn clone_in(&self, _alloc: Global) -> Result<Given, AllocError>

@@ -15,13 +15,12 @@ use Rattle.ink_protocol.specs.Lines.{TakesLine, GivesLine}
 use Rattle.ink_player.specs.Playing.{IsStoryLine, PlaysOn, EndsEarly, PlayFails, PlayEnds, Plays, play_fault, OpenFails, Opens}
 use Rattle.ink_player.specs.Serving.{RunEnds, Runs}
 use Rattle.ink_protocol.specs.Spelled.{HasRoom}
-use Rattle.ink_player.specs.Words.{state_of, story_of}
+use Rattle.ink_player.specs.Words.{PlayerView, state_of, story_of}
 use Rattle.ink_player.specs.declared.end.PlayEnd.{PlayEnd}
 use Rattle.ink_player.specs.declared.end.PlayFault.{PlayFault}
 use Rattle.ink_player.specs.declared.end.PlayFault.TheVariants as play
 use Rattle.ink_protocol.specs.declared.fault.RunFault.{RunFault}
 use Rattle.ink_protocol.specs.declared.fault.RunFault.TheVariants as fault
-use Rattle.ink_player.specs.declared.player.Player.{Player}
 use Rattle.ink_protocol.proofs.Reading.{has_room}
 use Rattle.ink_player.proofs.Sessions.{none_left}
 
@@ -41,7 +40,7 @@ story_bound a b o n taken line e t = omega (arith, t.room, ap (λ z. length z.un
 early : (bytes : List ℕ) → length bytes ≤ MAX_STORY + 1 → EndsEarly bytes []
 early bytes bound = record { nothing = refl; bound = bound }
 
-pub opens_as : {P F O : Type 0} (text line : List ℕ) (r : Result (Player P F O) (PlayEnd P F O)) → text ≡ line → Opens text r → Opens line r
+pub opens_as : {P F O : Type 0} (text line : List ℕ) (r : Result (PlayerView P F O) (PlayEnd P F O)) → text ≡ line → Opens text r → Opens line r
 opens_as text line r e p = subst (λ l. Opens l r) e p
 
 fails_early : (host : Bindings) (left : Option (List ℕ)) (bytes line input : List ℕ) (f : PlayFault) → IsStoryLine left bytes line input → length bytes ≤ MAX_STORY + 1 → OpenFails line f → PlayFails host [] left bytes [] f
@@ -122,7 +121,7 @@ module _ {P F O : Type 0} (host : Bindings) where
   -- ---- a session after the story
 
   -- there is nothing after it
-  pub plays_last : (a b h : Option (List ℕ)) (o n : Buffered) (line : List ℕ) (p : Player P F O) (d : DeskView P F O) → o ≡ fresh → TakesAll a b o n line → Opens line (Ok p) → Plays host [] a b h h (Ok d)
+  pub plays_last : (a b h : Option (List ℕ)) (o n : Buffered) (line : List ℕ) (p : PlayerView P F O) (d : DeskView P F O) → o ≡ fresh → TakesAll a b o n line → Opens line (Ok p) → Plays host [] a b h h (Ok d)
   plays_last a b h o n line p d e t opens =
       plays_early a b h o n line (Ok d) e t.0.takes (story_bound a b o n line line e t.0) (record {
         tree = story_of p;
@@ -133,7 +132,7 @@ module _ {P F O : Type 0} (host : Bindings) where
         ends = record { at_end = t.3; within = omega arith; each = tt; session = (refl, refl, refl) };
       })
 
-  plays_from : (a b c h j : Option (List ℕ)) (o n : Buffered) (line : List ℕ) (p : Player P F O) (es : List Event) (new : State) (r : Result (Unit {0}) RunFault) (x : Result (DeskView P F O) (PlayEnd P F O))
+  plays_from : (a b c h j : Option (List ℕ)) (o n : Buffered) (line : List ℕ) (p : PlayerView P F O) (es : List Event) (new : State) (r : Result (Unit {0}) RunFault) (x : Result (DeskView P F O) (PlayEnd P F O))
       → o ≡ fresh → TakesStory a b o n line → Opens line (Ok p) → Runs (story_of p) host es n.spare n.unread b c h j (state_of p) new r
       → ((bytes written : List ℕ) → PlaysOn host es c bytes written r → PlayEnds host es c bytes written x) → Plays host es a c h j x
   plays_from a b c h j o n line p es new r x e t opens q into =
@@ -164,11 +163,11 @@ module _ {P F O : Type 0} (host : Bindings) where
         });
       }
 
-  pub plays_on : (a b c h j : Option (List ℕ)) (o n : Buffered) (line : List ℕ) (p : Player P F O) (es : List Event) (new : State) (d : DeskView P F O)
+  pub plays_on : (a b c h j : Option (List ℕ)) (o n : Buffered) (line : List ℕ) (p : PlayerView P F O) (es : List Event) (new : State) (d : DeskView P F O)
       → o ≡ fresh → TakesStory a b o n line → Opens line (Ok p) → Runs (story_of p) host es n.spare n.unread b c h j (state_of p) new (Ok tt) → Plays host es a c h j (Ok d)
   plays_on a b c h j o n line p es new d e t opens q = plays_from a b c h j o n line p es new (Ok tt) (Ok d) e t opens q (λ bytes written y. y)
 
-  pub plays_short : (a b c h j : Option (List ℕ)) (o n : Buffered) (line : List ℕ) (p : Player P F O) (es : List Event) (new : State) (f : RunFault) (d : DeskView P F O)
+  pub plays_short : (a b c h j : Option (List ℕ)) (o n : Buffered) (line : List ℕ) (p : PlayerView P F O) (es : List Event) (new : State) (f : RunFault) (d : DeskView P F O)
       → o ≡ fresh → TakesStory a b o n line → Opens line (Ok p) → Runs (story_of p) host es n.spare n.unread b c h j (state_of p) new (Err f) → Plays host es a c h j (Err (record { fault = play.Run f; desk = d }))
   plays_short a b c h j o n line p es new f d e t opens q =
       plays_from a b c h j o n line p es new (Err f) (Err (record { fault = play.Run f; desk = d })) e t opens q (λ bytes written y. inr y)

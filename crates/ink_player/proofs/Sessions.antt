@@ -309,6 +309,12 @@ pub command_does : (s : StoryTree) (host : Bindings) (old : State) (reply : Repl
 command_does s host old reply new k j e (inl p) = inl (subst (λ x. Does s host [] (option_map command_by x) old reply new) (sym e) p)
 command_does s host old reply new k j e (inr p) = inr (refl, subst (λ x. PathFails (option_map command_by x) old reply new) (sym e) p)
 
+-- a command with these events, by the line's command
+pub command_acts : (s : StoryTree) (host : Bindings) (es : List Event) (old : State) (reply : Reply) (new : State) (k j : Option LineCommand) → k ≡ j
+    → Does s host es (option_map command_by j) old reply new
+    → Does s host es (option_map command_by k) old reply new ⊎ ((es ≡ []) × PathFails (option_map command_by k) old reply new)
+command_acts s host es old reply new k j e p = inl (subst (λ x. Does s host es (option_map command_by x) old reply new) (sym e) p)
+
 pub none_left : (l : List ℕ) → length l ≡ 0 → l ≡ []
 none_left [] e = refl
 none_left (x ∷ xs) e = let no : ⊥ = omega (arith, e) in absurd no

@@ -1,10 +1,11 @@
 -- What a command comes to that may call or tell the objects of a host.
-use Rattle.std.proofs.Common.{◌≡◌, ◌≢◌, ◌∙◌, ◌⊎◌, ap, sym, refl, subst, inl, inr, cond, ℕ, List, [], ◌∷◌, ◌++◌, map, filter, Bool, true, false, ◌&&◌, ◌||◌, Option, Some, None, is_some, Result, Ok, Err, OnOk, is_ok, MatchBool, arith}
-use Rattle.ink_host.specs.Desk.{DeskView, Grew, bound_by, watches}
+use Rattle.std.proofs.Common.{◌≡◌, ◌≢◌, ◌∙◌, ◌⊎◌, ap, sym, refl, subst, inl, inr, cond, ℕ, ℤ, List, [], ◌∷◌, ◌++◌, map, filter, length, Bool, true, false, bytes_eq, ◌&&◌, ◌||◌, if◌then◌else◌, Option, Some, None, IfSome, is_some, Result, Ok, Err, IfOk, OnOk, OnErr, is_ok, MatchBool, arith}
+use Rattle.ink_host.specs.Desk.{DeskView, Grew, Resting, Rows, at, bound_by, each, put, watches, without}
 use Rattle.ink_host.specs.declared.objects.Called.{Called}
-use Rattle.ink_host.specs.declared.objects.Seen.{Seen}
+use Rattle.ink_host.specs.Telling.{AreRounds, IsRound, Round, Stand, Watching, log_of, rests, round, rounds}
 use Rattle.ink_host.proofs.Laws.{bound-same, grew-grew, grew-none, watches-same}
-use Rattle.ink_model.specs.Answer.{Reply, Acts, Breaks, Refuses, Tells}
+use Rattle.ink_host.proofs.TellingLoops.{stand-round}
+use Rattle.ink_model.specs.Answer.{Reply, Acts, Breaks, Counts, Refuses, Tells, reply_of_visits}
 use Rattle.ink_model.specs.Configuration.{Configuration, can_go_on, settled, with_globals}
 use Rattle.ink_model.specs.Events.{Made, answers_of, calls}
 use Rattle.ink_model.specs.Host.{Bindings, value_given}
@@ -19,6 +20,7 @@ use Rattle.ink_model.specs.Told.{ToldAs, change_of, is_other, is_told, told}
 use Rattle.ink_model.specs.Tree.{StoryTree}
 use Rattle.ink_model.specs.declared.fault.Fault.{Fault}
 use Rattle.ink_model.specs.declared.fault.Fault.TheVariants.{OutOfMemory}
+use Rattle.ink_model.specs.declared.fault.Refusal.{Refusal}
 use Rattle.ink_model.specs.declared.fault.Refusal.TheVariants as refusal
 use Rattle.ink_model.specs.declared.host.Change.{Change}
 use Rattle.ink_model.specs.declared.host.Event.{Event}
@@ -26,8 +28,8 @@ use Rattle.ink_model.specs.declared.host.Given.{Given}
 use Rattle.ink_model.specs.declared.limits.TheConstants.{MAX_STEPS}
 use Rattle.ink_model.specs.declared.passage.Passage.{Passage}
 use Rattle.ink_model.specs.declared.value.Value.{Value}
-use Rattle.ink_player.specs.Words.{Dealt, bindings, condition_by, desk_of, state_of, story_of}
-use Rattle.ink_player.specs.declared.player.Player.{Player}
+use Rattle.ink_player.specs.Visits.{FindsVisits, TellsVisits}
+use Rattle.ink_player.specs.Words.{Dealt, DealtOnce, PlayerView, TellsOnce, TellsWatchers, bindings, condition_by, desk_of, fault_told, is_empty, state_of, story_of, told_from}
 use Rattle.ink_step.specs.declared.machine.Machine.{Machine}
 use Rattle.ink_step.specs.Words.{config_of}
 use Rattle.ink_step.specs.Runs.{EndsWith, RunsThrough}
@@ -59,13 +61,26 @@ told-some w start name v h none =
     let one = told-one w start name v h in absurd (cc)
 
 -- nothing was told
-pub nobody-told : (n : ℕ) → ToldAs n [] true []
+abbrev pub nobody-told : (n : ℕ) → ToldAs n [] true []
 nobody-told n = record { answers = []; one_each = refl; events = refl; all_told = refl }
+
+pub nobody-round : {O : Type 0} (state : O → Watching) (n : ℕ) (rows : Rows O) → IsRound state n [] [] (nobody-told n).answers rows rows
+nobody-round state n rows = refl
 
 -- of a broken player too
 pub globals-by : (b : Option Fault) (c : Configuration) → globals_of (condition_by b c) ≡ c.shared.globals
 globals-by None c = refl
 globals-by (Some f) c = refl
+
+-- and of one whose watchers were told
+pub globals-told : (all : Bool) (c : Configuration) → globals_of (condition_told all (Ready c)) ≡ c.shared.globals
+globals-told true c = refl
+globals-told false c = refl
+
+-- it is broken where not all of them found memory
+pub condition-told : (all : Bool) (c : Configuration) → condition_by (fault_told all None) c ≡ condition_told all (Ready c)
+condition-told true c = refl
+condition-told false c = refl
 
 -- ---- commands over a state
 
@@ -104,54 +119,144 @@ or-left : (a b : Bool) → a ≡ true → a || b ≡ true
 or-left true b h = refl
 or-left false b h = absurd (cc)
 
+-- ---- rounds, and rest
+
+abbrev states : {O : Type 0} → (O → Watching) → Rows O → Rows Watching
+states state rows = each (λ n w. state w) rows
+
+rounds-rounds : (rs qs : List Round) (rows : Rows Watching) → rounds (rs ++ qs) rows ≡ rounds qs (rounds rs rows)
+rounds-rounds [] qs rows = refl
+rounds-rounds (r ∷ rs) qs rows = rounds-rounds rs qs (round r.next r.changes r.changes r.answers rows)
+
+stand-rounds : (rs : List Round) (rows : Rows Watching) → Stand (λ n. true) true rows → Stand (λ n. true) true (rounds rs rows)
+stand-rounds [] rows h = h
+stand-rounds (r ∷ rs) rows h = stand-rounds rs (round r.next r.changes r.changes r.answers rows) (stand-round r.next r.changes r.changes r.answers rows h)
+
+module _ {O : Type 0} (state : O → Watching) where
+  rest-stand : (rows : Rows O) → Resting (rests state) rows → Stand (λ n. true) true (states state rows)
+  rest-stand [] h = tt
+  rest-stand (r ∷ rows) h = (λ is. h.0, rest-stand rows h.1)
+
+  stand-rest : (rows : Rows O) → Stand (λ n. true) true (states state rows) → Resting (rests state) rows
+  stand-rest [] h = tt
+  stand-rest (r ∷ rows) h = (h.0 refl, stand-rest rows h.1)
+
+  rounds-rest : (rs : List Round) (old new : Rows O) → AreRounds state rs old new → Resting (rests state) old → Resting (rests state) new
+  rounds-rest rs old new is h = stand-rest new (subst (λ rows. Stand (λ n. true) true rows) (sym is) (stand-rounds rs (states state old) (rest-stand old h)))
+
+  -- one of them is at rest, and the others without it
+  pub rest-at : (name : List ℕ) (rows : Rows O) → Resting (rests state) rows → IfSome (at name rows) (λ w. rests state w ≡ true)
+  rest-at name [] h = tt
+  rest-at name (r ∷ rows) h = by (bytes_eq name r.0) (rest-at name rows h.1)
+    where
+      by : (b : Bool) → IfSome (at name rows) (λ w. rests state w ≡ true) → IfSome (if b then Some r.1 else at name rows) (λ w. rests state w ≡ true)
+      by true more = h.0
+      by false more = more
+
+  pub rest-without : (name : List ℕ) (rows : Rows O) → Resting (rests state) rows → Resting (rests state) (without name rows)
+  rest-without name [] h = tt
+  rest-without name (r ∷ rows) h = by (bytes_eq name r.0) (rest-without name rows h.1)
+    where
+      by : (b : Bool) → Resting (rests state) (without name rows) → Resting (rests state) (if b then rows else r ∷ without name rows)
+      by true more = h.1
+      by false more = (h.0, more)
+
+  pub rest-put : (name : List ℕ) (w : O) (rows : Rows O) → rests state w ≡ true → Resting (rests state) rows → Resting (rests state) (put name w rows)
+  rest-put name w [] is h = (is, tt)
+  rest-put name w (r ∷ rows) is h = by (bytes_eq name r.0) (rest-put name w rows is h.1)
+    where
+      by : (b : Bool) → Resting (rests state) (put name w rows) → Resting (rests state) (if b then (r.0, w) ∷ rows else r ∷ put name w rows)
+      by true more = (is, h.1)
+      by false more = (h.0, more)
+
+  -- one round, of changes that were to be told, between desks of which one is as another
+  round-as : (cs ds : List Change) (a a' b b' : Rows O) (n : ℕ) (answers : List Bool) → cs ≡ ds → a' ≡ a → b' ≡ b
+      → length answers ≡ length cs → IsRound state n cs cs answers a' b' → TellsOnce state ds a b
+  round-as cs ds a a' b b' n answers e k l one is =
+      subst (λ xs. TellsOnce state xs a b) e
+      (subst (λ r. TellsOnce state cs r b) k (subst (λ r. TellsOnce state cs a' r) l (inr (n, answers, one, is))))
+
 -- ---- between a player and its host
 
-module _ {P F O : Type 0} (turn_log : F → List Called) (watch_log : O → List Seen) where
+module _ {P F O : Type 0} (turn_log : F → List Called) (state : O → Watching) where
   -- the events were taken
-  dealt-to : (a b c : DeskView P F O) (es : List Event) → Grew turn_log watch_log a es b → c ≡ record b { events = [] } → Dealt turn_log watch_log a es c
-  dealt-to a b c es g is =
-      subst (λ x. Dealt turn_log watch_log a es x) (sym is) (record { events = refl; numbered = g.numbered; next = g.next; functions = g.functions; watchers = g.watchers })
+  grown-to : (a b c : DeskView P F O) (es : List Event) → Grew turn_log (log_of state) a es b → c ≡ record b { events = [] }
+      → Grew turn_log (log_of state) a es (record c { events = a.events ++ es })
+  grown-to a b c es g is =
+      subst (λ x. Grew turn_log (log_of state) a es (record x { events = a.events ++ es })) (sym is)
+      (record { events = refl; numbered = g.numbered; next = g.next; functions = g.functions; watchers = g.watchers })
 
-  -- nothing happened
-  pub dealt-none : (a : DeskView P F O) → Dealt turn_log watch_log a [] a
-  dealt-none a =
-      let g = grew-none turn_log watch_log a in
+  grown-none : (a : DeskView P F O) → Grew turn_log (log_of state) a [] (record a { events = a.events ++ [] })
+  grown-none a =
+      let g = grew-none turn_log (log_of state) a in
       record { events = refl; numbered = g.numbered; next = g.next; functions = g.functions; watchers = g.watchers }
 
-  pub dealt-quiet : (a b : DeskView P F O) → b ≡ record a { events = [] } → Dealt turn_log watch_log a [] b
-  dealt-quiet a b is = dealt-to a a b [] (grew-none turn_log watch_log a) is
+  -- nothing happened
+  pub dealt-none : (a : DeskView P F O) → Dealt turn_log state a [] a
+  dealt-none a = (grown-none a, ([], refl))
+
+  pub once-none : (cs : List Change) (a : DeskView P F O) → DealtOnce turn_log state cs a [] a
+  once-none cs a = (grown-none a, inl refl)
+
+  pub once-quiet : (cs : List Change) (a b : DeskView P F O) → b ≡ record a { events = [] } → DealtOnce turn_log state cs a [] b
+  once-quiet cs a b is = (grown-to a a b [] (grew-none turn_log (log_of state) a) is, inl (ap (λ d. states state d.watchers) is))
 
   -- first these events, then those
   pub dealt-dealt : (a b c : DeskView P F O) (es fs : List Event)
-      → Dealt turn_log watch_log a es b → Dealt turn_log watch_log b fs c → Dealt turn_log watch_log a (es ++ fs) c
+      → Dealt turn_log state a es b → Dealt turn_log state b fs c → Dealt turn_log state a (es ++ fs) c
   dealt-dealt a b c es fs g h =
       let mid : DeskView P F O = record b { events = a.events ++ es } in
       let last : DeskView P F O = record c { events = (a.events ++ es) ++ fs } in
-      let k : Grew turn_log watch_log mid fs last =
-      record { events = refl; numbered = h.numbered; next = h.next; functions = h.functions; watchers = h.watchers } in
-      let w = grew-grew turn_log watch_log a mid last es fs g k in
-      record { events = refl; numbered = w.numbered; next = w.next; functions = w.functions; watchers = w.watchers }
+      let k : Grew turn_log (log_of state) mid fs last =
+      record { events = refl; numbered = h.0.numbered; next = h.0.next; functions = h.0.functions; watchers = h.0.watchers } in
+      let w = grew-grew turn_log (log_of state) a mid last es fs g.0 k in (
+        record { events = refl; numbered = w.numbered; next = w.next; functions = w.functions; watchers = w.watchers },
+        (g.1.0 ++ h.1.0, h.1.1 ∙ ap (rounds h.1.0) g.1.1 ∙ sym (rounds-rounds g.1.0 h.1.0 (states state a.watchers))),
+      )
 
-  pub dealt-kept : (a b : DeskView P F O) → b ≡ a → Dealt turn_log watch_log a [] b
-  dealt-kept a b e = subst (λ x. Dealt turn_log watch_log a [] x) (sym e) (dealt-none a)
+  pub dealt-kept : (a b : DeskView P F O) → b ≡ a → Dealt turn_log state a [] b
+  dealt-kept a b e = subst (λ x. Dealt turn_log state a [] x) (sym e) (dealt-none a)
+
+  -- what one command does
+  pub dealt-once : (cs : List Change) (a b : DeskView P F O) (es : List Event) → DealtOnce turn_log state cs a es b → Dealt turn_log state a es b
+  dealt-once cs a b es h = elim h.1 [
+    | inl same ↦ (h.0, ([], same))
+    | inr r ↦ (h.0, (record { next = r.0; changes = cs; answers = r.1; one_each = r.2 } ∷ [], r.3))
+  ]
+
+  -- those at rest are at rest afterwards
+  pub dealt-rest : (a b : DeskView P F O) (es : List Event) → Dealt turn_log state a es b → Resting (rests state) a.watchers → Resting (rests state) b.watchers
+  dealt-rest a b es h = rounds-rest state h.1.0 a.watchers b.watchers h.1.1
+
+  pub once-rest : (cs : List Change) (a b : DeskView P F O) (es : List Event) → DealtOnce turn_log state cs a es b → Resting (rests state) a.watchers → Resting (rests state) b.watchers
+  once-rest cs a b es h = dealt-rest a b es (dealt-once cs a b es h)
 
   -- between desks that are the same
-  pub dealt-as : (a a' b b' : DeskView P F O) (es : List Event) → a' ≡ a → b' ≡ b → Dealt turn_log watch_log a' es b' → Dealt turn_log watch_log a es b
-  dealt-as a a' b b' es e k g = subst (λ x. Dealt turn_log watch_log x es b) e (subst (λ x. Dealt turn_log watch_log a' es x) k g)
+  pub dealt-as : (a a' b b' : DeskView P F O) (es : List Event) → a' ≡ a → b' ≡ b → Dealt turn_log state a' es b' → Dealt turn_log state a es b
+  dealt-as a a' b b' es e k g = subst (λ x. Dealt turn_log state x es b) e (subst (λ x. Dealt turn_log state a' es x) k g)
+
+  -- all that was to be told is watched
+  pub tells-all : {E : Type 0} (r : Result Bool E) (d0 d1 : DeskView P F O) (start now : Values) (cs : List Change) → cs ≡ told (watches d0.watchers) start now
+      → TellsWatchers turn_log state d0 cs (filter (λ c. watches d0.watchers c.name) cs) r d1
+      → (let ds = told (watches d0.watchers) start now in TellsWatchers turn_log state d0 ds ds r d1)
+  tells-all r d0 d1 start now cs is tells =
+      let w = watches d0.watchers in
+      subst (λ ds. TellsWatchers turn_log state d0 (told w start now) ds r d1) (told-watched w start now)
+      (subst (λ ds. TellsWatchers turn_log state d0 ds (filter (λ c. w c.name) ds) r d1) is tells)
 
   -- names stay bound as they are, and the same are watched
   pub bindings-same : (meaning : P → List Value → Option Given) (a b : DeskView P F O) (es : List Event)
-      → Dealt turn_log watch_log a es b → bindings meaning b ≡ bindings meaning a
+      → Dealt turn_log state a es b → bindings meaning b ≡ bindings meaning a
   bindings-same meaning a b es g =
       let mid : DeskView P F O = record b { events = a.events ++ es } in
-      ap (λ w. let x : Bindings = record { functions = bound_by meaning b.functions; watches = w } in x) (watches-same turn_log watch_log a mid es g)
-      ∙ ap (λ k. let x : Bindings = record { functions = k; watches = watches a.watchers } in x) (bound-same turn_log watch_log meaning a mid es g)
+      ap (λ w. let x : Bindings = record { functions = bound_by meaning b.functions; watches = w } in x) (watches-same turn_log (log_of state) a mid es g.0)
+      ∙ ap (λ k. let x : Bindings = record { functions = k; watches = watches a.watchers } in x) (bound-same turn_log (log_of state) meaning a mid es g.0)
 
   -- ---- a running command: it left this machine, and a desk whose turn functions were called
 
-  module _ (meaning : P → List Value → Option Given) (p : Player P F O) (m : Machine) (d1 : DeskView P F O) (made : List Made)
+  module _ (meaning : P → List Value → Option Given) (p : PlayerView P F O) (m : Machine) (d1 : DeskView P F O) (made : List Made)
       (free : p.broken ≡ None) (none : (desk_of p).events ≡ []) (goes : can_go_on (config_of (story_of p) p.machine) ≡ true)
-      (called : Grew turn_log watch_log (desk_of p) (calls (desk_of p).next made) d1) where
+      (called : Grew turn_log (log_of state) (desk_of p) (calls (desk_of p).next made) d1) (watching : d1.watchers ≡ (desk_of p).watchers) where
     abbrev tree : StoryTree
     tree = story_of p
 
@@ -168,7 +273,8 @@ module _ {P F O : Type 0} (turn_log : F → List Called) (watch_log : O → List
     first = calls (desk_of p).next made
 
     abbrev ComesThrough : Reply → State → DeskView P F O → Type 0
-    ComesThrough reply new d = (es : List Event) × Through tree host es (state_of p) reply new × Dealt turn_log watch_log (desk_of p) es d
+    ComesThrough reply new d = (es : List Event) × Through tree host es (state_of p) reply new
+        × DealtOnce turn_log state (told_from (desk_of p) (state_of p) (globals_of new.condition)) (desk_of p) es d
 
     abbrev Ran : Result Passage Fault → Type 0
     Ran result = RunsThrough tree host.functions before made after result
@@ -186,21 +292,26 @@ module _ {P F O : Type 0} (turn_log : F → List Called) (watch_log : O → List
     stops passed (inr short) = absurd (let never = short.0 in cc)
 
     -- and watchers were told
-    pub through-told : (passed : Passage) (all : Bool) (d2 d : DeskView P F O) (reply : Reply) (new : State) → d1.watchers ≡ (desk_of p).watchers
+    pub through-told : (passed : Passage) (all : Bool) (d2 d : DeskView P F O) (reply : Reply) (new : State)
         → RunsThrough tree host.functions before made after (Ok passed)
-        → (saw : List Event) × ToldAs d1.next (told (watches d1.watchers) before.shared.globals after.shared.globals) all saw × Grew turn_log watch_log d1 saw d2
+        → (let cs = told (watches d1.watchers) before.shared.globals after.shared.globals in
+            (saw : List Event) × (t : ToldAs d1.next cs all saw) × IsRound state d1.next cs cs t.answers d1.watchers d2.watchers × Grew turn_log (log_of state) d1 saw d2)
         → reply ≡ reply_told all (telling_of passed d2.events) d2.events → new ≡ at_stamp (condition_told all (Ready after)) d2.next → d ≡ record d2 { events = [] }
         → ComesThrough reply new d
     unfolding settled
-    through-told passed all d2 d reply new watching ran t replies leaves is =
+    through-told passed all d2 d reply new ran t replies leaves is =
         let stopped = stops passed ran in
         let stop = stopped.0 in
         let es = first ++ t.0 in
-        let both = grew-grew turn_log watch_log (desk_of p) d1 d2 first t.0 called t.2 in
+        let both = grew-grew turn_log (log_of state) (desk_of p) d1 d2 first t.0 called t.3 in
         let events : d2.events ≡ es = both.events ∙ ap (λ l. l ++ es) none in
         let saws = subst (λ n. ToldAs n (told host.watches before.shared.globals stop.shared.globals) all t.0) called.next
         (subst (λ w. ToldAs d1.next (told (watches w) before.shared.globals stop.shared.globals) all t.0) watching
-        (subst (λ c. ToldAs d1.next (told (watches d1.watchers) before.shared.globals c.shared.globals) all t.0) stopped.3 t.1)) in (
+        (subst (λ c. ToldAs d1.next (told (watches d1.watchers) before.shared.globals c.shared.globals) all t.0) stopped.3 t.1)) in
+        let changes : told (watches d1.watchers) before.shared.globals after.shared.globals ≡ told_from (desk_of p) (state_of p) (globals_of new.condition) =
+        ap (λ w. told (watches w) before.shared.globals after.shared.globals) watching
+        ∙ ap (λ g. told host.watches g after.shared.globals) (sym (globals-by p.broken before))
+        ∙ ap (λ g. told host.watches (globals_of (state_of p).condition) g) (sym (ap (λ s. globals_of s.condition) leaves ∙ globals-told all after)) in (
           es,
           through-where tree host p.broken before (desk_of p).next es reply new true free goes (
             made,
@@ -217,11 +328,14 @@ module _ {P F O : Type 0} (turn_log : F → List Called) (watch_log : O → List
               }),
             ),
           ),
-          dealt-to (desk_of p) d2 d es both is,
+          (
+            grown-to (desk_of p) d2 d es both is,
+            round-as state _ _ (desk_of p).watchers d1.watchers d.watchers d2.watchers d1.next t.1.answers changes watching (sym (ap (λ x. x.watchers) is)) t.1.one_each t.2,
+          ),
         )
 
     -- a fault broke the player, and nobody was told
-    breaks : (f : Fault) (q : Player P F O) (reply : Reply) → reply ≡ Breaks f d1.events → q ≡ record p { machine = m; broken = Some f; desk = record d1 { events = [] } }
+    breaks : (f : Fault) (q : PlayerView P F O) (reply : Reply) → reply ≡ Breaks f d1.events → q ≡ record p { machine = m; broken = Some f; desk = record d1 { events = [] } }
         → (BreaksBy f after.shared.globals first first (state_of p) reply (state_of q) → rules.RunsThrough tree host before made first (state_of p) reply (state_of q))
         → ComesThrough reply (state_of q) (desk_of q)
     breaks f q reply replies is runs =
@@ -229,7 +343,10 @@ module _ {P F O : Type 0} (turn_log : F → List Called) (watch_log : O → List
         let by = runs (refl, replies ∙ ap (λ l. Breaks f l) events, ap (λ x. state_of x) is ∙ ap (at_stamp (Broken f after.shared.globals)) called.next) in (
           first,
           through-where tree host p.broken before (desk_of p).next first reply (state_of q) true free goes (made, by),
-          dealt-to (desk_of p) d1 (desk_of q) first called (ap (λ x. desk_of x) is),
+          (
+            grown-to (desk_of p) d1 (desk_of q) first called (ap (λ x. desk_of x) is),
+            inl (ap (λ x. states state (desk_of x).watchers) is ∙ ap (states state) watching),
+          ),
         )
 
     -- what a broken player comes to, where its run ends so
@@ -253,7 +370,7 @@ module _ {P F O : Type 0} (turn_log : F → List Called) (watch_log : O → List
       runs-broken (inr short) broke = inr (after.shared.globals, short.1, subst (λ h. Breaks_it h after.shared.globals) (let is = short.0 in cc) broke)
 
     -- there was no memory for telling
-    pub through-untold : (passed : Passage) (q : Player P F O) (d2 : DeskView P F O) (reply : Reply) → Ran (Ok passed) → told host.watches before.shared.globals after.shared.globals ≢ [] → d2 ≡ d1
+    pub through-untold : (passed : Passage) (q : PlayerView P F O) (d2 : DeskView P F O) (reply : Reply) → Ran (Ok passed) → told host.watches before.shared.globals after.shared.globals ≢ [] → d2 ≡ d1
         → reply ≡ Breaks OutOfMemory d2.events → q ≡ record p { machine = m; broken = Some OutOfMemory; desk = record d2 { events = [] } } → ComesThrough reply (state_of q) (desk_of q)
     unfolding settled
     through-untold passed q d2 reply ran some same replies is =
@@ -264,7 +381,7 @@ module _ {P F O : Type 0} (turn_log : F → List Called) (watch_log : O → List
         (λ by. inl (run.Kept stopped.0, stopped.1, inr (asks, subst (λ vs. BreaksBy OutOfMemory vs first first (state_of p) reply (state_of q)) kept by)))
 
     -- a fault of the run, or memory was refused to it or for its passage
-    pub through-fault : (f : Fault) (q : Player P F O) (reply : Reply) → Ran (Err f) → reply ≡ Breaks f d1.events → q ≡ record p { machine = m; broken = Some f; desk = record d1 { events = [] } }
+    pub through-fault : (f : Fault) (q : PlayerView P F O) (reply : Reply) → Ran (Err f) → reply ≡ Breaks f d1.events → q ≡ record p { machine = m; broken = Some f; desk = record d1 { events = [] } }
         → ComesThrough reply (state_of q) (desk_of q)
     through-fault f q reply ran replies is = breaks f q reply replies is (runs-broken f reply (state_of q) ran)
 
@@ -272,24 +389,32 @@ module _ {P F O : Type 0} (turn_log : F → List Called) (watch_log : O → List
 
   -- watchers were told, and it is done
   pub tells-done : (cs : List Change) (c0 done : Condition) (d0 d1 d : DeskView P F O) (all : Bool) (reply : Reply) (new : State) → d0.events ≡ []
-      → (saw : List Event) × ToldAs d0.next cs all saw × Grew turn_log watch_log d0 saw d1
+      → (saw : List Event) × (t : ToldAs d0.next cs all saw) × IsRound state d0.next cs cs t.answers d0.watchers d1.watchers × Grew turn_log (log_of state) d0 saw d1
       → reply ≡ reply_told all (Acts d1.events) d1.events → new ≡ at_stamp (condition_told all done) d1.next → d ≡ record d1 { events = [] }
-      → (es : List Event) × TellsOrKeeps cs done es (at_stamp c0 d0.next) reply new × Dealt turn_log watch_log d0 es d
-  tells-done cs c0 done d0 d1 d all reply new none t replies leaves is =
-      let events : d1.events ≡ t.0 = t.2.events ∙ ap (λ l. l ++ t.0) none in
+      → (ds : List Change) → cs ≡ ds → (es : List Event) × TellsOrKeeps cs done es (at_stamp c0 d0.next) reply new × DealtOnce turn_log state ds d0 es d
+  tells-done cs c0 done d0 d1 d all reply new none t replies leaves is ds same =
+      let events : d1.events ≡ t.0 = t.3.events ∙ ap (λ l. l ++ t.0) none in
       let tells : TellsDone cs done Acts [] t.0 (at_stamp c0 d0.next) reply new = record {
         all = all;
         saw = t.0;
         telling = t.1;
         events = refl;
         replies = replies ∙ ap (λ l. reply_told all (Acts l) l) events;
-        leaves = leaves ∙ ap (at_stamp (condition_told all done)) t.2.next;
-      } in (t.0, inl tells, dealt-to d0 d1 d t.0 t.2 is)
+        leaves = leaves ∙ ap (at_stamp (condition_told all done)) t.3.next;
+      } in (
+        t.0,
+        inl tells,
+        (
+          grown-to d0 d1 d t.0 t.3 is,
+          round-as state cs ds d0.watchers d0.watchers d.watchers d1.watchers d0.next t.1.answers same refl (sym (ap (λ x. x.watchers) is)) t.1.one_each t.2,
+        ),
+      )
 
   -- nothing has changed, for want of memory
-  pub tells-kept : (cs : List Change) (c0 done : Condition) (d0 d1 : DeskView P F O) → cs ≢ [] → d1 ≡ d0
-      → (es : List Event) × TellsOrKeeps cs done es (at_stamp c0 d0.next) (Refuses refusal.OutOfMemory) (at_stamp c0 d1.next) × Dealt turn_log watch_log d0 es d1
-  tells-kept cs c0 done d0 d1 some same = ([], inr (some, refl, (refl, ap (λ d. at_stamp c0 d.next) same)), dealt-kept d0 d1 same)
+  pub tells-kept : (cs ds : List Change) (c0 done : Condition) (d0 d1 : DeskView P F O) → cs ≢ [] → d1 ≡ d0
+      → (es : List Event) × TellsOrKeeps cs done es (at_stamp c0 d0.next) (Refuses refusal.OutOfMemory) (at_stamp c0 d1.next) × DealtOnce turn_log state ds d0 es d1
+  tells-kept cs ds c0 done d0 d1 some same =
+      ([], inr (some, refl, (refl, ap (λ d. at_stamp c0 d.next) same)), subst (λ x. DealtOnce turn_log state ds d0 [] x) (sym same) (once-none ds d0))
 
 -- ---- a global that is set
 
@@ -318,7 +443,55 @@ module _ (h : Bindings) (name : List ℕ) (c : Configuration) (b : Option Fault)
     pub sets : (v : Value) → v ≡ value_given g → b ≡ None → settable g ≡ true → is_some (stored name c.shared.globals) ≡ true → Sets v → Set h es name (Some g) old reply new
     sets v is free e k p = sets-where true true free e k (subst (λ x. Sets x) is p)
 
+-- ---- visits of a player that is not broken
+
+visits-unbroken : (s : StoryTree) (path : List ℕ) (c : Configuration) (n : ℕ) (r : Result ℤ Refusal) → FindsVisits s path c r → TellsVisits s path (at_stamp (Ready c) n) (reply_of_visits r) (at_stamp (Ready c) n)
+visits-unbroken s path c n (Ok v) h =
+    let st = at_stamp (Ready c) n in inl (subst (λ o. rules.VisitsBy o st (Counts v) st) (sym h) (refl, refl))
+visits-unbroken s path c n (Err r) h =
+    let st = at_stamp (Ready c) n in elim h [
+      | inl none ↦ inl (subst (λ o. rules.VisitsBy o st (Refuses r) st) (sym none.1) (ap Refuses none.0, refl))
+      | inr short ↦ inr (short.1, (ap Refuses short.0, refl))
+    ]
+
+pub visits-free : (s : StoryTree) (path : List ℕ) (c : Configuration) (b : Option Fault) (n : ℕ) (r : Result ℤ Refusal) → b ≡ None → FindsVisits s path c r
+    → TellsVisits s path (at_stamp (condition_by b c) n) (reply_of_visits r) (at_stamp (condition_by b c) n)
+visits-free s path c b n r free h =
+    subst (λ x. TellsVisits s path (at_stamp (condition_by x c) n) (reply_of_visits r) (at_stamp (condition_by x c) n)) (sym free) (visits-unbroken s path c n r h)
+
+-- ---- watchers that come and go
+
+pub if-ok : {A E : Type 0} {X Y : A → Type 0} (r : Result A E) → ((a : A) → X a → Y a) → IfOk r X → IfOk r Y
+if-ok (Ok a) f x = f a x
+if-ok (Err e) f x = tt
+
+pub by-result : {A E X Z : Type 0} (Y : Type 0) (r : Result A E) → OnOk r X → OnErr r Z → (X → Y) → (Z → Y) → Y
+by-result Y (Ok a) x z f h = f x
+by-result Y (Err e) x z f h = h z
+
 -- ---- what is known of a player
+
+pub none-left : {X : Type 0} (xs : List X) → is_empty xs ≡ true → xs ≡ []
+none-left [] h = refl
+none-left (x ∷ xs) h = absurd (cc)
+
+module _ {P F O : Type 0} (p : PlayerView P F O) where
+  -- a machine, a desk and a fault in the place of its own
+  abbrev pub with_parts : Machine → DeskView P F O → Option Fault → PlayerView P F O
+  with_parts m d b = record p { machine = m; desk = d; broken = b }
+
+  -- a fault broke it, and its events were taken
+  pub broken-as : (m : Machine) (d d2 : DeskView P F O) (b : Option Fault) (f : Fault) → d ≡ record d2 { events = [] } → b ≡ Some f
+      → with_parts m d b ≡ with_parts m (record d2 { events = [] }) (Some f)
+  broken-as m d d2 b f e k = ap (λ x. with_parts m x b) e ∙ ap (with_parts m (record d2 { events = [] })) k
+
+  -- watchers were told, and its events were taken
+  pub told-state : (m : Machine) (d d2 : DeskView P F O) (b old : Option Fault) (all : Bool) (c : Configuration) → old ≡ None → b ≡ fault_told all old → d ≡ record d2 { events = [] }
+      → config_of (story_of p) m ≡ c → state_of (with_parts m d b) ≡ at_stamp (condition_told all (Ready c)) d2.next
+  told-state m d d2 b old all c free e k is =
+      let own = config_of (story_of p) m in
+      ap (λ x. at_stamp (condition_by b own) x.next) k ∙ ap (λ x. at_stamp (condition_by x own) d2.next) (e ∙ ap (fault_told all) free)
+      ∙ ap (λ x. at_stamp x d2.next) (condition-told all own) ∙ ap (λ x. at_stamp (condition_told all (Ready x)) d2.next) is
 
 pub on-ok : {A E : Type 0} (r : Result A E) (X : Type 0) → is_ok r ≡ true → OnOk r X → X
 on-ok (Ok a) X h x = x

@@ -20,13 +20,12 @@ use Rattle.ink_model.specs.declared.fault.ReadRefusal.{ReadRefusal}
 use Rattle.ink_player.specs.Serving.{RunEnds}
 use Rattle.ink_protocol.specs.Spelled.{HasRoom}
 use Rattle.ink_step.specs.Steps.{FailsToOpen}
-use Rattle.ink_player.specs.Words.{anew, desk_of, state_of, story_of}
+use Rattle.ink_player.specs.Words.{PlayerView, anew, desk_of, state_of, story_of}
 use Rattle.ink_player.specs.declared.end.PlayEnd.{PlayEnd}
 use Rattle.ink_player.specs.declared.end.PlayFault.{PlayFault}
 use Rattle.ink_player.specs.declared.end.PlayFault.TheVariants as play
 use Rattle.ink_protocol.specs.declared.fault.RunFault.{RunFault}
 use Rattle.ink_protocol.specs.declared.fault.RunFault.TheVariants as fault
-use Rattle.ink_player.specs.declared.player.Player.{Player}
 
 -- The story is the first line, within its limit: up to its newline, with the session's input behind it, or up to the
 -- reader's end.
@@ -108,7 +107,7 @@ OpenFails line (play.Start f) = (tree : StoryTree) × (accepted_story line ≡ O
 OpenFails line (play.Run f) = ⊥
 
 module _ {P F O : Type 0} where
-  abbrev pub Opens : List ℕ → Result (Player P F O) (PlayEnd P F O) → Type 0
+  abbrev pub Opens : List ℕ → Result (PlayerView P F O) (PlayEnd P F O) → Type 0
   Opens line (Ok p) = (accepted_story line ≡ Ok (story_of p)) × ((c : Configuration) × (opening (story_of p) ≡ Ok c) × (state_of p ≡ opened c))
   Opens line (Err e) = OpenFails line e.fault
 
@@ -119,6 +118,6 @@ module _ {P F O : Type 0} where
   desk_left (Err e) = e.desk
 
   -- the player has it, with no event and the first stamp; or it is handed back as it was
-  abbrev pub OpensDesk : DeskView P F O → Result (Player P F O) (PlayEnd P F O) → Type 0
+  abbrev pub OpensDesk : DeskView P F O → Result (PlayerView P F O) (PlayEnd P F O) → Type 0
   OpensDesk desk (Ok p) = desk_of p ≡ anew desk
   OpensDesk desk (Err e) = e.desk ≡ desk

@@ -1,34 +1,59 @@
 -- What a player stands for, and what happens between it and the objects of its host.
-use Rattle.std.specs.Prelude.{◌≡◌, ◌≢◌, ◌⊎◌, List, [], ◌++◌, Bool, Option, None, Some, Result, Ok, Err}
+use Rattle.std.specs.Prelude.{◌≡◌, ◌≢◌, ◌⊎◌, ℕ, List, [], ◌∷◌, ◌++◌, length, Bool, true, false, Option, None, Some, Result, Ok, Err}
 use Rattle.ink_check.specs.Words.{story_tree}
-use Rattle.ink_host.specs.Desk.{DeskView, Grew, Resting, bound_by, watches}
+use Rattle.ink_check.specs.declared.story.Story.{Story}
+use Rattle.ink_host.specs.Desk.{DeskView, Grew, Rows, bound_by, each, watches}
+use Rattle.ink_host.specs.Telling.{AreRounds, IsRound, Round, Watching, log_of}
 use Rattle.ink_host.specs.declared.objects.Called.{Called}
-use Rattle.ink_host.specs.declared.objects.Seen.{Seen}
 use Rattle.ink_model.specs.Configuration.{Configuration}
 use Rattle.ink_model.specs.Host.{Bindings}
-use Rattle.ink_model.specs.State.{State, Condition, Ready, Broken}
-use Rattle.ink_model.specs.Told.{ToldAs}
+use Rattle.ink_model.specs.State.{State, Condition, Ready, Broken, globals_of}
+use Rattle.ink_model.specs.Store.{Values}
+use Rattle.ink_model.specs.Told.{ToldAs, told}
 use Rattle.ink_model.specs.Tree.{StoryTree}
 use Rattle.ink_model.specs.declared.fault.Fault.{Fault}
+use Rattle.ink_model.specs.declared.fault.Fault.TheVariants.{OutOfMemory}
 use Rattle.ink_model.specs.declared.host.Change.{Change}
 use Rattle.ink_model.specs.declared.host.Event.{Event}
 use Rattle.ink_model.specs.declared.host.Given.{Given}
 use Rattle.ink_model.specs.declared.value.Value.{Value}
-use Rattle.ink_player.specs.declared.player.Player.{Player}
 use Rattle.ink_step.specs.Words.{config_of}
+use Rattle.ink_step.specs.declared.machine.Machine.{Machine}
+
+-- What is seen of a player: its story, the desk, where the story stands, and the fault that broke it, if one did.
+pub record PlayerView (P F O : Type 0) : Type 0 where
+  pub story : Story
+  pub desk : DeskView P F O
+  pub machine : Machine
+  pub broken : Option Fault
+
+-- there is none
+abbrev pub is_empty : {X : Type 0} → List X → Bool
+is_empty [] = true
+is_empty (x ∷ xs) = false
+
+-- the fault that breaks a player once watchers were told, all of them or not
+abbrev pub fault_told : Bool → Option Fault → Option Fault
+fault_told true broken = broken
+fault_told false broken = Some OutOfMemory
 
 abbrev pub condition_by : Option Fault → Configuration → Condition
 condition_by None c = Ready c
 condition_by (Some f) c = Broken f c.shared.globals
 
+-- nothing was done to watchers, or there was one round, with all these changes
+abbrev pub TellsOnce : {O : Type 0} → (O → Watching) → List Change → Rows O → Rows O → Type 0
+TellsOnce state cs old new = (each (λ n w. state w) new ≡ each (λ n w. state w) old)
+    ⊎ ((n : ℕ) × (answers : List Bool) × (length answers ≡ length cs) × IsRound state n cs cs answers old new)
+
 module _ {P F O : Type 0} where
-  abbrev pub story_of : Player P F O → StoryTree
+  abbrev pub story_of : PlayerView P F O → StoryTree
   story_of p = story_tree p.story
 
-  abbrev pub desk_of : Player P F O → DeskView P F O
+  abbrev pub desk_of : PlayerView P F O → DeskView P F O
   desk_of p = p.desk
 
-  abbrev pub state_of : Player P F O → State
+  abbrev pub state_of : PlayerView P F O → State
   state_of p = record { condition = condition_by p.broken (config_of (story_of p) p.machine); stamp = p.desk.next }
 
   -- what the names on a desk are bound to, by what its pure functions mean, and which are watched
@@ -39,21 +64,28 @@ module _ {P F O : Type 0} where
   abbrev pub anew : DeskView P F O → DeskView P F O
   anew d = record d { events = []; next = 0 }
 
-  -- All watchers on a desk are at rest, and every event was taken.
-  pub record Idle (at_rest : O → Bool) (d : DeskView P F O) : Type 0 where
-    pub rest : Resting at_rest d.watchers
-    pub taken : d.events ≡ []
-
-  -- The objects on a desk were called and told just these events, and those were taken.
-  abbrev pub Dealt : (F → List Called) → (O → List Seen) → DeskView P F O → List Event → DeskView P F O → Type 0
-  Dealt turn_log watch_log old es new = Grew turn_log watch_log old es (record new { events = old.events ++ es })
+  -- The objects on a desk were called and told just these events, and those were taken. Watchers were told in rounds, and nothing
+  -- else was done to them.
+  abbrev pub Dealt : (F → List Called) → (O → Watching) → DeskView P F O → List Event → DeskView P F O → Type 0
+  Dealt turn_log state old es new = Grew turn_log (log_of state) old es (record new { events = old.events ++ es })
+      × ((rs : List Round) × AreRounds state rs old.watchers new.watchers)
 
   -- The same of the desk with which a player was opened; or none was opened, and it is as it was.
-  abbrev pub DealtAnew : (F → List Called) → (O → List Seen) → DeskView P F O → List Event → DeskView P F O → Type 0
-  DealtAnew turn_log watch_log old es new = ((new ≡ old) × (es ≡ [])) ⊎ Dealt turn_log watch_log (anew old) es new
+  abbrev pub DealtAnew : (F → List Called) → (O → Watching) → DeskView P F O → List Event → DeskView P F O → Type 0
+  DealtAnew turn_log state old es new = ((new ≡ old) × (es ≡ [])) ⊎ Dealt turn_log state (anew old) es new
 
-  -- The watchers were told these changes, all of them or all but those for which a watcher found no memory. Or memory was refused for
-  -- telling, with something to tell, and nothing has changed.
-  abbrev pub TellsWatchers : {E : Type 0} → (F → List Called) → (O → List Seen) → DeskView P F O → List Change → Result Bool E → DeskView P F O → Type 0
-  TellsWatchers turn_log watch_log old cs (Ok all) new = (es : List Event) × ToldAs old.next cs all es × Grew turn_log watch_log old es new
-  TellsWatchers turn_log watch_log old cs (Err e) new = (cs ≢ []) × (new ≡ old)
+  -- what is told where globals were those of a state, and are these now
+  abbrev pub told_from : DeskView P F O → State → Values → List Change
+  told_from d s now = told (watches d.watchers) (globals_of s.condition) now
+
+  -- The objects on a desk were called and told just these events by one command, and those were taken. The watchers were told
+  -- nothing; or these changes, in one round.
+  abbrev pub DealtOnce : (F → List Called) → (O → Watching) → List Change → DeskView P F O → List Event → DeskView P F O → Type 0
+  DealtOnce turn_log state cs old es new = Grew turn_log (log_of state) old es (record new { events = old.events ++ es }) × TellsOnce state cs old.watchers new.watchers
+
+  -- The watchers were told these changes, those of them that are watched: all of them, or all but those for which a watcher found
+  -- no memory. Or memory was refused for telling, with something to tell, and nothing has changed.
+  abbrev pub TellsWatchers : {E : Type 0} → (F → List Called) → (O → Watching) → DeskView P F O → List Change → List Change → Result Bool E → DeskView P F O → Type 0
+  TellsWatchers turn_log state old cs watched (Ok all) new = (es : List Event) × (t : ToldAs old.next watched all es)
+      × IsRound state old.next cs watched t.answers old.watchers new.watchers × Grew turn_log (log_of state) old es new
+  TellsWatchers turn_log state old cs watched (Err e) new = (watched ≢ []) × (new ≡ old)

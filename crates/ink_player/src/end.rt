@@ -16,6 +16,7 @@ pub enum PlayFault {
 }
 
 /// A story that was not played to its reader's end: why, and the desk.
+#[derive(Drop)]
 pub struct PlayEnd<P, F, O> {
     pub fault: PlayFault,
     pub desk: Desk<P, F, O>,

@@ -1,17 +1,19 @@
 //! The player.
 
-ghost use Rattle.std.specs.Prelude.{◌≡◌, List, [], ◌∷◌, None, true, is_some, Ok, Err, IfOk, IfErr, IfSome, OnOk, OnErr};
+ghost use Rattle.std.specs.Prelude.{◌≡◌, List, [], ◌∷◌, None, Some, true, is_some, Ok, Err, IfOk, IfErr, IfSome, OnOk, OnErr};
 ghost use Rattle.ink_host.specs.Desk.{Resting, at, put, without};
+ghost use Rattle.ink_host.specs.Telling.{rests};
 ghost use Rattle.ink_model.specs.Answer.{Acts, Breaks, Tells, reply_of, reply_of_events, reply_of_halt, reply_of_landing, reply_of_value, reply_of_visits};
 ghost use Rattle.ink_model.specs.Configuration.{Configuration, with_globals};
+ghost use Rattle.ink_model.specs.Host as host;
 ghost use Rattle.ink_model.specs.Opening.{opening, opened};
-ghost use Rattle.ink_model.specs.Session.{Through, Set, Get, Restart, TellsOrKeeps, condition_told, reply_told, settable};
-ghost use Rattle.ink_model.specs.State.{Ready, is_running, fault_in};
+ghost use Rattle.ink_model.specs.Session.{Through, Set, Get, Restart, TellsOrKeeps, reply_told, settable};
+ghost use Rattle.ink_model.specs.State.{Ready, is_running, fault_in, globals_of};
 ghost use Rattle.ink_model.specs.Store.{store, stored};
 ghost use Rattle.ink_model.specs.Told.{told};
 ghost use Rattle.ink_model.specs.Turns.{Choose, ShowsChoices};
 ghost use Rattle.ink_model.specs.declared.host.Event.{Event as Happening};
-ghost use Rattle.ink_player.specs.Words.{Dealt, Idle, anew, bindings, desk_of, state_of, story_of};
+ghost use Rattle.ink_player.specs.Words.{DealtOnce, anew, bindings, desk_of, fault_told, state_of, story_of, told_from};
 ghost use Rattle.ink_step.specs.Words.{config_of};
 
 use crate::path::landing_by;
@@ -24,17 +26,36 @@ use ink_model::{
 };
 use ink_step::{Machine, Unopened};
 use std::alloc::{AllocError, Global};
+use std::marker::Model;
 
-/// A story that runs: where it stands, and the desk of the host's objects.
+/// A story that runs: where it stands, and the desk of the host's objects. Between calls every event was taken.
+#[derive(Drop)]
 pub struct Player<P, F, O> {
-    pub(crate) story: Story,
-    pub(crate) desk: Desk<P, F, O>,
-    pub(crate) machine: Machine,
-    pub(crate) broken: Option<Fault>,
-    pub(crate) alloc: Global,
+    story: Story,
+    desk: Desk<P, F, O>,
+    machine: Machine,
+    broken: Option<Fault>,
+    alloc: Global,
+}
+
+impl<P, F, O> Model for Player<P, F, O> {
+    ghost use Rattle.std.specs.Prelude.{◌≡◌, true};
+    ghost use Rattle.std.specs.Coded.{codes};
+    ghost use Rattle.ink_check.specs.contracts.story.Story as story_row;
+    ghost use Rattle.ink_step.specs.contracts.machine.Machine as machine_row;
+    ghost use Rattle.ink_player.specs.Words.{PlayerView, is_empty};
+
+    ghost Value = { PlayerView P F O };
+
+    ghost coded = { Prim.hlevel (codes, story_row.the_row.coded, machine_row.the_row.coded) };
+
+    ghost view = { λ p. record { story = p.story; desk = p.desk; machine = p.machine; broken = p.broken } };
+
+    ghost invariant = { λ p. is_empty p.desk.events ≡ true };
 }
 
 /// A story that could not be opened. Story and desk are handed back.
+#[derive(Drop)]
 pub struct OpenFault<P, F, O> {
     pub fault: Fault,
     pub story: Story,
@@ -56,11 +77,9 @@ impl<P: PureFn, F: TurnFn, O: Watcher> Player<P, F, O> {
         story: Story,
         desk: Desk<P, F, O>,
     ) -> Result<Player<P, F, O>, OpenFault<P, F, O>>
-        requires rest { Resting O.at_rest desk.watchers }
         ensures story { IfOk result (λ p. story_of p ≡ story_tree story) }
         ensures state { IfOk result (λ p. (c : Configuration) × (opening (story_tree story) ≡ Ok c) × (state_of p ≡ opened c)) }
         ensures desk { IfOk result (λ p. desk_of p ≡ anew desk) }
-        ensures idle { IfOk result (λ p. Idle O.at_rest (desk_of p)) }
         ensures fault { IfErr result (λ e. (globals : Values) × FailsToOpen (story_tree story) e.fault globals) }
         ensures kept_story { IfErr result (λ e. e.story ≡ story) }
         ensures kept_desk { IfErr result (λ e. e.desk ≡ desk) }
@@ -94,10 +113,9 @@ impl<P: PureFn, F: TurnFn, O: Watcher> Player<P, F, O> {
     /// stands, and all others are told. What happened with the objects of the host is among the answer's events, also after a
     /// fault, which tells no watcher (docs/HOST.md).
     pub fn through(&mut self) -> Result<Passage, Halt>
-        requires idle { Idle O.at_rest (desk_of self.old) }
         ensures does { (es : List Happening) × Through (story_of self.old) (bindings P.meaning (desk_of self.old)) es (state_of self.old) (reply_of result) (state_of self.new)
-            × Dealt F.log O.log (desk_of self.old) es (desk_of self.new) }
-        ensures idle { Idle O.at_rest (desk_of self.new) }
+            × DealtOnce F.log O.state (told_from (desk_of self.old) (state_of self.old) (globals_of (state_of self.new).condition)) (desk_of self.old) es (desk_of self.new) }
+        ensures rest { Resting (rests O.state) (desk_of self.old).watchers → Resting (rests O.state) (desk_of self.new).watchers }
         ensures story { story_of self.new ≡ story_of self.old }
     {
         if let Some(fault) = self.broken {
@@ -108,69 +126,14 @@ impl<P: PureFn, F: TurnFn, O: Watcher> Player<P, F, O> {
         }
         let passage = match self.machine.through(&self.story, &mut self.desk) {
             Ok(passage) => passage,
-            Err(fault) => return Err(self.break_by(fault)),
+            Err(fault) => return Err(break_by(&mut self.desk, &mut self.broken, fault)),
         };
         let Ok(changes) = self.machine.told(&self.desk) else {
-            return Err(self.break_by(Fault::OutOfMemory));
+            return Err(break_by(&mut self.desk, &mut self.broken, Fault::OutOfMemory));
         };
         match tell(&mut self.desk, changes.as_slice()) {
-            Ok(all) => self.end_run(passage, all),
-            Err(AllocError) => Err(self.break_by(Fault::OutOfMemory)),
-        }
-    }
-
-    /// The passage of a run, with what happened on the way to it. Where not all watchers found memory the player is broken.
-    fn end_run(&mut self, passage: Passage, all: bool) -> Result<Passage, Halt>
-        requires unbroken { self.old.broken ≡ None }
-        ensures reply { reply_of result ≡ reply_told all (Tells (record passage { events = (desk_of self.old).events })) (desk_of self.old).events }
-        ensures state { state_of self.new ≡ record { condition = condition_told all (Ready (config_of (story_of self.old) self.old.machine)); stamp = (desk_of self.old).next } }
-        ensures desk { desk_of self.new ≡ record (desk_of self.old) { events = [] } }
-        ensures story { story_of self.new ≡ story_of self.old }
-    {
-        if !all {
-            return Err(self.break_by(Fault::OutOfMemory));
-        }
-        let Passage {
-            text,
-            tags,
-            choices,
-            events: _,
-            more,
-            loose,
-        } = passage;
-        Ok(Passage {
-            text,
-            tags,
-            choices,
-            events: self.desk.take_events(),
-            more,
-            loose,
-        })
-    }
-
-    /// What happened at a command that runs nothing. Where not all watchers found memory the player is broken.
-    fn end_telling(&mut self, all: bool) -> Result<Seq<Event>, Halt>
-        requires unbroken { self.old.broken ≡ None }
-        ensures reply { reply_of_events result ≡ reply_told all (Acts (desk_of self.old).events) (desk_of self.old).events }
-        ensures state { state_of self.new ≡ record { condition = condition_told all (Ready (config_of (story_of self.old) self.old.machine)); stamp = (desk_of self.old).next } }
-        ensures desk { desk_of self.new ≡ record (desk_of self.old) { events = [] } }
-        ensures story { story_of self.new ≡ story_of self.old }
-    {
-        if !all {
-            return Err(self.break_by(Fault::OutOfMemory));
-        }
-        Ok(self.desk.take_events())
-    }
-
-    /// A fault breaks the player; the events so far are told with it.
-    fn break_by(&mut self, fault: Fault) -> Halt
-        ensures reply { reply_of_halt result ≡ Breaks fault (desk_of self.old).events }
-        ensures player { self.new ≡ record self.old { broken = Some fault; desk = record (desk_of self.old) { events = [] } } }
-    {
-        self.broken = Some(fault);
-        Halt::Fault {
-            fault,
-            events: self.desk.take_events(),
+            Ok(all) => end_run(&mut self.desk, &mut self.broken, passage, all),
+            Err(AllocError) => Err(break_by(&mut self.desk, &mut self.broken, Fault::OutOfMemory)),
         }
     }
 
@@ -179,10 +142,9 @@ impl<P: PureFn, F: TurnFn, O: Watcher> Player<P, F, O> {
     /// and with `OutOfMemory` where memory for telling was refused; nothing has changed then. Where the watcher finds no memory
     /// the global has its value, and the player is broken by the fault `OutOfMemory`.
     pub fn set(&mut self, name: &str, value: Given) -> Result<Seq<Event>, Halt>
-        requires idle { Idle O.at_rest (desk_of self.old) }
         ensures does { (es : List Happening) × Set (bindings P.meaning (desk_of self.old)) es name.now (Some value) (state_of self.old) (reply_of_events result) (state_of self.new)
-            × Dealt F.log O.log (desk_of self.old) es (desk_of self.new) }
-        ensures idle { Idle O.at_rest (desk_of self.new) }
+            × DealtOnce F.log O.state (told_from (desk_of self.old) (state_of self.old) ((name.now, host.value_given value) ∷ [])) (desk_of self.old) es (desk_of self.new) }
+        ensures rest { Resting (rests O.state) (desk_of self.old).watchers → Resting (rests O.state) (desk_of self.new).watchers }
         ensures story { story_of self.new ≡ story_of self.old }
     {
         if let Some(cause) = self.broken {
@@ -199,20 +161,19 @@ impl<P: PureFn, F: TurnFn, O: Watcher> Player<P, F, O> {
 
     /// Gives a global that is there a value, once its watcher is told where that is another one.
     fn store(&mut self, name: &str, value: Value) -> Result<Seq<Event>, Halt>
-        requires idle { Idle O.at_rest (desk_of self.old) }
         requires unbroken { self.old.broken ≡ None }
         requires there { let c = config_of (story_of self.old) self.old.machine in is_some (stored name.now c.shared.globals) ≡ true }
         ensures does { let c = config_of (story_of self.old) self.old.machine in let h = bindings P.meaning (desk_of self.old) in
             (es : List Happening) × TellsOrKeeps (told h.watches c.shared.globals ((name.now, value) ∷ [])) (Ready (with_globals (store name.now value c.shared.globals) c)) es (state_of self.old) (reply_of_events result) (state_of self.new)
-            × Dealt F.log O.log (desk_of self.old) es (desk_of self.new) }
-        ensures idle { Idle O.at_rest (desk_of self.new) }
+            × DealtOnce F.log O.state (told h.watches c.shared.globals ((name.now, value) ∷ [])) (desk_of self.old) es (desk_of self.new) }
+        ensures rest { Resting (rests O.state) (desk_of self.old).watchers → Resting (rests O.state) (desk_of self.new).watchers }
         ensures story { story_of self.new ≡ story_of self.old }
     {
         let Ok(all) = tell_one(self.alloc, &mut self.desk, &self.machine, name, &value) else {
             return Err(Halt::Refused(Refusal::OutOfMemory));
         };
         let _stored = self.machine.set(name, value);
-        self.end_telling(all)
+        end_telling(&mut self.desk, &mut self.broken, all)
     }
 
     /// A global's value; of a broken player as it stood before the step that faulted. Takes no memory: a text, a target or a tag
@@ -299,10 +260,9 @@ impl<P: PureFn, F: TurnFn, O: Watcher> Player<P, F, O> {
     /// player, which keeps the globals as they stood before the step that faulted, and tells nobody. Where a watcher finds no
     /// memory the story has begun anew, all others are told, and the player is broken by the fault `OutOfMemory`.
     pub fn restart(&mut self) -> Result<Seq<Event>, Halt>
-        requires idle { Idle O.at_rest (desk_of self.old) }
         ensures does { (es : List Happening) × Restart (story_of self.old) (bindings P.meaning (desk_of self.old)) es (state_of self.old) (reply_of_events result) (state_of self.new)
-            × Dealt F.log O.log (desk_of self.old) es (desk_of self.new) }
-        ensures idle { Idle O.at_rest (desk_of self.new) }
+            × DealtOnce F.log O.state (told_from (desk_of self.old) (state_of self.old) (globals_of (state_of self.new).condition)) (desk_of self.old) es (desk_of self.new) }
+        ensures rest { Resting (rests O.state) (desk_of self.old).watchers → Resting (rests O.state) (desk_of self.new).watchers }
         ensures story { story_of self.new ≡ story_of self.old }
     {
         match Machine::open(self.alloc, &self.story) {
@@ -311,7 +271,7 @@ impl<P: PureFn, F: TurnFn, O: Watcher> Player<P, F, O> {
                 Fault::OutOfMemory => Err(Halt::Refused(Refusal::OutOfMemory)),
                 _ => {
                     self.machine = Machine::at_start(self.alloc, &self.story, globals);
-                    Err(self.break_by(fault))
+                    Err(break_by(&mut self.desk, &mut self.broken, fault))
                 }
             },
         }
@@ -319,11 +279,10 @@ impl<P: PureFn, F: TurnFn, O: Watcher> Player<P, F, O> {
 
     /// Begins anew with a machine that was opened, once the watchers are told of what has another value in it.
     fn begin_anew(&mut self, machine: Machine) -> Result<Seq<Event>, Halt>
-        requires idle { Idle O.at_rest (desk_of self.old) }
         ensures does { let s = story_of self.old in let was = config_of s self.old.machine in let c = config_of s machine in let h = bindings P.meaning (desk_of self.old) in
             (es : List Happening) × TellsOrKeeps (told h.watches was.shared.globals c.shared.globals) (Ready c) es (state_of self.old) (reply_of_events result) (state_of self.new)
-            × Dealt F.log O.log (desk_of self.old) es (desk_of self.new) }
-        ensures idle { Idle O.at_rest (desk_of self.new) }
+            × DealtOnce F.log O.state (told_from (desk_of self.old) (state_of self.old) (globals_of (state_of self.new).condition)) (desk_of self.old) es (desk_of self.new) }
+        ensures rest { Resting (rests O.state) (desk_of self.old).watchers → Resting (rests O.state) (desk_of self.new).watchers }
         ensures story { story_of self.new ≡ story_of self.old }
     {
         let Ok(all) = tell_between(self.alloc, &mut self.desk, &self.machine, &machine) else {
@@ -331,7 +290,7 @@ impl<P: PureFn, F: TurnFn, O: Watcher> Player<P, F, O> {
         };
         self.machine = machine;
         self.broken = None;
-        self.end_telling(all)
+        end_telling(&mut self.desk, &mut self.broken, all)
     }
 
     /// Binds a name to a pure function. The function or turn function that was bound to it is handed back; where memory is
@@ -372,14 +331,12 @@ impl<P: PureFn, F: TurnFn, O: Watcher> Player<P, F, O> {
     /// Watches the global of a name, whether it is there or not, by a watcher at rest. The watcher of that name before is handed
     /// back; where memory is refused the given one is, and nothing has changed.
     pub fn watch(&mut self, name: &str, watcher: O) -> Result<Option<O>, O>
-        requires given { O.at_rest watcher ≡ true }
-        requires idle { Idle O.at_rest (desk_of self.old) }
         ensures old { IfOk result (λ old. old ≡ at name.now (desk_of self.old).watchers) }
-        ensures old_rest { IfOk result (λ old. IfSome old (λ w. O.at_rest w ≡ true)) }
+        ensures old_rest { Resting (rests O.state) (desk_of self.old).watchers → IfOk result (λ old. IfSome old (λ w. rests O.state w ≡ true)) }
         ensures kept { OnOk result (desk_of self.new ≡ record (desk_of self.old) { watchers = put name.now watcher (desk_of self.old).watchers }) }
         ensures back { IfErr result (λ back. back ≡ watcher) }
         ensures err { OnErr result (desk_of self.new ≡ desk_of self.old) }
-        ensures idle { Idle O.at_rest (desk_of self.new) }
+        ensures rest { rests O.state watcher ≡ true → Resting (rests O.state) (desk_of self.old).watchers → Resting (rests O.state) (desk_of self.new).watchers }
         ensures state { state_of self.new ≡ state_of self.old }
         ensures story { story_of self.new ≡ story_of self.old }
     {
@@ -388,11 +345,10 @@ impl<P: PureFn, F: TurnFn, O: Watcher> Player<P, F, O> {
 
     /// Takes away the watcher of a name, and hands it back at rest; none where there is none. Takes no memory.
     pub fn unwatch(&mut self, name: &str) -> Option<O>
-        requires idle { Idle O.at_rest (desk_of self.old) }
         ensures old { result ≡ at name.now (desk_of self.old).watchers }
-        ensures old_rest { IfSome result (λ w. O.at_rest w ≡ true) }
+        ensures old_rest { Resting (rests O.state) (desk_of self.old).watchers → IfSome result (λ w. rests O.state w ≡ true) }
         ensures desk { desk_of self.new ≡ record (desk_of self.old) { watchers = without name.now (desk_of self.old).watchers } }
-        ensures idle { Idle O.at_rest (desk_of self.new) }
+        ensures rest { Resting (rests O.state) (desk_of self.old).watchers → Resting (rests O.state) (desk_of self.new).watchers }
         ensures state { state_of self.new ≡ state_of self.old }
         ensures story { story_of self.new ≡ story_of self.old }
     {
@@ -418,6 +374,71 @@ impl<P: PureFn, F: TurnFn, O: Watcher> Player<P, F, O> {
             alloc: _,
         } = self;
         desk
+    }
+}
+
+/// The passage of a run, with what happened on the way to it. Where not all watchers found memory the player is broken.
+fn end_run<P, F, O>(
+    desk: &mut Desk<P, F, O>,
+    broken: &mut Option<Fault>,
+    passage: Passage,
+    all: bool,
+) -> Result<Passage, Halt>
+    ensures reply { reply_of result ≡ reply_told all (Tells (record passage { events = desk.old.events })) desk.old.events }
+    ensures desk { desk.new ≡ record desk.old { events = [] } }
+    ensures broken { broken.new ≡ fault_told all broken.old }
+{
+    if !all {
+        return Err(break_by(desk, broken, Fault::OutOfMemory));
+    }
+    let Passage {
+        text,
+        tags,
+        choices,
+        events: _,
+        more,
+        loose,
+    } = passage;
+    Ok(Passage {
+        text,
+        tags,
+        choices,
+        events: desk.take_events(),
+        more,
+        loose,
+    })
+}
+
+/// What happened at a command that runs nothing. Where not all watchers found memory the player is broken.
+fn end_telling<P, F, O>(
+    desk: &mut Desk<P, F, O>,
+    broken: &mut Option<Fault>,
+    all: bool,
+) -> Result<Seq<Event>, Halt>
+    ensures reply { reply_of_events result ≡ reply_told all (Acts desk.old.events) desk.old.events }
+    ensures desk { desk.new ≡ record desk.old { events = [] } }
+    ensures broken { broken.new ≡ fault_told all broken.old }
+{
+    if !all {
+        return Err(break_by(desk, broken, Fault::OutOfMemory));
+    }
+    Ok(desk.take_events())
+}
+
+/// A fault breaks the player; the events so far are told with it.
+fn break_by<P, F, O>(
+    desk: &mut Desk<P, F, O>,
+    broken: &mut Option<Fault>,
+    fault: Fault,
+) -> Halt
+    ensures reply { reply_of_halt result ≡ Breaks fault desk.old.events }
+    ensures desk { desk.new ≡ record desk.old { events = [] } }
+    ensures broken { broken.new ≡ Some fault }
+{
+    *broken = Some(fault);
+    Halt::Fault {
+        fault,
+        events: desk.take_events(),
     }
 }
 

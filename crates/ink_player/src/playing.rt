@@ -3,6 +3,7 @@
 ghost use Rattle.std.specs.Prelude.{◌≡◌, List, Ok, IfOk, IfErr};
 ghost use Rattle.ink_check.specs.Words.{story_tree};
 ghost use Rattle.ink_host.specs.Desk.{Resting};
+ghost use Rattle.ink_host.specs.Telling.{rests};
 ghost use Rattle.ink_model.specs.Acceptance as rules;
 ghost use Rattle.ink_model.specs.declared.host.Event.{Event};
 ghost use Rattle.ink_player.specs.Ends.{play_reads_fail, play_writes_fail};
@@ -33,10 +34,9 @@ pub fn play<R: Read, W: Write, P: PureFn, F: TurnFn, O: Watcher>(
     writer: &mut W,
     desk: Desk<P, F, O>,
 ) -> Result<Desk<P, F, O>, PlayEnd<P, F, O>>
-    requires rest { Resting O.at_rest desk.watchers }
     ensures plays { (es : List Event) × Plays (bindings P.meaning desk) es (R.remaining reader.old) (R.remaining reader.new) (W.contents writer.old) (W.contents writer.new) result
-        × DealtAnew F.log O.log desk es (desk_left result) }
-    ensures rest { Resting O.at_rest (desk_left result).watchers }
+        × DealtAnew F.log O.state desk es (desk_left result) }
+    ensures rest { Resting (rests O.state) desk.watchers → Resting (rests O.state) (desk_left result).watchers }
 {
     let mut source = Lent::over(reader);
     let mut sink = Lent::over(writer);
@@ -52,10 +52,9 @@ pub fn serve_story<S: Source, T: Sink, P: PureFn, F: TurnFn, O: Watcher>(
     sink: &mut T,
     desk: Desk<P, F, O>,
 ) -> Result<Desk<P, F, O>, PlayEnd<P, F, O>>
-    requires rest { Resting O.at_rest desk.watchers }
     ensures plays { (es : List Event) × Plays (bindings P.meaning desk) es (S.remaining source.old) (S.remaining source.new) (T.contents sink.old) (T.contents sink.new) result
-        × DealtAnew F.log O.log desk es (desk_left result) }
-    ensures rest { Resting O.at_rest (desk_left result).watchers }
+        × DealtAnew F.log O.state desk es (desk_left result) }
+    ensures rest { Resting (rests O.state) desk.watchers → Resting (rests O.state) (desk_left result).watchers }
     ensures source { Reports (play_reads_fail result) (S.failures source.old) (S.failures source.new) (S.name source.old) (S.name source.new) }
     ensures sink { Reports (play_writes_fail result) (T.failures sink.old) (T.failures sink.new) (T.name sink.old) (T.name sink.new) }
 {
@@ -99,7 +98,6 @@ pub fn open_story<P: PureFn, F: TurnFn, O: Watcher>(
     line: &[u8],
     desk: Desk<P, F, O>,
 ) -> Result<Player<P, F, O>, PlayEnd<P, F, O>>
-    requires rest { Resting O.at_rest desk.watchers }
     ensures opens { Opens line.now result }
     ensures desk { OpensDesk desk result }
 {

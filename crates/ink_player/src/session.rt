@@ -1,13 +1,15 @@
 //! Sessions over command lines (docs/PROTOCOL.md, "Sessions").
 
 ghost use Rattle.std.specs.Prelude.{◌≡◌, ℕ, List, [], ◌⊎◌, option_map};
+ghost use Rattle.ink_host.specs.Desk.{Resting};
+ghost use Rattle.ink_host.specs.Telling.{rests};
 ghost use Rattle.ink_model.specs.Answer.{Refuses};
 ghost use Rattle.ink_model.specs.Session.{Does, Serves, Set};
 ghost use Rattle.ink_model.specs.Host.{Bindings};
 ghost use Rattle.ink_model.specs.declared.host.Event.{Event};
 ghost use Rattle.ink_protocol.specs.Commands.{command_by};
 ghost use Rattle.ink_protocol.specs.Replies.{reply_by};
-ghost use Rattle.ink_player.specs.Words.{Dealt, Idle, bindings, desk_of, state_of, story_of};
+ghost use Rattle.ink_player.specs.Words.{Dealt, bindings, desk_of, state_of, story_of};
 ghost use Rattle.ink_protocol.specs.Ends.{Reports, reads_fail, writes_fail};
 ghost use Rattle.ink_player.specs.Serving.{Answers, Runs, ServesNext};
 ghost use Rattle.ink_model.specs.Unread.{PathFails};
@@ -60,11 +62,10 @@ pub fn run<R: Read, W: Write, P: PureFn, F: TurnFn, O: Watcher>(
     writer: &mut W,
     player: &mut Player<P, F, O>,
 ) -> Result<(), RunFault>
-    requires idle { Idle O.at_rest (desk_of player.old) }
     ensures runs { (es : List Event) × Runs (story_of player.old) (bindings P.meaning (desk_of player.old)) es MAX_INPUT [] (R.remaining reader.old) (R.remaining reader.new)
         (W.contents writer.old) (W.contents writer.new) (state_of player.old) (state_of player.new) result
-        × Dealt F.log O.log (desk_of player.old) es (desk_of player.new) }
-    ensures idle { Idle O.at_rest (desk_of player.new) }
+        × Dealt F.log O.state (desk_of player.old) es (desk_of player.new) }
+    ensures rest { Resting (rests O.state) (desk_of player.old).watchers → Resting (rests O.state) (desk_of player.new).watchers }
     ensures story { story_of player.new ≡ story_of player.old }
 {
     let mut source = Lent::over(reader);
@@ -81,11 +82,10 @@ pub fn serve<S: Source, T: Sink, P: PureFn, F: TurnFn, O: Watcher>(
     sink: &mut T,
     player: &mut Player<P, F, O>,
 ) -> Result<(), RunFault>
-    requires idle { Idle O.at_rest (desk_of player.old) }
     ensures runs { (es : List Event) × Runs (story_of player.old) (bindings P.meaning (desk_of player.old)) es MAX_INPUT [] (S.remaining source.old) (S.remaining source.new)
         (T.contents sink.old) (T.contents sink.new) (state_of player.old) (state_of player.new) result
-        × Dealt F.log O.log (desk_of player.old) es (desk_of player.new) }
-    ensures idle { Idle O.at_rest (desk_of player.new) }
+        × Dealt F.log O.state (desk_of player.old) es (desk_of player.new) }
+    ensures rest { Resting (rests O.state) (desk_of player.old).watchers → Resting (rests O.state) (desk_of player.new).watchers }
     ensures story { story_of player.new ≡ story_of player.old }
     ensures source { Reports (reads_fail result) (S.failures source.old) (S.failures source.new) (S.name source.old) (S.name source.new) }
     ensures sink { Reports (writes_fail result) (T.failures sink.old) (T.failures sink.new) (T.name sink.old) (T.name sink.new) }
@@ -102,11 +102,10 @@ pub(crate) fn serve_lines<S: Source, T: Sink, P: PureFn, F: TurnFn, O: Watcher>(
     sink: &mut T,
     player: &mut Player<P, F, O>,
 ) -> Result<(), RunFault>
-    requires idle { Idle O.at_rest (desk_of player.old) }
     ensures runs { (es : List Event) × Runs (story_of player.old) (bindings P.meaning (desk_of player.old)) es ahead.old.spare ahead.old.unread (S.remaining source.old) (S.remaining source.new)
         (T.contents sink.old) (T.contents sink.new) (state_of player.old) (state_of player.new) result
-        × Dealt F.log O.log (desk_of player.old) es (desk_of player.new) }
-    ensures idle { Idle O.at_rest (desk_of player.new) }
+        × Dealt F.log O.state (desk_of player.old) es (desk_of player.new) }
+    ensures rest { Resting (rests O.state) (desk_of player.old).watchers → Resting (rests O.state) (desk_of player.new).watchers }
     ensures story { story_of player.new ≡ story_of player.old }
     ensures source { Reports (reads_fail result) (S.failures source.old) (S.failures source.new) (S.name source.old) (S.name source.new) }
     ensures sink { Reports (writes_fail result) (T.failures sink.old) (T.failures sink.new) (T.name sink.old) (T.name sink.new) }
@@ -130,11 +129,10 @@ fn serve_line<S: Source, T: Sink, P: PureFn, F: TurnFn, O: Watcher>(
     sink: &mut T,
     player: &mut Player<P, F, O>,
 ) -> Result<Served, RunFault>
-    requires idle { Idle O.at_rest (desk_of player.old) }
     ensures next { (es : List Event) × ServesNext (story_of player.old) (bindings P.meaning (desk_of player.old)) es (S.remaining source.old) (S.remaining source.new) (T.contents sink.old) (T.contents sink.new)
         ahead.old ahead.new (state_of player.old) (state_of player.new) result
-        × Dealt F.log O.log (desk_of player.old) es (desk_of player.new) }
-    ensures idle { Idle O.at_rest (desk_of player.new) }
+        × Dealt F.log O.state (desk_of player.old) es (desk_of player.new) }
+    ensures rest { Resting (rests O.state) (desk_of player.old).watchers → Resting (rests O.state) (desk_of player.new).watchers }
     ensures story { story_of player.new ≡ story_of player.old }
     ensures source { Reports (reads_fail result) (S.failures source.old) (S.failures source.new) (S.name source.old) (S.name source.new) }
     ensures sink { Reports (writes_fail result) (T.failures sink.old) (T.failures sink.new) (T.name sink.old) (T.name sink.new) }
@@ -173,10 +171,9 @@ fn answer_line<T: Sink, P: PureFn, F: TurnFn, O: Watcher>(
     player: &mut Player<P, F, O>,
     line: &[u8],
 ) -> Result<(), RunFault>
-    requires idle { Idle O.at_rest (desk_of player.old) }
     ensures answers { (es : List Event) × Answers (story_of player.old) (bindings P.meaning (desk_of player.old)) es line.now (T.contents sink.old) (T.contents sink.new) (state_of player.old) (state_of player.new) result
-        × Dealt F.log O.log (desk_of player.old) es (desk_of player.new) }
-    ensures idle { Idle O.at_rest (desk_of player.new) }
+        × Dealt F.log O.state (desk_of player.old) es (desk_of player.new) }
+    ensures rest { Resting (rests O.state) (desk_of player.old).watchers → Resting (rests O.state) (desk_of player.new).watchers }
     ensures story { story_of player.new ≡ story_of player.old }
     ensures sink { Reports (writes_fail result) (T.failures sink.old) (T.failures sink.new) (T.name sink.old) (T.name sink.new) }
 {
@@ -198,10 +195,9 @@ fn outcome_of<P: PureFn, F: TurnFn, O: Watcher>(
     player: &mut Player<P, F, O>,
     line: &[u8],
 ) -> Outcome
-    requires idle { Idle O.at_rest (desk_of player.old) }
     ensures serves { (es : List Event) × Serves (story_of player.old) (bindings P.meaning (desk_of player.old)) es line.now (state_of player.old) (reply_by result) (state_of player.new)
-        × Dealt F.log O.log (desk_of player.old) es (desk_of player.new) }
-    ensures idle { Idle O.at_rest (desk_of player.new) }
+        × Dealt F.log O.state (desk_of player.old) es (desk_of player.new) }
+    ensures rest { Resting (rests O.state) (desk_of player.old).watchers → Resting (rests O.state) (desk_of player.new).watchers }
     ensures story { story_of player.new ≡ story_of player.old }
 {
     match read_command(alloc, line) {
@@ -215,11 +211,10 @@ fn perform<P: PureFn, F: TurnFn, O: Watcher>(
     player: &mut Player<P, F, O>,
     command: Option<LineCommand<'_>>,
 ) -> Outcome
-    requires idle { Idle O.at_rest (desk_of player.old) }
     ensures does { (es : List Event) × (Does (story_of player.old) (bindings P.meaning (desk_of player.old)) es (option_map command_by command.entry) (state_of player.old) (reply_by result) (state_of player.new)
         ⊎ ((es ≡ []) × PathFails (option_map command_by command.entry) (state_of player.old) (reply_by result) (state_of player.new)))
-        × Dealt F.log O.log (desk_of player.old) es (desk_of player.new) }
-    ensures idle { Idle O.at_rest (desk_of player.new) }
+        × Dealt F.log O.state (desk_of player.old) es (desk_of player.new) }
+    ensures rest { Resting (rests O.state) (desk_of player.old).watchers → Resting (rests O.state) (desk_of player.new).watchers }
     ensures story { story_of player.new ≡ story_of player.old }
 {
     match command {
@@ -240,10 +235,9 @@ fn set<P: PureFn, F: TurnFn, O: Watcher>(
     name: &str,
     value: Option<Given>,
 ) -> Outcome
-    requires idle { Idle O.at_rest (desk_of player.old) }
     ensures does { (es : List Event) × Set (bindings P.meaning (desk_of player.old)) es name.now value (state_of player.old) (reply_by result) (state_of player.new)
-        × Dealt F.log O.log (desk_of player.old) es (desk_of player.new) }
-    ensures idle { Idle O.at_rest (desk_of player.new) }
+        × Dealt F.log O.state (desk_of player.old) es (desk_of player.new) }
+    ensures rest { Resting (rests O.state) (desk_of player.old).watchers → Resting (rests O.state) (desk_of player.new).watchers }
     ensures story { story_of player.new ≡ story_of player.old }
 {
     let Some(value) = value else {

@@ -2,7 +2,7 @@
 
 ghost use Rattle.std.specs.Prelude.{◌≡◌, [], ◌∷◌, IfOk, filter};
 ghost use Rattle.ink_host.specs.Desk.{Resting, watches};
-ghost use Rattle.ink_host.specs.Telling.{OncePerName};
+ghost use Rattle.ink_host.specs.Telling.{rests};
 ghost use Rattle.ink_model.specs.Told as rules;
 ghost use Rattle.ink_model.specs.Told.{change_of, told};
 ghost use Rattle.ink_player.specs.Words.{TellsWatchers};
@@ -20,10 +20,8 @@ pub(crate) fn tell<P, F: TurnFn, O: Watcher>(
     desk: &mut Desk<P, F, O>,
     changes: &[Change],
 ) -> Result<bool, AllocError>
-    requires once { OncePerName changes.now }
-    requires rest { Resting O.at_rest desk.old.watchers }
-    ensures tells { TellsWatchers F.log O.log desk.old (filter (λ c. watches desk.old.watchers c.name) changes.now) result desk.new }
-    ensures rest { Resting O.at_rest desk.new.watchers }
+    ensures tells { TellsWatchers F.log O.state desk.old changes.now (filter (λ c. watches desk.old.watchers c.name) changes.now) result desk.new }
+    ensures rest { Resting (rests O.state) desk.old.watchers → Resting (rests O.state) desk.new.watchers }
 {
     match desk.tell(changes) {
         Ok(()) => Ok(true),
@@ -40,9 +38,8 @@ pub(crate) fn tell_one<P, F: TurnFn, O: Watcher>(
     name: &str,
     value: &Value,
 ) -> Result<bool, AllocError>
-    requires rest { Resting O.at_rest desk.old.watchers }
-    ensures tells { TellsWatchers F.log O.log desk.old (told (watches desk.old.watchers) (globals_of machine.now) ((name.now, value.now) ∷ [])) result desk.new }
-    ensures rest { Resting O.at_rest desk.new.watchers }
+    ensures tells { let cs = told (watches desk.old.watchers) (globals_of machine.now) ((name.now, value.now) ∷ []) in TellsWatchers F.log O.state desk.old cs cs result desk.new }
+    ensures rest { Resting (rests O.state) desk.old.watchers → Resting (rests O.state) desk.new.watchers }
 {
     if !is_told(desk, machine, name, value) {
         return Ok(true);
@@ -59,9 +56,8 @@ pub(crate) fn tell_between<P: PureFn, F: TurnFn, O: Watcher>(
     old: &Machine,
     new: &Machine,
 ) -> Result<bool, AllocError>
-    requires rest { Resting O.at_rest desk.old.watchers }
-    ensures tells { TellsWatchers F.log O.log desk.old (told (watches desk.old.watchers) (globals_of old.now) (globals_of new.now)) result desk.new }
-    ensures rest { Resting O.at_rest desk.new.watchers }
+    ensures tells { let cs = told (watches desk.old.watchers) (globals_of old.now) (globals_of new.now) in TellsWatchers F.log O.state desk.old cs cs result desk.new }
+    ensures rest { Resting (rests O.state) desk.old.watchers → Resting (rests O.state) desk.new.watchers }
 {
     let changes = told_between(alloc, old.globals(), new.globals(), desk)?;
     tell(desk, changes.as_slice())

@@ -3,7 +3,7 @@ use Rattle.std.proofs.Common.{◌≡◌, ◌∙◌, ◌⊎◌, ◌&&◌, ap, sym
 use Rattle.std.proofs.lemmas.List.{append-nil}
 use Rattle.std.specs.List.{list_all}
 use Rattle.ink_host.specs.Desk.{DeskView, Grew, Rows, at, binding, bound_by, kind_of, pure_of}
-use Rattle.ink_host.proofs.Laws.{at-each}
+use Rattle.ink_host.proofs.Laws.{at-each, grew-none}
 use Rattle.ink_host.specs.declared.objects.Bound.{Bound as Bind}
 use Rattle.ink_host.specs.declared.objects.Bound.TheVariants as bound
 use Rattle.ink_host.specs.declared.objects.Called.{Called}
@@ -228,19 +228,25 @@ module _ (s : StoryTree) (name : List ℕ) (k : ℕ) (f new : Fields) (safe : ha
     turn_refused : Grew turn_log watch_log a (event.Call name vs None a.next ∷ []) b → Calls_it (Err HostRefused)
     turn_refused grew = (event.Call name vs None a.next ∷ [], grew, made_turn s a.next name k f safe vs left there fits None _ new (Err HostRefused) refl (inl refl))
 
-    turn_short : (es : List Event) × Grew turn_log watch_log a es b × ((es ≡ []) ⊎ ((g : Given) × shares g × (es ≡ event.Call name vs (Some g) a.next ∷ []))) → Calls_it (Err OutOfMemory)
-    turn_short m = (
-      m.0,
-      m.1,
-      elim m.2 [
-        | inl none ↦ short_turn s a.next name k f safe vs left there fits m.0 new none
-        | inr one ↦ made_turn s a.next name k f safe vs left there fits (Some one.0) m.0 new (Err OutOfMemory) one.2 (short s _ new _ (text_asks one.0 one.1))
-      ],
-    )
+    -- memory was refused: before the call, to the function itself, or to a further owner of what it gave
+    abbrev pub Short : Type 0 → Type 0
+    Short Refused = (b ≡ a) ⊎ ((Grew turn_log watch_log a [] b × Refused) ⊎ ((g : Given) × shares g × Grew turn_log watch_log a (event.Call name vs (Some g) a.next ∷ []) b))
 
-    pub turn_failed : (fault : Fault) → (fault ≡ HostRefused → Grew turn_log watch_log a (event.Call name vs None a.next ∷ []) b)
-        → (fault ≡ OutOfMemory → (es : List Event) × Grew turn_log watch_log a es b × ((es ≡ []) ⊎ ((g : Given) × shares g × (es ≡ event.Call name vs (Some g) a.next ∷ []))))
-        → (fault ≡ HostRefused) ⊎ (fault ≡ OutOfMemory) → Calls_it (Err fault)
+    turn_short : {Refused : Type 0} → Short Refused → Calls_it (Err OutOfMemory)
+    turn_short m = elim m [
+      | inl same ↦ ([], subst (λ d. Grew turn_log watch_log a [] d) (sym same) (grew-none turn_log watch_log a), short_turn s a.next name k f safe vs left there fits [] new refl)
+      | inr called ↦ elim called [
+        | inl none ↦ ([], none.0, short_turn s a.next name k f safe vs left there fits [] new refl)
+        | inr one ↦ (
+          event.Call name vs (Some one.0) a.next ∷ [],
+          one.2,
+          made_turn s a.next name k f safe vs left there fits (Some one.0) _ new (Err OutOfMemory) refl (short s _ new _ (text_asks one.0 one.1)),
+        )
+      ]
+    ]
+
+    pub turn_failed : {Refused : Type 0} (fault : Fault) → (fault ≡ HostRefused → Grew turn_log watch_log a (event.Call name vs None a.next ∷ []) b)
+        → (fault ≡ OutOfMemory → Short Refused) → (fault ≡ HostRefused) ⊎ (fault ≡ OutOfMemory) → Calls_it (Err fault)
     turn_failed fault refused memory which = elim which [
       | inl is ↦ subst (λ x. Calls_it (Err x)) (sym is) (turn_refused (refused is))
       | inr is ↦ subst (λ x. Calls_it (Err x)) (sym is) (turn_short (memory is))

@@ -1,33 +1,18 @@
 -- What is to be told of globals, one after another.
-use Rattle.std.proofs.Common.{◌≡◌, ◌≢◌, ◌∙◌, ◌++◌, ◌∷◌, ◌+◌, ◌&&◌, ◌||◌, ◌<◌, ◌≤◌, ℕ, zero, suc, List, [], Bool, true, false, Option, Some, None, ap, append_assoc, arith, bytes_eq, cond, drop, get_or, if◌then◌else◌, length, map, nat_eq, refl, slice_get, subst, sym, take}
-use Rattle.std.proofs.lemmas.Bool.{eqb-false}
+use Rattle.std.proofs.Common.{◌≡◌, ◌≢◌, ◌∙◌, ◌++◌, ◌∷◌, ◌+◌, ◌&&◌, ◌<◌, ◌≤◌, ℕ, zero, suc, List, [], Bool, true, false, Option, Some, None, ap, append_assoc, arith, cond, drop, get_or, if◌then◌else◌, length, map, refl, slice_get, sym, take}
 use Rattle.std.proofs.lemmas.List.{append-nil, take-append-drop, take_all, take_more}
 use Rattle.std.proofs.lemmas.List.Sorted.{IsPermutation-refl}
 use Rattle.std.proofs.lemmas.Option.{get_or_from_slice_get, slice_get_within}
-use Rattle.std.specs.List.{AllByRecursion, IsDistinct, filter}
+use Rattle.std.specs.List.{filter}
 use Rattle.ink_model.specs.Store.{Values, stored}
 use Rattle.ink_model.specs.Told.{change_of, is_other, is_told, told}
 use Rattle.ink_model.specs.declared.host.Change.{Change}
 use Rattle.ink_model.specs.declared.value.Value.{Value}
 use Rattle.ink_host.specs.Desk.{Rows, has_rows, watches}
-use Rattle.ink_host.specs.Telling.{OncePerName, named}
 use Rattle.ink_vars.specs.Changes.{Tracks, changed_from, changed_numbers}
 use Rattle.ink_vars.specs.Globals.{DifferInName}
 use Rattle.ink_vars.specs.declared.changes.Before.{Before}
-use Rattle.ink_vars.proofs.Changing.{changed_are, other_name}
-use Rattle.ink_vars.proofs.Copying.{other_way}
-
--- globals of two numbers have two names
-names_apart : (now : Values) → DifferInName now → (i j : ℕ) (e f : List ℕ × Value) → slice_get now i ≡ Some e → slice_get now j ≡ Some f → i ≢ j → bytes_eq f.0 e.0 ≡ false
-names_apart [] differ i j e f at there apart = absurd (cc)
-names_apart (x ∷ xs) differ zero zero e f at there apart = absurd (apart refl)
-names_apart (x ∷ xs) differ zero (suc j) e f at there apart =
-    let same : x ≡ e = cc in
-    subst (λ y. bytes_eq f.0 y.0 ≡ false) same (other_way x.0 f.0 (other_name x.0 xs j f differ.0 there))
-names_apart (x ∷ xs) differ (suc i) zero e f at there apart =
-    let same : x ≡ f = cc in
-    subst (λ y. bytes_eq y.0 e.0 ≡ false) same (other_name x.0 xs i e differ.0 at)
-names_apart (x ∷ xs) differ (suc i) (suc j) e f at there apart = names_apart xs differ.1 i j e f at there (λ is. apart (ap suc is))
+use Rattle.ink_vars.proofs.Changing.{changed_are}
 
 -- ---- by numbers
 
@@ -88,25 +73,6 @@ module _ (now : Values) where
   told_next ns i so_far more o within at h added =
       added ∙ ap (λ cs. cs ++ told_one o) h ∙ ap (λ x. told_at (take i ns) ++ told_one x) (sym at) ∙ sym (told_more (take i ns) (get_or ns i 0))
       ∙ ap told_at (sym (take_more ns i 0 within))
-
-  -- each global once
-  module _ (differ : DifferInName now) where
-    others_at : (i : ℕ) (e : List ℕ × Value) → slice_get now i ≡ Some e → (is : List ℕ) → AllByRecursion (λ j. nat_eq i j ≡ false) is → named e.0 (told_at is) ≡ false
-    others_at i e at [] apart = refl
-    others_at i e at (j ∷ is) apart = by (slice_get now j) refl (others_at i e at is apart.1)
-      where
-        by : (o : Option (List ℕ × Value)) → slice_get now j ≡ o → named e.0 (told_at is) ≡ false → named e.0 (told_one o ++ told_at is) ≡ false
-        by None there others = others
-        by (Some f) there others = ap (λ b. b || named e.0 (told_at is)) (names_apart now differ i j e f at there (eqb-false i j apart.0)) ∙ others
-
-    pub once_at : (is : List ℕ) → IsDistinct nat_eq is → OncePerName (told_at is)
-    unfolding IsDistinct
-    once_at [] apart = tt
-    once_at (i ∷ is) apart = by (slice_get now i) refl (once_at is apart.1)
-      where
-        by : (o : Option (List ℕ × Value)) → slice_get now i ≡ o → OncePerName (told_at is) → OncePerName (told_one o ++ told_at is)
-        by None at once = once
-        by (Some e) at once = (others_at i e at is apart.0, once)
 
   -- where nothing was noted nothing has changed
   pub told_unchanged : (watches : List ℕ → Bool) (start : Values) (noted : List Before) → Tracks start noted now → DifferInName now → length noted ≡ 0 → [] ≡ told watches start now
@@ -183,23 +149,3 @@ module _ (watches : List ℕ → Bool) (start : Values) where
       never : (before : List Change) (c : Change) (after : List Change) → before ++ c ∷ [] ++ after ≡ [] → ⊥
       never [] c after h = absurd (cc)
       never (b ∷ before) c after h = absurd (cc)
-
-  -- ---- no name comes twice
-
-  others_told : (name : List ℕ) (es : Values) → stored name es ≡ None → named name (told watches start es) ≡ false
-  others_told name [] h = refl
-  others_told name (e ∷ es) h = by (is_told watches start e) (bytes_eq name e.0) refl h (others_told name es)
-    where
-      by : (b same : Bool) → bytes_eq name e.0 ≡ same → (if same then Some e.1 else stored name es) ≡ None → (stored name es ≡ None → named name (told watches start es) ≡ false)
-          → named name (map change_of (cond b (e ∷ filter (is_told watches start) es) (filter (is_told watches start) es))) ≡ false
-      by b true is h more = absurd (cc)
-      by true false is h more = ap (λ x. x || named name (told watches start es)) (other_way name e.0 is) ∙ more h
-      by false false is h more = more h
-
-  pub told_once : (es : Values) → DifferInName es → OncePerName (told watches start es)
-  told_once [] h = tt
-  told_once (e ∷ es) h = by (is_told watches start e) (told_once es h.1)
-    where
-      by : (b : Bool) → OncePerName (told watches start es) → OncePerName (map change_of (cond b (e ∷ filter (is_told watches start) es) (filter (is_told watches start) es)))
-      by true more = (others_told e.0 es h.0, more)
-      by false more = more

@@ -4,6 +4,7 @@ ghost use Rattle.std.specs.Prelude.{◌≡◌, ◌≤◌, ℕ, List, Bool, Optio
 ghost use Rattle.std.specs.List.{list_all};
 ghost use Rattle.ink_check.specs.Words.{story_tree};
 ghost use Rattle.ink_host.specs.Desk.{Grew, at, bound_by};
+ghost use Rattle.ink_host.specs.Telling.{log_of};
 ghost use Rattle.ink_host.specs.declared.objects.Bound.TheVariants as bound;
 ghost use Rattle.ink_model.specs.Effect.{Fields};
 ghost use Rattle.ink_model.specs.Asks.{binding_asks, external_asks, takes_arguments};
@@ -81,7 +82,7 @@ pub(crate) fn call_external<'a, P: PureFn, T: TurnFn, W: Watcher>(
 ) -> Result<Transfer<'a>, Fault>
     ensures call { let s = story_tree story.now in let b = bound_by P.meaning desk.old.functions in let k = call_of call.now in (evaluating : Bool) (fresh : Option ℕ) (globals : Values)
         → let f = fields evaluating fresh stack.old.items output.now.page globals in
-        (es : List Happening) × Grew T.log W.log desk.old es desk.new
+        (es : List Happening) × Grew T.log (log_of W.state) desk.old es desk.new
         × PerformsCall s desk.old.next (external_asks (b k.name) k.arguments k.conditional f) (rules.call_external s b k.name k.arguments k.conditional f) es (fields evaluating fresh stack.new.items output.now.page globals) result }
     ensures watchers { desk.new.watchers ≡ desk.old.watchers }
 {
@@ -102,7 +103,7 @@ fn call_bound<'a, P: PureFn, T: TurnFn, W: Watcher>(
 ) -> Result<Transfer<'a>, Fault>
     ensures call { let s = story_tree story.now in let bound = bound_by P.meaning desk.old.functions call.now.name.now in let k = call_of call.now in (evaluating : Bool) (fresh : Option ℕ) (globals : Values)
         → let f = fields evaluating fresh stack.old.items output.now.page globals in
-        (es : List Happening) × Grew T.log W.log desk.old es desk.new
+        (es : List Happening) × Grew T.log (log_of W.state) desk.old es desk.new
         × PerformsCall s desk.old.next (binding_asks bound k.arguments f) (rules.call_bound s bound k.name k.arguments f) es (fields evaluating fresh stack.new.items output.now.page globals) result }
     ensures watchers { desk.new.watchers ≡ desk.old.watchers }
 {
@@ -144,7 +145,7 @@ fn call_turn<'a, P, T: TurnFn, W: Watcher>(
     requires { (t : T) × (at call.now.name.now desk.old.functions ≡ Some (bound.Turn t)) }
     ensures call { let k = call_of call.now in let turn = Some turn_function in (s : StoryTree) (evaluating : Bool) (fresh : Option ℕ) (globals : Values)
         → let f = fields evaluating fresh stack.old.items output.now.page globals in
-        (es : List Happening) × Grew T.log W.log desk.old es desk.new
+        (es : List Happening) × Grew T.log (log_of W.state) desk.old es desk.new
         × PerformsCall s desk.old.next (binding_asks turn k.arguments f) (rules.call_bound s turn k.name k.arguments f) es (fields evaluating fresh stack.new.items output.now.page globals) result }
     ensures watchers { desk.new.watchers ≡ desk.old.watchers }
 {

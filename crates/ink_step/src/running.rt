@@ -3,6 +3,7 @@
 ghost use Rattle.std.specs.Prelude.{◌≡◌, ◌≢◌, [], List, true, IfOk, OnErr};
 ghost use Rattle.ink_check.specs.Words.{story_tree};
 ghost use Rattle.ink_host.specs.Desk.{Grew, bound_by};
+ghost use Rattle.ink_host.specs.Telling.{log_of};
 ghost use Rattle.ink_model.specs.Events.{Made, calls};
 ghost use Rattle.ink_model.specs.Passage.{passage, passage_asks};
 ghost use Rattle.ink_model.specs.Store.{Values};
@@ -29,7 +30,7 @@ impl Machine {
         desk: &mut Desk<P, T, W>,
     ) -> Result<Passage, Fault>
         ensures runs { let s = story_tree story.now in let b = bound_by P.meaning desk.old.functions in
-            (made : List Made) × Grew T.log W.log desk.old (calls desk.old.next made) desk.new × RunsThrough s b (config_of s self.old) made (config_of s self.new) result }
+            (made : List Made) × Grew T.log (log_of W.state) desk.old (calls desk.old.next made) desk.new × RunsThrough s b (config_of s self.old) made (config_of s self.new) result }
         ensures watchers { desk.new.watchers ≡ desk.old.watchers }
         ensures tracks { Tracks self.old.globals.rows self.new.changes self.new.globals.rows }
     {
@@ -47,7 +48,7 @@ impl Machine {
         desk: &mut Desk<P, T, W>,
     ) -> Result<(), Fault>
         ensures runs { let s = story_tree story.now in let b = bound_by P.meaning desk.old.functions in
-            (made : List Made) × Grew T.log W.log desk.old (calls desk.old.next made) desk.new × RunsToStop s b (config_of s self.old) made (config_of s self.new) result × AreBound b made }
+            (made : List Made) × Grew T.log (log_of W.state) desk.old (calls desk.old.next made) desk.new × RunsToStop s b (config_of s self.old) made (config_of s self.new) result × AreBound b made }
         ensures watchers { desk.new.watchers ≡ desk.old.watchers }
         ensures tracks { (start : Values) → Tracks start self.old.changes self.old.globals.rows → Tracks start self.new.changes self.new.globals.rows }
     {

@@ -3,6 +3,7 @@
 ghost use Rattle.std.specs.Prelude.{◌≡◌, ◌||◌, Bool, List, true, None, Some, Ok, IfSome, OnOk, nat_lt, option_and_then, option_map};
 ghost use Rattle.ink_check.specs.Words.{story_tree};
 ghost use Rattle.ink_host.specs.Desk.{Grew, bound_by};
+ghost use Rattle.ink_host.specs.Telling.{log_of};
 ghost use Rattle.ink_model.specs.Asks.{external_asks};
 ghost use Rattle.ink_model.specs.Choosing.{following, following_asks};
 ghost use Rattle.ink_model.specs.Effect.{Effect, Fields, context_of, fields_of};
@@ -63,7 +64,7 @@ impl Machine {
         quiet: bool,
     ) -> Result<StepEnd, Fault>
         ensures step { let s = story_tree story.now in let b = bound_by P.meaning desk.old.functions in let c = config_of s self.old in
-            (es : List Happening) × Grew T.log W.log desk.old es desk.new × Steps quiet s b desk.old.next (asks s b c) (step s b c) es self.old.globals.rows c (config_of s self.new) result }
+            (es : List Happening) × Grew T.log (log_of W.state) desk.old es desk.new × Steps quiet s b desk.old.next (asks s b c) (step s b c) es self.old.globals.rows c (config_of s self.new) result }
         ensures watchers { desk.new.watchers ≡ desk.old.watchers }
         ensures machine { result ≡ Ok WantsCall → self.new ≡ self.old }
         ensures desk { result ≡ Ok WantsCall → desk.new ≡ desk.old }
@@ -89,7 +90,7 @@ impl Machine {
     ) -> Result<StepEnd, Fault>
         requires { self.old.threads.threads.thread.frame.place ≡ Some place }
         ensures step { let s = story_tree story.now in let b = bound_by P.meaning desk.old.functions in let c = config_of s self.old in
-            (es : List Happening) × Grew T.log W.log desk.old es desk.new × Steps quiet s b desk.old.next (asks s b c) (step s b c) es self.old.globals.rows c (config_of s self.new) result }
+            (es : List Happening) × Grew T.log (log_of W.state) desk.old es desk.new × Steps quiet s b desk.old.next (asks s b c) (step s b c) es self.old.globals.rows c (config_of s self.new) result }
         ensures watchers { desk.new.watchers ≡ desk.old.watchers }
         ensures machine { result ≡ Ok WantsCall → self.new ≡ self.old }
         ensures desk { result ≡ Ok WantsCall → desk.new ≡ desk.old }
@@ -151,7 +152,7 @@ impl Machine {
     ) -> Result<StepEnd, Fault>
         ensures step { let s = story_tree story.now in let b = bound_by P.meaning desk.old.functions in let c = config_of s self.old in let k = call_of call.now in
             let e = call_external s b k.name k.arguments k.conditional (fields_of c) in
-            (es : List Happening) × Grew T.log W.log desk.old es desk.new
+            (es : List Happening) × Grew T.log (log_of W.state) desk.old es desk.new
             × StepMakes s b desk.old.next ((external_asks (b k.name) k.arguments k.conditional (fields_of c) || move_asks s e c) || following_asks s (moved s e c)) (following s (moved s e c)) es self.old.globals.rows (config_of s self.new) result }
         ensures watchers { desk.new.watchers ≡ desk.old.watchers }
         ensures tracks { (start : Values) → Tracks start self.old.changes self.old.globals.rows → Tracks start self.new.changes self.new.globals.rows }

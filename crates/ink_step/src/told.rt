@@ -2,7 +2,6 @@
 
 ghost use Rattle.std.specs.Prelude.{◌≡◌, ◌≢◌, [], IfOk, OnErr, option_map};
 ghost use Rattle.ink_host.specs.Desk.{watches};
-ghost use Rattle.ink_host.specs.Telling.{OncePerName};
 ghost use Rattle.ink_model.specs.Store.{Values};
 ghost use Rattle.ink_model.specs.Told.{is_other, told};
 ghost use Rattle.ink_vars.specs.Changes.{Tracks};
@@ -22,7 +21,6 @@ impl Machine {
         desk: &Desk<P, T, W>,
     ) -> Result<Seq<Change>, AllocError>
         ensures told { (start : Values) → Tracks start self.now.changes self.now.globals.rows → IfOk result (λ changes. changes ≡ told (watches desk.now.watchers) start self.now.globals.rows) }
-        ensures once { IfOk result (λ cs. OncePerName cs) }
         ensures memory { (start : Values) → Tracks start self.now.changes self.now.globals.rows → OnErr result (told (watches desk.now.watchers) start self.now.globals.rows ≢ []) }
     {
         if self.globals.len() == 0 || !desk.has_watchers() || self.changes.is_empty() {
@@ -50,7 +48,6 @@ pub fn told_between<P: PureFn, T: TurnFn, W: Watcher>(
     desk: &Desk<P, T, W>,
 ) -> Result<Seq<Change>, AllocError>
     ensures told { IfOk result (λ changes. changes ≡ told (watches desk.now.watchers) old.now.rows new.now.rows) }
-    ensures once { IfOk result (λ cs. OncePerName cs) }
     ensures memory { OnErr result (told (watches desk.now.watchers) old.now.rows new.now.rows ≢ []) }
 {
     let mut told = Vec::new(alloc);

@@ -1,6 +1,6 @@
 use Rattle.std.proofs.Common.{◌∙◌, ap, sym, Some, None}
-use Rattle.ink_host.specs.Desk.{logs}
-use Rattle.ink_host.proofs.Entries.{called-write, found, none-not-some, quiet-write, rows_of}
+use Rattle.ink_host.specs.Desk.{at, logs, refusals_after, refusals_at}
+use Rattle.ink_host.proofs.Entries.{called-write, found, found-written, none-not-some, quiet-write, rows_of}
 use Rattle.ink_host.specs.declared.objects.Bound.TheVariants as bound
 use Rattle.ink_host.proofs.rows.call_at.Goals as goal
 
@@ -30,3 +30,13 @@ returns-clause-memory g c is =
     ap (λ es. logs g.T.TurnFn.log (rows_of es)) (c.get_mut.follows.holds c.call_bound.new.object).0
     ∙ quiet-write g.T.TurnFn.log c.args.name.now c.in-Some.object.now c.call_bound.new.object c.args.functions.now.entries
     (sym c.in-Some.ensures.value) (c.call_bound.ensures.memory is)
+
+pub returns-clause-refusals : goal.returns-clause-refusals
+returns-clause-refusals g c =
+    let n = c.args.name.now in
+    let refusals = g.T.TurnFn.refusals in
+    let es = c.args.functions.now.entries in
+    ap (λ es. refusals_at refusals (at n (rows_of es))) (c.get_mut.follows.holds c.call_bound.new.object).0
+    ∙ ap (refusals_at refusals) (found-written n c.in-Some.object.now c.call_bound.new.object es (sym c.in-Some.ensures.value))
+    ∙ c.call_bound.ensures.refusals
+    ∙ ap (λ o. refusals_after c.call_bound.result (refusals_at refusals o)) (c.in-Some.ensures.value ∙ found n es)

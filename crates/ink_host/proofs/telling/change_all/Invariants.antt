@@ -11,7 +11,7 @@ invariant-loop-change g l =
     (vec_len l.events + length l.fn.changes.items ≤ vec_capacity l.events + length l.yielded)
     × (l.outcome ≢ Err NoRoom)
     × (es : List Event)
-    × ToldAs l.initial.next l.yielded (is_ok l.outcome) es
+    × (t : ToldAs l.initial.next l.yielded (is_ok l.outcome) es)
     × (l.events.items ≡ l.initial.events.items ++ es)
     × (l.next ≡ later l.initial.next es)
-    × (standing string_bytes g.W.Watcher.log g.W.Watcher.at_rest l.watchers.entries ≡ heard es (standing string_bytes g.W.Watcher.log g.W.Watcher.at_rest l.initial.watchers.entries))
+    × (standing string_bytes g.W.Watcher.state l.watchers.entries ≡ heard l.initial.next l.yielded t.answers (standing string_bytes g.W.Watcher.state l.initial.watchers.entries))

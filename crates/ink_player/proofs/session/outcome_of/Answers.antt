@@ -9,4 +9,4 @@ returns-in-Ok-clause-serves g c =
     (does.0, serves_command _ _ _ _ _ _ _ c.in-Ok.ensures.command does.0 does.1, does.2)
 
 pub returns-in-Err-clause-serves : goal.returns-in-Err-clause-serves
-returns-in-Err-clause-serves g c = ([], serves_unread _ _ _ _ c.in-Err.ensures.memory, dealt-none g.F.TurnFn.log g.O.Watcher.log _)
+returns-in-Err-clause-serves g c = ([], serves_unread _ _ _ _ c.in-Err.ensures.memory, dealt-none g.F.TurnFn.log g.O.Watcher.state _)

@@ -6,7 +6,7 @@ use Rattle.ink_player.proofs.session.serve_line.Goals as goal
 
 pub returns-in-Err-clause-next : goal.returns-in-Err-clause-next
 returns-in-Err-clause-next g c =
-    ([], no_line _ _ _ _ _ _ _ c.in-Err.ensures.bound _ c.in-Err.fault c.bounds.ensures c.in-Err.ensures.gives, dealt-none g.F.TurnFn.log g.O.Watcher.log _)
+    ([], no_line _ _ _ _ _ _ _ c.in-Err.ensures.bound _ c.in-Err.fault c.bounds.ensures c.in-Err.ensures.gives, dealt-none g.F.TurnFn.log g.O.Watcher.state _)
 
 pub returns-in-Err-answer_line-clause-next : goal.returns-in-Err-answer_line-clause-next
 returns-in-Err-answer_line-clause-next g c =
@@ -42,5 +42,5 @@ returns-then-is_empty-clause-next g c =
     let none : length c.in-Last.line.items ≡ 0 = omega (arith, eqb-true (vec_len c.in-Last.line) 0 (sym c.if-is_empty.ensures), c.in-Last.line.ok.0) in (
       [],
       no_last _ _ _ _ _ _ _ c.in-Ok.ensures.bound _ c.in-Last.line.items (rw c.in-Last.is at c.in-Ok.ensures.gives) (none_left c.in-Last.line.items none),
-      dealt-none g.F.TurnFn.log g.O.Watcher.log _,
+      dealt-none g.F.TurnFn.log g.O.Watcher.state _,
     )

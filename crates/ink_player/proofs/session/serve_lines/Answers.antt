@@ -8,9 +8,9 @@ pub lines-init : goal.lines-init
 lines-init g c = (
   [],
   record {
-    dealt = dealt-none g.F.TurnFn.log g.O.Watcher.log _;
+    dealt = dealt-none g.F.TurnFn.log g.O.Watcher.state _;
     ends = λ left held new es r p. p;
-    idle = c.requires.idle;
+    rest = λ rest. rest;
     story = refl;
     read_cause = refl;
     write_cause = refl;
@@ -25,14 +25,14 @@ lines-preserved g c =
     let before = c.lines.invariant in
     let after = c.in-Ok-More.ensures in
     let turn = g.F.TurnFn.log in
-    let watch = g.O.Watcher.log in (
+    let watch = g.O.Watcher.state in (
       before.0 ++ served.0,
       record {
         dealt = dealt-dealt turn watch (desk_of c.args.player.now) (desk_of c.lines.player) (desk_of c.serve_line.new.player) before.0 served.0 before.1.dealt served.2;
         ends = λ left held new es r p. runs_as _ _ _ _ _ _ _ _ _ _ _ _ r (sym (append_assoc before.0 served.0 es))
             (before.1.ends left held new (served.0 ++ es) r
             (runs_more _ _ _ _ served.0 es _ _ _ _ _ _ _ _ _ _ _ r served.1 after.story (bindings-same turn watch g.P.PureFn.meaning (desk_of c.lines.player) (desk_of c.serve_line.new.player) served.0 served.2) p));
-        idle = after.idle;
+        rest = λ rest. after.rest (before.1.rest rest);
         story = after.story ∙ before.1.story;
         read_cause = after.source.0 ∙ before.1.read_cause;
         write_cause = after.sink.0 ∙ before.1.write_cause;
@@ -47,7 +47,7 @@ returns-in-Ok-Done-clause-runs g c =
     let before = c.lines.invariant in (
       before.0 ++ served.0,
       before.1.ends _ _ _ served.0 (Ok tt) served.1,
-      dealt-dealt g.F.TurnFn.log g.O.Watcher.log (desk_of c.args.player.now) (desk_of c.lines.player) (desk_of c.serve_line.new.player) before.0 served.0 before.1.dealt served.2,
+      dealt-dealt g.F.TurnFn.log g.O.Watcher.state (desk_of c.args.player.now) (desk_of c.lines.player) (desk_of c.serve_line.new.player) before.0 served.0 before.1.dealt served.2,
     )
 
 pub returns-in-Err-clause-runs : goal.returns-in-Err-clause-runs
@@ -56,5 +56,5 @@ returns-in-Err-clause-runs g c =
     let before = c.lines.invariant in (
       before.0 ++ served.0,
       before.1.ends _ _ _ served.0 (Err c.in-Err.fault) served.1,
-      dealt-dealt g.F.TurnFn.log g.O.Watcher.log (desk_of c.args.player.now) (desk_of c.lines.player) (desk_of c.serve_line.new.player) before.0 served.0 before.1.dealt served.2,
+      dealt-dealt g.F.TurnFn.log g.O.Watcher.state (desk_of c.args.player.now) (desk_of c.lines.player) (desk_of c.serve_line.new.player) before.0 served.0 before.1.dealt served.2,
     )

@@ -4,14 +4,13 @@ use Rattle.ink_model.specs.Told.{told}
 use Rattle.ink_model.specs.declared.host.Change.{Change}
 use Rattle.ink_player.specs.Words.{TellsWatchers}
 use Rattle.ink_step.specs.Words.{globals_of}
-use Rattle.ink_player.proofs.Tellings.{told-watched}
+use Rattle.ink_player.proofs.Tellings.{tells-all}
 use Rattle.ink_player.proofs.telling.tell_between.Goals as goal
 
 pub returns-clause-tells : goal.returns-clause-tells
 returns-clause-tells g c =
     let desk = c.args.desk.now in
     let w = watches desk.watchers in
-    subst (λ cs. TellsWatchers g.F.TurnFn.log g.O.Watcher.log desk cs c.tell.result c.tell.new.desk)
-    (ap (λ (cs : List Change). filter (λ x. w x.name) cs)
+    tells-all g.F.TurnFn.log g.O.Watcher.state c.tell.result desk c.tell.new.desk (globals_of c.args.old.now) (globals_of c.args.new.now) _
     (c.as_slice.ensures ∙ c.in_ok-changes.ensures.told ∙ ap (λ x. told w x c.globals-2.result.now.rows) c.globals.ensures ∙ ap (told w (globals_of c.args.old.now)) c.globals-2.ensures)
-    ∙ told-watched w (globals_of c.args.old.now) (globals_of c.args.new.now)) c.tell.ensures.tells
+    c.tell.ensures.tells

@@ -1,6 +1,7 @@
 use Rattle.std.proofs.Common.{◌∙◌, [], ap, false, Some, sym}
 use Rattle.ink_check.specs.Words.{story_tree}
 use Rattle.ink_host.proofs.Laws.{grew-none}
+use Rattle.ink_host.specs.Telling.{log_of}
 use Rattle.ink_step.specs.Performs.{fields}
 use Rattle.ink_step.proofs.Asking.{none_called, pure_called, turn_called}
 use Rattle.ink_step.proofs.Calls.{pure_there}
@@ -12,7 +13,7 @@ returns-in-None-clause-call g c evaluating fresh globals =
     let desk = c.args.desk.now in
     let f = fields evaluating fresh c.args.stack.now.items c.args.output.now.page globals in (
       [],
-      grew-none g.T.TurnFn.log g.W.Watcher.log desk,
+      grew-none g.T.TurnFn.log (log_of g.W.Watcher.state) desk,
       none_called g.P.PureFn.meaning desk.functions (story_tree c.args.story.now) call.name.now call.arguments false f desk.next _ _ c.in-None.ensures (c.fall_back.ensures f),
     )
 
@@ -34,6 +35,6 @@ returns-in-Some-Pure-clause-call g c evaluating fresh globals =
     let desk = c.args.desk.now in
     let p = pure_there g.P.PureFn.meaning call.name.now desk.functions (ap (λ k. Some k) (sym c.in-Some-Pure.field-0-is) ∙ c.in-Some-Pure.ensures) in (
       [],
-      grew-none g.T.TurnFn.log g.W.Watcher.log desk,
+      grew-none g.T.TurnFn.log (log_of g.W.Watcher.state) desk,
       pure_called g.P.PureFn.meaning desk.functions s call.name.now call.arguments false _ desk.next _ _ p.0 p.1 (c.ask_pure.ensures p.0 p.1 s evaluating fresh c.args.output.now.page globals),
     )

@@ -2,6 +2,7 @@ use Rattle.std.proofs.Common.{[]}
 use Rattle.ink_check.specs.Words.{story_tree}
 use Rattle.ink_host.proofs.Laws.{grew-none}
 use Rattle.ink_host.specs.Desk.{bound_by}
+use Rattle.ink_host.specs.Telling.{log_of}
 use Rattle.ink_model.specs.Step.Host.{call_bound}
 use Rattle.ink_step.specs.Performs.{fields}
 use Rattle.ink_step.proofs.Calls.{uncalled_fault, where_unwanted, where_wanted}
@@ -34,7 +35,7 @@ returns-in-Ok-false-clause-call g c evaluating fresh globals =
     let f = fields evaluating fresh c.args.stack.now.items page globals in
     let new = fields evaluating fresh c.is_wanted.new.stack.items page globals in (
       [],
-      grew-none g.T.TurnFn.log g.W.Watcher.log desk,
+      grew-none g.T.TurnFn.log (log_of g.W.Watcher.state) desk,
       where_unwanted s desk.next o call.name.now call.arguments call.conditional f new c.in-Ok-false.field-0 c.in-Ok-false.field-0-test
           (c.in-Ok-false.ensures evaluating fresh page globals (call_bound s o call.name.now call.arguments)),
     )
@@ -48,7 +49,7 @@ returns-in-Err-clause-call g c evaluating fresh globals =
     let o = bound_by g.P.PureFn.meaning desk.functions call.name.now in
     let new = fields evaluating fresh c.is_wanted.new.stack.items page globals in (
       [],
-      grew-none g.T.TurnFn.log g.W.Watcher.log desk,
+      grew-none g.T.TurnFn.log (log_of g.W.Watcher.state) desk,
       uncalled_fault s desk.next _ new _ c.in-Err.fault
           (c.in-Err.ensures evaluating fresh page globals (call_bound s o call.name.now call.arguments)),
     )

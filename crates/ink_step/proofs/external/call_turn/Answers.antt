@@ -1,5 +1,6 @@
 use Rattle.std.proofs.Common.{◌≡◌, ◌∙◌, ap, refl, rules, sym, Err, []}
 use Rattle.ink_host.proofs.Laws.{grew-none}
+use Rattle.ink_host.specs.Telling.{log_of}
 use Rattle.ink_step.specs.Performs.{fields}
 use Rattle.ink_step.proofs.Calls.{there, turn_failed, turn_gave, unlent_turn, unsafe_turn}
 use Rattle.ink_step.proofs.external.call_turn.Goals as goal
@@ -9,7 +10,7 @@ returns-then-in_string-clause-call g c s evaluating fresh globals =
     let call = c.args.call.now in
     let desk = c.args.desk.now in
     let f = fields evaluating fresh c.args.stack.now.items c.args.output.now.page globals in
-    ([], grew-none g.T.TurnFn.log g.W.Watcher.log desk, unsafe_turn s desk.next call.name.now call.arguments f (sym c.in_string.ensures ∙ c.if-in_string.true) f)
+    ([], grew-none g.T.TurnFn.log (log_of g.W.Watcher.state) desk, unsafe_turn s desk.next call.name.now call.arguments f (sym c.in_string.ensures ∙ c.if-in_string.true) f)
 
 pub returns-in_err-arguments-clause-call : goal.returns-in_err-arguments-clause-call
 returns-in_err-arguments-clause-call g c s evaluating fresh globals =
@@ -18,7 +19,7 @@ returns-in_err-arguments-clause-call g c s evaluating fresh globals =
     let f = fields evaluating fresh c.args.stack.now.items c.args.output.now.page globals in
     let is : c.from_residual.result ≡ Err c.in_err-arguments.field-0.0 = search rules in (
       [],
-      grew-none g.T.TurnFn.log g.W.Watcher.log desk,
+      grew-none g.T.TurnFn.log (log_of g.W.Watcher.state) desk,
       rw is (unlent_turn s desk.next call.name.now call.arguments f (sym c.in_string.ensures ∙ c.if-in_string.false) _ c.in_err-arguments.ensures.err f),
     )
 
@@ -29,7 +30,7 @@ returns-in-Ok-clause-call g c s evaluating fresh globals =
     let f = fields evaluating fresh c.args.stack.now.items page globals in
     let new = fields evaluating fresh c.answer.new.stack.items page globals in
     let safe = sym c.in_string.ensures ∙ c.if-in_string.false in
-    turn_gave s call.name.now call.arguments f new safe c.in_ok-arguments.arguments.now c.in_ok-arguments.ensures.ok g.T.TurnFn.log g.W.Watcher.log c.args.desk.now c.call.new.self c.in-Ok.given
+    turn_gave s call.name.now call.arguments f new safe c.in_ok-arguments.arguments.now c.in_ok-arguments.ensures.ok g.T.TurnFn.log (log_of g.W.Watcher.state) c.args.desk.now c.call.new.self c.in-Ok.given
     (c.in-Ok.ensures.answer c.in-Ok.given refl) c.answer.result
     (c.answer.ensures s evaluating fresh page globals _ _ (there s call.name.now call.arguments f new safe c.in_ok-arguments.arguments.now c.in_ok-arguments.ensures.ok))
 
@@ -37,5 +38,5 @@ pub returns-in-Err-clause-call : goal.returns-in-Err-clause-call
 returns-in-Err-clause-call g c s evaluating fresh globals =
     let call = c.args.call.now in
     let f = fields evaluating fresh c.args.stack.now.items c.args.output.now.page globals in
-    turn_failed s call.name.now call.arguments f f (sym c.in_string.ensures ∙ c.if-in_string.false) c.in_ok-arguments.arguments.now c.in_ok-arguments.ensures.ok g.T.TurnFn.log g.W.Watcher.log c.args.desk.now
+    turn_failed s call.name.now call.arguments f f (sym c.in_string.ensures ∙ c.if-in_string.false) c.in_ok-arguments.arguments.now c.in_ok-arguments.ensures.ok g.T.TurnFn.log (log_of g.W.Watcher.state) c.args.desk.now
     c.call.new.self c.in-Err.fault (λ is. c.in-Err.ensures.refused (ap Err is)) (λ is. c.in-Err.ensures.memory (ap Err is)) c.in-Err.ensures.faults

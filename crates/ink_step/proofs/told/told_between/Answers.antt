@@ -1,11 +1,9 @@
-use Rattle.std.proofs.Common.{◌≡◌, ◌≢◌, ◌≤◌, ◌∙◌, ◌++◌, ◌∷◌, [], ap, arith, length, subst, sym, true, false}
-use Rattle.std.proofs.lemmas.List.{take_all}
+use Rattle.std.proofs.Common.{◌≡◌, ◌≢◌, ◌∙◌, ◌++◌, ◌∷◌, [], ap, sym, true, false}
 use Rattle.ink_host.specs.Desk.{watches}
-use Rattle.ink_host.specs.Telling.{OncePerName}
 use Rattle.ink_model.specs.Store.{stored}
 use Rattle.ink_model.specs.Told.{change_of, is_other, told}
 use Rattle.ink_vars.proofs.Noting.{on_error}
-use Rattle.ink_step.proofs.Telling.{told_once, told_past, told_same, told_some, told_there, told_unwatched}
+use Rattle.ink_step.proofs.Telling.{told_past, told_same, told_some, told_there, told_unwatched}
 use Rattle.ink_step.proofs.told.told_between.Goals.{in-Some+then-watches+then-is_other+in_ok-change+in_ok-push, in-Some+else-watches, else-watches-via-then-watches+else-is_other, else-watches-via-else-watches, in_default}
 use Rattle.ink_step.proofs.told.told_between.Given as given
 use Rattle.ink_step.proofs.told.told_between.Goals as goal
@@ -50,10 +48,3 @@ loop-number-preserved g c =
           ]
       | in_default w ↦ ap (λ v. v.items) w.told-is ∙ c.loop-number.invariant ∙ sym (told_past watched old new i (sym w.in_default.ensures))
     ]
-
-pub returns-clause-once : goal.returns-clause-once
-returns-clause-once g c =
-    let watched = watches c.args.desk.now.watchers in
-    let past : length c.args.new.now.rows ≤ c.loop-number.number = omega (arith, c.loop-number-test.false, c.len-number-end.ensures.len) in
-    let all = c.from_vec.ensures ∙ c.loop-number.invariant ∙ ap (told watched c.args.old.now.rows) (take_all c.loop-number.number c.args.new.now.rows past) in
-    subst (λ cs. OncePerName cs) (sym all) (told_once watched c.args.old.now.rows c.args.new.now.rows c.len-number-end.ensures.names)

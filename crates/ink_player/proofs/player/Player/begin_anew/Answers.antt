@@ -1,20 +1,30 @@
+use Rattle.std.proofs.Common.{◌≡◌, ◌∙◌, None, ap, refl, sym}
+use Rattle.ink_host.specs.Desk.{watches}
 use Rattle.ink_model.specs.Answer.{reply_of_events}
-use Rattle.ink_model.specs.State.{Ready}
-use Rattle.ink_player.specs.Words.{condition_by, desk_of, state_of, story_of}
+use Rattle.ink_model.specs.State.{Ready, globals_of}
+use Rattle.ink_model.specs.Told.{told}
+use Rattle.ink_player.specs.Words.{PlayerView, condition_by, desk_of, state_of, story_of, told_from}
 use Rattle.ink_step.specs.Words.{config_of}
-use Rattle.ink_player.proofs.Tellings.{tells-done, tells-kept}
+use Rattle.ink_player.proofs.Tellings.{globals-by, globals-told, none-left, tells-done, tells-kept, told-state, with_parts}
 use Rattle.ink_player.proofs.player.Player.begin_anew.Goals as goal
 
 pub returns-in_default-clause-does : goal.returns-in_default-clause-does
 returns-in_default-clause-does g c =
-    let p = c.args.self.now in
-    tells-kept g.F.TurnFn.log g.O.Watcher.log _ (condition_by p.broken (config_of (story_of p) p.machine)) (Ready (config_of (story_of p) c.args.machine))
-    (desk_of p) c.tell_between.new.desk c.in_default.ensures.tells.0 c.in_default.ensures.tells.1
+    let p : PlayerView g.row.P.Denot g.row.F.Denot g.row.O.Denot = record { story = c.self.inside.story; desk = c.self.inside.desk; machine = c.self.inside.machine; broken = c.self.inside.broken } in
+    rw (sym c.self.view_is) (tells-kept g.F.TurnFn.log g.O.Watcher.state _ _ (condition_by p.broken (config_of (story_of p) p.machine)) (Ready (config_of (story_of p) c.args.machine))
+    (desk_of p) c.tell_between.new.desk c.in_default.ensures.tells.0 c.in_default.ensures.tells.1)
 
 pub returns-clause-does : goal.returns-clause-does
 returns-clause-does g c =
-    let p = c.args.self.now in
-    let q = c.end_telling.new.self in
-    tells-done g.F.TurnFn.log g.O.Watcher.log _ (condition_by p.broken (config_of (story_of p) p.machine)) (Ready (config_of (story_of p) c.args.machine))
-    (desk_of p) c.tell_between.new.desk (desk_of q) c.in-Ok.all (reply_of_events c.end_telling.result) (state_of q) c.requires.idle.taken c.in-Ok.ensures.tells
-    c.end_telling.ensures.reply c.end_telling.ensures.state c.end_telling.ensures.desk
+    let p : PlayerView g.row.P.Denot g.row.F.Denot g.row.O.Denot = record { story = c.self.inside.story; desk = c.self.inside.desk; machine = c.self.inside.machine; broken = c.self.inside.broken } in
+    let q = with_parts p c.args.machine c.end_telling.new.desk c.end_telling.new.broken in
+    let before = config_of (story_of p) p.machine in
+    let after = config_of (story_of p) c.args.machine in
+    let w = watches (desk_of p).watchers in
+    let leaves = told-state p c.args.machine c.end_telling.new.desk c.tell_between.new.desk c.end_telling.new.broken None c.in-Ok.all after refl
+    c.end_telling.ensures.broken c.end_telling.ensures.desk refl in
+    let changes : told w p.machine.globals c.args.machine.globals ≡ told_from (desk_of p) (state_of p) (globals_of (state_of q).condition) =
+    ap (λ vs. told w vs c.args.machine.globals) (sym (globals-by p.broken before))
+    ∙ ap (told w (globals_of (state_of p).condition)) (sym (ap (λ s. globals_of s.condition) leaves ∙ globals-told c.in-Ok.all after)) in
+    rw (sym c.self.view_is) (tells-done g.F.TurnFn.log g.O.Watcher.state _ (condition_by p.broken before) (Ready after) (desk_of p) c.tell_between.new.desk (desk_of q) c.in-Ok.all
+    (reply_of_events c.end_telling.result) (state_of q) (none-left p.desk.events c.self.invariant) c.in-Ok.ensures.tells c.end_telling.ensures.reply leaves c.end_telling.ensures.desk _ changes)

@@ -1,16 +1,17 @@
-use Rattle.std.proofs.Common.{◌∙◌, [], ap}
+use Rattle.std.proofs.Common.{◌∙◌, [], ap, sym}
 use Rattle.ink_model.specs.Answer.{Breaks, reply_of_halt}
-use Rattle.ink_player.specs.Words.{bindings, desk_of, state_of, story_of}
+use Rattle.ink_player.specs.Words.{PlayerView, bindings, desk_of, state_of, story_of}
 use Rattle.ink_step.specs.Words.{config_of, globals_of}
 use Rattle.ink_player.proofs.Restarts.{restart-broken, restart-opened, restart-refused}
-use Rattle.ink_player.proofs.Tellings.{dealt-none, dealt-quiet, globals-by}
+use Rattle.ink_player.proofs.Tellings.{broken-as, globals-by, none-left, once-none, once-quiet, with_parts}
 use Rattle.ink_player.proofs.player.Player.restart.Goals as goal
 
 pub returns-in-Ok-clause-does : goal.returns-in-Ok-clause-does
 returns-in-Ok-clause-does g c =
-    let p = c.args.self.now in
+    let p : PlayerView g.row.P.Denot g.row.F.Denot g.row.O.Denot = record { story = c.self.inside.story; desk = c.self.inside.desk; machine = c.self.inside.machine; broken = c.self.inside.broken } in
     let s = story_of p in
-    let does = c.begin_anew.ensures.does in (
+    let does = rw (sym c.self.view_is) at c.begin_anew.ensures.does in
+    rw (sym c.self.view_is) (
       does.0,
       restart-opened s (bindings g.P.PureFn.meaning (desk_of p)) (state_of p) (config_of s c.in-Ok.machine) (globals_of p.machine) does.0 _ _ c.in-Ok.ensures.ok
           (globals-by p.broken (config_of s p.machine)) does.1,
@@ -19,19 +20,23 @@ returns-in-Ok-clause-does g c =
 
 pub returns-in-OutOfMemory-clause-does : goal.returns-in-OutOfMemory-clause-does
 returns-in-OutOfMemory-clause-does g c =
-    let p = c.args.self.now in (
+    let p : PlayerView g.row.P.Denot g.row.F.Denot g.row.O.Denot = record { story = c.self.inside.story; desk = c.self.inside.desk; machine = c.self.inside.machine; broken = c.self.inside.broken } in
+    rw (sym c.self.view_is) (
       [],
       restart-refused (story_of p) (bindings g.P.PureFn.meaning (desk_of p)) (state_of p) c.in-Err.field-0.globals.rows c.in-Err.field-0.fault c.in-OutOfMemory.is c.in-Err.ensures.err,
-      dealt-none g.F.TurnFn.log g.O.Watcher.log (desk_of p),
+      once-none g.F.TurnFn.log g.O.Watcher.state _ (desk_of p),
     )
 
 pub returns-in_default-clause-does : goal.returns-in_default-clause-does
 returns-in_default-clause-does g c =
-    let p = c.args.self.now in
-    let q = c.break_by.new.self in
-    let fault = c.in-Err.field-0.fault in (
+    let p : PlayerView g.row.P.Denot g.row.F.Denot g.row.O.Denot = record { story = c.self.inside.story; desk = c.self.inside.desk; machine = c.self.inside.machine; broken = c.self.inside.broken } in
+    let q = with_parts p c.at_start.result c.break_by.new.desk c.break_by.new.broken in
+    let fault = c.in-Err.field-0.fault in
+    let is = broken-as p c.at_start.result c.break_by.new.desk (desk_of p) c.break_by.new.broken fault c.break_by.ensures.desk c.break_by.ensures.broken in
+    rw (sym c.self.view_is) (
       [],
       restart-broken (story_of p) (bindings g.P.PureFn.meaning (desk_of p)) (state_of p) c.in-Err.field-0.globals.rows fault (globals_of c.at_start.result) (reply_of_halt c.break_by.result) (state_of q)
-          c.in_default.not-OutOfMemory c.at_start.ensures.globals c.in-Err.ensures.err (c.break_by.ensures.reply ∙ ap (λ l. Breaks fault l) c.requires.idle.taken) (ap (λ x. state_of x) c.break_by.ensures.player),
-      dealt-quiet g.F.TurnFn.log g.O.Watcher.log (desk_of p) (desk_of q) (ap (λ x. desk_of x) c.break_by.ensures.player),
+          c.in_default.not-OutOfMemory c.at_start.ensures.globals c.in-Err.ensures.err (c.break_by.ensures.reply ∙ ap (λ l. Breaks fault l) (none-left p.desk.events c.self.invariant))
+          (ap (λ x. state_of x) is),
+      once-quiet g.F.TurnFn.log g.O.Watcher.state _ (desk_of p) (desk_of q) c.break_by.ensures.desk,
     )

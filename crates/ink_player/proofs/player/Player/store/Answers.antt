@@ -1,29 +1,31 @@
-use Rattle.std.proofs.Common.{◌≡◌, ◌∙◌, subst}
+use Rattle.std.proofs.Common.{◌≡◌, ◌∙◌, None, ap, refl, sym}
 use Rattle.ink_model.specs.Answer.{reply_of_events}
 use Rattle.ink_model.specs.Configuration.{with_globals}
-use Rattle.ink_model.specs.Session.{condition_told}
 use Rattle.ink_model.specs.State.{Ready}
 use Rattle.ink_model.specs.Store.{store}
-use Rattle.ink_player.specs.Words.{condition_by, desk_of, state_of, story_of}
+use Rattle.ink_player.specs.Words.{PlayerView, condition_by, desk_of, state_of, story_of}
 use Rattle.ink_step.specs.Words.{config_of}
-use Rattle.ink_player.proofs.Tellings.{at_stamp, on-ok, tells-done, tells-kept}
+use Rattle.ink_player.proofs.Tellings.{none-left, on-ok, tells-done, tells-kept, told-state, with_parts}
 use Rattle.ink_player.proofs.player.Player.store.Goals as goal
 
 pub returns-in_default-clause-does : goal.returns-in_default-clause-does
 returns-in_default-clause-does g c =
-    let p = c.args.self.now in
+    let p : PlayerView g.row.P.Denot g.row.F.Denot g.row.O.Denot = record { story = c.self.inside.story; desk = c.self.inside.desk; machine = c.self.inside.machine; broken = c.self.inside.broken } in
     let before = config_of (story_of p) p.machine in
-    tells-kept g.F.TurnFn.log g.O.Watcher.log _ (condition_by p.broken before) (Ready (with_globals (store c.args.name.now c.args.value before.shared.globals) before))
-    (desk_of p) c.tell_one.new.desk c.in_default.ensures.tells.0 c.in_default.ensures.tells.1
+    rw (sym c.self.view_is) (tells-kept g.F.TurnFn.log g.O.Watcher.state _ _ (condition_by p.broken before) (Ready (with_globals (store c.args.name.now c.args.value before.shared.globals) before))
+    (desk_of p) c.tell_one.new.desk c.in_default.ensures.tells.0 c.in_default.ensures.tells.1)
 
 pub returns-clause-does : goal.returns-clause-does
 returns-clause-does g c =
-    let p = c.args.self.now in
-    let q = c.end_telling.new.self in
+    let p : PlayerView g.row.P.Denot g.row.F.Denot g.row.O.Denot = record { story = c.self.inside.story; desk = c.self.inside.desk; machine = c.self.inside.machine; broken = c.self.inside.broken } in
+    let q = with_parts p c.set-stored.new.self c.end_telling.new.desk c.end_telling.new.broken in
     let before = config_of (story_of p) p.machine in
     let after = with_globals (store c.args.name.now c.args.value before.shared.globals) before in
+    let there = rw (sym c.self.view_is) at c.requires.there in
     let stored : config_of (story_of p) c.set-stored.new.self ≡ after =
-    on-ok c.set-stored.result _ (c.set-stored.ensures.found ∙ c.requires.there) (c.set-stored.ensures.ok (story_of p)) in
-    let leaves = subst (λ k. state_of q ≡ at_stamp (condition_told c.in-Ok.all (Ready k)) c.tell_one.new.desk.next) stored c.end_telling.ensures.state in
-    tells-done g.F.TurnFn.log g.O.Watcher.log _ (condition_by p.broken before) (Ready after) (desk_of p) c.tell_one.new.desk (desk_of q) c.in-Ok.all
-    (reply_of_events c.end_telling.result) (state_of q) c.requires.idle.taken c.in-Ok.ensures.tells c.end_telling.ensures.reply leaves c.end_telling.ensures.desk
+    on-ok c.set-stored.result _ (c.set-stored.ensures.found ∙ there) (c.set-stored.ensures.ok (story_of p)) in
+    let free : p.broken ≡ None = ap (λ x. x.broken) c.self.view_is ∙ c.requires.unbroken in
+    let leaves = told-state p c.set-stored.new.self c.end_telling.new.desk c.tell_one.new.desk c.end_telling.new.broken p.broken c.in-Ok.all after free
+    c.end_telling.ensures.broken c.end_telling.ensures.desk stored in
+    rw (sym c.self.view_is) (tells-done g.F.TurnFn.log g.O.Watcher.state _ (condition_by p.broken before) (Ready after) (desk_of p) c.tell_one.new.desk (desk_of q) c.in-Ok.all
+    (reply_of_events c.end_telling.result) (state_of q) (none-left p.desk.events c.self.invariant) c.in-Ok.ensures.tells c.end_telling.ensures.reply leaves c.end_telling.ensures.desk _ refl)

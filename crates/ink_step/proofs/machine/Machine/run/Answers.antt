@@ -1,4 +1,5 @@
 use Rattle.std.proofs.Common.{◌≡◌, ◌∙◌, arith, refl, rules, subst, sym, Err}
+use Rattle.ink_host.specs.Telling.{log_of}
 use Rattle.ink_check.specs.Words.{story_tree}
 use Rattle.ink_step.specs.Words.{config_of}
 use Rattle.ink_step.proofs.Runnings.{EndsRun, ran_none, ran_on, ran_out, ran_to_fault, ran_to_stop}
@@ -7,13 +8,13 @@ use Rattle.ink_step.proofs.machine.Machine.run.Goals as goal
 pub loop-step-init : goal.loop-step-init
 loop-step-init g c =
     let s = story_tree c.args.story.now in
-    record { ran = ran_none g.T.TurnFn.log g.W.Watcher.log g.P.PureFn.meaning s c.args.desk.now (config_of s c.args.self.now); watchers = refl; tracks = λ start h. h }
+    record { ran = ran_none g.T.TurnFn.log (log_of g.W.Watcher.state) g.P.PureFn.meaning s c.args.desk.now (config_of s c.args.self.now); watchers = refl; tracks = λ start h. h }
 
 pub loop-step-preserved : goal.loop-step-preserved
 loop-step-preserved g c =
     let s = story_tree c.args.story.now in
     record {
-      ran = ran_on g.T.TurnFn.log g.W.Watcher.log g.P.PureFn.meaning s c.args.desk.now (config_of s c.args.self.now) c.loop-step._step c.loop-step.desk c.step.new.desk
+      ran = ran_on g.T.TurnFn.log (log_of g.W.Watcher.state) g.P.PureFn.meaning s c.args.desk.now (config_of s c.args.self.now) c.loop-step._step c.loop-step.desk c.step.new.desk
           (config_of s c.loop-step.self) (config_of s c.step.new.self) c.loop-step.invariant.ran _ c.in-Went.is c.in_ok-step.ensures.step;
       watchers = c.in_ok-step.ensures.watchers ∙ c.loop-step.invariant.watchers;
       tracks = λ start h. c.in_ok-step.ensures.tracks start (c.loop-step.invariant.tracks start h);
@@ -22,7 +23,7 @@ loop-step-preserved g c =
 pub returns-in-Stopped-clause-runs : goal.returns-in-Stopped-clause-runs
 returns-in-Stopped-clause-runs g c =
     let s = story_tree c.args.story.now in
-    ran_to_stop g.T.TurnFn.log g.W.Watcher.log g.P.PureFn.meaning s c.args.desk.now (config_of s c.args.self.now) c.loop-step._step c.loop-step.desk c.step.new.desk
+    ran_to_stop g.T.TurnFn.log (log_of g.W.Watcher.state) g.P.PureFn.meaning s c.args.desk.now (config_of s c.args.self.now) c.loop-step._step c.loop-step.desk c.step.new.desk
     (config_of s c.loop-step.self) (config_of s c.step.new.self) c.loop-step.invariant.ran _ (omega arith) c.in-Stopped.is c.in_ok-step.ensures.step
 
 pub returns-in-Stopped-clause-watchers : goal.returns-in-Stopped-clause-watchers
@@ -35,8 +36,8 @@ pub returns-in_err-step-clause-runs : goal.returns-in_err-step-clause-runs
 returns-in_err-step-clause-runs g c =
     let s = story_tree c.args.story.now in
     let is : c.from_residual.result ≡ Err c.in_err-step.field-0.0 = search rules in
-    subst (λ r. EndsRun g.T.TurnFn.log g.W.Watcher.log g.P.PureFn.meaning s c.args.desk.now (config_of s c.args.self.now) c.step.new.desk (config_of s c.step.new.self) r) (sym is)
-    (ran_to_fault g.T.TurnFn.log g.W.Watcher.log g.P.PureFn.meaning s c.args.desk.now (config_of s c.args.self.now) c.loop-step._step c.loop-step.desk c.step.new.desk
+    subst (λ r. EndsRun g.T.TurnFn.log (log_of g.W.Watcher.state) g.P.PureFn.meaning s c.args.desk.now (config_of s c.args.self.now) c.step.new.desk (config_of s c.step.new.self) r) (sym is)
+    (ran_to_fault g.T.TurnFn.log (log_of g.W.Watcher.state) g.P.PureFn.meaning s c.args.desk.now (config_of s c.args.self.now) c.loop-step._step c.loop-step.desk c.step.new.desk
     (config_of s c.loop-step.self) (config_of s c.step.new.self) c.loop-step.invariant.ran _ (omega arith) c.in_err-step.ensures.step)
 
 pub returns-in_err-step-clause-watchers : goal.returns-in_err-step-clause-watchers
@@ -48,7 +49,7 @@ returns-in_err-step-clause-tracks g c = λ start h. c.in_err-step.ensures.tracks
 pub returns-clause-runs : goal.returns-clause-runs
 returns-clause-runs g c =
     let s = story_tree c.args.story.now in
-    ran_out g.T.TurnFn.log g.W.Watcher.log g.P.PureFn.meaning s c.args.desk.now (config_of s c.args.self.now) c.loop-step._step c.loop-step.desk (config_of s c.loop-step.self) (omega arith) c.loop-step.invariant.ran
+    ran_out g.T.TurnFn.log (log_of g.W.Watcher.state) g.P.PureFn.meaning s c.args.desk.now (config_of s c.args.self.now) c.loop-step._step c.loop-step.desk (config_of s c.loop-step.self) (omega arith) c.loop-step.invariant.ran
 
 pub returns-clause-watchers : goal.returns-clause-watchers
 returns-clause-watchers g c = c.loop-step.invariant.watchers

@@ -2,6 +2,7 @@ use Rattle.std.proofs.Common.{◌≡◌, ◌∙◌, ap, option_map, refl, rules,
 use Rattle.ink_check.specs.Words.{story_tree}
 use Rattle.ink_host.proofs.Laws.{grew-none}
 use Rattle.ink_host.specs.Desk.{bound_by}
+use Rattle.ink_host.specs.Telling.{log_of}
 use Rattle.ink_model.specs.Asks.{asks}
 use Rattle.ink_model.specs.Host.{Bound}
 use Rattle.ink_model.specs.Move.{Stop}
@@ -32,7 +33,7 @@ returns-in_default-clause-step g c =
     let b = bound_by g.P.PureFn.meaning desk.functions in
     let before = config_of s c.args.self.now in (
       [],
-      grew-none g.T.TurnFn.log g.W.Watcher.log desk,
+      grew-none g.T.TurnFn.log (log_of g.W.Watcher.state) desk,
       subst (λ o. Steps c.args.quiet s b desk.next (asks s b before) o [] before.shared.globals before before (Ok ends.Stopped))
           (sym (stands_still s b before (ap (option_map (place_of s)) (sym c.place.ensures ∙ c.in_default.is))))
           (quieted s b desk.next [] before.shared.globals before before (Ok ends.Stopped) c.args.quiet _ (Stop before) (λ q. refl) (refl, refl)),
@@ -49,7 +50,7 @@ returns-in_err-end-clause-step g c =
     let passes = c.in_err-end.ensures.passes b in
     let is : c.from_residual.result ≡ Err f = search rules in (
       [],
-      grew-none g.T.TurnFn.log g.W.Watcher.log desk,
+      grew-none g.T.TurnFn.log (log_of g.W.Watcher.state) desk,
       subst (λ r. Steps c.args.quiet s b desk.next (asks s b before) (step s b before) [] before.shared.globals before new r) (sym is)
           (steps_unmade c.args.quiet s b desk.next (asks s b before) (step s b before) before.shared.globals before new (Err f) passes.0 passes.1),
     )
@@ -63,7 +64,7 @@ returns-in-Some-2-clause-step g c =
     let new = config_of s c.pass.new.self in
     let so = ends_so g (goal.at.returns-in-Some-2-clause-step g c).In-Some-2 b in (
       [],
-      grew-none g.T.TurnFn.log g.W.Watcher.log desk,
+      grew-none g.T.TurnFn.log (log_of g.W.Watcher.state) desk,
       steps_unmade c.args.quiet s b desk.next (asks s b before) (step s b before) before.shared.globals before new (Ok c.in-Some-2.end) so.0 so.1,
     )
 

@@ -2,6 +2,7 @@ use Rattle.std.proofs.Common.{◌≡◌, ◌∙◌, List, Result, ap, option_map
 use Rattle.ink_check.specs.Words.{story_tree}
 use Rattle.ink_host.proofs.Laws.{grew-none}
 use Rattle.ink_host.specs.Desk.{bound_by}
+use Rattle.ink_host.specs.Telling.{log_of}
 use Rattle.ink_model.specs.Asks.{asks, going_in_asks}
 use Rattle.ink_model.specs.Configuration.{Configuration}
 use Rattle.ink_model.specs.Place.{entered}
@@ -95,7 +96,7 @@ returns-then-wants_call-clause-step g c =
     let b = bound_by g.P.PureFn.meaning desk.functions in
     let before = config_of s c.args.self.now in (
       [],
-      grew-none g.T.TurnFn.log g.W.Watcher.log desk,
+      grew-none g.T.TurnFn.log (log_of g.W.Watcher.state) desk,
       subst (λ q. Steps q s b desk.next (asks s b before) (step s b before) [] before.shared.globals before before (Ok ends.WantsCall)) (sym c.if-quiet.true)
           (said s b desk.next (asks s b before) (step s b before) before.shared.globals before (sym c.wants_call.ensures ∙ c.if-wants_call.true)),
     )
@@ -114,7 +115,7 @@ returns-in_err-here-clause-step g c =
     let adds = subst (λ t. going_in_asks t (place_of t place) (config_of t machine) ≡ true) c.tree.ensures.tree short.memory in
     let is : c.from_residual.result ≡ Err c.in_err-here.field-0.0 = search rules in (
       [],
-      grew-none g.T.TurnFn.log g.W.Watcher.log desk,
+      grew-none g.T.TurnFn.log (log_of g.W.Watcher.state) desk,
       subst (λ r. Steps c.args.quiet s b desk.next (asks s b before) (step s b before) [] before.shared.globals before new r) (sym is)
           (stays_outside s b desk.next (place_of s place) before at_place c.args.quiet (quietly g (goal.at.returns-in_err-here-clause-step g c).After-go_in) new c.in_err-here.field-0.0 short.fault adds
           short.globals),
@@ -139,7 +140,7 @@ pub returns-in-None-clause-step : goal.returns-in-None-clause-step
 returns-in-None-clause-step g c =
     let at = goal.at.returns-in-None-clause-step g c in (
       [],
-      grew-none g.T.TurnFn.log g.W.Watcher.log c.args.desk.now,
+      grew-none g.T.TurnFn.log (log_of g.W.Watcher.state) c.args.desk.now,
       goes_in g at.In_ok-here (quietly g at.After-go_in) [] (config_of (story_tree c.args.story.now) c.act.new.self) c.act.result (made_none g at.After-act),
     )
 

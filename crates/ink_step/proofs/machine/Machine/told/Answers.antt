@@ -1,15 +1,13 @@
-use Rattle.std.proofs.Common.{◌≡◌, ◌≢◌, ◌<◌, ◌≤◌, ◌∙◌, ◌++◌, ◌∷◌, ℕ, Bool, Bor, List, [], Some, None, ap, arith, length, nat_eq, rules, subst, sym}
+use Rattle.std.proofs.Common.{◌≡◌, ◌≢◌, ◌<◌, ◌≤◌, ◌∙◌, ◌++◌, ◌∷◌, ℕ, Bool, Bor, List, [], Some, None, ap, arith, length, rules, sym}
 use Rattle.std.proofs.lemmas.Bool.{eqb-true}
 use Rattle.std.proofs.lemmas.List.{append-nil, take_all}
-use Rattle.std.specs.List.{IsDistinct}
 use Rattle.ink_host.specs.Desk.{watches}
-use Rattle.ink_host.specs.Telling.{OncePerName}
 use Rattle.ink_model.specs.Store.{Values}
 use Rattle.ink_model.specs.Told.{told}
 use Rattle.ink_model.specs.declared.value.Value.{Value}
 use Rattle.ink_vars.specs.Changes.{Tracks, changed_numbers}
 use Rattle.ink_vars.proofs.Noting.{on_error}
-use Rattle.ink_step.proofs.Telling.{once_at, told_at, told_changed, told_next, told_nobody, told_of_none, told_some_at, told_some_of, told_unchanged}
+use Rattle.ink_step.proofs.Telling.{told_at, told_changed, told_next, told_nobody, told_of_none, told_some_at, told_some_of, told_unchanged}
 use Rattle.ink_step.proofs.machine.Machine.told.Goals.{then-len-eq0-via-then-len-eq0, then-len-eq0-via-else-len-eq0+then-not-has_watchers, then-len-eq0-via-else-len-eq0+else-not-has_watchers+then-is_empty, in-Some+in_ok-change+in_ok-push, in_default}
 use Rattle.ink_step.proofs.machine.Machine.told.Given as given
 use Rattle.ink_step.proofs.machine.Machine.told.Goals as goal
@@ -80,10 +78,3 @@ returns-clause-told g c start tracks =
     let now = c.args.self.now.globals.rows in
     all_at g (goal.at.returns-clause-told g c).After-from_vec
     ∙ ap (told_at now) (c.deref-number-items.ensures.value ∙ c.in_ok-numbers.ensures.numbers watched start (λ name answer k. search rules) tracks) ∙ told_changed now watched start
-
-pub returns-clause-once : goal.returns-clause-once
-returns-clause-once g c =
-    let watched = watches c.args.desk.now.watchers in
-    let now = c.args.self.now.globals.rows in
-    let once = subst (IsDistinct nat_eq) (sym c.deref-number-items.ensures.value) (c.in_ok-numbers.ensures.once watched (λ name answer k. search rules)) in
-    subst (λ cs. OncePerName cs) (sym (all_at g (goal.at.returns-clause-once g c).After-from_vec)) (once_at now c.len.ensures.names c.deref-number-items.result.now once)
