@@ -92,4 +92,4 @@ not_external (Some k) h = absurd cc
 -- a step that wants no call makes none, quiet or not
 pub steps_unmade : (quiet : Bool) (s : StoryTree) (b : Bound) (n : ℕ) (asking : Bool) (o : Outcome) (globals : Values) (old d : Configuration) (r : Result StepEnd Fault) → wants o ≡ false
     → StepEnds asking o globals d r → Steps quiet s b n asking o [] globals old d r
-steps_unmade quiet s b n asking o globals old d r unwanted h = quieted s b n [] globals d old r quiet asking o (λ q. unwanted) (unmade s b n asking o globals d r unwanted h)
+steps_unmade quiet s b n asking o globals old d r unwanted h = quieted s b n [] globals d old r quiet asking o (λ q. unwanted) (unmade s b n asking o globals d r h)

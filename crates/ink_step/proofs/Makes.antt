@@ -8,7 +8,7 @@ use Rattle.ink_model.specs.Effect.{Context, Fields, Effect, Stores, Offers, Asks
 use Rattle.ink_model.specs.Frames.{ThreadsOf}
 use Rattle.ink_model.specs.Host.{Binding, Bound, fits_given, pure_function, turn_function, value_given}
 use Rattle.ink_model.specs.Memory.{given_asks}
-use Rattle.ink_model.specs.Move.{Outcome, Wants, Faults, move}
+use Rattle.ink_model.specs.Move.{Outcome, Wants, move}
 use Rattle.ink_model.specs.MoveMemory.{move_asks}
 use Rattle.ink_model.specs.Place.{entered, knot}
 use Rattle.ink_model.specs.Run.{answered}
@@ -32,7 +32,7 @@ use Rattle.ink_step.specs.Steps.{StepEnds, StepMakes, Steps, wants}
 use Rattle.ink_step.specs.declared.flow.StepEnd.{StepEnd}
 use Rattle.ink_step.specs.declared.flow.StepEnd.TheVariants as ends
 use Rattle.ink_step.specs.declared.transfer.Transfer.{Transfer}
-use Rattle.ink_step.proofs.Follows.{ends_more, ends_unperformed, never_wants, or_first, or_more}
+use Rattle.ink_step.proofs.Follows.{ends_more, ends_short, ends_unperformed, never_wants, or_first, or_more}
 use Rattle.ink_step.proofs.Landed.{Performing, ends_outside, ends_performed}
 use Rattle.ink_step.proofs.Stopping.{broke}
 use Rattle.ink_step.proofs.Unasked.{other_acts, wanted}
@@ -40,17 +40,11 @@ use Rattle.ink_tree.specs.Kept.{leaf_in}
 use Rattle.ink_tree.specs.declared.spot.Spot.{Spot}
 
 module _ (s : StoryTree) (b : Bound) (n : ℕ) where
-  -- an outcome that wants no call
-  pub unmade : (asking : Bool) (o : Outcome) (globals : Values) (d : Configuration) (r : Result StepEnd Fault) → wants o ≡ false → StepEnds asking o globals d r → StepMakes s b n asking o [] globals d r
-  unmade asking (Wants name arguments f c) globals d r unwanted h = absurd (cc)
-  unmade asking o globals d r unwanted h = (refl, h)
-
-  -- where memory was refused before
-  pub short_makes : (asking : Bool) (o : Outcome) (globals : Values) (d : Configuration) (f : Fault) → (f ≡ OutOfMemory) × (asking ≡ true) × (d.shared.globals ≡ globals)
-      → StepMakes s b n asking o [] globals d (Err f)
-  short_makes asking (Wants name arguments k c) globals d f h = inr (refl, ap Err h.0, h.1, h.2)
-  short_makes asking (Faults g) globals d f h = (refl, (inr (h.0, h.1), h.2))
-  short_makes asking o globals d f h = (refl, ((h.0, h.1), h.2))
+  -- Where nothing was called: a step that ended has an outcome that wants no call, or memory was refused before one.
+  pub unmade : (asking : Bool) (o : Outcome) (globals : Values) (d : Configuration) (r : Result StepEnd Fault) → StepEnds asking o globals d r → StepMakes s b n asking o [] globals d r
+  unmade asking (Wants name arguments f c) globals d (Ok end) h = absurd h
+  unmade asking (Wants name arguments f c) globals d (Err g) h = inr (refl, ap Err h.0.0, h.0.1, h.1)
+  unmade asking o globals d r h = (refl, h)
 
   module _ (es : List Event) (globals : Values) (d : Configuration) where
     -- where more asks for memory
@@ -137,8 +131,8 @@ module _ (s : StoryTree) (b : Bound) (n : ℕ) (asking : Bool) (c d : Configurat
     abbrev Makes : Effect → List Event → Type 0
     Makes e es = StepMakes s b n ((asking || move_asks s e c) || following_asks s (move s e c)) (following s (move s e c)) es globals d r
 
-    other : (e : Effect) (es : List Event) → is_asking e ≡ false → es ≡ [] → Ended asking e → Makes e es
-    other e es unwanted none h = subst (Makes e) (sym none) (unmade s b n _ (following s (move s e c)) globals d r (wanted s e c ∙ unwanted) h)
+    other : (e : Effect) (es : List Event) → es ≡ [] → Ended asking e → Makes e es
+    other e es none h = subst (Makes e) (sym none) (unmade s b n _ (following s (move s e c)) globals d r h)
 
     pub makes : (e : Effect) (es : List Event) → IsCall b e → PerformsCall s n asking e es new transfer → Makes e es
     makes (Asks name arguments left) es is h = elim h [
@@ -147,7 +141,7 @@ module _ (s : StoryTree) (b : Bound) (n : ℕ) (asking : Bool) (c d : Configurat
     ]
     makes (Stores t f) es is h = absurd is
     makes (Offers cs f) es is h = absurd is
-    makes e es is h = other e es refl h.0 (ended asking e is h.1)
+    makes e es is h = other e es h.0 (ended asking e is h.1)
 
 err_same : (f g : Fault) → let r : Result Transfer Fault = Err f in r ≡ Err g → f ≡ g
 err_same f g e = cc
@@ -236,12 +230,11 @@ module _ (s : StoryTree) (b : Bound) (n : ℕ) where
       (subst (Made (external_asks (b k.name) k.arguments k.conditional (fields_of m))) (sym same.0) h)
 
   -- or it is other content
-  pub performs_other : (globals : Values) (d : Configuration) (r : Result StepEnd Fault) (here : List Part) (found : Option StoryTree) (m : Configuration) → external_in found ≡ None
+  pub performs_other : (globals : Values) (d : Configuration) (r : Result StepEnd Fault) (here : List Part) (found : Option StoryTree) (m : Configuration)
       → Performing s b (λ asking o. StepEnds asking o globals d r) here found m → Performing s b (λ asking o. StepMakes s b n asking o [] globals d r) here found m
-  performs_other globals d r here found m other h =
+  performs_other globals d r here found m h =
       let e = effect s b here found (context_of m) (fields_of m) in
-      unmade s b n ((content_asks s b here found (context_of m) (fields_of m) || move_asks s e m) || following_asks s (move s e m)) (following s (move s e m)) globals d r
-      (wanted s e m ∙ other_acts s b here found (context_of m) (fields_of m) other) h
+      unmade s b n ((content_asks s b here found (context_of m) (fields_of m) || move_asks s e m) || following_asks s (move s e m)) (following s (move s e m)) globals d r h
 
   module _ (p : List Part) (old : Configuration) (at_p : current_place old ≡ Some p) (quiet : Bool) (quietly : quiet ≡ true → wants (step s b old) ≡ false) where
     -- a step went in, and performed
@@ -259,7 +252,8 @@ module _ (s : StoryTree) (b : Bound) (n : ℕ) where
         → Steps quiet s b n (asks s b old) (step s b old) [] old.shared.globals old d (Err f)
     stays_outside d f short adds same =
         quieted s b n [] old.shared.globals d old (Err f) quiet (asks s b old) (step s b old) quietly
-        (short_makes s b n (asks s b old) (step s b old) old.shared.globals d f (ends_outside s b p old at_p d f short adds same))
+        (let refused = ends_outside s b p old at_p d f short adds same in
+        unmade s b n (asks s b old) (step s b old) old.shared.globals d (Err f) (ends_short (asks s b old) (step s b old) old.shared.globals d f (refused.0, refused.1) refused.2))
 
   -- what was performed never says that a call is wanted
   pub never_said : (es : List Event) (globals : Values) (d : Configuration) (r : Result StepEnd Fault) (here : List Part) (found : Option StoryTree) (m : Configuration)

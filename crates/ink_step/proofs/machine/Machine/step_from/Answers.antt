@@ -86,8 +86,7 @@ made_none g c =
     let b = bound_by g.P.PureFn.meaning desk.functions in
     let inside = c.go_in.new.self in
     let found = option_map (λ x. leaf x.now) c.in_ok-here.found in
-    performs_other s b desk.next inside.globals.rows (config_of s c.act.new.self) c.act.result (place_of s c.in_ok-here.here) found (config_of s inside)
-    (sym c.external_in.ensures ∙ ap (option_map call_of) c.in-None.is) (c.act.ensures.ends b)
+    performs_other s b desk.next inside.globals.rows (config_of s c.act.new.self) c.act.result (place_of s c.in_ok-here.here) found (config_of s inside) (c.act.ensures.ends b)
 
 pub returns-then-wants_call-clause-step : goal.returns-then-wants_call-clause-step
 returns-then-wants_call-clause-step g c =
