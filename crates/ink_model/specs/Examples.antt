@@ -25,8 +25,9 @@ use Rattle.ink_model.specs.declared.limits.TheConstants.{MAX_STACK}
 use Rattle.ink_model.specs.Effect.{Fields}
 use Rattle.ink_model.specs.Host.{no_objects}
 use Rattle.ink_model.specs.Memory.{GetsTo, asks}
-use Rattle.ink_model.specs.Passage.{passage}
+use Rattle.ink_model.specs.Passage.{passage, passage_asks}
 use Rattle.ink_model.specs.Session.{Session, Serves, Set, Get, Restart}
+use Rattle.ink_model.specs.Shown.{shows_text}
 use Rattle.ink_model.specs.State.{State, Ready, Broken}
 use Rattle.ink_model.specs.Opening.{opened, opened_by, opening}
 use Rattle.ink_model.specs.Store.{store}
@@ -285,6 +286,14 @@ small_passage = codes "{\"choices\":[],\"events\":[],\"loose\":false,\"more\":fa
 a_told_answer : answer (Tells (passage small_end)) ≡ small_passage
 unfolding answer serde_json_on_literals passage start fresh_at clean
 a_told_answer = refl
+
+-- what is shown is made in memory; a line's end alone shows nothing
+its_text_asks : passage_asks small_end ≡ true
+unfolding start fresh_at
+its_text_asks = refl
+
+a_newline_does_not : shows_text (Newline ∷ []) ≡ false
+a_newline_does_not = refl
 
 abbrev after_small : State
 after_small = record { condition = Ready (settled small_end); stamp = 0 }

@@ -9,7 +9,7 @@ use Rattle.ink_model.specs.CallStories.{does, story}
 use Rattle.ink_model.specs.Clean.{clean}
 use Rattle.ink_model.specs.Configuration.{Configuration, begun, fresh_at, moved, put_at, settled, start, with_globals, with_safe}
 use Rattle.ink_model.specs.Effect.{fields_of, with_mode}
-use Rattle.ink_model.specs.Memory.{CallsAt}
+use Rattle.ink_model.specs.Memory.{CallsAt, given_asks}
 use Rattle.ink_model.specs.Opening.{opened}
 use Rattle.ink_model.specs.declared.place.Part.TheVariants.{Index}
 use Rattle.ink_model.specs.Entered.{entered_places, passed_places}
@@ -20,7 +20,7 @@ use Rattle.ink_model.specs.HostExamples.{external, host}
 use Rattle.ink_model.specs.Place.{entered, next_place}
 use Rattle.ink_model.specs.Run.{Kept, Made, Stopped, cut_off, moment, run, through}
 use Rattle.ink_model.specs.Passage.{passage}
-use Rattle.ink_model.specs.Session.{Restart, Serves, Session, Set, telling}
+use Rattle.ink_model.specs.Session.{Restart, Serves, Session, Set, ending_asks, telling}
 use Rattle.ink_model.specs.State.{State, Broken, Ready}
 use Rattle.ink_model.specs.Step.{step}
 use Rattle.ink_model.specs.Store.{Values, store}
@@ -287,6 +287,32 @@ after_the_call = record {
   calls = refl;
   asking = refl;
 }
+
+-- an answer asks for memory where it is a text, and any other only where it takes the place of no argument
+abbrev asks_with : List Value → Option Given → Bool
+asks_with arguments gave = given_asks arguments (fields_of moved_to_the_call) gave
+
+a_text_asks : asks_with (number 1 ∷ []) (Some (given.Text (codes "six"))) ≡ true
+a_text_asks = refl
+
+an_integer_does_not : asks_with (number 1 ∷ []) (Some (given.Int (pos 6))) ≡ false
+an_integer_does_not = refl
+
+but_without_arguments : asks_with [] (Some (given.Int (pos 6))) ≡ true
+unfolding start fresh_at
+but_without_arguments = refl
+
+nor_does_a_refusal : asks_with [] None ≡ false
+nor_does_a_refusal = refl
+
+-- the end of this run asks for memory to tell of `a`, and where that is as it was for nothing
+the_end_asks : ending_asks watching no rolling_end ≡ true
+unfolding start fresh_at
+the_end_asks = refl
+
+the_same_end_does_not : ending_asks watching (a (value.Text (codes "six")) ∷ []) rolling_end ≡ false
+unfolding start fresh_at
+the_same_end_does_not = refl
 
 abbrev out_of_memory : State
 out_of_memory = record { condition = Broken fault.OutOfMemory no; stamp = 1 }
