@@ -21,17 +21,17 @@ impl Machine {
         &self,
         desk: &Desk<P, T, W>,
     ) -> Result<Seq<Change>, AllocError>
-        ensures told { (start : Values) → Tracks start self.now.changes self.now.globals.rows → IfOk result (λ changes. changes ≡ told (watches desk.now.watchers) start self.now.globals.rows) }
+        ensures told { (start : Values) → Tracks start self.now.changes self.now.shared.globals.rows → IfOk result (λ changes. changes ≡ told (watches desk.now.watchers) start self.now.shared.globals.rows) }
         ensures once { IfOk result (λ cs. OncePerName cs) }
         ensures memory { OnErr result (self.now.changes ≢ []) }
     {
-        if self.globals.len() == 0 || !desk.has_watchers() || self.changes.is_empty() {
+        if self.shared.globals.len() == 0 || !desk.has_watchers() || self.changes.is_empty() {
             return Ok(Seq::new(self.alloc));
         }
         let mut told = Vec::new(self.alloc);
-        let numbers = changed(self.alloc, &self.changes, &self.globals)?;
+        let numbers = changed(self.alloc, &self.changes, &self.shared.globals)?;
         for number in &numbers {
-            if let Some((name, value)) = self.globals.pair(*number) {
+            if let Some((name, value)) = self.shared.globals.pair(*number) {
                 if desk.watches(name) {
                     told.push(change(self.alloc, name, value)?)?;
                 }

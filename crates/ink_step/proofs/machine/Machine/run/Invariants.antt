@@ -13,5 +13,5 @@ invariant-loop-step g l =
     record {
       ran : Ran g.T.TurnFn.log g.W.Watcher.log g.P.PureFn.meaning s l.initial.desk (config_of s l.initial.self) l._step l.desk (config_of s l.self);
       watchers : l.desk.watchers ≡ l.initial.desk.watchers;
-      tracks : (start : Values) → Tracks start l.initial.self.changes l.initial.self.globals.rows → Tracks start l.self.changes l.self.globals.rows;
+      tracks : (start : Values) → Tracks start l.initial.self.changes l.initial.self.shared.globals.rows → Tracks start l.self.changes l.self.shared.globals.rows;
     }

@@ -15,7 +15,7 @@ use Rattle.ink_step.proofs.machine.Machine.told.Goals.{After-from_vec}
 pub returns-then-len-eq0-clause-told : goal.returns-then-len-eq0-clause-told
 returns-then-len-eq0-clause-told g c start tracks =
     let watched = watches c.args.desk.now.watchers in
-    let now = c.args.self.now.globals.rows in
+    let now = c.args.self.now.shared.globals.rows in
     let none : [] ≡ told watched start now = elim c.then-len-eq0.branch [
       | then-len-eq0-via-then-len-eq0 w ↦ told_of_none watched start now (sym c.len.ensures.len ∙ w.if-len-eq0.true)
       | then-len-eq0-via-else-len-eq0+then-not-has_watchers w ↦ told_nobody c.args.desk.now.watchers start now (sym w.has_watchers.ensures ∙ w.if-not-has_watchers.true)
@@ -27,7 +27,7 @@ returns-then-len-eq0-clause-told g c start tracks =
 pub loop-number-preserved : goal.loop-number-preserved
 loop-number-preserved g c =
     let watched = watches c.args.desk.now.watchers in
-    let now = c.args.self.now.globals.rows in
+    let now = c.args.self.now.shared.globals.rows in
     let ns = c.deref-number-items.result.now in
     let i = c.loop-number.number-index in
     let so_far = c.loop-number.told.items in
@@ -48,22 +48,22 @@ loop-number-preserved g c =
     ]
 
 -- all that was picked was told, where it is watched
-all_at : (g : given.Over) (c : After-from_vec g) → c.from_vec.result ≡ told_at (watches c.args.desk.now.watchers) c.args.self.now.globals.rows c.deref-number-items.result.now
+all_at : (g : given.Over) (c : After-from_vec g) → c.from_vec.result ≡ told_at (watches c.args.desk.now.watchers) c.args.self.now.shared.globals.rows c.deref-number-items.result.now
 all_at g c =
     let ns = c.deref-number-items.result.now in
     let past : length ns ≤ c.loop-number.number-index = omega (arith, c.loop-number-test.false) in
-    c.from_vec.ensures ∙ c.loop-number.invariant ∙ ap (told_at (watches c.args.desk.now.watchers) c.args.self.now.globals.rows) (take_all c.loop-number.number-index ns past)
+    c.from_vec.ensures ∙ c.loop-number.invariant ∙ ap (told_at (watches c.args.desk.now.watchers) c.args.self.now.shared.globals.rows) (take_all c.loop-number.number-index ns past)
 
 pub returns-clause-told : goal.returns-clause-told
 returns-clause-told g c start tracks =
     let watched = watches c.args.desk.now.watchers in
-    let now = c.args.self.now.globals.rows in
+    let now = c.args.self.now.shared.globals.rows in
     all_at g (goal.at.returns-clause-told g c).After-from_vec
     ∙ ap (told_at watched now) (c.deref-number-items.ensures.value ∙ c.in_ok-numbers.ensures.numbers start tracks) ∙ told_changed watched now start
 
 pub returns-clause-once : goal.returns-clause-once
 returns-clause-once g c =
     let watched = watches c.args.desk.now.watchers in
-    let now = c.args.self.now.globals.rows in
+    let now = c.args.self.now.shared.globals.rows in
     let once = subst (IsDistinct nat_eq) (sym c.deref-number-items.ensures.value) c.in_ok-numbers.ensures.once in
     subst (λ cs. OncePerName cs) (sym (all_at g (goal.at.returns-clause-once g c).After-from_vec)) (once_at watched now c.len.ensures.names c.deref-number-items.result.now once)
