@@ -3,4 +3,5 @@ pub mod Reversing
 pub mod Runs
 pub mod Quietness
 pub mod Rows
+pub mod Rises
 pub mod Numbers

@@ -17,11 +17,15 @@ pub(crate) struct Temps {
 }
 
 impl Model for Temps {
+    ghost use Rattle.std.specs.Prelude.{◌≡◌, true};
+    ghost use Rattle.ink_model.specs.Rows.{name_order, rows_rise};
     ghost use Rattle.ink_model.specs.Store.{Values};
 
     ghost Value = { Values };
 
     ghost view = { λ t. t.rows.items };
+
+    ghost invariant = { λ t. rows_rise name_order t.rows.items ≡ true };
 }
 
 impl Temps {

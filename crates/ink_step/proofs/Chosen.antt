@@ -119,12 +119,12 @@ module _ (s : StoryTree) (n : ℕ) (old new : Configuration) (stopped : can_go_o
 -- the machine whose flow a choice took up, after the containers around had been entered in the next turn
 module _ (s : StoryTree) (m : Machine) (x : ChoiceOf Spot) (cs : List (ChoiceOf Spot)) (counts : CountsOf ℕ) (turn : ℕ) where
   abbrev up_in : ℕ → CountsOf (List Part) → Configuration
-  up_in t cts = taken_up (map_choice (place_of s) x) (record (config_of s m) { shared = record { globals = m.globals.rows; counts = cts; turn = t } })
+  up_in t cts = taken_up (map_choice (place_of s) x) (record (config_of s m) { shared = record { globals = m.shared.globals.rows; counts = cts; turn = t } })
 
   abbrev entered_by : List (List Part)
   entered_by = entered_places s (option_map (place_of s) x.thread.previous) (place_of s x.target)
 
-  pub chosen_lands : (new : Machine) → config_of s new ≡ taken_up (map_choice (place_of s) x) (config_of s (record m { choices = record { items = cs }; counts = record { rows = counts }; turn = turn }))
-      → turn ≡ one_more m.turn → counts_in s counts ≡ all_visited s turn entered_by (counts_in s m.counts.rows)
+  pub chosen_lands : (new : Machine) → config_of s new ≡ taken_up (map_choice (place_of s) x) (config_of s (record m { flow = record m.flow { choices = record { items = cs } }; shared = record m.shared { counts = record { rows = counts }; turn = turn } }))
+      → turn ≡ one_more m.shared.turn → counts_in s counts ≡ all_visited s turn entered_by (counts_in s m.shared.counts.rows)
       → config_of s new ≡ entering_around s (chosen (map_choice (place_of s) x) (config_of s m))
-  chosen_lands new is next entering = is ∙ ap (up_in turn) entering ∙ ap (λ t. up_in t (all_visited s t entered_by (counts_in s m.counts.rows))) next
+  chosen_lands new is next entering = is ∙ ap (up_in turn) entering ∙ ap (λ t. up_in t (all_visited s t entered_by (counts_in s m.shared.counts.rows))) next

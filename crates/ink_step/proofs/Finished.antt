@@ -39,25 +39,25 @@ follows_none : (s : StoryTree) (asking : Bool) (o : Outcome) (globals : Values) 
 follows_none s asking (Next c) globals d h = h
 follows_none s asking o globals d h = absurd h
 
-module _ (s : StoryTree) (old mid new : Machine) (safely : mid.safe ≡ old.safe) (counted : mid.counts.rows ≡ old.counts.rows) (turned : mid.turn ≡ old.turn) (same : mid.globals.rows ≡ old.globals.rows)
-    (kept : new.globals.rows ≡ mid.globals.rows) where
-  pub finished : (asking : Bool) (e : Effect) → Performs s asking e (fields_of (config_of s mid)) (Ok transfer.Next) → Keeps s e old.threads.threads mid.threads.threads → KeepsChoices s e old.choices.items mid.choices.items
-      → StepEnds (moved_asks (next_place s) (config_of s mid).flow.threads (written_in (config_of s mid))) (going (moved_on (next_place s)) (config_of s mid)) mid.globals.rows (config_of s new) (Ok ends.Went)
-      → StepEnds ((asking || move_asks s e (config_of s old)) || following_asks s (move s e (config_of s old))) (following s (move s e (config_of s old))) old.globals.rows (config_of s new) (Ok ends.Went)
+module _ (s : StoryTree) (old mid new : Machine) (safely : mid.flow.safe ≡ old.flow.safe) (counted : mid.shared.counts.rows ≡ old.shared.counts.rows) (turned : mid.shared.turn ≡ old.shared.turn) (same : mid.shared.globals.rows ≡ old.shared.globals.rows)
+    (kept : new.shared.globals.rows ≡ mid.shared.globals.rows) where
+  pub finished : (asking : Bool) (e : Effect) → Performs s asking e (fields_of (config_of s mid)) (Ok transfer.Next) → Keeps s e old.flow.threads.threads mid.flow.threads.threads → KeepsChoices s e old.flow.choices.items mid.flow.choices.items
+      → StepEnds (moved_asks (next_place s) (config_of s mid).flow.threads (written_in (config_of s mid))) (going (moved_on (next_place s)) (config_of s mid)) mid.shared.globals.rows (config_of s new) (Ok ends.Went)
+      → StepEnds ((asking || move_asks s e (config_of s old)) || following_asks s (move s e (config_of s old))) (following s (move s e (config_of s old))) old.shared.globals.rows (config_of s new) (Ok ends.Went)
   finished asking e performs keeps offers went =
       let before = config_of s old in
       let during = config_of s mid in
       let after = config_of s new in
-      let o = move s (unstored mid.globals.rows e) during in
+      let o = move s (unstored mid.shared.globals.rows e) during in
       let whole = (asking || move_asks s e during) || following_asks s o in
-      let goes = goes_on s asking during after (Ok ends.Went) e performs (kept_stays s e old.threads.threads mid.threads.threads keeps) (offered_stay s e old.choices.items mid.choices.items offers)
+      let goes = goes_on s asking during after (Ok ends.Went) e performs (kept_stays s e old.flow.threads.threads mid.flow.threads.threads keeps) (offered_stay s e old.flow.choices.items mid.flow.choices.items offers)
       (ends_more asking _ (going (moved_on (next_place s)) during) _ after (Ok ends.Went) went) in
-      let follows = follows_none s (asking || move_asks s e during) o mid.globals.rows after goes in
+      let follows = follows_none s (asking || move_asks s e during) o mid.shared.globals.rows after goes in
       let stores = stores_none s asking whole (fields_of during) after (sym kept) e (following s o) ends.Went transfer.Next (λ a is. absurd cc) performs
       (subst (λ vs. StepEnds whole (following s o) vs after (Ok ends.Went)) (sym kept) follows) in
-      let stored = ends_stored s mid.globals.rows during (asking || move_asks s e during) e mid.globals.rows after (Ok ends.Went)
+      let stored = ends_stored s mid.shared.globals.rows during (asking || move_asks s e during) e mid.shared.globals.rows after (Ok ends.Went)
       (subst (λ vs. StepEnds whole (storing_in e (following s o)) vs after (Ok ends.Went)) kept stores) in
-      let moved = ends_after s old mid safely counted turned asking e mid.globals.rows after (Ok ends.Went) keeps offers stored in
+      let moved = ends_after s old mid safely counted turned asking e mid.shared.globals.rows after (Ok ends.Went) keeps offers stored in
       subst (λ vs. StepEnds ((asking || move_asks s e before) || following_asks s (move s e before)) (following s (move s e before)) vs after (Ok ends.Went)) same moved
 
 -- ---- the whole step
@@ -67,12 +67,12 @@ leaf_there None l h = absurd cc
 leaf_there (Some (leaf k)) l h = (let is : k ≡ l = cc in ap (λ x. Some (leaf x)) (sym is))
 leaf_there (Some (container name flags content named)) l h = absurd cc
 
-module _ (s : StoryTree) (b : Bound) (machine new : Machine) (place : Spot) (l : Leaf) (at_place : machine.threads.threads.thread.frame.place ≡ Some place)
+module _ (s : StoryTree) (b : Bound) (machine new : Machine) (place : Spot) (l : Leaf) (at_place : machine.flow.threads.threads.thread.frame.place ≡ Some place)
     (stands : leaf_in (at s (place_of s place)) ≡ Some l) (other : external_in (Some (leaf l)) ≡ None) where
   -- what is performed at such content is what the step comes to, and it wants no call
-  pub passed : (r : Result StepEnd Fault) → Performing s b (λ asking o. StepEnds asking o machine.globals.rows (config_of s new) r) (place_of s place) (Some (leaf l)) (config_of s machine)
+  pub passed : (r : Result StepEnd Fault) → Performing s b (λ asking o. StepEnds asking o machine.shared.globals.rows (config_of s new) r) (place_of s place) (Some (leaf l)) (config_of s machine)
       → (wants (step s b (config_of s machine)) ≡ false)
-      × StepEnds (asks s b (config_of s machine)) (step s b (config_of s machine)) machine.globals.rows (config_of s new) r
+      × StepEnds (asks s b (config_of s machine)) (step s b (config_of s machine)) machine.shared.globals.rows (config_of s new) r
   passed r performing =
       let p = place_of s place in
       let old = config_of s machine in
@@ -81,8 +81,8 @@ module _ (s : StoryTree) (b : Bound) (machine new : Machine) (place : Spot) (l :
       let is = stays_in s p l stands in
       let found = sym (ap (option_map leaf) stands) ∙ ap (λ q. option_map leaf (leaf_in (at s q))) is in (
         sym (wants_none s b p old at_p (Some (leaf l)) found other),
-        ends_performed s b p old at_p (λ asking o. StepEnds asking o machine.globals.rows d r) p (Some (leaf l)) old is (leaf_there (at s p) l stands) (is_in s p l stands machine place at_place refl)
-            (λ asking o. ends_more (going_in_asks s p old) asking o machine.globals.rows d r) performing,
+        ends_performed s b p old at_p (λ asking o. StepEnds asking o machine.shared.globals.rows d r) p (Some (leaf l)) old is (leaf_there (at s p) l stands) (is_in s p l stands machine place at_place refl)
+            (λ asking o. ends_more (going_in_asks s p old) asking o machine.shared.globals.rows d r) performing,
       )
 
 pub not_external : (o : Option Call) → is_some o ≡ false → o ≡ None

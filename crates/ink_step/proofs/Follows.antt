@@ -113,30 +113,30 @@ ends_unperformed s asking more e new c d globals f h same = by e h
     by e k = short (move s e c) k
 
 -- performing changes the fields, temporaries and choices alone, which a move takes from the effect
-module _ (s : StoryTree) (old mid : Machine) (safely : mid.safe ≡ old.safe) (counted : mid.counts.rows ≡ old.counts.rows) (turned : mid.turn ≡ old.turn) where
+module _ (s : StoryTree) (old mid : Machine) (safely : mid.flow.safe ≡ old.flow.safe) (counted : mid.shared.counts.rows ≡ old.shared.counts.rows) (turned : mid.shared.turn ≡ old.shared.turn) where
   abbrev over : ThreadsOf (List Part) → List (ChoiceOf (List Part)) → Bool → CountsOf ℕ → ℕ → Configuration
   over ts choices b counts turn = record {
-    flow = record { threads = ts; stack = mid.stack.items; choices = choices; safe = b };
-    shared = record { globals = mid.globals.rows; counts = counts_in s counts; turn = turn };
+    flow = record { threads = ts; stack = mid.flow.stack.items; choices = choices; safe = b };
+    shared = record { globals = mid.shared.globals.rows; counts = counts_in s counts; turn = turn };
     page = mid.output.page;
   }
 
   abbrev threads_by : Effect → ThreadsOf (List Part)
-  threads_by e = on_top (mode_in mid.threads.threads.thread.frame.evaluating) (on_top (stored_by e) (map_threads (place_of s) old.threads.threads))
+  threads_by e = on_top (mode_in mid.flow.threads.threads.thread.frame.evaluating) (on_top (stored_by e) (map_threads (place_of s) old.flow.threads.threads))
 
   abbrev choices_by : Effect → List (ChoiceOf (List Part))
-  choices_by e = offered_by e (map (map_choice (place_of s)) old.choices.items)
+  choices_by e = offered_by e (map (map_choice (place_of s)) old.flow.choices.items)
 
   abbrev kept : Effect → Configuration
-  kept e = over (threads_by e) (choices_by e) old.safe old.counts.rows old.turn
+  kept e = over (threads_by e) (choices_by e) old.flow.safe old.shared.counts.rows old.shared.turn
 
-  is_kept : (e : Effect) → Keeps s e old.threads.threads mid.threads.threads → KeepsChoices s e old.choices.items mid.choices.items → config_of s mid ≡ kept e
+  is_kept : (e : Effect) → Keeps s e old.flow.threads.threads mid.flow.threads.threads → KeepsChoices s e old.flow.choices.items mid.flow.choices.items → config_of s mid ≡ kept e
   is_kept e keeps offers =
-      ap (λ ts. over ts (map (map_choice (place_of s)) mid.choices.items) mid.safe mid.counts.rows mid.turn) keeps
-      ∙ ap (λ cs. over (threads_by e) cs mid.safe mid.counts.rows mid.turn) offers
-      ∙ ap (λ b. over (threads_by e) (choices_by e) b mid.counts.rows mid.turn) safely
-      ∙ ap (λ counts. over (threads_by e) (choices_by e) old.safe counts mid.turn) counted
-      ∙ ap (over (threads_by e) (choices_by e) old.safe old.counts.rows) turned
+      ap (λ ts. over ts (map (map_choice (place_of s)) mid.flow.choices.items) mid.flow.safe mid.shared.counts.rows mid.shared.turn) keeps
+      ∙ ap (λ cs. over (threads_by e) cs mid.flow.safe mid.shared.counts.rows mid.shared.turn) offers
+      ∙ ap (λ b. over (threads_by e) (choices_by e) b mid.shared.counts.rows mid.shared.turn) safely
+      ∙ ap (λ counts. over (threads_by e) (choices_by e) old.flow.safe counts mid.shared.turn) counted
+      ∙ ap (over (threads_by e) (choices_by e) old.flow.safe old.shared.counts.rows) turned
 
   -- with the effect's fields, whether it stores temporaries or not
   moving_alike : (f g : Fields) (o : Option ℕ) → with_fields (record f { wrote = o }) (kept (Moves g)) ≡ with_fields (record f { wrote = o }) (config_of s old)
@@ -172,7 +172,7 @@ module _ (s : StoryTree) (old mid : Machine) (safely : mid.safe ≡ old.safe) (c
   goes_alike (Fails g) = refl
 
   abbrev asks_in : Effect → Configuration → Bool
-  asks_in e c = flow_asks s e (counts_in s old.counts.rows) c.flow.threads (written_in c)
+  asks_in e c = flow_asks s e (counts_in s old.shared.counts.rows) c.flow.threads (written_in c)
 
   asks_alike : (e : Effect) → move_asks s e (kept e) ≡ move_asks s e (config_of s old)
   asks_alike (Moves f) = ap (asks_in (Moves f)) (moving_alike f f f.wrote)
@@ -189,7 +189,7 @@ module _ (s : StoryTree) (old mid : Machine) (safely : mid.safe ≡ old.safe) (c
   abbrev Steps : Bool → Effect → Configuration → Values → Configuration → Result StepEnd Fault → Type 0
   Steps asking e c globals d r = StepEnds ((asking || move_asks s e c) || following_asks s (move s e c)) (following s (move s e c)) globals d r
 
-  pub ends_after : (asking : Bool) (e : Effect) (globals : Values) (d : Configuration) (r : Result StepEnd Fault) → Keeps s e old.threads.threads mid.threads.threads → KeepsChoices s e old.choices.items mid.choices.items
+  pub ends_after : (asking : Bool) (e : Effect) (globals : Values) (d : Configuration) (r : Result StepEnd Fault) → Keeps s e old.flow.threads.threads mid.flow.threads.threads → KeepsChoices s e old.flow.choices.items mid.flow.choices.items
       → Steps asking e (config_of s mid) globals d r → Steps asking e (config_of s old) globals d r
   ends_after asking e globals d r keeps offers h = by e (asks_alike e) (goes_alike e) (subst (λ c. Steps asking e c globals d r) (is_kept e keeps offers) h)
     where

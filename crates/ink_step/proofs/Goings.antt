@@ -17,13 +17,13 @@ use Rattle.ink_tree.specs.Kept.{leaf_in}
 use Rattle.ink_tree.specs.Nodes.{place_of}
 use Rattle.ink_tree.specs.declared.spot.Spot.{Spot}
 
-module _ (s : StoryTree) (p : List Part) (m : Machine) (here : Spot) (ts : ThreadsOf Spot) (is : ts ≡ on_top (put_in (Some here)) m.threads.threads) where
+module _ (s : StoryTree) (p : List Part) (m : Machine) (here : Spot) (ts : ThreadsOf Spot) (is : ts ≡ on_top (put_in (Some here)) m.flow.threads.threads) where
   -- the containers on the way were entered, and flow is put at the first content
-  pub went_in : (counts : CountsOf ℕ) → place_of s here ≡ entered s p → counts_in s counts ≡ all_visited s m.turn (passed_places s p) (counts_in s m.counts.rows)
-      → config_of s (record m { threads = record { threads = ts }; counts = record { rows = counts } }) ≡ gone_in s p (config_of s m)
+  pub went_in : (counts : CountsOf ℕ) → place_of s here ≡ entered s p → counts_in s counts ≡ all_visited s m.shared.turn (passed_places s p) (counts_in s m.shared.counts.rows)
+      → config_of s (record m { flow = record m.flow { threads = record { threads = ts } }; shared = record m.shared { counts = record { rows = counts } } }) ≡ gone_in s p (config_of s m)
   went_in counts at_place entering =
-      ap (λ t. config_of s (record m { threads = record { threads = t }; counts = record { rows = counts } })) is
-      ∙ ap (λ q. put_at (Some q) (config_of s (record m { counts = record { rows = counts } }))) at_place
+      ap (λ t. config_of s (record m { flow = record m.flow { threads = record { threads = t } }; shared = record m.shared { counts = record { rows = counts } } })) is
+      ∙ ap (λ q. put_at (Some q) (config_of s (record m { shared = record m.shared { counts = record { rows = counts } } }))) at_place
       ∙ ap (λ cs. put_at (Some (entered s p)) (with_counts cs (config_of s m))) entering
 
 -- ---- where nothing stands
@@ -54,7 +54,7 @@ module _ (s : StoryTree) (p : List Part) (l : Leaf) (stands : leaf_in (at s p) �
   passes_no_container = (stands_alone (at s p) l stands).1 p
 
   -- a machine that is there is as one that goes in
-  pub is_in : (m : Machine) (here : Spot) → m.threads.threads.thread.frame.place ≡ Some here → place_of s here ≡ p → config_of s m ≡ gone_in s p (config_of s m)
+  pub is_in : (m : Machine) (here : Spot) → m.flow.threads.threads.thread.frame.place ≡ Some here → place_of s here ≡ p → config_of s m ≡ gone_in s p (config_of s m)
   is_in m here at_here at_place =
-      let same : m.threads.threads ≡ on_top (put_in (Some here)) m.threads.threads = ap (λ q. on_top (put_in q) m.threads.threads) at_here in
-      went_in s p m here m.threads.threads same m.counts.rows (at_place ∙ stays_in) (ap (λ ps. all_visited s m.turn ps (counts_in s m.counts.rows)) (sym passes_no_container))
+      let same : m.flow.threads.threads ≡ on_top (put_in (Some here)) m.flow.threads.threads = ap (λ q. on_top (put_in q) m.flow.threads.threads) at_here in
+      went_in s p m here m.flow.threads.threads same m.shared.counts.rows (at_place ∙ stays_in) (ap (λ ps. all_visited s m.shared.turn ps (counts_in s m.shared.counts.rows)) (sym passes_no_container))

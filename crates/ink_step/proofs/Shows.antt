@@ -28,8 +28,8 @@ some_shown {P = P} cs h = by (visible cs) h
     by (v ∷ vs) k = λ none. absurd (cc)
 
 -- where flow has stopped they are open
-pub open_shown : (s : StoryTree) (m : Machine) → false ≡ can_go_on (config_of s m) → shown m.choices.items ≡ open_choices (config_of s m)
-open_shown s m stops = shown_alike (place_of s) m.choices.items ∙ ap (λ b. if b then [] else shown (map (map_choice (place_of s)) m.choices.items)) stops
+pub open_shown : (s : StoryTree) (m : Machine) → false ≡ can_go_on (config_of s m) → shown m.flow.choices.items ≡ open_choices (config_of s m)
+open_shown s m stops = shown_alike (place_of s) m.flow.choices.items ∙ ap (λ b. if b then [] else shown (map (map_choice (place_of s)) m.flow.choices.items)) stops
 
 pub when_err : {A E : Type 0} (r : Result A E) (B C : Type 0) → (B → C) → OnErr r B → OnErr r C
 when_err (Ok a) B C so h = h

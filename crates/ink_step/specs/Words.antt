@@ -1,6 +1,6 @@
 -- What a machine stands for.
 use Rattle.std.specs.Prelude.{ℕ, List, [], ◌∷◌, length, map, nat_lt, if◌then◌else◌}
-use Rattle.ink_model.specs.Configuration.{ChoiceOf, Configuration, map_choice}
+use Rattle.ink_model.specs.Configuration.{ChoiceOf, Configuration, FlowOf, SharedOf, map_choice}
 use Rattle.ink_model.specs.Counts.{CountsOf}
 use Rattle.ink_model.specs.Effect.{Context}
 use Rattle.ink_model.specs.Frames.{ThreadsOf, map_thread, map_threads}
@@ -9,7 +9,9 @@ use Rattle.ink_model.specs.Rows.{map_keys}
 use Rattle.ink_model.specs.Store.{Values}
 use Rattle.ink_model.specs.Tree.{StoryTree}
 use Rattle.ink_model.specs.declared.place.Part.{Part}
+use Rattle.ink_step.specs.declared.machine.Flow.{Flow}
 use Rattle.ink_step.specs.declared.machine.Machine.{Machine}
+use Rattle.ink_step.specs.declared.machine.Shared.{Shared}
 use Rattle.ink_tree.specs.Nodes.{node_place, place_of}
 use Rattle.ink_tree.specs.declared.spot.Spot.{Spot}
 
@@ -25,13 +27,17 @@ rows_in s rows = map_keys (λ n. node_place s (record { number = n })) (rows_bel
 abbrev pub counts_in : StoryTree → CountsOf ℕ → CountsOf (List Part)
 counts_in s counts = record { visits = rows_in s counts.visits; turns = rows_in s counts.turns }
 
--- the configuration of a machine, over the places that its spots and numbers stand for
+-- a flow, over the places that its spots stand for
+abbrev pub flow_of : StoryTree → Flow → FlowOf (List Part)
+flow_of s f = record { threads = map_threads (place_of s) f.threads.threads; stack = f.stack.items; choices = map (map_choice (place_of s)) f.choices.items; safe = f.safe }
+
+-- what flows share, over the places that its numbers stand for
+abbrev pub shared_of : StoryTree → Shared → SharedOf (List Part)
+shared_of s v = record { globals = v.globals.rows; counts = counts_in s v.counts.rows; turn = v.turn }
+
+-- the configuration of a machine
 abbrev pub config_of : StoryTree → Machine → Configuration
-config_of s m = record {
-  flow = record { threads = map_threads (place_of s) m.threads.threads; stack = m.stack.items; choices = map (map_choice (place_of s)) m.choices.items; safe = m.safe };
-  shared = record { globals = m.globals.rows; counts = counts_in s m.counts.rows; turn = m.turn };
-  page = m.output.page;
-}
+config_of s m = record { flow = flow_of s m.flow; shared = shared_of s m.shared; page = m.output.page }
 
 -- what a machine has beside its threads that content may look at and not change
 pub record Rest : Type 0 where
@@ -40,7 +46,7 @@ pub record Rest : Type 0 where
   pub turn : ℕ
 
 abbrev pub rest_of : Machine → Rest
-rest_of m = record { choices = m.choices.items; counts = m.counts.rows; turn = m.turn }
+rest_of m = record { choices = m.flow.choices.items; counts = m.shared.counts.rows; turn = m.shared.turn }
 
 -- what content may look at and not change, as `context_of` gives it
 abbrev pub seen_by : StoryTree → ThreadsOf Spot → Rest → Context
@@ -52,4 +58,4 @@ seen_by s threads rest = record {
 }
 
 abbrev pub globals_of : Machine → Values
-globals_of m = m.globals.rows
+globals_of m = m.shared.globals.rows

@@ -25,14 +25,14 @@ impl Machine {
     #[inline(never)]
     pub(crate) fn follow_default(&mut self, story: &Story) -> Result<StepEnd, Fault>
         ensures ends { let s = story_tree story.now in let c = config_of s self.old in let choice = default_choice c.flow.choices in
-            StepEnds (default_asks s choice c) (stopped_by s choice c) self.old.globals.rows (config_of s self.new) result }
-        ensures globals { self.new.globals.rows ≡ self.old.globals.rows }
+            StepEnds (default_asks s choice c) (stopped_by s choice c) self.old.shared.globals.rows (config_of s self.new) result }
+        ensures globals { self.new.shared.globals.rows ≡ self.old.shared.globals.rows }
         ensures changes { self.new.changes ≡ self.old.changes }
     {
-        if !self.choices.only_invisible() {
+        if !self.flow.choices.only_invisible() {
             return Ok(StepEnd::Stopped);
         }
-        match self.choices.take(0) {
+        match self.flow.choices.take(0) {
             Some(choice) => {
                 self.take_up(choice);
                 match self.enter_around(story.tree(), true) {
@@ -47,13 +47,13 @@ impl Machine {
     // Flow is where a choice leads, in the choice's thread alone, and no choice is left.
     fn take_up(&mut self, choice: Choice<Spot>)
         ensures taken { (s : StoryTree) → config_of s self.new ≡ taken_up (map_choice (place_of s) choice) (config_of s self.old) }
-        ensures globals { self.new.globals.rows ≡ self.old.globals.rows }
+        ensures globals { self.new.shared.globals.rows ≡ self.old.shared.globals.rows }
         ensures changes { self.new.changes ≡ self.old.changes }
     {
         let Choice { target, thread, .. } = choice;
-        self.threads.replace(thread);
-        self.threads.put(Some(target));
-        self.choices.clear();
+        self.flow.threads.replace(thread);
+        self.flow.threads.put(Some(target));
+        self.flow.choices.clear();
     }
 
     /// Takes the n-th of the choices that are shown, counted from 0: the threads are the choice's copy alone, no choice is left,
@@ -66,13 +66,13 @@ impl Machine {
         if self.can_go_on() {
             return Err(Refusal::NotAChoice);
         }
-        let Some(choice) = self.choices.visible_at(number) else {
+        let Some(choice) = self.flow.choices.visible_at(number) else {
             return Err(Refusal::NotAChoice);
         };
-        let turn = self.turn.next();
+        let turn = self.shared.turn.next();
         match enter_landed(
             story.tree(),
-            &mut self.counts,
+            &mut self.shared.counts,
             choice.thread.previous(),
             choice.target,
             turn,
@@ -80,9 +80,9 @@ impl Machine {
             Ok(()) => {}
             Err(_) => return Err(Refusal::OutOfMemory),
         }
-        match self.choices.take(number) {
+        match self.flow.choices.take(number) {
             Some(choice) => {
-                self.turn = turn;
+                self.shared.set_turn(turn);
                 self.take_up(choice);
                 Ok(())
             }
@@ -98,14 +98,14 @@ impl Machine {
         ensures err { let s = story_tree story.now in OnErr result (config_of s self.new ≡ config_of s self.old) }
         ensures memory { let s = story_tree story.now in OnErr result (entering_asks s (jumped (place_of s place) (config_of s self.old)) ≡ true) }
     {
-        let turn = self.turn.next();
-        match enter_landed(story.tree(), &mut self.counts, None, place, turn) {
+        let turn = self.shared.turn.next();
+        match enter_landed(story.tree(), &mut self.shared.counts, None, place, turn) {
             Ok(()) => {
-                self.threads.reset();
-                self.threads.put(Some(place));
-                self.choices.clear();
-                self.safe = true;
-                self.turn = turn;
+                self.flow.threads.reset();
+                self.flow.threads.put(Some(place));
+                self.flow.choices.clear();
+                self.flow.set_safe(true);
+                self.shared.set_turn(turn);
                 Ok(())
             }
             Err(_) => Err(AllocError),

@@ -140,7 +140,7 @@ impl Machine {
         ensures { let s = check.story_tree story.now in let q = node_place s container in
             result ≡ rules.visits_of place_order q (flags_at (at s q)) (config_of s self.now).shared.counts }
     {
-        visits_of(story.tree(), &self.counts, container)
+        visits_of(story.tree(), &self.shared.counts, container)
     }
 
     /// Flow goes down from its place to the first content that holds no other by index, and enters the containers on the way. And
@@ -157,15 +157,15 @@ impl Machine {
         ensures ok { let s = story_tree tree.now in OnOk result (config_of s self.new ≡ gone_in s (place_of s place) (config_of s self.old)) }
         ensures fault { IfErr result (λ f. f ≡ Fault.OutOfMemory) }
         ensures memory { let s = story_tree tree.now in OnErr result (going_in_asks s (place_of s place) (config_of s self.old) ≡ true) }
-        ensures globals { self.new.globals.rows ≡ self.old.globals.rows }
+        ensures globals { self.new.shared.globals.rows ≡ self.old.shared.globals.rows }
         ensures changes { self.new.changes ≡ self.old.changes }
     {
         let Some(node) = tree.node(place) else {
-            self.threads.put(Some(place));
+            self.flow.threads.put(Some(place));
             return Ok((place, None));
         };
-        let (here, found) = enter_passed(tree, &mut self.counts, node, self.turn)?;
-        self.threads.put(Some(here));
+        let (here, found) = enter_passed(tree, &mut self.shared.counts, node, self.shared.turn)?;
+        self.flow.threads.put(Some(here));
         Ok((here, found))
     }
 
@@ -178,17 +178,17 @@ impl Machine {
         ensures memory { let s = story_tree tree.now in let c = config_of s self.old in
             OnErr result ((enters && adds_rows s (around s c.flow.threads) c.shared.counts) ≡ true) }
         ensures kept { let s = story_tree tree.now in OnErr result (config_of s self.new ≡ config_of s self.old) }
-        ensures globals { self.new.globals.rows ≡ self.old.globals.rows }
+        ensures globals { self.new.shared.globals.rows ≡ self.old.shared.globals.rows }
         ensures changes { self.new.changes ≡ self.old.changes }
     {
-        match self.threads.place() {
+        match self.flow.threads.place() {
             Some(place) if enters => {
                 enter_landed(
                     tree,
-                    &mut self.counts,
-                    self.threads.top().previous(),
+                    &mut self.shared.counts,
+                    self.flow.threads.top().previous(),
                     place,
-                    self.turn,
+                    self.shared.turn,
                 )
             }
             _ => Ok(()),

@@ -23,7 +23,7 @@ mod transfer;
 mod writing;
 
 pub use flow::StepEnd;
-pub use machine::Machine;
+pub use machine::{Flow, Machine, Shared};
 pub use opening::Unopened;
 pub use parts::{Fields, Parts};
 pub use told::told_between;

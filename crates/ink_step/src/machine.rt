@@ -16,19 +16,50 @@ use ink_value::EvalStack;
 use ink_vars::{Changes, Counts, Globals, Turn};
 use std::alloc::Global;
 
+/// A flow: where it is, what it evaluates, and what it offers.
+#[derive(Drop)]
+pub struct Flow {
+    pub threads: Threads<Spot>,
+    pub stack: EvalStack,
+    pub choices: Choices<Spot>,
+    /// Whether its last stop was a safe one.
+    pub safe: bool,
+}
+
+/// What all flows of a story share.
+#[derive(Drop)]
+pub struct Shared {
+    pub globals: Globals,
+    pub counts: Counts,
+    pub turn: Turn,
+}
+
 /// What changes while a story runs: a configuration; and which globals were assigned since the last running command began.
 #[derive(Drop)]
 pub struct Machine {
-    pub(crate) threads: Threads<Spot>,
-    pub(crate) stack: EvalStack,
-    pub(crate) choices: Choices<Spot>,
-    pub(crate) safe: bool,
+    pub(crate) flow: Flow,
+    pub(crate) shared: Shared,
     pub(crate) output: Output,
-    pub(crate) globals: Globals,
     pub(crate) changes: Changes,
-    pub(crate) counts: Counts,
-    pub(crate) turn: Turn,
     pub(crate) alloc: Global,
+}
+
+impl Flow {
+    /// Stops are safe from now on, or not.
+    pub(crate) fn set_safe(&mut self, safe: bool)
+        ensures { self.new ≡ record self.old { safe = safe } }
+    {
+        self.safe = safe;
+    }
+}
+
+impl Shared {
+    /// The turn is this one from now on.
+    pub(crate) fn set_turn(&mut self, turn: Turn)
+        ensures { self.new ≡ record self.old { turn = turn } }
+    {
+        self.turn = turn;
+    }
 }
 
 impl Machine {
@@ -38,14 +69,14 @@ impl Machine {
     pub fn can_go_on(&self) -> bool
         ensures { (s : StoryTree) → result ≡ can_go_on (config_of s self.now) }
     {
-        self.threads.place().is_some()
+        self.flow.threads.place().is_some()
     }
 
     /// The globals. Takes no memory.
     pub fn globals(&self) -> &Globals
         ensures { result.now.rows ≡ globals_of self.now }
     {
-        &self.globals
+        &self.shared.globals
     }
 
     /// Gives a global that is there a value, without memory. Where there is none nothing has changed, and the value is handed
@@ -57,16 +88,16 @@ impl Machine {
         ensures handed_back { IfErr result (λ handed_back. handed_back ≡ value) }
         ensures changes { self.new.changes ≡ self.old.changes }
     {
-        self.globals.replace(name, value)
+        self.shared.globals.replace(name, value)
     }
 
     /// As a running command begins: changes of globals are those from now on. Takes no memory.
     pub(crate) fn begin(&mut self)
         ensures begun { (s : StoryTree) → config_of s self.new ≡ begun (config_of s self.old) }
         ensures globals { globals_of self.new ≡ globals_of self.old }
-        ensures tracks { Tracks (globals_of self.new) self.new.changes self.new.globals.rows }
+        ensures tracks { Tracks (globals_of self.new) self.new.changes self.new.shared.globals.rows }
     {
-        self.safe = false;
+        self.flow.set_safe(false);
         self.changes.start();
     }
 
@@ -77,8 +108,8 @@ impl Machine {
         ensures globals { globals_of self.new ≡ globals_of self.old }
         ensures changes { self.new.changes ≡ self.old.changes }
     {
-        self.threads.clear_numbers();
-        self.choices.clear_numbers();
+        self.flow.threads.clear_numbers();
+        self.flow.choices.clear_numbers();
         self.output.clear();
     }
 
@@ -86,6 +117,6 @@ impl Machine {
     pub(crate) fn is_loose(&self) -> bool
         ensures { (s : StoryTree) → result ≡ is_loose (config_of s self.now) }
     {
-        !self.can_go_on() && self.choices.len() == 0 && !self.safe
+        !self.can_go_on() && self.flow.choices.len() == 0 && !self.flow.safe
     }
 }

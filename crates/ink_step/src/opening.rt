@@ -10,7 +10,7 @@ ghost use Rattle.ink_check.specs.Words.{story_tree};
 ghost use Rattle.ink_step.specs.Runs.{RunsToStop};
 ghost use Rattle.ink_tree.specs.Nodes.{place_of};
 
-use crate::machine::Machine;
+use crate::machine::{Flow, Machine, Shared};
 use ink_check::Story;
 use ink_choice::Choices;
 use ink_host::{Desk, Nobody};
@@ -44,7 +44,8 @@ impl Machine {
         };
         let mut machine = Machine::fresh(alloc, place, Globals::new(alloc));
         let outcome = machine.run_alone(alloc, story);
-        let Machine { globals, .. } = machine;
+        let Machine { shared, .. } = machine;
+        let Shared { globals, .. } = shared;
         match outcome {
             Ok(()) => Ok(Machine::at_start(alloc, story, globals)),
             Err(fault) => Err(Unopened { fault, globals }),
@@ -77,15 +78,19 @@ impl Machine {
         ensures globals { globals_of result ≡ globals.rows }
     {
         Machine {
-            threads: Threads::new(alloc, Some(place)),
-            stack: EvalStack::new(alloc),
-            choices: Choices::new(alloc),
-            safe: false,
+            flow: Flow {
+                threads: Threads::new(alloc, Some(place)),
+                stack: EvalStack::new(alloc),
+                choices: Choices::new(alloc),
+                safe: false,
+            },
+            shared: Shared {
+                globals,
+                counts: Counts::new(alloc),
+                turn: Turn::first(),
+            },
             output: Output::new(alloc),
-            globals,
             changes: Changes::new(alloc),
-            counts: Counts::new(alloc),
-            turn: Turn::first(),
             alloc,
         }
     }

@@ -6,40 +6,26 @@ ghost use Rattle.ink_model.specs.Configuration.{start};
 ghost use Rattle.ink_model.specs.Tree.{StoryTree};
 ghost use Rattle.ink_step.specs.Parts.{config_of_fields, config_of_parts};
 
-use crate::machine::Machine;
+use crate::machine::{Flow, Machine, Shared};
 use ink_check::Story;
-use ink_choice::Choices;
 use ink_out::Output;
-use ink_stack::Threads;
-use ink_tree::Spot;
-use ink_value::EvalStack;
-use ink_vars::{Changes, Counts, Globals, Turn};
+use ink_vars::{Changes, Globals};
 use std::alloc::Global;
 
 /// All that a machine has, lent: what its configuration is made of.
 #[derive(Clone, Copy)]
 pub struct Parts<'a> {
-    pub threads: &'a Threads<Spot>,
-    pub stack: &'a EvalStack,
-    pub choices: &'a Choices<Spot>,
-    pub safe: bool,
+    pub flow: &'a Flow,
+    pub shared: &'a Shared,
     pub output: &'a Output,
-    pub globals: &'a Globals,
-    pub counts: &'a Counts,
-    pub turn: Turn,
 }
 
 /// The same, of which a machine is made.
 #[derive(Drop)]
 pub struct Fields {
-    pub threads: Threads<Spot>,
-    pub stack: EvalStack,
-    pub choices: Choices<Spot>,
-    pub safe: bool,
+    pub flow: Flow,
+    pub shared: Shared,
     pub output: Output,
-    pub globals: Globals,
-    pub counts: Counts,
-    pub turn: Turn,
 }
 
 impl Machine {
@@ -57,14 +43,9 @@ impl Machine {
         ensures { (s : StoryTree) → config_of_parts s result ≡ config_of s self.now }
     {
         Parts {
-            threads: &self.threads,
-            stack: &self.stack,
-            choices: &self.choices,
-            safe: self.safe,
+            flow: &self.flow,
+            shared: &self.shared,
             output: &self.output,
-            globals: &self.globals,
-            counts: &self.counts,
-            turn: self.turn,
         }
     }
 
@@ -73,15 +54,10 @@ impl Machine {
         ensures { (s : StoryTree) → config_of s result ≡ config_of_fields s fields }
     {
         Machine {
-            threads: fields.threads,
-            stack: fields.stack,
-            choices: fields.choices,
-            safe: fields.safe,
+            flow: fields.flow,
+            shared: fields.shared,
             output: fields.output,
-            globals: fields.globals,
             changes: Changes::new(alloc),
-            counts: fields.counts,
-            turn: fields.turn,
             alloc,
         }
     }

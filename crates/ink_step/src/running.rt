@@ -32,7 +32,7 @@ impl Machine {
         ensures runs { let s = story_tree story.now in let b = bound_by P.meaning desk.old.functions in
             (made : List Made) × Grew T.log (log_of W.state) desk.old (calls desk.old.next made) desk.new × RunsThrough s b (config_of s self.old) made (config_of s self.new) result }
         ensures watchers { desk.new.watchers ≡ desk.old.watchers }
-        ensures tracks { Tracks self.old.globals.rows self.new.changes self.new.globals.rows }
+        ensures tracks { Tracks self.old.shared.globals.rows self.new.changes self.new.shared.globals.rows }
     {
         self.begin();
         self.run(story, desk)?;
@@ -50,7 +50,7 @@ impl Machine {
         ensures runs { let s = story_tree story.now in let b = bound_by P.meaning desk.old.functions in
             (made : List Made) × Grew T.log (log_of W.state) desk.old (calls desk.old.next made) desk.new × RunsToStop s b (config_of s self.old) made (config_of s self.new) result × AreBound b made }
         ensures watchers { desk.new.watchers ≡ desk.old.watchers }
-        ensures tracks { (start : Values) → Tracks start self.old.changes self.old.globals.rows → Tracks start self.new.changes self.new.globals.rows }
+        ensures tracks { (start : Values) → Tracks start self.old.changes self.old.shared.globals.rows → Tracks start self.new.changes self.new.shared.globals.rows }
     {
         for _step in 0..MAX_STEPS {
             match self.step(story, desk, false)? {
@@ -71,7 +71,7 @@ impl Machine {
         if self.can_go_on() {
             return Ok(Seq::new(self.alloc));
         }
-        self.choices.visible(self.alloc)
+        self.flow.choices.visible(self.alloc)
     }
 
     /// The passage of the machine as a running command ends. The one error is a refused request for memory, which is made only

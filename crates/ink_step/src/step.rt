@@ -64,13 +64,13 @@ impl Machine {
         quiet: bool,
     ) -> Result<StepEnd, Fault>
         ensures step { let s = story_tree story.now in let b = bound_by P.meaning desk.old.functions in let c = config_of s self.old in
-            (es : List Happening) × Grew T.log (log_of W.state) desk.old es desk.new × Steps quiet s b desk.old.next (asks s b c) (step s b c) es self.old.globals.rows c (config_of s self.new) result }
+            (es : List Happening) × Grew T.log (log_of W.state) desk.old es desk.new × Steps quiet s b desk.old.next (asks s b c) (step s b c) es self.old.shared.globals.rows c (config_of s self.new) result }
         ensures watchers { desk.new.watchers ≡ desk.old.watchers }
         ensures machine { result ≡ Ok WantsCall → self.new ≡ self.old }
         ensures desk { result ≡ Ok WantsCall → desk.new ≡ desk.old }
-        ensures tracks { (start : Values) → Tracks start self.old.changes self.old.globals.rows → Tracks start self.new.changes self.new.globals.rows }
+        ensures tracks { (start : Values) → Tracks start self.old.changes self.old.shared.globals.rows → Tracks start self.new.changes self.new.shared.globals.rows }
     {
-        let Some(place) = self.threads.place() else {
+        let Some(place) = self.flow.threads.place() else {
             return Ok(StepEnd::Stopped);
         };
         match self.pass(story, place)? {
@@ -88,13 +88,13 @@ impl Machine {
         quiet: bool,
         place: Spot,
     ) -> Result<StepEnd, Fault>
-        requires { self.old.threads.threads.thread.frame.place ≡ Some place }
+        requires { self.old.flow.threads.threads.thread.frame.place ≡ Some place }
         ensures step { let s = story_tree story.now in let b = bound_by P.meaning desk.old.functions in let c = config_of s self.old in
-            (es : List Happening) × Grew T.log (log_of W.state) desk.old es desk.new × Steps quiet s b desk.old.next (asks s b c) (step s b c) es self.old.globals.rows c (config_of s self.new) result }
+            (es : List Happening) × Grew T.log (log_of W.state) desk.old es desk.new × Steps quiet s b desk.old.next (asks s b c) (step s b c) es self.old.shared.globals.rows c (config_of s self.new) result }
         ensures watchers { desk.new.watchers ≡ desk.old.watchers }
         ensures machine { result ≡ Ok WantsCall → self.new ≡ self.old }
         ensures desk { result ≡ Ok WantsCall → desk.new ≡ desk.old }
-        ensures tracks { (start : Values) → Tracks start self.old.changes self.old.globals.rows → Tracks start self.new.changes self.new.globals.rows }
+        ensures tracks { (start : Values) → Tracks start self.old.changes self.old.shared.globals.rows → Tracks start self.new.changes self.new.shared.globals.rows }
     {
         if quiet && self.wants_call(story, desk, place) {
             return Ok(StepEnd::WantsCall);
@@ -110,10 +110,10 @@ impl Machine {
     /// then nothing has changed. Most steps are of this kind.
     #[inline(always)]
     fn pass(&mut self, story: &Story, place: Spot) -> Result<Option<StepEnd>, Fault>
-        requires { self.old.threads.threads.thread.frame.place ≡ Some place }
-        ensures passes { (b : Bound) → let s = story_tree story.now in let c = config_of s self.old in Passes (asks s b c) (step s b c) self.old.globals.rows (config_of s self.new) result }
+        requires { self.old.flow.threads.threads.thread.frame.place ≡ Some place }
+        ensures passes { (b : Bound) → let s = story_tree story.now in let c = config_of s self.old in Passes (asks s b c) (step s b c) self.old.shared.globals.rows (config_of s self.new) result }
         ensures kept { result ≡ Ok None → self.new ≡ self.old }
-        ensures tracks { (start : Values) → Tracks start self.old.changes self.old.globals.rows → Tracks start self.new.changes self.new.globals.rows }
+        ensures tracks { (start : Values) → Tracks start self.old.changes self.old.shared.globals.rows → Tracks start self.new.changes self.new.shared.globals.rows }
     {
         match story.tree().leaf_at(place) {
             Some(content) if !is_external(content) => {
@@ -132,12 +132,12 @@ impl Machine {
         desk: &Desk<P, T, W>,
         place: Spot,
     ) -> bool
-        requires { self.now.threads.threads.thread.frame.place ≡ Some place }
+        requires { self.now.flow.threads.threads.thread.frame.place ≡ Some place }
         ensures { let s = story_tree story.now in result ≡ wants (step s (bound_by P.meaning desk.now.functions) (config_of s self.now)) }
     {
         let (_, found) = story.tree().first_leaf(place);
         match external_in(found) {
-            Some(call) => would_call(&call, &self.stack, &self.output, desk),
+            Some(call) => would_call(&call, &self.flow.stack, &self.output, desk),
             None => false,
         }
     }
@@ -153,14 +153,14 @@ impl Machine {
         ensures step { let s = story_tree story.now in let b = bound_by P.meaning desk.old.functions in let c = config_of s self.old in let k = call_of call.now in
             let e = call_external s b k.name k.arguments k.conditional (fields_of c) in
             (es : List Happening) × Grew T.log (log_of W.state) desk.old es desk.new
-            × StepMakes s b desk.old.next ((external_asks (b k.name) k.arguments k.conditional (fields_of c) || move_asks s e c) || following_asks s (moved s e c)) (following s (moved s e c)) es self.old.globals.rows (config_of s self.new) result }
+            × StepMakes s b desk.old.next ((external_asks (b k.name) k.arguments k.conditional (fields_of c) || move_asks s e c) || following_asks s (moved s e c)) (following s (moved s e c)) es self.old.shared.globals.rows (config_of s self.new) result }
         ensures watchers { desk.new.watchers ≡ desk.old.watchers }
-        ensures tracks { (start : Values) → Tracks start self.old.changes self.old.globals.rows → Tracks start self.new.changes self.new.globals.rows }
+        ensures tracks { (start : Values) → Tracks start self.old.changes self.old.shared.globals.rows → Tracks start self.new.changes self.new.shared.globals.rows }
     {
         let mut transfer = external::call_external(
             story,
             call,
-            &mut self.stack,
+            &mut self.flow.stack,
             &self.output,
             desk,
         )?;
@@ -174,8 +174,8 @@ impl Machine {
         requires other { external_in (option_map (λ l. leaf l.now) found) ≡ None }
         ensures ends { (b : Bound) → let s = story_tree story.now in let p = place_of s here in let stands = option_map (λ l. leaf l.now) found.entry in let c = config_of s self.old in
             let e = effect s b p stands (context_of c) (fields_of c) in
-            StepEnds ((content_asks s b p stands (context_of c) (fields_of c) || move_asks s e c) || following_asks s (moved s e c)) (following s (moved s e c)) self.old.globals.rows (config_of s self.new) result }
-        ensures tracks { (start : Values) → Tracks start self.old.changes self.old.globals.rows → Tracks start self.new.changes self.new.globals.rows }
+            StepEnds ((content_asks s b p stands (context_of c) (fields_of c) || move_asks s e c) || following_asks s (moved s e c)) (following s (moved s e c)) self.old.shared.globals.rows (config_of s self.new) result }
+        ensures tracks { (start : Values) → Tracks start self.old.changes self.old.shared.globals.rows → Tracks start self.new.changes self.new.shared.globals.rows }
     {
         let mut transfer = Transfer::Next;
         self.perform(story, here, found, &mut transfer)?;
@@ -190,10 +190,10 @@ impl Machine {
     #[inline(always)]
     fn next_after(&self, story: &Story, transfer: &Transfer<'_>) -> Option<Spot>
         ensures { let s = story_tree story.now in
-            IfSome result (λ next. (transfer.now ≡ Transfer.Next) × (option_and_then (next_place s) (place_in (map_threads (place_of s) self.now.threads.threads)) ≡ Some (place_of s next))) }
+            IfSome result (λ next. (transfer.now ≡ Transfer.Next) × (option_and_then (next_place s) (place_in (map_threads (place_of s) self.now.flow.threads.threads)) ≡ Some (place_of s next))) }
     {
         match transfer {
-            Transfer::Next => next_of(story.tree(), &self.threads),
+            Transfer::Next => next_of(story.tree(), &self.flow.threads),
             _ => None,
         }
     }
@@ -201,22 +201,22 @@ impl Machine {
     /// Flow goes on to the place after its own, which is known.
     #[inline(always)]
     fn go_to_next(&mut self, story: &Story, next: Spot)
-        requires { let s = story_tree story.now in option_and_then (next_place s) (place_in (map_threads (place_of s) self.old.threads.threads)) ≡ Some (place_of s next) }
+        requires { let s = story_tree story.now in option_and_then (next_place s) (place_in (map_threads (place_of s) self.old.flow.threads.threads)) ≡ Some (place_of s next) }
         ensures ends { let s = story_tree story.now in let c = config_of s self.old in
-            StepEnds (moved_asks (next_place s) c.flow.threads (written_in c)) (going (moved_on (next_place s)) c) self.old.globals.rows (config_of s self.new) (Ok Went) }
-        ensures globals { self.new.globals.rows ≡ self.old.globals.rows }
+            StepEnds (moved_asks (next_place s) c.flow.threads (written_in c)) (going (moved_on (next_place s)) c) self.old.shared.globals.rows (config_of s self.new) (Ok Went) }
+        ensures globals { self.new.shared.globals.rows ≡ self.old.shared.globals.rows }
         ensures changes { self.new.changes ≡ self.old.changes }
     {
-        move_to(story.tree(), &mut self.threads, next);
+        move_to(story.tree(), &mut self.flow.threads, next);
     }
 
     /// After a content was performed flow goes where it sends it, and a global is stored.
     #[inline(never)]
     fn finish(&mut self, story: &Story, transfer: &mut Transfer<'_>) -> Result<StepEnd, Fault>
-        ensures ends { let s = story_tree story.now in (old : Before) (asks : Bool) (e : Effect) → Performs s asks e (fields_of (config_of s self.old)) (Ok transfer.old) → Keeps s e old.threads.threads self.old.threads.threads → KeepsChoices s e old.choices.items self.old.choices.items
-            → self.old.safe ≡ old.safe → self.old.counts.rows ≡ old.counts.rows → self.old.turn ≡ old.turn → self.old.globals.rows ≡ old.globals.rows → let c = config_of s old in
-            StepEnds ((asks || move_asks s e c) || following_asks s (moved s e c)) (following s (moved s e c)) old.globals.rows (config_of s self.new) result }
-        ensures tracks { (start : Values) → Tracks start self.old.changes self.old.globals.rows → Tracks start self.new.changes self.new.globals.rows }
+        ensures ends { let s = story_tree story.now in (old : Before) (asks : Bool) (e : Effect) → Performs s asks e (fields_of (config_of s self.old)) (Ok transfer.old) → Keeps s e old.flow.threads.threads self.old.flow.threads.threads → KeepsChoices s e old.flow.choices.items self.old.flow.choices.items
+            → self.old.flow.safe ≡ old.flow.safe → self.old.shared.counts.rows ≡ old.shared.counts.rows → self.old.shared.turn ≡ old.shared.turn → self.old.shared.globals.rows ≡ old.shared.globals.rows → let c = config_of s old in
+            StepEnds ((asks || move_asks s e c) || following_asks s (moved s e c)) (following s (moved s e c)) old.shared.globals.rows (config_of s self.new) result }
+        ensures tracks { (start : Values) → Tracks start self.old.changes self.old.shared.globals.rows → Tracks start self.new.changes self.new.shared.globals.rows }
     {
         let end = self.go(story, transfer)?;
         self.store(transfer, end)
@@ -225,10 +225,10 @@ impl Machine {
     /// Flow goes where a content sends it; where it stops it may follow a choice. No global is stored yet.
     #[inline(always)]
     fn go(&mut self, story: &Story, transfer: &Transfer<'_>) -> Result<StepEnd, Fault>
-        ensures ends { let s = story_tree story.now in (asks : Bool) (e : Effect) → Performs s asks e (fields_of (config_of s self.old)) (Ok transfer.now) → Keeps s e self.old.threads.threads self.old.threads.threads → KeepsChoices s e self.old.choices.items self.old.choices.items
-            → let o = moved s (unstored self.old.globals.rows e) (config_of s self.old) in
-            StepEnds ((asks || move_asks s e (config_of s self.old)) || following_asks s o) (following s o) self.old.globals.rows (config_of s self.new) result }
-        ensures globals { self.new.globals.rows ≡ self.old.globals.rows }
+        ensures ends { let s = story_tree story.now in (asks : Bool) (e : Effect) → Performs s asks e (fields_of (config_of s self.old)) (Ok transfer.now) → Keeps s e self.old.flow.threads.threads self.old.flow.threads.threads → KeepsChoices s e self.old.flow.choices.items self.old.flow.choices.items
+            → let o = moved s (unstored self.old.shared.globals.rows e) (config_of s self.old) in
+            StepEnds ((asks || move_asks s e (config_of s self.old)) || following_asks s o) (following s o) self.old.shared.globals.rows (config_of s self.new) result }
+        ensures globals { self.new.shared.globals.rows ≡ self.old.shared.globals.rows }
         ensures changes { self.new.changes ≡ self.old.changes }
     {
         match self.follow(story, transfer) {
@@ -241,16 +241,16 @@ impl Machine {
     /// `OutOfMemory` for a refused request for memory, which leaves the globals as they were.
     #[inline(always)]
     fn store(&mut self, transfer: &mut Transfer<'_>, end: StepEnd) -> Result<StepEnd, Fault>
-        ensures tracks { (start : Values) → Tracks start self.old.changes self.old.globals.rows → Tracks start self.new.changes self.new.globals.rows }
-        ensures stored { (s : StoryTree) (asks whole : Bool) (e : Effect) (f : Fields) (o : Outcome) → (asks ≡ true → whole ≡ true) → f.globals ≡ self.old.globals.rows → Performs s asks e f (Ok transfer.old)
-            → StepEnds whole o self.old.globals.rows (config_of s self.old) (Ok end) → StepEnds whole (storing_in e o) self.old.globals.rows (config_of s self.new) result }
+        ensures tracks { (start : Values) → Tracks start self.old.changes self.old.shared.globals.rows → Tracks start self.new.changes self.new.shared.globals.rows }
+        ensures stored { (s : StoryTree) (asks whole : Bool) (e : Effect) (f : Fields) (o : Outcome) → (asks ≡ true → whole ≡ true) → f.globals ≡ self.old.shared.globals.rows → Performs s asks e f (Ok transfer.old)
+            → StepEnds whole o self.old.shared.globals.rows (config_of s self.old) (Ok end) → StepEnds whole (storing_in e o) self.old.shared.globals.rows (config_of s self.new) result }
     {
         match transfer {
             Transfer::Store(to) => {
                 let value = mem::replace(&mut to.value, Value::Void);
                 let number = to.name.number();
                 self.changes
-                    .put(&mut self.globals, to.name.as_str(), number, value)?;
+                    .put(&mut self.shared.globals, to.name.as_str(), number, value)?;
                 Ok(end)
             }
             _ => Ok(end),
@@ -273,13 +273,13 @@ impl Machine {
         ensures effect { (b : Bound) → let s = story_tree story.now in let p = place_of s here in let stands = option_map (λ l. leaf l.now) found.entry in let c = config_of s self.old in
             Performs s (content_asks s b p stands (context_of c) (fields_of c)) (effect s b p stands (context_of c) (fields_of c)) (fields_of (config_of s self.new)) (leading result transfer.new) }
         ensures threads { (b : Bound) → let s = story_tree story.now in let stands = option_map (λ l. leaf l.now) found.entry in let c = config_of s self.old in
-            OnOk result (Keeps s (effect s b (place_of s here) stands (context_of c) (fields_of c)) self.old.threads.threads self.new.threads.threads) }
+            OnOk result (Keeps s (effect s b (place_of s here) stands (context_of c) (fields_of c)) self.old.flow.threads.threads self.new.flow.threads.threads) }
         ensures choices { (b : Bound) → let s = story_tree story.now in let stands = option_map (λ l. leaf l.now) found.entry in let c = config_of s self.old in
-            OnOk result (KeepsChoices s (effect s b (place_of s here) stands (context_of c) (fields_of c)) self.old.choices.items self.new.choices.items) }
-        ensures counts { self.new.counts.rows ≡ self.old.counts.rows }
-        ensures turn { self.new.turn ≡ self.old.turn }
-        ensures safe { self.new.safe ≡ self.old.safe }
-        ensures globals { self.new.globals.rows ≡ self.old.globals.rows }
+            OnOk result (KeepsChoices s (effect s b (place_of s here) stands (context_of c) (fields_of c)) self.old.flow.choices.items self.new.flow.choices.items) }
+        ensures counts { self.new.shared.counts.rows ≡ self.old.shared.counts.rows }
+        ensures turn { self.new.shared.turn ≡ self.old.shared.turn }
+        ensures safe { self.new.flow.safe ≡ self.old.flow.safe }
+        ensures globals { self.new.shared.globals.rows ≡ self.old.shared.globals.rows }
         ensures changes { self.new.changes ≡ self.old.changes }
     {
         match found {
@@ -303,102 +303,108 @@ impl Machine {
         ensures effect { (b : Bound) → let s = story_tree story.now in let p = place_of s here in let c = config_of s self.old in
             Performs s (leaf_asks s b p (context_of c) content.now (fields_of c)) (leaf_effect s b p (context_of c) content.now (fields_of c)) (fields_of (config_of s self.new)) (leading result transfer.new) }
         ensures threads { (b : Bound) → let s = story_tree story.now in let c = config_of s self.old in
-            OnOk result (Keeps s (leaf_effect s b (place_of s here) (context_of c) content.now (fields_of c)) self.old.threads.threads self.new.threads.threads) }
+            OnOk result (Keeps s (leaf_effect s b (place_of s here) (context_of c) content.now (fields_of c)) self.old.flow.threads.threads self.new.flow.threads.threads) }
         ensures choices { (b : Bound) → let s = story_tree story.now in let c = config_of s self.old in
-            OnOk result (KeepsChoices s (leaf_effect s b (place_of s here) (context_of c) content.now (fields_of c)) self.old.choices.items self.new.choices.items) }
-        ensures counts { self.new.counts.rows ≡ self.old.counts.rows }
-        ensures turn { self.new.turn ≡ self.old.turn }
-        ensures safe { self.new.safe ≡ self.old.safe }
-        ensures globals { self.new.globals.rows ≡ self.old.globals.rows }
+            OnOk result (KeepsChoices s (leaf_effect s b (place_of s here) (context_of c) content.now (fields_of c)) self.old.flow.choices.items self.new.flow.choices.items) }
+        ensures counts { self.new.shared.counts.rows ≡ self.old.shared.counts.rows }
+        ensures turn { self.new.shared.turn ≡ self.old.shared.turn }
+        ensures safe { self.new.flow.safe ≡ self.old.flow.safe }
+        ensures globals { self.new.shared.globals.rows ≡ self.old.shared.globals.rows }
         ensures changes { self.new.changes ≡ self.old.changes }
     {
-        let evaluating = self.threads.is_evaluating();
+        let evaluating = self.flow.threads.is_evaluating();
         match content {
             Leaf::Text(text) => after_text(
                 transfer,
                 write_text(
-                    &mut self.stack,
+                    &mut self.flow.stack,
                     &mut self.output,
                     evaluating,
-                    self.threads.fresh_depth(),
+                    self.flow.threads.fresh_depth(),
                     text,
                 ),
             ),
             Leaf::Newline => write_newline(
                 self.alloc,
-                &mut self.stack,
+                &mut self.flow.stack,
                 &mut self.output,
                 evaluating,
-                self.threads.fresh_depth(),
+                self.flow.threads.fresh_depth(),
             ),
             Leaf::Glue => write_glue(&mut self.output, evaluating),
-            Leaf::Int(number) => push_value(&mut self.stack, evaluating, Value::Int(*number)),
-            Leaf::Bool(truth) => push_value(&mut self.stack, evaluating, Value::Bool(*truth)),
-            Leaf::Void => push_value(&mut self.stack, evaluating, Value::Void),
-            Leaf::Target(text) => push_target(story, here, &mut self.stack, evaluating, text),
+            Leaf::Int(number) => push_value(&mut self.flow.stack, evaluating, Value::Int(*number)),
+            Leaf::Bool(truth) => push_value(&mut self.flow.stack, evaluating, Value::Bool(*truth)),
+            Leaf::Void => push_value(&mut self.flow.stack, evaluating, Value::Void),
+            Leaf::Target(text) => push_target(story, here, &mut self.flow.stack, evaluating, text),
             Leaf::Control(control) => self.perform_control(story, here, *control, transfer),
-            Leaf::Op(operator) => operate(self.alloc, &mut self.stack, *operator),
+            Leaf::Op(operator) => operate(self.alloc, &mut self.flow.stack, *operator),
             Leaf::Divert { to, conditional } => divert(
                 story,
                 here,
                 to,
                 *conditional,
-                &mut self.stack,
-                &self.globals,
-                &self.threads,
+                &mut self.flow.stack,
+                &self.shared.globals,
+                &self.flow.threads,
                 transfer,
             ),
             Leaf::Declare(name) => declare(
-                &mut self.stack,
-                &self.globals,
-                &mut self.threads,
+                &mut self.flow.stack,
+                &self.shared.globals,
+                &mut self.flow.threads,
                 Scope::Global,
                 name,
                 number_of(story, here),
                 transfer,
             ),
             Leaf::DeclareTemp(name) => declare(
-                &mut self.stack,
-                &self.globals,
-                &mut self.threads,
+                &mut self.flow.stack,
+                &self.shared.globals,
+                &mut self.flow.threads,
                 Scope::Temporary,
                 name,
                 None,
                 transfer,
             ),
             Leaf::Assign(name) | Leaf::AssignTemp(name) => assign(
-                &mut self.stack,
-                &self.globals,
-                &mut self.threads,
+                &mut self.flow.stack,
+                &self.shared.globals,
+                &mut self.flow.threads,
                 name,
                 number_of(story, here),
                 transfer,
             ),
             Leaf::Variable(name) => push_variable(
                 self.alloc,
-                &mut self.stack,
-                &self.globals,
-                &self.threads,
+                &mut self.flow.stack,
+                &self.shared.globals,
+                &self.flow.threads,
                 name,
                 number_of(story, here),
             ),
             Leaf::Pointer(name, frame) => push_pointer(
-                &mut self.stack,
-                &self.threads,
+                &mut self.flow.stack,
+                &self.flow.threads,
                 evaluating,
                 name,
                 *frame,
             ),
-            Leaf::Count(path) => push_count(story, here, &self.counts, &mut self.stack, path),
+            Leaf::Count(path) => push_count(
+                story,
+                here,
+                &self.shared.counts,
+                &mut self.flow.stack,
+                path,
+            ),
             Leaf::Call { to, conditional } => call(
                 story,
                 here,
                 FrameKind::Function,
                 to,
                 *conditional,
-                &mut self.stack,
-                &self.globals,
-                &self.threads,
+                &mut self.flow.stack,
+                &self.shared.globals,
+                &self.flow.threads,
                 transfer,
             ),
             Leaf::Tunnel { to, conditional } => call(
@@ -407,9 +413,9 @@ impl Machine {
                 FrameKind::Tunnel,
                 to,
                 *conditional,
-                &mut self.stack,
-                &self.globals,
-                &self.threads,
+                &mut self.flow.stack,
+                &self.shared.globals,
+                &self.flow.threads,
                 transfer,
             ),
             Leaf::Choice { target, flags } => offer(
@@ -417,10 +423,10 @@ impl Machine {
                 story,
                 here,
                 *flags,
-                &mut self.stack,
-                &self.counts,
-                &self.threads,
-                &mut self.choices,
+                &mut self.flow.stack,
+                &self.shared.counts,
+                &self.flow.threads,
+                &mut self.flow.choices,
                 target,
             ),
             Leaf::External { .. } => unreachable!(),
@@ -438,33 +444,37 @@ impl Machine {
         requires { transfer.old ≡ Transfer.Next }
         ensures effect { let s = story_tree story.now in let p = place_of s here in let c = config_of s self.old in
             Performs s (control_asks s p (context_of c) control (fields_of c)) (control_effect s p (context_of c) control (fields_of c)) (fields_of (config_of s self.new)) (leading result transfer.new) }
-        ensures choices { self.new.choices.items ≡ self.old.choices.items }
-        ensures turn { self.new.turn ≡ self.old.turn }
-        ensures counts { self.new.counts.rows ≡ self.old.counts.rows }
-        ensures threads { self.new.threads.threads ≡ on_top (mode_in self.new.threads.threads.thread.frame.evaluating) self.old.threads.threads }
-        ensures safe { self.new.safe ≡ self.old.safe }
-        ensures globals { self.new.globals.rows ≡ self.old.globals.rows }
+        ensures choices { self.new.flow.choices.items ≡ self.old.flow.choices.items }
+        ensures turn { self.new.shared.turn ≡ self.old.shared.turn }
+        ensures counts { self.new.shared.counts.rows ≡ self.old.shared.counts.rows }
+        ensures threads { self.new.flow.threads.threads ≡ on_top (mode_in self.new.flow.threads.threads.thread.frame.evaluating) self.old.flow.threads.threads }
+        ensures safe { self.new.flow.safe ≡ self.old.flow.safe }
+        ensures globals { self.new.shared.globals.rows ≡ self.old.shared.globals.rows }
         ensures changes { self.new.changes ≡ self.old.changes }
     {
-        let mut evaluating = self.threads.is_evaluating();
+        let mut evaluating = self.flow.threads.is_evaluating();
         let outcome = match control {
             Control::BeginEval => begin_eval(&mut evaluating),
             Control::EndEval => end_eval(&mut evaluating),
             Control::Out => after_text(
                 transfer,
                 output_top(
-                    &mut self.stack,
+                    &mut self.flow.stack,
                     &mut self.output,
-                    self.threads.fresh_depth(),
+                    self.flow.threads.fresh_depth(),
                 ),
             ),
-            Control::Pop => pop(&mut self.stack),
-            Control::Duplicate => duplicate(self.alloc, &mut self.stack),
+            Control::Pop => pop(&mut self.flow.stack),
+            Control::Duplicate => duplicate(self.alloc, &mut self.flow.stack),
             Control::Nop => Ok(()),
             Control::BeginString => begin_string(&mut self.output, &mut evaluating),
-            Control::EndString => end_string(&mut self.stack, &mut self.output, &mut evaluating),
-            Control::BeginTag => begin_tag(&mut self.stack, &mut self.output),
-            Control::EndTag => end_tag(&mut self.stack, &mut self.output),
+            Control::EndString => end_string(
+                &mut self.flow.stack,
+                &mut self.output,
+                &mut evaluating,
+            ),
+            Control::BeginTag => begin_tag(&mut self.flow.stack, &mut self.output),
+            Control::EndTag => end_tag(&mut self.flow.stack, &mut self.output),
             Control::Done => {
                 *transfer = Transfer::Done;
                 Ok(())
@@ -477,18 +487,23 @@ impl Machine {
                 *transfer = Transfer::Return(FrameKind::Function, None);
                 Ok(())
             }
-            Control::ReturnTunnel => return_tunnel(story, &mut self.stack, transfer),
+            Control::ReturnTunnel => return_tunnel(story, &mut self.flow.stack, transfer),
             Control::Thread => {
                 *transfer = Transfer::Fork;
                 Ok(())
             }
-            Control::Turn => push_turn(&mut self.stack, self.turn),
-            Control::Turns => push_turns(story, &self.counts, &mut self.stack, self.turn),
-            Control::ReadCount => push_read_count(story, &self.counts, &mut self.stack),
-            Control::Visit => push_visit(story, here, &self.counts, &mut self.stack),
-            Control::ChoiceCount => push_choice_count(&mut self.stack, &self.choices),
+            Control::Turn => push_turn(&mut self.flow.stack, self.shared.turn),
+            Control::Turns => push_turns(
+                story,
+                &self.shared.counts,
+                &mut self.flow.stack,
+                self.shared.turn,
+            ),
+            Control::ReadCount => push_read_count(story, &self.shared.counts, &mut self.flow.stack),
+            Control::Visit => push_visit(story, here, &self.shared.counts, &mut self.flow.stack),
+            Control::ChoiceCount => push_choice_count(&mut self.flow.stack, &self.flow.choices),
         };
-        self.threads.set_mode(evaluating);
+        self.flow.threads.set_mode(evaluating);
         outcome
     }
 
@@ -496,15 +511,15 @@ impl Machine {
     /// global is stored after that.
     #[inline(always)]
     fn follow(&mut self, story: &Story, transfer: &Transfer<'_>) -> Result<StepEnd, Fault>
-        ensures ends { let s = story_tree story.now in (asks : Bool) (e : Effect) → Performs s asks e (fields_of (config_of s self.old)) (Ok transfer.now) → Keeps s e self.old.threads.threads self.old.threads.threads → KeepsChoices s e self.old.choices.items self.old.choices.items
-            → StepEnds (asks || move_asks s e (config_of s self.old)) (moved s (unstored self.old.globals.rows e) (config_of s self.old)) self.old.globals.rows (config_of s self.new) result }
-        ensures globals { self.new.globals.rows ≡ self.old.globals.rows }
+        ensures ends { let s = story_tree story.now in (asks : Bool) (e : Effect) → Performs s asks e (fields_of (config_of s self.old)) (Ok transfer.now) → Keeps s e self.old.flow.threads.threads self.old.flow.threads.threads → KeepsChoices s e self.old.flow.choices.items self.old.flow.choices.items
+            → StepEnds (asks || move_asks s e (config_of s self.old)) (moved s (unstored self.old.shared.globals.rows e) (config_of s self.old)) self.old.shared.globals.rows (config_of s self.new) result }
+        ensures globals { self.new.shared.globals.rows ≡ self.old.shared.globals.rows }
         ensures changes { self.new.changes ≡ self.old.changes }
     {
         match transfer {
             Transfer::Next => self.go_on(story),
             Transfer::Wrote => {
-                self.threads.end_freshness(self.output.depth());
+                self.flow.threads.end_freshness(self.output.depth());
                 self.go_on(story)
             }
             Transfer::Store(..) => self.go_on(story),
@@ -513,23 +528,24 @@ impl Machine {
             Transfer::Return(kind, to) => self.go_back(story, *kind, *to),
             Transfer::Fork => fork(
                 story.tree(),
-                &mut self.threads,
-                &mut self.stack,
+                &mut self.flow.threads,
+                &mut self.flow.stack,
                 &mut self.output,
             ),
             Transfer::Done => {
-                self.safe |= self.threads.is_last();
+                let safe = self.flow.safe | self.flow.threads.is_last();
+                self.flow.set_safe(safe);
                 done(
                     story.tree(),
-                    &mut self.threads,
-                    &mut self.stack,
+                    &mut self.flow.threads,
+                    &mut self.flow.stack,
                     &mut self.output,
                 )
             }
             Transfer::End => {
-                self.safe = true;
-                self.choices.clear();
-                end(&mut self.threads, &self.output)
+                self.flow.set_safe(true);
+                self.flow.choices.clear();
+                end(&mut self.flow.threads, &self.output)
             }
         }
     }
@@ -538,11 +554,11 @@ impl Machine {
     #[inline(always)]
     fn go_to(&mut self, story: &Story, to: Landing) -> Result<StepEnd, Fault>
         ensures ends { let s = story_tree story.now in let c = config_of s self.old in let how = reach (place_of s to.place) in
-            StepEnds (landed_asks s to.enters c.shared.counts (how c.flow.threads (written_in c))) (landing s to.enters how c) self.old.globals.rows (config_of s self.new) result }
-        ensures globals { self.new.globals.rows ≡ self.old.globals.rows }
+            StepEnds (landed_asks s to.enters c.shared.counts (how c.flow.threads (written_in c))) (landing s to.enters how c) self.old.shared.globals.rows (config_of s self.new) result }
+        ensures globals { self.new.shared.globals.rows ≡ self.old.shared.globals.rows }
         ensures changes { self.new.changes ≡ self.old.changes }
     {
-        let end = land(&mut self.threads, to.place);
+        let end = land(&mut self.flow.threads, to.place);
         self.enter_around(story.tree(), to.enters)?;
         Ok(end)
     }
@@ -552,11 +568,11 @@ impl Machine {
     fn go_into(&mut self, story: &Story, kind: FrameKind, to: Landing) -> Result<StepEnd, Fault>
         ensures ends { let s = story_tree story.now in let c = config_of s self.old in let how = called kind (place_of s to.place) in
             StepEnds (nat_lt (frame_count c.flow.threads.thread) MAX_FRAMES || landed_asks s to.enters c.shared.counts (how c.flow.threads (written_in c)))
-            (landing s to.enters how c) self.old.globals.rows (config_of s self.new) result }
-        ensures globals { self.new.globals.rows ≡ self.old.globals.rows }
+            (landing s to.enters how c) self.old.shared.globals.rows (config_of s self.new) result }
+        ensures globals { self.new.shared.globals.rows ≡ self.old.shared.globals.rows }
         ensures changes { self.new.changes ≡ self.old.changes }
     {
-        let end = flow::call(&mut self.threads, &mut self.output, kind, to.place)?;
+        let end = flow::call(&mut self.flow.threads, &mut self.output, kind, to.place)?;
         self.enter_around(story.tree(), to.enters)?;
         Ok(end)
     }
@@ -571,14 +587,14 @@ impl Machine {
     ) -> Result<StepEnd, Fault>
         ensures ends { let s = story_tree story.now in let c = config_of s self.old in let goal = option_map (landing_of s) to in let how = returned (next_place s) kind (place_to goal) in
             StepEnds (returned_asks (next_place s) kind (place_to goal) c.flow.threads (written_in c) || landed_asks s (may_enter goal) c.shared.counts (how c.flow.threads (written_in c)))
-            (landing s (may_enter goal) how c) self.old.globals.rows (config_of s self.new) result }
-        ensures globals { self.new.globals.rows ≡ self.old.globals.rows }
+            (landing s (may_enter goal) how c) self.old.shared.globals.rows (config_of s self.new) result }
+        ensures globals { self.new.shared.globals.rows ≡ self.old.shared.globals.rows }
         ensures changes { self.new.changes ≡ self.old.changes }
     {
         let end = give_back(
             story.tree(),
-            &mut self.threads,
-            &mut self.stack,
+            &mut self.flow.threads,
+            &mut self.flow.stack,
             &mut self.output,
             kind,
             place_to(to),
@@ -591,14 +607,14 @@ impl Machine {
     #[inline(always)]
     fn go_on(&mut self, story: &Story) -> Result<StepEnd, Fault>
         ensures ends { let s = story_tree story.now in let c = config_of s self.old in
-            StepEnds (moved_asks (next_place s) c.flow.threads (written_in c)) (going (moved_on (next_place s)) c) self.old.globals.rows (config_of s self.new) result }
-        ensures globals { self.new.globals.rows ≡ self.old.globals.rows }
+            StepEnds (moved_asks (next_place s) c.flow.threads (written_in c)) (going (moved_on (next_place s)) c) self.old.shared.globals.rows (config_of s self.new) result }
+        ensures globals { self.new.shared.globals.rows ≡ self.old.shared.globals.rows }
         ensures changes { self.new.changes ≡ self.old.changes }
     {
         move_on(
             story.tree(),
-            &mut self.threads,
-            &mut self.stack,
+            &mut self.flow.threads,
+            &mut self.flow.stack,
             &mut self.output,
         )
     }

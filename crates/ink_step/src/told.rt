@@ -20,18 +20,18 @@ impl Machine {
         &self,
         desk: &Desk<P, T, W>,
     ) -> Result<Seq<Change>, AllocError>
-        ensures told { (start : Values) → Tracks start self.now.changes self.now.globals.rows → IfOk result (λ changes. changes ≡ told (watches desk.now.watchers) start self.now.globals.rows) }
-        ensures memory { (start : Values) → Tracks start self.now.changes self.now.globals.rows → OnErr result (told (watches desk.now.watchers) start self.now.globals.rows ≢ []) }
+        ensures told { (start : Values) → Tracks start self.now.changes self.now.shared.globals.rows → IfOk result (λ changes. changes ≡ told (watches desk.now.watchers) start self.now.shared.globals.rows) }
+        ensures memory { (start : Values) → Tracks start self.now.changes self.now.shared.globals.rows → OnErr result (told (watches desk.now.watchers) start self.now.shared.globals.rows ≢ []) }
     {
-        if self.globals.len() == 0 || !desk.has_watchers() || self.changes.is_empty() {
+        if self.shared.globals.len() == 0 || !desk.has_watchers() || self.changes.is_empty() {
             return Ok(Seq::new(self.alloc));
         }
         let mut told = Vec::new(self.alloc);
-        let numbers = changed(self.alloc, &self.changes, &self.globals, |name| {
+        let numbers = changed(self.alloc, &self.changes, &self.shared.globals, |name| {
             desk.watches(name)
         })?;
         for number in &numbers {
-            if let Some((name, value)) = self.globals.pair(*number) {
+            if let Some((name, value)) = self.shared.globals.pair(*number) {
                 told.push(change(self.alloc, name, value)?)?;
             }
         }

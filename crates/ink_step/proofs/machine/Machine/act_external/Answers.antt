@@ -24,7 +24,7 @@ returns-in_err-transfer-clause-step g c =
     let e = call_external s b k.name k.arguments k.conditional f in
     let asking = external_asks (b k.name) k.arguments k.conditional f in
     let called = c.in_err-transfer.ensures.call f.evaluating f.fresh f.globals in
-    let d = config_of s (record c.args.self.now { stack = c.call_external.new.stack }) in
+    let d = config_of s (record c.args.self.now { flow = record c.args.self.now.flow { stack = c.call_external.new.stack } }) in
     let is : c.from_residual.result ≡ Err c.in_err-transfer.field-0.0 = search rules in (
       called.0,
       called.1,
@@ -47,6 +47,6 @@ returns-clause-step g c =
       called.0,
       called.1,
       makes_ended s b desk.next asking before (config_of s c.finish.new.self) _ before.shared.globals _ c.finish.result
-          (λ asks e call performs. c.finish.ensures.ends old asks e performs (keeps_call b s e old.threads.threads call) (offers_call b s e old.choices.items call) refl refl refl refl)
+          (λ asks e call performs. c.finish.ensures.ends old asks e performs (keeps_call b s e old.flow.threads.threads call) (offers_call b s e old.flow.choices.items call) refl refl refl refl)
           e called.0 (external_call b s k.name k.arguments k.conditional f) called.2,
     )

@@ -7,4 +7,4 @@ returns-clause-choices c s = subst (λ shown. IfOk c.visible.result (λ r. r ≡
 
 pub returns-clause-memory : goal.returns-clause-memory
 returns-clause-memory c s =
-    when_err c.visible.result _ _ (λ some. subst (λ shown. shown ≢ []) (open_shown s c.args.self.now (c.if-can_go_on.ensures s)) (some_shown c.args.self.now.choices.items some)) c.visible.ensures.memory
+    when_err c.visible.result _ _ (λ some. subst (λ shown. shown ≢ []) (open_shown s c.args.self.now (c.if-can_go_on.ensures s)) (some_shown c.args.self.now.flow.choices.items some)) c.visible.ensures.memory

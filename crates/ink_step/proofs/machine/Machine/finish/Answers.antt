@@ -18,10 +18,10 @@ returns-in_err-end-clause-ends c old asking e performs keeps offers safely count
     let before = config_of s old in
     let new = config_of s c.go.new.self in
     let f = c.in_err-end.field-0.0 in
-    let flowed = c.in_err-end.ensures.ends asking e performs (kept_stays s e old.threads.threads mid.threads.threads keeps) (offered_stay s e old.choices.items mid.choices.items offers) in
-    let stored = ends_stored s mid.globals.rows (config_of s mid) (asking || move_asks s e (config_of s mid)) e mid.globals.rows new (Err f)
-    (broke_storing s _ e (following s (move s (unstored mid.globals.rows e) (config_of s mid))) mid.globals.rows new f flowed) in
-    let moved = ends_after s old mid safely counted turned asking e mid.globals.rows new (Err f) keeps offers stored in
+    let flowed = c.in_err-end.ensures.ends asking e performs (kept_stays s e old.flow.threads.threads mid.flow.threads.threads keeps) (offered_stay s e old.flow.choices.items mid.flow.choices.items offers) in
+    let stored = ends_stored s mid.shared.globals.rows (config_of s mid) (asking || move_asks s e (config_of s mid)) e mid.shared.globals.rows new (Err f)
+    (broke_storing s _ e (following s (move s (unstored mid.shared.globals.rows e) (config_of s mid))) mid.shared.globals.rows new f flowed) in
+    let moved = ends_after s old mid safely counted turned asking e mid.shared.globals.rows new (Err f) keeps offers stored in
     let is : c.from_residual.result ≡ Err f = search rules in
     subst (λ r. StepEnds ((asking || move_asks s e before) || following_asks s (move s e before)) (following s (move s e before)) before.shared.globals new r) (sym is)
     (subst (λ vs. StepEnds ((asking || move_asks s e before) || following_asks s (move s e before)) (following s (move s e before)) vs new (Err f)) kept moved)
@@ -33,15 +33,15 @@ returns-clause-ends c old asking e performs keeps offers safely counted turned s
     let before = config_of s old in
     let during = config_of s mid in
     let flowed = c.go.new.self in
-    let o = move s (unstored mid.globals.rows e) during in
+    let o = move s (unstored mid.shared.globals.rows e) during in
     let whole = (asking || move_asks s e during) || following_asks s o in
     let allows : asking ≡ true → whole ≡ true = λ h. or_first _ _ (or_first asking _ h) in
     let new = config_of s c.store.new.self in
-    let flows = c.in_ok-end.ensures.ends asking e performs (kept_stays s e old.threads.threads mid.threads.threads keeps) (offered_stay s e old.choices.items mid.choices.items offers) in
+    let flows = c.in_ok-end.ensures.ends asking e performs (kept_stays s e old.flow.threads.threads mid.flow.threads.threads keeps) (offered_stay s e old.flow.choices.items mid.flow.choices.items offers) in
     let kept = c.in_ok-end.ensures.globals in
     let stores = c.store.ensures.stored s asking whole e (fields_of during) (following s o) allows (sym kept) performs
     (subst (λ vs. StepEnds whole (following s o) vs (config_of s flowed) (Ok c.in_ok-end.end)) (sym kept) flows) in
-    let stored = ends_stored s mid.globals.rows during (asking || move_asks s e during) e mid.globals.rows new c.store.result
+    let stored = ends_stored s mid.shared.globals.rows during (asking || move_asks s e during) e mid.shared.globals.rows new c.store.result
     (subst (λ vs. StepEnds whole (storing_in e (following s o)) vs new c.store.result) kept stores) in
-    let moved = ends_after s old mid safely counted turned asking e mid.globals.rows new c.store.result keeps offers stored in
+    let moved = ends_after s old mid safely counted turned asking e mid.shared.globals.rows new c.store.result keeps offers stored in
     subst (λ vs. StepEnds ((asking || move_asks s e before) || following_asks s (move s e before)) (following s (move s e before)) vs new c.store.result) same moved

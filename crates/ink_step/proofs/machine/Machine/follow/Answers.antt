@@ -11,6 +11,7 @@ use Rattle.ink_model.specs.Threads.{staled}
 use Rattle.ink_step.specs.Performs.{Performs}
 use Rattle.ink_step.specs.Steps.{StepEnds}
 use Rattle.ink_step.specs.Words.{config_of}
+use Rattle.ink_step.specs.declared.machine.Flow.{Flow}
 use Rattle.ink_step.proofs.Follows.{ends_more, ends_reached, goes_after_text, goes_nowhere}
 use Rattle.ink_step.proofs.Landed.{goes_back, goes_into, goes_on, goes_storing, goes_there}
 use Rattle.ink_step.proofs.Staled.{staled_alike}
@@ -32,10 +33,10 @@ returns-in-Wrote-clause-ends c asks e h has offers =
     let old = config_of s machine in
     let new = config_of s c.go_on-in-Wrote.new.self in
     let stale = ap (λ ts. with_threads (map_threads (place_of s) ts) old) c.end_freshness.ensures
-    ∙ ap (λ n. with_threads (map_threads (place_of s) (on_top (staled n) machine.threads.threads)) old) c.depth.ensures
-    ∙ ap (λ ts. with_threads ts old) (staled_alike (place_of s) _ machine.threads.threads) in
+    ∙ ap (λ n. with_threads (map_threads (place_of s) (on_top (staled n) machine.flow.threads.threads)) old) c.depth.ensures
+    ∙ ap (λ ts. with_threads ts old) (staled_alike (place_of s) _ machine.flow.threads.threads) in
     goes_after_text s asks old new c.go_on-in-Wrote.result e (subst (λ t. Performs s asks e (fields_of old) (Ok t)) c.in-Wrote.is h)
-    (subst (λ d. StepEnds (moved_asks (next_place s) d.flow.threads (written_in d)) (going (moved_on (next_place s)) d) machine.globals.rows new c.go_on-in-Wrote.result) stale c.go_on-in-Wrote.ensures.ends)
+    (subst (λ d. StepEnds (moved_asks (next_place s) d.flow.threads (written_in d)) (going (moved_on (next_place s)) d) machine.shared.globals.rows new c.go_on-in-Wrote.result) stale c.go_on-in-Wrote.ensures.ends)
 
 pub returns-in-Store-clause-ends : goal.returns-in-Store-clause-ends
 returns-in-Store-clause-ends c asks e h has offers =
@@ -67,9 +68,13 @@ pub returns-in-End-clause-ends : goal.returns-in-End-clause-ends
 returns-in-End-clause-ends c asks e h has offers =
     let s = story_tree c.args.story.now in
     let old = config_of s c.args.self.now in
-    let new = config_of s (record c.args.self.now { threads = c.end.new.threads; choices = c.clear.new.self; safe = true }) in
-    let ends = ends_reached false (ended old) (halt (base_threads None) (written_in old)) (map_threads (place_of s) c.end.new.threads.threads) (written_in old) c.end.result
-    (c.end.ensures s c.args.self.now.stack.items) in
+    let machine = c.args.self.now in
+    let threads = c.end.new.threads in
+    let reached = reached_in (ended old) (halt (base_threads None) (written_in old)) in
+    let new = config_of s (record machine { flow = record c.set_safe-in-End.new.self { threads = threads; choices = c.clear.new.self } }) in
+    let ends = ends_reached false (ended old) (halt (base_threads None) (written_in old)) (map_threads (place_of s) threads.threads) (written_in old) c.end.result
+    (c.end.ensures s machine.flow.stack.items) in
     goes_nowhere s asks old new c.end.result e (subst (λ t. Performs s asks e (fields_of old) (Ok t)) c.in-End.is h)
-    (subst (λ cs. StepEnds false (reached_in (ended old) (halt (base_threads None) (written_in old))) old.shared.globals
-    (config_of s (record c.args.self.now { threads = c.end.new.threads; choices = record { items = cs }; safe = true })) c.end.result) (sym c.clear.ensures) ends)
+    (subst (λ (f : Flow). StepEnds false reached old.shared.globals (config_of s (record machine { flow = record f { threads = threads; choices = c.clear.new.self } })) c.end.result) (sym c.set_safe-in-End.ensures)
+    (subst (λ cs. StepEnds false reached old.shared.globals
+    (config_of s (record machine { flow = record machine.flow { threads = threads; choices = record { items = cs }; safe = true } })) c.end.result) (sym c.clear.ensures) ends))

@@ -10,15 +10,15 @@ use Rattle.ink_step.proofs.machine.Machine.follow_default.Goals.{In-Some}
 use Rattle.ink_tree.specs.Nodes.{place_of}
 
 -- the choice that was taken is followed
-is_first : (c : In-Some) → let s = story_tree c.args.story.now in default_choice (map (map_choice (place_of s)) c.args.self.now.choices.items) ≡ Some (map_choice (place_of s) c.in-Some.choice)
+is_first : (c : In-Some) → let s = story_tree c.args.story.now in default_choice (map (map_choice (place_of s)) c.args.self.now.flow.choices.items) ≡ Some (map_choice (place_of s) c.in-Some.choice)
 is_first c =
-    is_default (place_of (story_tree c.args.story.now)) c.args.self.now.choices.items c.take.new.self.items c.in-Some.choice (sym c.only_invisible.ensures ∙ c.if-not-only_invisible.false) c.in-Some.ensures
+    is_default (place_of (story_tree c.args.story.now)) c.args.self.now.flow.choices.items c.take.new.self.items c.in-Some.choice (sym c.only_invisible.ensures ∙ c.if-not-only_invisible.false) c.in-Some.ensures
 
 pub returns-then-not-only_invisible-clause-ends : goal.returns-then-not-only_invisible-clause-ends
 returns-then-not-only_invisible-clause-ends c =
     let s = story_tree c.args.story.now in
     let old = config_of s c.args.self.now in
-    stays_stopped s old old _ (no_default (place_of s) c.args.self.now.choices.items (sym c.only_invisible.ensures ∙ c.if-not-only_invisible.true)) refl
+    stays_stopped s old old _ (no_default (place_of s) c.args.self.now.flow.choices.items (sym c.only_invisible.ensures ∙ c.if-not-only_invisible.true)) refl
 
 pub returns-in-Ok-clause-ends : goal.returns-in-Ok-clause-ends
 returns-in-Ok-clause-ends c =

@@ -21,11 +21,11 @@ returns-in_err-end-clause-ends c =
     let kind = c.args.kind in
     let goal = option_map (landing_of s) c.args.to in
     let back = c.give_back.new in
-    let new = config_of s (record machine { threads = back.threads; stack = back.stack; output = back.output }) in
+    let new = config_of s (record machine { flow = record machine.flow { threads = back.threads; stack = back.stack }; output = back.output }) in
     let ts = map_threads (place_of s) back.threads.threads in
     let w = written back.stack back.output in
     let f = c.in_err-end.field-0.0 in
-    let short = subst (λ t. let us = map_threads (place_of t) machine.threads.threads in let q = option_map (place_of t) c.place_to.result in
+    let short = subst (λ t. let us = map_threads (place_of t) machine.flow.threads.threads in let q = option_map (place_of t) c.place_to.result in
     ReachesAs (returned_asks (next_place t) kind q us (written_in old)) (returned (next_place t) kind q us (written_in old)) (map_threads (place_of t) back.threads.threads) w (Err f))
     c.tree.ensures.tree c.in_err-end.ensures in
     let reached = subst (λ q. ReachesAs (returned_asks (next_place s) kind q old.flow.threads (written_in old)) (returned (next_place s) kind q old.flow.threads (written_in old)) ts w (Err f))
@@ -33,5 +33,5 @@ returns-in_err-end-clause-ends c =
     let is : c.from_residual.result ≡ Err f = search rules in
     subst (λ r. StepEnds (returned_asks (next_place s) kind (place_to goal) old.flow.threads (written_in old)
     || landed_asks s (may_enter goal) old.shared.counts (returned (next_place s) kind (place_to goal) old.flow.threads (written_in old)))
-    (landing s (may_enter goal) (returned (next_place s) kind (place_to goal)) old) machine.globals.rows new r) (sym is)
-    (lands_broken s _ old new machine.globals.rows ts w f refl (may_enter goal) _ reached)
+    (landing s (may_enter goal) (returned (next_place s) kind (place_to goal)) old) machine.shared.globals.rows new r) (sym is)
+    (lands_broken s _ old new machine.shared.globals.rows ts w f refl (may_enter goal) _ reached)

@@ -20,10 +20,10 @@ returns-in_err-enter_around-clause-ends c =
     let new = config_of s c.enter_around.new.self in
     let threads = c.land-end.new.threads.threads in
     let short = c.in_err-enter_around.ensures in
-    let adds = subst (λ t. (to.enters && adds_rows t (around t (map_threads (place_of t) threads)) (counts_in t machine.counts.rows)) ≡ true) c.tree.ensures.tree short.memory in
+    let adds = subst (λ t. (to.enters && adds_rows t (around t (map_threads (place_of t) threads)) (counts_in t machine.shared.counts.rows)) ≡ true) c.tree.ensures.tree short.memory in
     let is : c.from_residual.result ≡ Err c.in_err-enter_around.field-0.0 = search rules in
-    subst (λ r. StepEnds (landed_asks s to.enters old.shared.counts (reach (place_of s to.place) old.flow.threads (written_in old))) (landing s to.enters (reach (place_of s to.place)) old) machine.globals.rows new r) (sym is)
-    (lands_short s false old new machine.globals.rows (map_threads (place_of s) threads) (written_in old) c.in_err-enter_around.field-0.0 short.globals to.enters _ c.land-end.result (λ e. tt)
+    subst (λ r. StepEnds (landed_asks s to.enters old.shared.counts (reach (place_of s to.place) old.flow.threads (written_in old))) (landing s to.enters (reach (place_of s to.place)) old) machine.shared.globals.rows new r) (sym is)
+    (lands_short s false old new machine.shared.globals.rows (map_threads (place_of s) threads) (written_in old) c.in_err-enter_around.field-0.0 short.globals to.enters _ c.land-end.result (λ e. tt)
     (c.land-end.ensures s (written_in old)) short.fault adds)
 
 pub returns-clause-ends : goal.returns-clause-ends
@@ -33,7 +33,7 @@ returns-clause-ends c =
     let old = config_of s machine in
     let to = c.args.to in
     let after = c.enter_around.new.self in
-    let landed = record machine { threads = c.land-end.new.threads } in
+    let landed = record machine { flow = record machine.flow { threads = c.land-end.new.threads } } in
     let entered = subst (λ t. config_of t after ≡ cond to.enters (entering_around t (config_of t landed)) (config_of t landed)) c.tree.ensures.tree c.in_ok-enter_around.ensures.ok in
-    lands s false old (config_of s after) machine.globals.rows (map_threads (place_of s) c.land-end.new.threads.threads) (written_in old) to.enters _ c.land-end.result (λ e. tt)
+    lands s false old (config_of s after) machine.shared.globals.rows (map_threads (place_of s) c.land-end.new.threads.threads) (written_in old) to.enters _ c.land-end.result (λ e. tt)
     (c.land-end.ensures s (written_in old)) entered

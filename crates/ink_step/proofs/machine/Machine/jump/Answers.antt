@@ -7,4 +7,4 @@ use Rattle.ink_tree.specs.Nodes.{place_of}
 
 pub returns-in-Err-clause-memory : goal.returns-in-Err-clause-memory
 returns-in-Err-clause-memory c =
-    subst (λ t. adds_rows t (entered_places t None (place_of t c.args.place)) (counts_in t c.args.self.now.counts.rows) ≡ true) c.tree.ensures.tree c.in-Err.ensures.memory
+    subst (λ t. adds_rows t (entered_places t None (place_of t c.args.place)) (counts_in t c.args.self.now.shared.counts.rows) ≡ true) c.tree.ensures.tree c.in-Err.ensures.memory

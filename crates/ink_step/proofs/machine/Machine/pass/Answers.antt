@@ -24,7 +24,7 @@ returns-in_err-end-in-Some-clause-passes c b =
     let f = c.in_err-end-in-Some.field-0.0 in
     let other : is_some (external_in (Some (leaf c.in-Some.content.now))) ≡ false = search rules in
     let is : c.from_residual.result ≡ Err f = search rules in
-    subst (λ r. Passes (asks s b before) (step s b before) c.args.self.now.globals.rows (config_of s c.act.new.self) r) (sym is)
+    subst (λ r. Passes (asks s b before) (step s b before) c.args.self.now.shared.globals.rows (config_of s c.act.new.self) r) (sym is)
     (passed s b c.args.self.now c.act.new.self c.args.place c.in-Some.content.now c.requires (stands (goal.at.returns-in_err-end-in-Some-clause-passes c).In-Some) (not_external _ other) (Err f) (c.in_err-end-in-Some.ensures.ends b))
 
 pub returns-in_ok-end-in-Some-clause-passes : goal.returns-in_ok-end-in-Some-clause-passes

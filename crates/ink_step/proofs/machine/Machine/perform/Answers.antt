@@ -30,7 +30,7 @@ returns-in-Some-clause-threads c b =
     let machine = c.args.self.now in
     let seen = context_of (config_of s machine) in
     let old = fields_of (config_of s machine) in
-    subst (λ o. OnOk c.perform_leaf.result (Keeps s (effect s b p o seen old) machine.threads.threads c.perform_leaf.new.self.threads.threads)) (sym (leaf_found (goal.at.returns-in-Some-clause-threads c).In-Some)) (c.perform_leaf.ensures.threads b)
+    subst (λ o. OnOk c.perform_leaf.result (Keeps s (effect s b p o seen old) machine.flow.threads.threads c.perform_leaf.new.self.flow.threads.threads)) (sym (leaf_found (goal.at.returns-in-Some-clause-threads c).In-Some)) (c.perform_leaf.ensures.threads b)
 
 pub returns-in-Some-clause-choices : goal.returns-in-Some-clause-choices
 returns-in-Some-clause-choices c b =
@@ -39,4 +39,4 @@ returns-in-Some-clause-choices c b =
     let machine = c.args.self.now in
     let seen = context_of (config_of s machine) in
     let old = fields_of (config_of s machine) in
-    subst (λ o. OnOk c.perform_leaf.result (KeepsChoices s (effect s b p o seen old) machine.choices.items c.perform_leaf.new.self.choices.items)) (sym (leaf_found (goal.at.returns-in-Some-clause-choices c).In-Some)) (c.perform_leaf.ensures.choices b)
+    subst (λ o. OnOk c.perform_leaf.result (KeepsChoices s (effect s b p o seen old) machine.flow.choices.items c.perform_leaf.new.self.flow.choices.items)) (sym (leaf_found (goal.at.returns-in-Some-clause-choices c).In-Some)) (c.perform_leaf.ensures.choices b)

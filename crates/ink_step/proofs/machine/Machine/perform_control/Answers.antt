@@ -28,18 +28,18 @@ returns-clause-effect c =
       | in-ReturnTunnel w ↦ search (rules, on)
       | in-Thread w ↦ search (rules, on)
       | in-Turn w ↦
-          let pushed = w.push_turn-outcome.ensures s old.threads.threads (rest_of old) f.evaluating f.fresh f.page f.globals s in
+          let pushed = w.push_turn-outcome.ensures s old.flow.threads.threads (rest_of old) f.evaluating f.fresh f.page f.globals s in
           search (rules, pushed, on)
       | in-Turns w ↦
-          let pushed = w.push_turns-outcome.ensures old.threads.threads (rest_of old) f.evaluating f.fresh f.page f.globals s in
+          let pushed = w.push_turns-outcome.ensures old.flow.threads.threads (rest_of old) f.evaluating f.fresh f.page f.globals s in
           search (rules, pushed, on)
       | in-ReadCount w ↦
-          let pushed = w.push_read_count-outcome.ensures old.threads.threads (rest_of old) f.evaluating f.fresh f.page f.globals s in
+          let pushed = w.push_read_count-outcome.ensures old.flow.threads.threads (rest_of old) f.evaluating f.fresh f.page f.globals s in
           search (rules, pushed, on)
       | in-Visit w ↦
-          let pushed = w.push_visit-outcome.ensures old.threads.threads (rest_of old) f.evaluating f.fresh f.page f.globals s in
+          let pushed = w.push_visit-outcome.ensures old.flow.threads.threads (rest_of old) f.evaluating f.fresh f.page f.globals s in
           search (rules, pushed, on)
       | in-ChoiceCount w ↦
-          let pushed = w.push_choice_count-outcome.ensures s old.threads.threads (rest_of old) f.evaluating f.fresh f.page f.globals s in
+          let pushed = w.push_choice_count-outcome.ensures s old.flow.threads.threads (rest_of old) f.evaluating f.fresh f.page f.globals s in
           search (rules, pushed, on)
     ]

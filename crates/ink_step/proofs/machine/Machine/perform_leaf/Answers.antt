@@ -34,14 +34,14 @@ module _ (s : StoryTree) (b : Bound) (p : List Part) (machine : Machine) where
 
   -- it leaves a thread of which only temporaries are others
   does_storing : (l k : Leaf) (threads : ThreadsView Spot) (stack : Stack) (led r : Result Transfer Fault) → l ≡ k → led ≡ r
-      → threads.threads.thread.frame ≡ record machine.threads.threads.thread.frame { temps = threads.threads.thread.frame.temps }
-      → Does k (record (fields_of (config_of s machine)) { stack = stack.items }) r → Does l (fields_of (config_of s (record machine { threads = threads; stack = stack }))) led
+      → threads.threads.thread.frame ≡ record machine.flow.threads.threads.thread.frame { temps = threads.threads.thread.frame.temps }
+      → Does k (record (fields_of (config_of s machine)) { stack = stack.items }) r → Does l (fields_of (config_of s (record machine { flow = record machine.flow { threads = threads; stack = stack } }))) led
   does_storing l k threads stack led r is leads kept h =
-      does l k _ led r is leads (subst (λ f. Does k f r) (fields_kept machine.threads.threads threads.threads stack.items machine.output.page machine.globals.rows kept) h)
+      does l k _ led r is leads (subst (λ f. Does k f r) (fields_kept machine.flow.threads.threads threads.threads stack.items machine.output.page machine.shared.globals.rows kept) h)
 
   module _ {A : Type 0} where
     abbrev KeptBy : Leaf → ThreadsOf Spot → Result A Fault → Type 0
-    KeptBy l threads r = let c = config_of s machine in OnOk r (Keeps s (leaf_effect s b p (context_of c) l (fields_of c)) machine.threads.threads threads)
+    KeptBy l threads r = let c = config_of s machine in OnOk r (Keeps s (leaf_effect s b p (context_of c) l (fields_of c)) machine.flow.threads.threads threads)
 
     keeps : (l k : Leaf) (threads : ThreadsOf Spot) (r : Result A Fault) → l ≡ k → KeptBy k threads r → KeptBy l threads r
     keeps l k threads r is h = subst (λ x. KeptBy x threads r) (sym is) h
@@ -63,9 +63,9 @@ returns-in-Control-clause-threads c b =
     let p = place_of s c.args.here in
     let machine = c.args.self.now in
     let before = config_of s machine in
-    let new = c.perform_control.new.self.threads.threads in
+    let new = c.perform_control.new.self.flow.threads.threads in
     keeps s b p machine _ _ new _ c.in-Control.is
-    (when_ok c.perform_control.result _ (control_keeps s p (context_of before) c.in-Control.control (fields_of before) machine.threads.threads new c.perform_control.ensures.threads))
+    (when_ok c.perform_control.result _ (control_keeps s p (context_of before) c.in-Control.control (fields_of before) machine.flow.threads.threads new c.perform_control.ensures.threads))
 
 pub returns-in-Divert-clause-effect : goal.returns-in-Divert-clause-effect
 returns-in-Divert-clause-effect c b =
@@ -89,7 +89,7 @@ pub returns-in-Count-clause-effect : goal.returns-in-Count-clause-effect
 returns-in-Count-clause-effect c b =
     let s = story_tree c.args.story.now in
     let machine = c.args.self.now in
-    does s b (place_of s c.args.here) machine _ _ _ _ _ c.in-Count.is (ap (leading c.push_count.result) c.requires.on) (c.push_count.ensures machine.threads.threads (rest_of machine) _ _ _ _ s)
+    does s b (place_of s c.args.here) machine _ _ _ _ _ c.in-Count.is (ap (leading c.push_count.result) c.requires.on) (c.push_count.ensures machine.flow.threads.threads (rest_of machine) _ _ _ _ s)
 
 pub returns-in-Variable-clause-effect : goal.returns-in-Variable-clause-effect
 returns-in-Variable-clause-effect c b =
@@ -165,5 +165,5 @@ returns-in-Choice-clause-choices c b =
     let seen = context_of (config_of s c.args.self.now) in
     let old = fields_of (config_of s c.args.self.now) in
     let l = leaves.Choice c.in-Choice.target c.in-Choice.flags in
-    subst (λ l. OnOk c.offer.result (KeepsChoices s (leaf_effect s b p seen l old) c.args.self.now.choices.items c.offer.new.choices.items)) (sym c.in-Choice.is)
+    subst (λ l. OnOk c.offer.result (KeepsChoices s (leaf_effect s b p seen l old) c.args.self.now.flow.choices.items c.offer.new.choices.items)) (sym c.in-Choice.is)
     (c.offer.ensures.choices (rest_of c.args.self.now) old.evaluating old.fresh old.page old.globals)

@@ -14,5 +14,5 @@ invariant-loop-step g l =
     record {
       ran : Ran g.T.TurnFn.log (log_of g.W.Watcher.state) g.P.PureFn.meaning s l.initial.desk (config_of s l.initial.self) l._step l.desk (config_of s l.self);
       watchers : l.desk.watchers ≡ l.initial.desk.watchers;
-      tracks : (start : Values) → Tracks start l.initial.self.changes l.initial.self.globals.rows → Tracks start l.self.changes l.self.globals.rows;
+      tracks : (start : Values) → Tracks start l.initial.self.changes l.initial.self.shared.globals.rows → Tracks start l.self.changes l.self.shared.globals.rows;
     }

@@ -12,10 +12,10 @@ pub returns-clause-settled : goal.returns-clause-settled
 unfolding settled
 returns-clause-settled c s =
     let old = config_of s c.args.self.now in
-    let ts = map_threads (place_of s) (unnumbered_threads c.args.self.now.threads.threads) in
-    let cs = map (map_choice (place_of s)) (map unnumbered_choice c.args.self.now.choices.items) in
+    let ts = map_threads (place_of s) (unnumbered_threads c.args.self.now.flow.threads.threads) in
+    let cs = map (map_choice (place_of s)) (map unnumbered_choice c.args.self.now.flow.choices.items) in
     ap (λ ts. with_page c.clear.new.self.page (with_choices (map (map_choice (place_of s)) c.clear_numbers-2.new.self.items) (with_threads (map_threads (place_of s) ts) old))) c.clear_numbers.ensures
     ∙ ap (λ cs. with_page c.clear.new.self.page (with_choices (map (map_choice (place_of s)) cs) (with_threads ts old))) c.clear_numbers-2.ensures
     ∙ ap (λ page. with_page page (with_choices cs (with_threads ts old))) c.clear.ensures
-    ∙ ap (λ ts. with_page empty_page (with_choices cs (with_threads ts old))) (threads_alike (place_of s) c.args.self.now.threads.threads)
-    ∙ ap (λ cs. with_page empty_page (with_choices cs (with_threads (unnumbered_threads (map_threads (place_of s) c.args.self.now.threads.threads)) old))) (choices_alike (place_of s) c.args.self.now.choices.items)
+    ∙ ap (λ ts. with_page empty_page (with_choices cs (with_threads ts old))) (threads_alike (place_of s) c.args.self.now.flow.threads.threads)
+    ∙ ap (λ cs. with_page empty_page (with_choices cs (with_threads (unnumbered_threads (map_threads (place_of s) c.args.self.now.flow.threads.threads)) old))) (choices_alike (place_of s) c.args.self.now.flow.choices.items)

@@ -34,7 +34,7 @@ quietly g c = elim c.else-quiet.branch [
 -- what is performed inside is what the step comes to
 goes_in : (g : given.Over) (c : In_ok-here g) → let s = story_tree c.args.story.now in let desk = c.args.desk.now in let b = bound_by g.P.PureFn.meaning desk.functions in let before = config_of s c.args.self.now in
     (c.args.quiet ≡ true → wants (step s b before) ≡ false) → (es : List Event) (d : Configuration) (r : Result StepEnd Fault)
-    → Performing s b (λ asking o. StepMakes s b desk.next asking o es c.go_in.new.self.globals.rows d r) (place_of s c.in_ok-here.here) (option_map (λ x. leaf x.now) c.in_ok-here.found) (config_of s c.go_in.new.self)
+    → Performing s b (λ asking o. StepMakes s b desk.next asking o es c.go_in.new.self.shared.globals.rows d r) (place_of s c.in_ok-here.here) (option_map (λ x. leaf x.now) c.in_ok-here.found) (config_of s c.go_in.new.self)
     → Steps c.args.quiet s b desk.next (asks s b before) (step s b before) es before.shared.globals before d r
 goes_in g c quietly es d r performing =
     let s = story_tree c.args.story.now in
@@ -49,15 +49,15 @@ goes_in g c quietly es d r performing =
     let at_place = ap (option_map (place_of s)) c.requires in
     let is_here = subst (λ t. place_of t spot ≡ entered t (place_of t place)) c.tree.ensures.tree went.here in
     let is_found = found_leaves c.in_ok-here.found (at s (place_of s spot)) (subst (λ t. option_map (λ x. x.now) c.in_ok-here.found ≡ leaf_in (at t (place_of t spot))) c.tree.ensures.tree went.found) in
-    let stands = performs_alike s b (λ asking o. StepMakes s b desk.next asking o es inside.globals.rows d r) (place_of s spot) (at s (place_of s spot)) (config_of s inside)
-    (subst (λ o. Performing s b (λ asking o. StepMakes s b desk.next asking o es inside.globals.rows d r) (place_of s spot) o (config_of s inside)) is_found performing) in
+    let stands = performs_alike s b (λ asking o. StepMakes s b desk.next asking o es inside.shared.globals.rows d r) (place_of s spot) (at s (place_of s spot)) (config_of s inside)
+    (subst (λ o. Performing s b (λ asking o. StepMakes s b desk.next asking o es inside.shared.globals.rows d r) (place_of s spot) o (config_of s inside)) is_found performing) in
     let is_in = subst (λ t. config_of t inside ≡ gone_in t (place_of t place) (config_of t machine)) c.tree.ensures.tree went.ok in
-    steps_in s b desk.next (place_of s place) (config_of s machine) at_place c.args.quiet quietly es inside.globals.rows d r (place_of s spot) (at s (place_of s spot)) (config_of s inside)
+    steps_in s b desk.next (place_of s place) (config_of s machine) at_place c.args.quiet quietly es inside.shared.globals.rows d r (place_of s spot) (at s (place_of s spot)) (config_of s inside)
     went.globals is_here refl is_in stands
 
 -- a call was performed there
 made_call : (g : given.Over) (c : After-act_external g) → let s = story_tree c.args.story.now in let desk = c.args.desk.now in let b = bound_by g.P.PureFn.meaning desk.functions in let inside = c.go_in.new.self in
-    Performing s b (λ asking o. StepMakes s b desk.next asking o c.act_external.ensures.step.0 inside.globals.rows (config_of s c.act_external.new.self) c.act_external.result) (place_of s c.in_ok-here.here)
+    Performing s b (λ asking o. StepMakes s b desk.next asking o c.act_external.ensures.step.0 inside.shared.globals.rows (config_of s c.act_external.new.self) c.act_external.result) (place_of s c.in_ok-here.here)
     (option_map (λ x. leaf x.now) c.in_ok-here.found) (config_of s inside)
 made_call g c =
     let s = story_tree c.args.story.now in
@@ -66,19 +66,19 @@ made_call g c =
     let inside = c.go_in.new.self in
     let found = option_map (λ x. leaf x.now) c.in_ok-here.found in
     let called = c.act_external.ensures.step in
-    performs_call s b desk.next called.0 inside.globals.rows (config_of s c.act_external.new.self) c.act_external.result (place_of s c.in_ok-here.here) found (call_of c.in-Some.call) (config_of s inside)
+    performs_call s b desk.next called.0 inside.shared.globals.rows (config_of s c.act_external.new.self) c.act_external.result (place_of s c.in_ok-here.here) found (call_of c.in-Some.call) (config_of s inside)
     (sym c.external_in.ensures ∙ ap (option_map call_of) c.in-Some.is) called.2
 
 wants_none : (g : given.Over) (c : After-act_external g) → c.act_external.result ≡ Ok ends.WantsCall → ⊥
 wants_none g c is =
     let s = story_tree c.args.story.now in
     let desk = c.args.desk.now in
-    never_said s (bound_by g.P.PureFn.meaning desk.functions) desk.next c.act_external.ensures.step.0 c.go_in.new.self.globals.rows (config_of s c.act_external.new.self) c.act_external.result
+    never_said s (bound_by g.P.PureFn.meaning desk.functions) desk.next c.act_external.ensures.step.0 c.go_in.new.self.shared.globals.rows (config_of s c.act_external.new.self) c.act_external.result
     (place_of s c.in_ok-here.here) (option_map (λ x. leaf x.now) c.in_ok-here.found) (config_of s c.go_in.new.self) (made_call g c) is
 
 -- or other content
 made_none : (g : given.Over) (c : After-act g) → let s = story_tree c.args.story.now in let desk = c.args.desk.now in let b = bound_by g.P.PureFn.meaning desk.functions in let inside = c.go_in.new.self in
-    Performing s b (λ asking o. StepMakes s b desk.next asking o [] inside.globals.rows (config_of s c.act.new.self) c.act.result) (place_of s c.in_ok-here.here)
+    Performing s b (λ asking o. StepMakes s b desk.next asking o [] inside.shared.globals.rows (config_of s c.act.new.self) c.act.result) (place_of s c.in_ok-here.here)
     (option_map (λ x. leaf x.now) c.in_ok-here.found) (config_of s inside)
 made_none g c =
     let s = story_tree c.args.story.now in
@@ -86,7 +86,7 @@ made_none g c =
     let b = bound_by g.P.PureFn.meaning desk.functions in
     let inside = c.go_in.new.self in
     let found = option_map (λ x. leaf x.now) c.in_ok-here.found in
-    performs_other s b desk.next inside.globals.rows (config_of s c.act.new.self) c.act.result (place_of s c.in_ok-here.here) found (config_of s inside) (c.act.ensures.ends b)
+    performs_other s b desk.next inside.shared.globals.rows (config_of s c.act.new.self) c.act.result (place_of s c.in_ok-here.here) found (config_of s inside) (c.act.ensures.ends b)
 
 pub returns-then-wants_call-clause-step : goal.returns-then-wants_call-clause-step
 returns-then-wants_call-clause-step g c =
@@ -147,5 +147,5 @@ pub returns-in-None-clause-machine : goal.returns-in-None-clause-machine
 returns-in-None-clause-machine g c is =
     let s = story_tree c.args.story.now in
     let desk = c.args.desk.now in
-    absurd (never_said s (bound_by g.P.PureFn.meaning desk.functions) desk.next [] c.go_in.new.self.globals.rows (config_of s c.act.new.self) c.act.result
+    absurd (never_said s (bound_by g.P.PureFn.meaning desk.functions) desk.next [] c.go_in.new.self.shared.globals.rows (config_of s c.act.new.self) c.act.result
     (place_of s c.in_ok-here.here) (option_map (λ x. leaf x.now) c.in_ok-here.found) (config_of s c.go_in.new.self) (made_none g (goal.at.returns-in-None-clause-machine g c).After-act) is)

@@ -42,14 +42,14 @@ returns-clause-runs g c =
 -- the changes are those since the beginning
 pub returns-in_err-run-clause-tracks : goal.returns-in_err-run-clause-tracks
 returns-in_err-run-clause-tracks g c =
-    c.in_err-run.ensures.tracks c.args.self.now.globals.rows (subst (λ vs. Tracks vs c.begin.new.self.changes c.begin.new.self.globals.rows) c.begin.ensures.globals c.begin.ensures.tracks)
+    c.in_err-run.ensures.tracks c.args.self.now.shared.globals.rows (subst (λ vs. Tracks vs c.begin.new.self.changes c.begin.new.self.shared.globals.rows) c.begin.ensures.globals c.begin.ensures.tracks)
 
 pub returns-in_err-passage-clause-tracks : goal.returns-in_err-passage-clause-tracks
 returns-in_err-passage-clause-tracks g c =
-    c.in_ok-run.ensures.tracks c.args.self.now.globals.rows (subst (λ vs. Tracks vs c.begin.new.self.changes c.begin.new.self.globals.rows) c.begin.ensures.globals c.begin.ensures.tracks)
+    c.in_ok-run.ensures.tracks c.args.self.now.shared.globals.rows (subst (λ vs. Tracks vs c.begin.new.self.changes c.begin.new.self.shared.globals.rows) c.begin.ensures.globals c.begin.ensures.tracks)
 
 pub returns-clause-tracks : goal.returns-clause-tracks
 returns-clause-tracks g c =
-    let start = c.args.self.now.globals.rows in
-    let tracks = c.in_ok-run.ensures.tracks start (subst (λ vs. Tracks vs c.begin.new.self.changes c.begin.new.self.globals.rows) c.begin.ensures.globals c.begin.ensures.tracks) in
-    subst (λ vs. Tracks start c.settle.new.self.changes vs) (sym c.settle.ensures.globals) (subst (λ noted. Tracks start noted c.run.new.self.globals.rows) (sym c.settle.ensures.changes) tracks)
+    let start = c.args.self.now.shared.globals.rows in
+    let tracks = c.in_ok-run.ensures.tracks start (subst (λ vs. Tracks vs c.begin.new.self.changes c.begin.new.self.shared.globals.rows) c.begin.ensures.globals c.begin.ensures.tracks) in
+    subst (λ vs. Tracks start c.settle.new.self.changes vs) (sym c.settle.ensures.globals) (subst (λ noted. Tracks start noted c.run.new.self.shared.globals.rows) (sym c.settle.ensures.changes) tracks)

@@ -16,7 +16,7 @@ use Rattle.ink_step.proofs.machine.Machine.told.Goals.{After-from_vec, In-Some}
 pub returns-then-len-eq0-clause-told : goal.returns-then-len-eq0-clause-told
 returns-then-len-eq0-clause-told g c start tracks =
     let watched = watches c.args.desk.now.watchers in
-    let now = c.args.self.now.globals.rows in
+    let now = c.args.self.now.shared.globals.rows in
     let none : [] ≡ told watched start now = elim c.then-len-eq0.branch [
       | then-len-eq0-via-then-len-eq0 w ↦ told_of_none watched start now (sym c.len.ensures.len ∙ w.if-len-eq0.true)
       | then-len-eq0-via-else-len-eq0+then-not-has_watchers w ↦ told_nobody c.args.desk.now.watchers start now (sym w.has_watchers.ensures ∙ w.if-not-has_watchers.true)
@@ -29,15 +29,15 @@ pub returns-in_err-numbers-clause-memory : goal.returns-in_err-numbers-clause-me
 returns-in_err-numbers-clause-memory g c start tracks =
     let watched = watches c.args.desk.now.watchers in
     on_error c.from_residual.result
-    (told_some_of c.args.self.now.globals.rows watched start (c.in_err-numbers.ensures.memory watched start (λ name answer k. search rules) tracks))
+    (told_some_of c.args.self.now.shared.globals.rows watched start (c.in_err-numbers.ensures.memory watched start (λ name answer k. search rules) tracks))
 
 -- something is told where a number was found
-is_there : (g : given.Over) (c : In-Some g) (start : Values) → Tracks start c.args.self.now.changes c.args.self.now.globals.rows → told (watches c.args.desk.now.watchers) start c.args.self.now.globals.rows ≢ []
+is_there : (g : given.Over) (c : In-Some g) (start : Values) → Tracks start c.args.self.now.changes c.args.self.now.shared.globals.rows → told (watches c.args.desk.now.watchers) start c.args.self.now.shared.globals.rows ≢ []
 is_there g c start tracks =
     let watched = watches c.args.desk.now.watchers in
     let ns = c.deref-number-items.result.now in
     let within : c.loop-number.number-index < length ns = omega (arith, c.loop-number-test.true) in
-    told_some_at c.args.self.now.globals.rows watched start ns c.loop-number.number-index
+    told_some_at c.args.self.now.shared.globals.rows watched start ns c.loop-number.number-index
     (c.deref-number-items.ensures.value ∙ c.in_ok-numbers.ensures.numbers watched start (λ name answer k. search rules) tracks) within
 
 pub returns-in_err-change-clause-memory : goal.returns-in_err-change-clause-memory
@@ -50,7 +50,7 @@ returns-in_err-push-clause-memory g c start tracks =
 
 pub loop-number-preserved : goal.loop-number-preserved
 loop-number-preserved g c =
-    let now = c.args.self.now.globals.rows in
+    let now = c.args.self.now.shared.globals.rows in
     let ns = c.deref-number-items.result.now in
     let i = c.loop-number.number-index in
     let so_far = c.loop-number.told.items in
@@ -66,15 +66,15 @@ loop-number-preserved g c =
     ]
 
 -- all that was picked was told
-all_at : (g : given.Over) (c : After-from_vec g) → c.from_vec.result ≡ told_at c.args.self.now.globals.rows c.deref-number-items.result.now
+all_at : (g : given.Over) (c : After-from_vec g) → c.from_vec.result ≡ told_at c.args.self.now.shared.globals.rows c.deref-number-items.result.now
 all_at g c =
     let ns = c.deref-number-items.result.now in
     let past : length ns ≤ c.loop-number.number-index = omega (arith, c.loop-number-test.false) in
-    c.from_vec.ensures ∙ c.loop-number.invariant ∙ ap (told_at c.args.self.now.globals.rows) (take_all c.loop-number.number-index ns past)
+    c.from_vec.ensures ∙ c.loop-number.invariant ∙ ap (told_at c.args.self.now.shared.globals.rows) (take_all c.loop-number.number-index ns past)
 
 pub returns-clause-told : goal.returns-clause-told
 returns-clause-told g c start tracks =
     let watched = watches c.args.desk.now.watchers in
-    let now = c.args.self.now.globals.rows in
+    let now = c.args.self.now.shared.globals.rows in
     all_at g (goal.at.returns-clause-told g c).After-from_vec
     ∙ ap (told_at now) (c.deref-number-items.ensures.value ∙ c.in_ok-numbers.ensures.numbers watched start (λ name answer k. search rules) tracks) ∙ told_changed now watched start

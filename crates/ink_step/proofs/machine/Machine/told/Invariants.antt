@@ -3,4 +3,4 @@ use Rattle.ink_step.proofs.Telling.{told_at}
 use Rattle.ink_step.proofs.machine.Machine.told.Given as goal
 
 abbrev pub invariant-loop-number : goal.invariant-loop-number
-invariant-loop-number g l = l.told.items ≡ told_at l.self.globals.rows (take l.number-index l.number-items)
+invariant-loop-number g l = l.told.items ≡ told_at l.self.shared.globals.rows (take l.number-index l.number-items)
