@@ -6,6 +6,7 @@ use Rattle.ink_model.specs.Told.{told}
 use Rattle.ink_player.specs.Words.{PlayerView, condition_by, desk_of, state_of, story_of, told_from}
 use Rattle.ink_step.specs.Words.{config_of}
 use Rattle.ink_player.proofs.Tellings.{globals-by, globals-told, none-left, tells-done, tells-kept, told-state, with_parts}
+use Rattle.ink_step.specs.Words as step
 use Rattle.ink_player.proofs.player.Player.begin_anew.Goals as goal
 
 pub returns-in_default-clause-does : goal.returns-in_default-clause-does
@@ -23,8 +24,8 @@ returns-clause-does g c =
     let w = watches (desk_of p).watchers in
     let leaves = told-state p c.args.machine c.end_telling.new.desk c.tell_between.new.desk c.end_telling.new.broken None c.in-Ok.all after refl
     c.end_telling.ensures.broken c.end_telling.ensures.desk refl in
-    let changes : told w p.machine.globals c.args.machine.globals ≡ told_from (desk_of p) (state_of p) (globals_of (state_of q).condition) =
-    ap (λ vs. told w vs c.args.machine.globals) (sym (globals-by p.broken before))
+    let changes : told w (step.globals_of p.machine) (step.globals_of c.args.machine) ≡ told_from (desk_of p) (state_of p) (globals_of (state_of q).condition) =
+    ap (λ vs. told w vs (step.globals_of c.args.machine)) (sym (globals-by p.broken before))
     ∙ ap (told w (globals_of (state_of p).condition)) (sym (ap (λ s. globals_of s.condition) leaves ∙ globals-told c.in-Ok.all after)) in
     rw (sym c.self.view_is) (tells-done g.F.TurnFn.log g.O.Watcher.state _ (condition_by p.broken before) (Ready after) (desk_of p) c.tell_between.new.desk (desk_of q) c.in-Ok.all
     (reply_of_events c.end_telling.result) (state_of q) (none-left p.desk.events c.self.invariant) c.in-Ok.ensures.tells c.end_telling.ensures.reply leaves c.end_telling.ensures.desk _ changes)
