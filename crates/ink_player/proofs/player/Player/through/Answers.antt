@@ -1,4 +1,4 @@
-use Rattle.std.proofs.Common.{◌∙◌, [], false, ap, refl, sym, Ok}
+use Rattle.std.proofs.Common.{◌∙◌, [], false, refl, sym, Ok}
 use Rattle.ink_model.specs.Answer.{reply_of, reply_of_halt}
 use Rattle.ink_player.specs.Words.{PlayerView, desk_of, state_of, story_of}
 use Rattle.ink_step.specs.Words.{config_of}
