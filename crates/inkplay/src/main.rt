@@ -3,9 +3,6 @@
 //! and watch globals (docs/PROGRAM.md).
 #![tactic(auto)]
 
-ghost use Rattle.ink_host.specs.Desk.{Resting};
-ghost use Rattle.inkplay.specs.Rests.{rests};
-
 mod binding;
 mod file;
 mod objects;
@@ -13,7 +10,7 @@ mod options;
 mod report;
 
 use binding::{PlayDesk, bind_words};
-use ink_player::{PlayEnd, PlayFault, open_story, play, run};
+use ink_player::{PlayFault, open_story, play, run};
 use options::command;
 use report::{refuse_file, refuse_words, tell};
 use std::alloc::Global;
@@ -39,7 +36,6 @@ fn main(rt: HostRuntime) -> ExitCode {
     };
     let mut desk = PlayDesk::new(alloc);
     if bind_words(alloc, &mut desk, &matches).is_err() {
-        let _objects = desk.close();
         return ExitCode::from(refuse_words(&rt));
     }
     let mut reader = rt.reader();
@@ -64,17 +60,10 @@ fn serve_input<R: Read, W: Write>(
     reader: &mut R,
     writer: &mut W,
 ) -> u8
-    requires { Resting rests desk.watchers }
 {
     match play(alloc, reader, writer, desk) {
-        Ok(desk) => {
-            let _objects = desk.close();
-            SERVED
-        }
-        Err(PlayEnd { fault, desk }) => {
-            let _objects = desk.close();
-            tell(rt, &fault)
-        }
+        Ok(_desk) => SERVED,
+        Err(end) => tell(rt, &end.fault),
     }
 }
 
@@ -87,22 +76,15 @@ fn serve_file<R: Read, W: Write>(
     reader: &mut R,
     writer: &mut W,
 ) -> u8
-    requires { Resting rests desk.watchers }
 {
     let Ok(bytes) = file::read(rt, alloc, path) else {
-        let _objects = desk.close();
         return refuse_file(rt);
     };
     let mut player = match open_story(alloc, &bytes, desk) {
         Ok(player) => player,
-        Err(PlayEnd { fault, desk }) => {
-            let _objects = desk.close();
-            return tell(rt, &fault);
-        }
+        Err(end) => return tell(rt, &end.fault),
     };
-    let outcome = run(alloc, reader, writer, &mut player);
-    let _objects = player.close().close();
-    match outcome {
+    match run(alloc, reader, writer, &mut player) {
         Ok(()) => SERVED,
         Err(fault) => tell(rt, &PlayFault::Run(fault)),
     }
