@@ -295,7 +295,7 @@ module _ {P F O : Type 0} (turn_log : F → List Called) (state : O → Watching
     pub through-told : (passed : Passage) (all : Bool) (d2 d : DeskView P F O) (reply : Reply) (new : State)
         → RunsThrough tree host.functions before made after (Ok passed)
         → (let cs = told (watches d1.watchers) before.shared.globals after.shared.globals in
-            (saw : List Event) × (t : ToldAs d1.next cs all saw) × IsRound state d1.next cs cs t.answers d1.watchers d2.watchers × Grew turn_log (log_of state) d1 saw d2)
+        (saw : List Event) × (t : ToldAs d1.next cs all saw) × IsRound state d1.next cs cs t.answers d1.watchers d2.watchers × Grew turn_log (log_of state) d1 saw d2)
         → reply ≡ reply_told all (telling_of passed d2.events) d2.events → new ≡ at_stamp (condition_told all (Ready after)) d2.next → d ≡ record d2 { events = [] }
         → ComesThrough reply new d
     unfolding settled

@@ -328,8 +328,8 @@ impl<P: PureFn, F: TurnFn, O: Watcher> Player<P, F, O> {
         self.desk.unbind(name)
     }
 
-    /// Watches the global of a name, whether it is there or not, by a watcher at rest. The watcher of that name before is handed
-    /// back; where memory is refused the given one is, and nothing has changed.
+    /// Watches the global of a name, whether it is there or not. The watcher of that name before is handed back; where memory is
+    /// refused the given one is, and nothing has changed.
     pub fn watch(&mut self, name: &str, watcher: O) -> Result<Option<O>, O>
         ensures old { IfOk result (λ old. old ≡ at name.now (desk_of self.old).watchers) }
         ensures old_rest { Resting (rests O.state) (desk_of self.old).watchers → IfOk result (λ old. IfSome old (λ w. rests O.state w ≡ true)) }
@@ -343,7 +343,7 @@ impl<P: PureFn, F: TurnFn, O: Watcher> Player<P, F, O> {
         self.desk.watch(name, watcher)
     }
 
-    /// Takes away the watcher of a name, and hands it back at rest; none where there is none. Takes no memory.
+    /// Takes away the watcher of a name, and hands it back; none where there is none. Takes no memory.
     pub fn unwatch(&mut self, name: &str) -> Option<O>
         ensures old { result ≡ at name.now (desk_of self.old).watchers }
         ensures old_rest { Resting (rests O.state) (desk_of self.old).watchers → IfSome result (λ w. rests O.state w ≡ true) }
@@ -362,9 +362,10 @@ impl<P: PureFn, F: TurnFn, O: Watcher> Player<P, F, O> {
         self.broken
     }
 
-    /// Ends the player and hands its desk back. Takes no memory.
+    /// Ends the player and hands its desk back, with no event on it. Takes no memory.
     pub fn close(self) -> Desk<P, F, O>
-        ensures { result ≡ desk_of self }
+        ensures desk { result ≡ desk_of self }
+        ensures taken { result.events ≡ [] }
     {
         let Player {
             story: _,
@@ -426,11 +427,7 @@ fn end_telling<P, F, O>(
 }
 
 /// A fault breaks the player; the events so far are told with it.
-fn break_by<P, F, O>(
-    desk: &mut Desk<P, F, O>,
-    broken: &mut Option<Fault>,
-    fault: Fault,
-) -> Halt
+fn break_by<P, F, O>(desk: &mut Desk<P, F, O>, broken: &mut Option<Fault>, fault: Fault) -> Halt
     ensures reply { reply_of_halt result ≡ Breaks fault desk.old.events }
     ensures desk { desk.new ≡ record desk.old { events = [] } }
     ensures broken { broken.new ≡ Some fault }

@@ -2,15 +2,12 @@
 //! takes a choice for each line of its input, which is the choice's number (docs/HOST.md).
 #![tactic(auto)]
 
-ghost use Rattle.ink_player.specs.Words.{Idle, desk_of};
-ghost use Rattle.inkgame.specs.Rests.{rests};
-
 mod objects;
 mod story;
 
 use ink_player::{Desk, Halt, Passage, PlayEnd, Player, open_story};
 use objects::{Die, Inn, Purse};
-use std::alloc::Global;
+use std::alloc::{AllocError, Global};
 use std::io;
 use std::process::ExitCode;
 use story::STORY;
@@ -21,38 +18,61 @@ type GameDesk<R> = Desk<Inn, Die, Purse<R>>;
 /// The game's player.
 type Game<R> = Player<Inn, Die, Purse<R>>;
 
-fn main(rt: HostRuntime) -> ExitCode {
-    let alloc = rt.alloc();
-    let desk: GameDesk<HostRuntime> = Desk::new(alloc);
-    match open_story(alloc, STORY.as_bytes(), desk) {
-        Ok(mut game) => {
-            let is_ready = bind(alloc, rt, &mut game);
-            let is_played = is_ready && play(&rt, alloc, &mut game).is_ok();
-            let _objects = game.close().close();
-            if is_played {
-                ExitCode::SUCCESS
-            } else {
-                ExitCode::FAILURE
-            }
-        }
-        Err(PlayEnd { fault: _, desk }) => {
-            let _objects = desk.close();
-            ExitCode::FAILURE
-        }
+/// Why the game ended before its input did.
+#[derive(Drop)]
+enum GameFault {
+    Memory,
+    Story,
+    Terminal,
+}
+
+impl From<AllocError> for GameFault {
+    fn from(_fault: AllocError) -> GameFault {
+        GameFault::Memory
     }
 }
 
-/// Binds the functions that the story calls, and watches its gold. False where there is no memory for that.
-fn bind<R: Print + Drop>(alloc: Global, rt: R, game: &mut Game<R>) -> bool
-    requires { Idle rests (desk_of game.old) }
-    ensures { Idle rests (desk_of game.new) }
-{
-    let Ok(inn) = Inn::new(alloc, "Blue Heron") else {
-        return false;
-    };
-    game.bind_turn("throw", Die::new(alloc, 40)).is_ok()
-        && game.bind_pure("inn", inn).is_ok()
-        && game.watch("gold", Purse::new(alloc, rt)).is_ok()
+impl<P: Drop, F: Drop, O: Drop> From<PlayEnd<P, F, O>> for GameFault {
+    fn from(_end: PlayEnd<P, F, O>) -> GameFault {
+        GameFault::Story
+    }
+}
+
+impl From<io::Error> for GameFault {
+    fn from(_fault: io::Error) -> GameFault {
+        GameFault::Terminal
+    }
+}
+
+fn main(rt: HostRuntime) -> ExitCode {
+    match run(rt) {
+        Ok(()) => ExitCode::SUCCESS,
+        Err(_) => ExitCode::FAILURE,
+    }
+}
+
+/// Opens the story, and plays it with the game's objects.
+fn run(rt: HostRuntime) -> Result<(), GameFault> {
+    let alloc = rt.alloc();
+    let desk: GameDesk<HostRuntime> = Desk::new(alloc);
+    let mut game = open_story(alloc, STORY.as_bytes(), desk)?;
+    bind(alloc, rt, &mut game)?;
+    play(&rt, alloc, &mut game)
+}
+
+/// Binds the functions that the story calls, and watches its gold.
+fn bind<R: Print + Drop>(alloc: Global, rt: R, game: &mut Game<R>) -> Result<(), GameFault> {
+    bound(game.bind_turn("throw", Die::new(alloc, 40)))?;
+    bound(game.bind_pure("inn", Inn::new(alloc, "Blue Heron")?))?;
+    bound(game.watch("gold", Purse::new(alloc, rt)))
+}
+
+/// Whether an object was bound: the one reason why not is a refused request for memory.
+fn bound<X: Drop, E: Drop>(outcome: Result<X, E>) -> Result<(), GameFault> {
+    match outcome {
+        Ok(_) => Ok(()),
+        Err(_) => Err(GameFault::Memory),
+    }
 }
 
 /// Plays passage by passage, to the end of the story or of the input.
@@ -60,10 +80,7 @@ fn play<R: Print + Drop>(
     rt: &(impl Print + Input + Alloc<A = Global>),
     alloc: Global,
     game: &mut Game<R>,
-) -> io::Result<()>
-    requires { Idle rests (desk_of game.old) }
-    ensures { Idle rests (desk_of game.new) }
-{
+) -> Result<(), GameFault> {
     tell(rt, game)?;
     for line in rt.lines(alloc) {
         let line = line?;
@@ -76,10 +93,7 @@ fn play<R: Print + Drop>(
 }
 
 /// Runs to the stop, and shows what came.
-fn tell<R: Print + Drop>(rt: &impl Print, game: &mut Game<R>) -> io::Result<()>
-    requires { Idle rests (desk_of game.old) }
-    ensures { Idle rests (desk_of game.new) }
-{
+fn tell<R: Print + Drop>(rt: &impl Print, game: &mut Game<R>) -> io::Result<()> {
     match game.through() {
         Ok(passage) => show(rt, &passage),
         Err(Halt::Refused(refusal)) => println!(rt; "{}", refusal.name()),

@@ -1,31 +1,31 @@
 //! The game's objects: what its story calls, and who watches its gold.
 
-ghost use Rattle.std.specs.Prelude.{◌≡◌, Some, true};
-ghost use Rattle.ink_model.specs.declared.host.Given.TheVariants as given;
+ghost use Rattle.std.specs.Prelude.{Some};
 
-use ink_host::{Called, Observer, PureFn, TurnFn, Watcher, copied_values};
-use ink_model::{Given, HostFault, Shared, Text, Value};
+use ink_host::{Observer, PureFn, Recorder, TurnFn, Watcher};
+use ink_model::{Given, HostFault, Value};
 use std::alloc::{AllocError, Global};
 
 /// The inn, whose name is asked for. To ask changes nothing: it is a pure function.
 #[derive(Drop)]
 pub(crate) struct Inn {
-    name: Shared<Text>,
+    name: Given,
+    alloc: Global,
 }
 
 impl Inn {
     pub(crate) fn new(alloc: Global, name: &str) -> Result<Inn, AllocError> {
-        let name = Shared::new(alloc, Text::from_str(alloc, name)?)?;
-        Ok(Inn { name })
+        let name = Given::text(alloc, name)?;
+        Ok(Inn { name, alloc })
     }
 }
 
 impl PureFn for Inn {
-    ghost meaning = { λ inn arguments. Some (given.Text inn.name) };
+    ghost meaning = { λ inn arguments. Some inn.name };
 
     fn ask(&self, _arguments: &[Value]) -> Result<Given, HostFault> {
-        match self.name.share() {
-            Ok(name) => Ok(Given::Text(name)),
+        match self.name.clone_in(self.alloc) {
+            Ok(name) => Ok(name),
             Err(_) => Err(HostFault::OutOfMemory),
         }
     }
@@ -36,62 +36,44 @@ impl PureFn for Inn {
 #[derive(Drop)]
 pub(crate) struct Die {
     seed: u32,
-    throws: Vec<Called>,
-    alloc: Global,
+    noted: Recorder,
 }
 
 impl Die {
     pub(crate) fn new(alloc: Global, seed: u32) -> Die {
         Die {
             seed,
-            throws: Vec::new(alloc),
-            alloc,
+            noted: Recorder::new(alloc),
         }
-    }
-
-    /// The next throw, from 1 to 6.
-    fn throw(&mut self) -> i32
-        ensures { self.new.throws ≡ self.old.throws }
-    {
-        self.seed = self.seed.wrapping_mul(1_103_515_245).wrapping_add(12_345);
-        let face = (self.seed / 65_536 % 6) as u8;
-        i32::from(face) + 1
     }
 }
 
 impl TurnFn for Die {
-    ghost log = { λ die. die.throws.items };
+    ghost log = { λ die. die.noted.log };
+
+    ghost refusals = { λ die. die.noted.refusals };
 
     fn call(&mut self, stamp: u64, arguments: &[Value]) -> Result<Given, HostFault> {
-        let Ok(noted) = copied_values(self.alloc, arguments) else {
-            return Err(HostFault::OutOfMemory);
-        };
-        if self.throws.reserve(1).is_err() {
-            return Err(HostFault::OutOfMemory);
-        }
-        let gave = match arguments.first() {
-            Some(Value::Int(6)) => Some(Given::Int(self.throw())),
-            _ => None,
-        };
-        match gave {
-            Some(Given::Int(face)) => {
-                self.throws.push_reserved(Called {
-                    stamp,
-                    arguments: noted,
-                    gave: Some(Given::Int(face)),
-                });
-                Ok(Given::Int(face))
+        let call = self.noted.open(stamp, arguments)?;
+        match arguments.first() {
+            Some(Value::Int(6)) => {
+                self.seed = next_seed(self.seed);
+                self.noted.answer(call, Given::Int(face(self.seed)))
             }
-            _ => {
-                self.throws.push_reserved(Called {
-                    stamp,
-                    arguments: noted,
-                    gave: None,
-                });
-                Err(HostFault::Refused)
-            }
+            _ => Err(self.noted.refuse(call)),
         }
     }
+}
+
+/// What the die goes on with after a throw.
+fn next_seed(seed: u32) -> u32 {
+    seed.wrapping_mul(1_103_515_245).wrapping_add(12_345)
+}
+
+/// The throw, from 1 to 6.
+fn face(seed: u32) -> i32 {
+    let face = (seed / 65_536 % 6) as u8;
+    i32::from(face) + 1
 }
 
 /// A purse, which notes how much gold is in it whenever that has changed, and shows it.
@@ -102,9 +84,7 @@ pub(crate) struct Purse<R> {
 }
 
 impl<R: Print> Purse<R> {
-    pub(crate) fn new(alloc: Global, rt: R) -> Purse<R>
-        ensures { result.noted.resting ≡ true }
-    {
+    pub(crate) fn new(alloc: Global, rt: R) -> Purse<R> {
         Purse {
             rt,
             noted: Observer::new(alloc),
@@ -113,9 +93,7 @@ impl<R: Print> Purse<R> {
 }
 
 impl<R: Print> Watcher for Purse<R> {
-    ghost log = { λ purse. purse.noted.log };
-
-    ghost at_rest = { λ purse. purse.noted.resting };
+    ghost state = { λ purse. purse.noted };
 
     fn begin(&mut self) {
         self.noted.begin()

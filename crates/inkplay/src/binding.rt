@@ -1,9 +1,5 @@
 //! Objects for the program's words, on a desk (docs/PROGRAM.md).
 
-ghost use Rattle.std.specs.Prelude.{◌≡◌};
-ghost use Rattle.ink_host.specs.Desk.{Resting};
-ghost use Rattle.inkplay.specs.Rests.{rests};
-
 use crate::objects::{Row, Script, Table};
 use crate::options::{PlayOption, WordsRefused, read_options};
 use clap::ArgMatches;
@@ -21,8 +17,6 @@ pub(crate) fn bind_words(
     desk: &mut PlayDesk,
     matches: &ArgMatches<'_>,
 ) -> Result<(), WordsRefused>
-    requires { Resting rests desk.old.watchers }
-    ensures { Resting rests desk.new.watchers }
 {
     for option in read_options(alloc, matches)? {
         bind_option(alloc, desk, option)?;
@@ -35,8 +29,6 @@ fn bind_option(
     desk: &mut PlayDesk,
     option: PlayOption<'_>,
 ) -> Result<(), WordsRefused>
-    requires { Resting rests desk.old.watchers }
-    ensures { Resting rests desk.new.watchers }
 {
     match option {
         PlayOption::Answers { name, answers } => bind_script(alloc, desk, name, answers),
@@ -51,7 +43,6 @@ fn bind_script(
     name: &str,
     answers: Vec<Given>,
 ) -> Result<(), WordsRefused>
-    ensures { desk.new.watchers ≡ desk.old.watchers }
 {
     match desk.bind_turn(name, Script::new(alloc, answers)) {
         Ok(None) => Ok(()),
@@ -65,7 +56,6 @@ fn bind_table(
     name: &str,
     rows: Vec<Row>,
 ) -> Result<(), WordsRefused>
-    ensures { desk.new.watchers ≡ desk.old.watchers }
 {
     match desk.bind_pure(name, Table::new(alloc, rows)) {
         Ok(None) => Ok(()),
@@ -74,8 +64,6 @@ fn bind_table(
 }
 
 fn watch(alloc: Global, desk: &mut PlayDesk, name: &str) -> Result<(), WordsRefused>
-    requires { Resting rests desk.old.watchers }
-    ensures { Resting rests desk.new.watchers }
 {
     match desk.watch(name, Observer::new(alloc)) {
         Ok(None) => Ok(()),

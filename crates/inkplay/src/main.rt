@@ -3,9 +3,6 @@
 //! and watch globals (docs/PROGRAM.md).
 #![tactic(auto)]
 
-ghost use Rattle.ink_host.specs.Desk.{Resting};
-ghost use Rattle.inkplay.specs.Rests.{rests};
-
 mod binding;
 mod file;
 mod objects;
@@ -13,7 +10,7 @@ mod options;
 mod report;
 
 use binding::{PlayDesk, bind_words};
-use ink_player::{PlayEnd, PlayFault, Sink, Source, Watched, open_story, serve, serve_story};
+use ink_player::{PlayFault, Sink, Source, Watched, open_story, serve, serve_story};
 use options::command;
 use report::{refuse_file, refuse_words, tell};
 use std::alloc::Global;
@@ -38,7 +35,6 @@ fn main(rt: HostRuntime) -> ExitCode {
     };
     let mut desk = PlayDesk::new(alloc);
     if bind_words(alloc, &mut desk, &matches).is_err() {
-        let _objects = desk.close();
         return ExitCode::from(refuse_words(&rt));
     }
     let mut source = Watched::new(rt.reader());
@@ -63,17 +59,10 @@ fn serve_input<S: Source, T: Sink>(
     source: &mut S,
     sink: &mut T,
 ) -> u8
-    requires { Resting rests desk.watchers }
 {
     match serve_story(alloc, source, sink, desk) {
-        Ok(desk) => {
-            let _objects = desk.close();
-            SERVED
-        }
-        Err(PlayEnd { fault, desk }) => {
-            let _objects = desk.close();
-            tell(rt, &fault)
-        }
+        Ok(_desk) => SERVED,
+        Err(end) => tell(rt, &end.fault),
     }
 }
 
@@ -86,22 +75,15 @@ fn serve_file<S: Source, T: Sink>(
     source: &mut S,
     sink: &mut T,
 ) -> u8
-    requires { Resting rests desk.watchers }
 {
     let Ok(bytes) = file::read(rt, alloc, path) else {
-        let _objects = desk.close();
         return refuse_file(rt);
     };
     let mut player = match open_story(alloc, &bytes, desk) {
         Ok(player) => player,
-        Err(PlayEnd { fault, desk }) => {
-            let _objects = desk.close();
-            return tell(rt, &fault);
-        }
+        Err(end) => return tell(rt, &end.fault),
     };
-    let outcome = serve(alloc, source, sink, &mut player);
-    let _objects = player.close().close();
-    match outcome {
+    match serve(alloc, source, sink, &mut player) {
         Ok(()) => SERVED,
         Err(fault) => tell(rt, &PlayFault::Run(fault)),
     }

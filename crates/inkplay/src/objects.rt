@@ -4,7 +4,7 @@ ghost use Rattle.std.specs.Prelude.{◌≡◌, bytes_eq, option_map};
 ghost use Rattle.ink_protocol.specs.Answers.{values_text};
 ghost use Rattle.inkplay.specs.Tables.{answer_in};
 
-use ink_host::{Called, PureFn, TurnFn, copied_values};
+use ink_host::{PureFn, Recorder, TurnFn};
 use ink_model::{Given, HostFault, Text, Value};
 use ink_player::print_values;
 use std::alloc::Global;
@@ -14,7 +14,7 @@ use std::alloc::Global;
 pub(crate) struct Script {
     answers: Vec<Given>,
     next: usize,
-    calls: Vec<Called>,
+    noted: Recorder,
     alloc: Global,
 }
 
@@ -24,39 +24,27 @@ impl Script {
         Script {
             answers,
             next: 0,
-            calls: Vec::new(alloc),
+            noted: Recorder::new(alloc),
             alloc,
         }
     }
 }
 
 impl TurnFn for Script {
-    ghost log = { λ s. s.calls.items };
+    ghost log = { λ s. s.noted.log };
+
+    ghost refusals = { λ s. s.noted.refusals };
 
     fn call(&mut self, stamp: u64, arguments: &[Value]) -> Result<Given, HostFault> {
-        let Ok(noted) = copied_values(self.alloc, arguments) else {
-            return Err(HostFault::OutOfMemory);
-        };
-        if self.calls.reserve(1).is_err() {
-            return Err(HostFault::OutOfMemory);
-        }
+        let call = self.noted.open(stamp, arguments)?;
         let Some(given) = self.answers.get(self.next) else {
-            self.calls.push_reserved(Called {
-                stamp,
-                arguments: noted,
-                gave: None,
-            });
-            return Err(HostFault::Refused);
+            return Err(self.noted.refuse(call));
         };
-        let (Ok(answer), Ok(gave)) = (given.clone_in(self.alloc), given.clone_in(self.alloc)) else {
-            return Err(HostFault::OutOfMemory);
+        let Ok(given) = given.clone_in(self.alloc) else {
+            return Err(self.noted.lack());
         };
+        let answer = self.noted.answer(call, given)?;
         self.next += 1;
-        self.calls.push_reserved(Called {
-            stamp,
-            arguments: noted,
-            gave: Some(gave),
-        });
         Ok(answer)
     }
 }

@@ -3,22 +3,24 @@
 //! A question is words, done in turn on one player. A turn function, a pure function and a watcher are bound before them, and
 //! three others at the word `again`. The story calls `act`, asks `ask` and sets `gold`.
 //!
-//! - `through`, `restart`
+//! - `through`, `restart`; `short`, which is `through`, of which want of memory is an answer
 //! - `take_turn`, `take_pure`, `take_watcher`: takes an object away, and keeps it, as what was bound is kept at `again`
 //! - `forget`: lets go of what is kept
+//!
+//! Watchers find no memory where `short` is the first word. The question `order` is what two watchers do, of two globals that a
+//! story sets, in one list: `begin`, `told` and `end` with the name of the global.
 //!
 //! A turn function answers one call. The answer is that of each `through` and `restart`, as a player's; then how many turn
 //! functions, pure functions and watchers were let go, of how many there are, as `0/2 0/2 0/2`; and behind `|` the same once the
 //! player is closed.
 
-ghost use Rattle.std.specs.Prelude.{◌≡◌, true, IfOk, IfSome};
-ghost use Rattle.ink_player.specs.Words.{Idle, desk_of};
-
 use crate::objects::{Constant, Deed, Script, Witness};
-use crate::players::{done, passage};
-use ink_host::{Bound, HostDesk, PureBox, PureFn, TurnBox, TurnFn, Watcher, WatcherBox};
+use crate::players::{done, passage, passage_shortly};
+use ink_host::{
+    Bound, HostDesk, Observer, PureBox, PureFn, TurnBox, TurnFn, Watcher, WatcherBox,
+};
 use ink_model::{Given, HostFault, Value};
-use ink_player::{PlayEnd, Player, open_story};
+use ink_player::{Player, open_story};
 use inkcases::{Answer, NoAnswer, append, told};
 use std::alloc::{AllocError, Global};
 use std::cell::Cell;
@@ -55,15 +57,15 @@ impl<X: PureFn> PureFn for Counted<X> {
 impl<X: TurnFn> TurnFn for Counted<X> {
     ghost log = { λ c. X.log c.object };
 
+    ghost refusals = { λ c. X.refusals c.object };
+
     fn call(&mut self, stamp: u64, arguments: &[Value]) -> Result<Given, HostFault> {
         self.object.call(stamp, arguments)
     }
 }
 
 impl<X: Watcher> Watcher for Counted<X> {
-    ghost log = { λ c. X.log c.object };
-
-    ghost at_rest = { λ c. X.at_rest c.object };
+    ghost state = { λ c. X.state c.object };
 
     fn begin(&mut self) {
         self.object.begin()
@@ -95,7 +97,6 @@ impl Count {
 
     /// One object more of the kind.
     fn one<X: Drop>(&mut self, alloc: Global, object: X) -> Result<Box<Counted<X>>, NoAnswer>
-        ensures { IfOk result (λ counted. counted.value.object ≡ object) }
     {
         let gone = self.gone.clone()?;
         let counted = Box::new(alloc, Counted { object, gone })?;
@@ -110,7 +111,6 @@ struct Objects {
     turn: Box<Counted<Script>>,
     pure: Box<Counted<Constant>>,
     watcher: Box<Counted<Witness>>,
-    ghost rest: { watcher.value.object.noted.resting ≡ true },
 }
 
 /// How many there are of each kind.
@@ -131,14 +131,14 @@ impl Counts {
     }
 
     /// One object more of each kind.
-    fn objects(&mut self, alloc: Global) -> Result<Objects, NoAnswer> {
+    fn objects(&mut self, alloc: Global, finds_memory: bool) -> Result<Objects, NoAnswer> {
         let mut deeds = Vec::new(alloc);
         deeds.push(Deed::Gives(Given::Void))?;
         let turn = self.turns.one(alloc, Script::new(alloc, deeds))?;
         let pure = self
             .pures
             .one(alloc, Constant::new(alloc, Deed::Gives(Given::Void)))?;
-        let watcher = self.watchers.one(alloc, Witness::new(alloc, true))?;
+        let watcher = self.watchers.one(alloc, Witness::new(alloc, finds_memory))?;
         Ok(Objects {
             turn,
             pure,
@@ -169,7 +169,7 @@ impl Counts {
 #[derive(Drop)]
 struct Kept {
     functions: Vec<Bound<PureBox, TurnBox>>,
-    watchers: Vec<Box<dyn Watcher + Drop>>,
+    watchers: Vec<WatcherBox>,
 }
 
 impl Kept {
@@ -188,78 +188,39 @@ impl Kept {
     }
 
     fn keep_watcher(&mut self, watcher: Option<WatcherBox>) -> Result<(), NoAnswer>
-        requires { IfSome watcher (λ w. ⟦<WatcherBox as Watcher>⟧.at_rest w ≡ true) }
     {
         if let Some(watcher) = watcher {
-            self.watchers.push(watcher.into_box())?;
+            self.watchers.push(watcher)?;
         }
         Ok(())
     }
 
     fn forget(&mut self) {
-        for function in self.functions.drain(..) {
-            let_go(function);
-        }
+        self.functions.clear();
         self.watchers.clear();
-    }
-}
-
-fn let_go(function: Bound<PureBox, TurnBox>) {
-    match function {
-        Bound::Pure(function) => drop(function.into_box()),
-        Bound::Turn(function) => drop(function.into_box()),
     }
 }
 
 /// Does the words of a question, and tells what was let go.
 pub(crate) fn answer(alloc: Global, question: &str) -> Answer {
+    if question == "order" {
+        return told_in_order(alloc);
+    }
     let (words, more) = question.split_once("again").unwrap_or((question, ""));
+    let finds_memory = !words.starts_with("short");
     let mut counts = Counts::new(alloc)?;
-    let Objects {
-        turn,
-        pure,
-        watcher,
-    } = counts.objects(alloc)?;
-    let Objects {
-        turn: other_turn,
-        pure: other_pure,
-        watcher: other_watcher,
-    } = counts.objects(alloc)?;
-    let mut player = match open_story(alloc, STORY.as_bytes(), HostDesk::new(alloc)) {
-        Ok(player) => player,
-        Err(PlayEnd { fault: _, desk }) => {
-            desk.let_go();
-            return Err(NoAnswer::OutOfMemory);
-        }
-    };
+    let first = counts.objects(alloc, finds_memory)?;
+    let second = counts.objects(alloc, finds_memory)?;
+    let mut player = open_story(alloc, STORY.as_bytes(), HostDesk::new(alloc))?;
     let mut kept = Kept::new(alloc);
     let mut said = String::new(alloc);
-    let watcher = WatcherBox::new(watcher);
-    let other_watcher = WatcherBox::new(other_watcher);
-    let bound = bind(
-        &mut player,
-        &mut kept,
-        TurnBox::new(turn),
-        PureBox::new(pure),
-        watcher,
-    );
-    let played = play(alloc, &mut player, &mut kept, &mut said, words);
-    let bound_again = bind(
-        &mut player,
-        &mut kept,
-        TurnBox::new(other_turn),
-        PureBox::new(other_pure),
-        other_watcher,
-    );
-    let played_again = play(alloc, &mut player, &mut kept, &mut said, more);
-    let open = counts.shown(alloc);
-    player.close().let_go();
+    bind(&mut player, &mut kept, first.turn, first.pure, first.watcher)?;
+    play(alloc, &mut player, &mut kept, &mut said, words)?;
+    bind(&mut player, &mut kept, second.turn, second.pure, second.watcher)?;
+    play(alloc, &mut player, &mut kept, &mut said, more)?;
+    append(&mut said, &counts.shown(alloc)?)?;
+    drop(player);
     drop(kept);
-    bound?;
-    played?;
-    bound_again?;
-    played_again?;
-    append(&mut said, &open?)?;
     append(&mut said, "|")?;
     append(&mut said, &counts.shown(alloc)?)?;
     Ok(said)
@@ -273,9 +234,6 @@ fn bind(
     pure: PureBox,
     watcher: WatcherBox,
 ) -> Result<(), NoAnswer>
-    requires idle { Idle ⟦<WatcherBox as Watcher>⟧.at_rest (desk_of player.old) }
-    requires rest { ⟦<WatcherBox as Watcher>⟧.at_rest watcher ≡ true }
-    ensures { Idle ⟦<WatcherBox as Watcher>⟧.at_rest (desk_of player.new) }
 {
     bind_turn(player, kept, turn)?;
     bind_pure(player, kept, pure)?;
@@ -283,8 +241,6 @@ fn bind(
 }
 
 fn bind_turn(player: &mut BoxPlayer, kept: &mut Kept, function: TurnBox) -> Result<(), NoAnswer>
-    requires { Idle ⟦<WatcherBox as Watcher>⟧.at_rest (desk_of player.old) }
-    ensures { Idle ⟦<WatcherBox as Watcher>⟧.at_rest (desk_of player.new) }
 {
     match player.bind_turn("act", function) {
         Ok(was) => kept.keep_function(was),
@@ -293,8 +249,6 @@ fn bind_turn(player: &mut BoxPlayer, kept: &mut Kept, function: TurnBox) -> Resu
 }
 
 fn bind_pure(player: &mut BoxPlayer, kept: &mut Kept, function: PureBox) -> Result<(), NoAnswer>
-    requires { Idle ⟦<WatcherBox as Watcher>⟧.at_rest (desk_of player.old) }
-    ensures { Idle ⟦<WatcherBox as Watcher>⟧.at_rest (desk_of player.new) }
 {
     match player.bind_pure("ask", function) {
         Ok(was) => kept.keep_function(was),
@@ -303,9 +257,6 @@ fn bind_pure(player: &mut BoxPlayer, kept: &mut Kept, function: PureBox) -> Resu
 }
 
 fn watch(player: &mut BoxPlayer, kept: &mut Kept, watcher: WatcherBox) -> Result<(), NoAnswer>
-    requires idle { Idle ⟦<WatcherBox as Watcher>⟧.at_rest (desk_of player.old) }
-    requires rest { ⟦<WatcherBox as Watcher>⟧.at_rest watcher ≡ true }
-    ensures { Idle ⟦<WatcherBox as Watcher>⟧.at_rest (desk_of player.new) }
 {
     match player.watch("gold", watcher) {
         Ok(was) => kept.keep_watcher(was),
@@ -321,8 +272,6 @@ fn play(
     said: &mut String,
     words: &str,
 ) -> Result<(), NoAnswer>
-    requires { Idle ⟦<WatcherBox as Watcher>⟧.at_rest (desk_of player.old) }
-    ensures { Idle ⟦<WatcherBox as Watcher>⟧.at_rest (desk_of player.new) }
 {
     for word in words.split_whitespace() {
         call(alloc, player, kept, said, word)?;
@@ -338,11 +287,10 @@ fn call(
     said: &mut String,
     word: &str,
 ) -> Result<(), NoAnswer>
-    requires { Idle ⟦<WatcherBox as Watcher>⟧.at_rest (desk_of player.old) }
-    ensures { Idle ⟦<WatcherBox as Watcher>⟧.at_rest (desk_of player.new) }
 {
     match word {
         "through" => say(alloc, said, passage(alloc, player.through())),
+        "short" => say(alloc, said, passage_shortly(alloc, player.through())),
         "restart" => say(alloc, said, done(alloc, player.restart())),
         "take_turn" => kept.keep_function(player.unbind("act")),
         "take_pure" => kept.keep_function(player.unbind("ask")),
@@ -359,4 +307,93 @@ fn say(alloc: Global, said: &mut String, answer: Answer) -> Result<(), NoAnswer>
     let answer = told(alloc, answer)?;
     append(said, &answer)?;
     Ok(())
+}
+
+// ---- the order of a round
+
+/// A story that sets two globals.
+const TWO_GLOBALS: &str =
+    r##"{"inkVersion":21,"root":["ev",7,{"VAR=":"gold","re":true},8,{"VAR=":"silver","re":true},"/ev","done",{"global decl":["ev",5,{"VAR=":"gold"},6,{"VAR=":"silver"},"/ev","end",null]}]}"##;
+
+/// What watchers did, a digit for each deed, the first in front.
+type Deeds = Rc<Cell<u64>>;
+
+/// A watcher that writes down what it does: its first digit as it is begun, the next as it is told, the third as it is ended.
+#[derive(Drop)]
+struct Chronicler {
+    noted: Observer,
+    digit: u64,
+    deeds: Deeds,
+}
+
+impl Chronicler {
+    fn new(alloc: Global, digit: u64, deeds: &Deeds) -> Result<Chronicler, AllocError> {
+        Ok(Chronicler {
+            noted: Observer::new(alloc),
+            digit,
+            deeds: deeds.clone()?,
+        })
+    }
+
+    fn write(&self, step: u64) {
+        let digit = self.digit.saturating_add(step);
+        let deeds = self.deeds.get().saturating_mul(10);
+        self.deeds.set(deeds.saturating_add(digit));
+    }
+}
+
+impl Watcher for Chronicler {
+    ghost state = { λ c. c.noted };
+
+    fn begin(&mut self) {
+        self.write(0);
+        self.noted.begin()
+    }
+
+    fn changed(&mut self, stamp: u64, name: &str, value: &Value) -> Result<(), AllocError> {
+        self.write(1);
+        self.noted.changed(stamp, name, value)
+    }
+
+    fn end(&mut self) {
+        self.write(2);
+        self.noted.end()
+    }
+}
+
+/// What two watchers do, in order.
+fn told_in_order(alloc: Global) -> Answer {
+    let deeds: Deeds = Rc::new(alloc, Cell::new(0))?;
+    let gold: WatcherBox = Box::new(alloc, Chronicler::new(alloc, 1, &deeds)?)?;
+    let silver: WatcherBox = Box::new(alloc, Chronicler::new(alloc, 4, &deeds)?)?;
+    let mut desk = HostDesk::new(alloc);
+    watch_on(&mut desk, "silver", silver)?;
+    watch_on(&mut desk, "gold", gold)?;
+    let mut player = open_story(alloc, TWO_GLOBALS.as_bytes(), desk)?;
+    let _passage = player.through()?;
+    let mut said = String::new(alloc);
+    for digit in format!(in alloc; "{}", deeds.get())?.chars() {
+        append(&mut said, deed_of(digit))?;
+    }
+    Ok(said)
+}
+
+/// The deed of a digit.
+fn deed_of(digit: char) -> &'static str {
+    match digit {
+        '1' => "begin gold",
+        '2' => "told gold",
+        '3' => "end gold",
+        '4' => "begin silver",
+        '5' => "told silver",
+        '6' => "end silver",
+        _ => "nothing",
+    }
+}
+
+fn watch_on(desk: &mut HostDesk, name: &str, watcher: WatcherBox) -> Result<(), NoAnswer> {
+    match desk.watch(name, watcher) {
+        Ok(_) => Ok(()),
+        Err(_) => Err(NoAnswer::OutOfMemory),
+    }
 }

@@ -1,9 +1,8 @@
 //! The objects that tables bind to names. Each notes what was asked of it, and can refuse, or find no memory.
 
-ghost use Rattle.std.specs.Prelude.{◌≡◌, true};
 ghost use Rattle.playtest.specs.Deeds.{given_by};
 
-use ink_host::{Called, Observer, PureFn, TurnFn, Watcher, copied_values};
+use ink_host::{Observer, PureFn, Recorder, TurnFn, Watcher};
 use ink_model::{Given, HostFault, Value};
 use std::alloc::{AllocError, Global};
 
@@ -46,7 +45,7 @@ impl PureFn for Constant {
 /// A turn function that does one deed after another, and refuses once they are used up.
 #[derive(Drop)]
 pub(crate) struct Script {
-    pub calls: Vec<Called>,
+    pub noted: Recorder,
     deeds: Vec<Deed>,
     next: usize,
     alloc: Global,
@@ -55,7 +54,7 @@ pub(crate) struct Script {
 impl Script {
     pub(crate) fn new(alloc: Global, deeds: Vec<Deed>) -> Script {
         Script {
-            calls: Vec::new(alloc),
+            noted: Recorder::new(alloc),
             deeds,
             next: 0,
             alloc,
@@ -64,41 +63,21 @@ impl Script {
 }
 
 impl TurnFn for Script {
-    ghost log = { λ s. s.calls.items };
+    ghost log = { λ s. s.noted.log };
+
+    ghost refusals = { λ s. s.noted.refusals };
 
     fn call(&mut self, stamp: u64, arguments: &[Value]) -> Result<Given, HostFault> {
-        let Ok(arguments) = copied_values(self.alloc, arguments) else {
-            return Err(HostFault::OutOfMemory);
-        };
-        if self.calls.reserve(1).is_err() {
-            return Err(HostFault::OutOfMemory);
-        }
+        let call = self.noted.open(stamp, arguments)?;
         let turn = self.next;
         self.next = turn.saturating_add(1);
         match self.deeds.get(turn) {
-            Some(Deed::Gives(given)) => {
-                let (Ok(answer), Ok(gave)) = (
-                    given.clone_in(self.alloc),
-                    given.clone_in(self.alloc),
-                ) else {
-                    return Err(HostFault::OutOfMemory);
-                };
-                self.calls.push_reserved(Called {
-                    stamp,
-                    arguments,
-                    gave: Some(gave),
-                });
-                Ok(answer)
-            }
-            Some(Deed::FindsNoMemory) => Err(HostFault::OutOfMemory),
-            Some(Deed::Refuses) | None => {
-                self.calls.push_reserved(Called {
-                    stamp,
-                    arguments,
-                    gave: None,
-                });
-                Err(HostFault::Refused)
-            }
+            Some(Deed::Gives(given)) => match given.clone_in(self.alloc) {
+                Ok(given) => self.noted.answer(call, given),
+                Err(_) => Err(self.noted.lack()),
+            },
+            Some(Deed::FindsNoMemory) => Err(self.noted.lack()),
+            Some(Deed::Refuses) | None => Err(self.noted.refuse(call)),
         }
     }
 }
@@ -111,9 +90,7 @@ pub(crate) struct Witness {
 }
 
 impl Witness {
-    pub(crate) fn new(alloc: Global, finds_memory: bool) -> Witness
-        ensures { result.noted.resting ≡ true }
-    {
+    pub(crate) fn new(alloc: Global, finds_memory: bool) -> Witness {
         Witness {
             noted: Observer::new(alloc),
             finds_memory,
@@ -122,9 +99,7 @@ impl Witness {
 }
 
 impl Watcher for Witness {
-    ghost log = { λ w. w.noted.log };
-
-    ghost at_rest = { λ w. w.noted.resting };
+    ghost state = { λ w. w.noted };
 
     fn begin(&mut self) {
         self.noted.begin()
@@ -132,7 +107,7 @@ impl Watcher for Witness {
 
     fn changed(&mut self, stamp: u64, name: &str, value: &Value) -> Result<(), AllocError> {
         if !self.finds_memory {
-            return Err(AllocError);
+            return Err(self.noted.lack());
         }
         self.noted.changed(stamp, name, value)
     }

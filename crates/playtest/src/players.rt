@@ -13,16 +13,12 @@
 //! one that was refused, and `gold:7@1` a new value that was told. What is handed back is told with what it noted. Where memory is
 //! refused, the calls up to the next story are not made.
 
-ghost use Rattle.std.specs.Prelude.{◌≡◌, IfOk};
-ghost use Rattle.ink_player.specs.Words.{Idle, desk_of};
-ghost use Rattle.playtest.specs.Deeds.{rests};
-
 use crate::objects::{Constant, Deed, Script, Witness};
 use ink_check::{Story, check};
 use ink_host::{Called, Seen};
 use ink_json::read_story;
 use ink_model::{Event, Fault, Given, Halt, Passage, Refusal, Seq, Shared, Text, Value};
-use ink_player::{Bound, Desk, OpenFault, PlayEnd, PlayFault, Player, open_story};
+use ink_player::{Bound, Desk, Player, open_story};
 use inkcases::{
     Answer, NoAnswer, Table, Tally, Verdict, compared, encode, expanded, first_line, first_word,
     given_of, is_comment, question_and_answer, show_given, show_value, shown_value, text, value_of,
@@ -55,7 +51,6 @@ fn run_player(rt: &impl Print, alloc: Global, table: Table<'_>, case: Case<'_>, 
     match player_of(alloc, case.story) {
         Ok(mut player) => {
             call_player(rt, alloc, table, case, &mut player, tally);
-            let _objects = player.close().close();
         }
         Err(why) => call_none(rt, alloc, table, case, why, tally),
     }
@@ -70,8 +65,6 @@ fn call_player(
     player: &mut TestPlayer,
     tally: &mut Tally,
 )
-    requires { Idle rests (desk_of player.old) }
-    ensures { Idle rests (desk_of player.new) }
 {
     let mut is_out_of_memory = false;
     for line in case.calls.lines() {
@@ -117,8 +110,6 @@ fn verdict(
     player: &mut TestPlayer,
     line: &str,
 ) -> Result<Verdict, AllocError>
-    requires { Idle rests (desk_of player.old) }
-    ensures { Idle rests (desk_of player.new) }
 {
     let line = expanded(alloc, line)?;
     let (call, wanted) = question_and_answer(&line);
@@ -143,50 +134,19 @@ fn accepted(alloc: Global, story: &str) -> Result<Story, NoAnswer> {
 fn opened(alloc: Global, story: &str) -> Answer {
     let story = accepted(alloc, story)?;
     let desk: Desk<Constant, Script, Witness> = Desk::new(alloc);
-    match Player::open(alloc, story, desk) {
-        Ok(player) => {
-            let _objects = player.close().close();
-            text(alloc, "opened")
-        }
-        Err(
-            OpenFault {
-                fault,
-                story: _,
-                desk,
-            },
-        ) => {
-            let _objects = desk.close();
-            Err(NoAnswer::from(fault))
-        }
-    }
+    let _player = Player::open(alloc, story, desk)?;
+    text(alloc, "opened")
 }
 
 fn player_of(alloc: Global, story: &str) -> Result<TestPlayer, NoAnswer>
-    ensures { IfOk result (λ p. Idle rests (desk_of p)) }
 {
     let story = expanded(alloc, story)?;
-    match open_story(alloc, story.as_slice(), Desk::new(alloc)) {
-        Ok(player) => Ok(player),
-        Err(PlayEnd { fault, desk }) => {
-            let _objects = desk.close();
-            Err(why_not(fault))
-        }
-    }
-}
-
-fn why_not(fault: PlayFault) -> NoAnswer {
-    match fault {
-        PlayFault::Story(refusal) => NoAnswer::from(refusal),
-        PlayFault::Start(fault) => NoAnswer::from(fault),
-        PlayFault::Run(_) => NoAnswer::NoQuestion,
-    }
+    Ok(open_story(alloc, story.as_slice(), Desk::new(alloc))?)
 }
 
 // ---- calls of a player
 
 fn said(alloc: Global, player: &mut TestPlayer, call: &str) -> Answer
-    requires { Idle rests (desk_of player.old) }
-    ensures { Idle rests (desk_of player.new) }
 {
     let (word, rest) = first_word(call);
     match word {
@@ -275,7 +235,6 @@ fn choices(alloc: Global, player: &TestPlayer) -> Answer {
 }
 
 fn choose(alloc: Global, player: &mut TestPlayer, number: &str) -> Answer
-    ensures { desk_of player.new ≡ desk_of player.old }
 {
     match number.parse::<u32>() {
         Ok(number) => landed(alloc, player.choose(number)),
@@ -291,8 +250,6 @@ fn landed(alloc: Global, outcome: Result<(), Refusal>) -> Answer {
 }
 
 fn set(alloc: Global, player: &mut TestPlayer, rest: &str) -> Result<Outcome, NoAnswer>
-    requires { Idle rests (desk_of player.old) }
-    ensures { Idle rests (desk_of player.new) }
 {
     let (name, value) = first_word(rest);
     let value = given_of(value_of(alloc, value)?)?;
@@ -301,18 +258,20 @@ fn set(alloc: Global, player: &mut TestPlayer, rest: &str) -> Result<Outcome, No
 
 /// What a call says that may find no memory, which is an answer here.
 fn said_shortly(alloc: Global, player: &mut TestPlayer, call: &str) -> Answer
-    requires { Idle rests (desk_of player.old) }
-    ensures { Idle rests (desk_of player.new) }
 {
     let (word, rest) = first_word(call);
     match word {
-        "through" => match player.through() {
-            Err(halt) => fell_short(alloc, halt),
-            outcome => passage(alloc, outcome),
-        },
+        "through" => passage_shortly(alloc, player.through()),
         "restart" => done_shortly(alloc, player.restart()),
         "set" => done_shortly(alloc, set(alloc, player, rest)?),
         _ => Err(NoAnswer::NoQuestion),
+    }
+}
+
+pub(crate) fn passage_shortly(alloc: Global, outcome: Result<Passage, Halt>) -> Answer {
+    match outcome {
+        Err(halt) => fell_short(alloc, halt),
+        outcome => passage(alloc, outcome),
     }
 }
 
@@ -337,8 +296,6 @@ fn fell_short(alloc: Global, halt: Halt) -> Answer {
 // ---- objects
 
 fn bind_turn(alloc: Global, player: &mut TestPlayer, rest: &str) -> Answer
-    requires { Idle rests (desk_of player.old) }
-    ensures { Idle rests (desk_of player.new) }
 {
     let (name, words) = first_word(rest);
     let mut deeds = Vec::new(alloc);
@@ -352,8 +309,6 @@ fn bind_turn(alloc: Global, player: &mut TestPlayer, rest: &str) -> Answer
 }
 
 fn bind_pure(alloc: Global, player: &mut TestPlayer, rest: &str) -> Answer
-    requires { Idle rests (desk_of player.old) }
-    ensures { Idle rests (desk_of player.new) }
 {
     let (name, word) = first_word(rest);
     let deed = deed_of(alloc, word)?;
@@ -364,8 +319,6 @@ fn bind_pure(alloc: Global, player: &mut TestPlayer, rest: &str) -> Answer
 }
 
 fn watch(alloc: Global, player: &mut TestPlayer, rest: &str) -> Answer
-    requires { Idle rests (desk_of player.old) }
-    ensures { Idle rests (desk_of player.new) }
 {
     let (name, word) = first_word(rest);
     match player.watch(name, Witness::new(alloc, word != "short")) {
@@ -388,7 +341,7 @@ fn shown_function(alloc: Global, function: Option<Bound<Constant, Script>>) -> A
         Some(Bound::Pure(_)) => text(alloc, "pure"),
         Some(Bound::Turn(script)) => {
             let mut said = String::from_str(alloc, "turn")?;
-            for called in &script.calls {
+            for called in script.noted.calls() {
                 show_called(alloc, &mut said, called)?;
             }
             Ok(said)

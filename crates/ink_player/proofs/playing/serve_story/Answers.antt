@@ -24,7 +24,7 @@ returns-in-Ok-outcome-clause-plays g c =
       plays_on _ _ _ _ _ _ _ _ c.in-Whole.line.items c.in-Ok-open_story.player runs.0 _ _ c.new-ahead.ensures (rw c.in-Whole.is at c.in-Ok.ensures.gives)
           (opens_as _ _ (Ok c.in-Ok-open_story.player) c.deref.ensures.value c.in-Ok-open_story.ensures.opens)
           (runs_for _ _ _ runs.0 _ _ _ _ _ _ _ _ _ (ap (bindings g.P.PureFn.meaning) c.in-Ok-open_story.ensures.desk) runs.1),
-      inr (dealt-as g.F.TurnFn.log g.O.Watcher.state (anew c.args.desk) (desk_of c.in-Ok-open_story.player) c.close-desk.result (desk_of c.serve_lines-outcome.new.player) runs.0 c.in-Ok-open_story.ensures.desk (sym c.close-desk.ensures) runs.2),
+      inr (c.close-desk.ensures.taken, dealt-as g.F.TurnFn.log g.O.Watcher.state (anew c.args.desk) (desk_of c.in-Ok-open_story.player) c.close-desk.result (desk_of c.serve_lines-outcome.new.player) runs.0 c.in-Ok-open_story.ensures.desk (sym c.close-desk.ensures.desk) runs.2),
     )
 
 pub returns-in-Whole-clause-plays : goal.returns-in-Whole-clause-plays
@@ -34,7 +34,7 @@ returns-in-Whole-clause-plays g c =
       plays_short _ _ _ _ _ _ _ _ c.in-Whole.line.items c.in-Ok-open_story.player runs.0 _ c.in-Err-outcome.fault _ c.new-ahead.ensures (rw c.in-Whole.is at c.in-Ok.ensures.gives)
           (opens_as _ _ (Ok c.in-Ok-open_story.player) c.deref.ensures.value c.in-Ok-open_story.ensures.opens)
           (runs_for _ _ _ runs.0 _ _ _ _ _ _ _ _ _ (ap (bindings g.P.PureFn.meaning) c.in-Ok-open_story.ensures.desk) runs.1),
-      inr (dealt-as g.F.TurnFn.log g.O.Watcher.state (anew c.args.desk) (desk_of c.in-Ok-open_story.player) c.close-desk.result (desk_of c.serve_lines-outcome.new.player) runs.0 c.in-Ok-open_story.ensures.desk (sym c.close-desk.ensures) runs.2),
+      inr (c.close-desk.ensures.taken, dealt-as g.F.TurnFn.log g.O.Watcher.state (anew c.args.desk) (desk_of c.in-Ok-open_story.player) c.close-desk.result (desk_of c.serve_lines-outcome.new.player) runs.0 c.in-Ok-open_story.ensures.desk (sym c.close-desk.ensures.desk) runs.2),
     )
 
 pub returns-in-Ok-open_story-2-clause-plays : goal.returns-in-Ok-open_story-2-clause-plays
@@ -42,7 +42,7 @@ returns-in-Ok-open_story-2-clause-plays g c = (
   [],
   plays_last _ _ _ _ _ _ c.in-Last.line.items c.in-Ok-open_story-2.player _ c.new-ahead.ensures (rw c.in-Last.is at c.in-Ok.ensures.gives)
       (opens_as _ _ (Ok c.in-Ok-open_story-2.player) c.deref-in-Last.ensures.value c.in-Ok-open_story-2.ensures.opens),
-  inr (dealt-kept g.F.TurnFn.log g.O.Watcher.state (anew c.args.desk) c.close.result (c.close.ensures ∙ c.in-Ok-open_story-2.ensures.desk)),
+  inr (c.close.ensures.taken, dealt-kept g.F.TurnFn.log g.O.Watcher.state (anew c.args.desk) c.close.result (c.close.ensures.desk ∙ c.in-Ok-open_story-2.ensures.desk)),
 )
 
 pub returns-clause-plays : goal.returns-clause-plays

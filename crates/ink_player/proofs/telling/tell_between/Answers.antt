@@ -1,8 +1,6 @@
-use Rattle.std.proofs.Common.{◌∙◌, List, ap, filter, subst}
+use Rattle.std.proofs.Common.{◌∙◌, ap}
 use Rattle.ink_host.specs.Desk.{watches}
 use Rattle.ink_model.specs.Told.{told}
-use Rattle.ink_model.specs.declared.host.Change.{Change}
-use Rattle.ink_player.specs.Words.{TellsWatchers}
 use Rattle.ink_step.specs.Words.{globals_of}
 use Rattle.ink_player.proofs.Tellings.{tells-all}
 use Rattle.ink_player.proofs.telling.tell_between.Goals as goal

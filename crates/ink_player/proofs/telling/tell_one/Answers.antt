@@ -1,11 +1,9 @@
-use Rattle.std.proofs.Common.{◌∙◌, [], ◌∷◌, List, true, ap, filter, rules, subst, sym}
+use Rattle.std.proofs.Common.{◌∙◌, [], ◌∷◌, List, true, rules, subst, sym}
 use Rattle.ink_host.proofs.Laws.{grew-none}
 use Rattle.ink_host.specs.Desk.{Grew, watches}
 use Rattle.ink_host.specs.Telling.{IsRound, log_of}
-use Rattle.ink_model.specs.Told.{ToldAs, told}
-use Rattle.ink_model.specs.declared.host.Change.{Change}
+use Rattle.ink_model.specs.Told.{ToldAs}
 use Rattle.ink_model.specs.declared.host.Event.{Event}
-use Rattle.ink_player.specs.Words.{TellsWatchers}
 use Rattle.ink_step.specs.Words.{globals_of}
 use Rattle.ink_player.proofs.Tellings.{nobody-round, nobody-told, told-nothing, told-one, told-some, tells-all}
 use Rattle.ink_player.proofs.telling.tell_one.Goals as goal

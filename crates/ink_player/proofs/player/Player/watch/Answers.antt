@@ -1,4 +1,4 @@
-use Rattle.std.proofs.Common.{◌≡◌, IfSome, Option, ap, subst, sym, true}
+use Rattle.std.proofs.Common.{◌≡◌, IfSome, subst, sym, true}
 use Rattle.ink_host.specs.Desk.{Resting}
 use Rattle.ink_host.specs.Telling.{rests}
 use Rattle.ink_player.specs.Words.{desk_of}
