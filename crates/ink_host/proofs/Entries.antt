@@ -69,57 +69,6 @@ watched name (r ∷ rows) = by (bytes_eq name r.0) (watched name rows)
 abbrev pub desk_of : {P T W : Type 0} → Rows (Bound P T) → Rows W → List Event → ℕ → DeskView P T W
 desk_of fs ws es n = record { functions = fs; watchers = ws; events = es; next = n }
 
--- ---- rest
-
-module _ {W : Type 0} (at_rest : W → Bool) where
-  pub rest-put : (name : List ℕ) (w : W) (rows : Rows W) → at_rest w ≡ true → Resting at_rest rows → Resting at_rest (put name w rows)
-  rest-put name w [] h rest = (h, tt)
-  rest-put name w (r ∷ rows) h rest = by (bytes_eq name r.0) (rest-put name w rows h rest.1)
-    where
-      by : (b : Bool) → Resting at_rest (put name w rows) → Resting at_rest (if b then (r.0, w) ∷ rows else r ∷ put name w rows)
-      by true more = (h, rest.1)
-      by false more = (rest.0, more)
-
-  pub rest-without : (name : List ℕ) (rows : Rows W) → Resting at_rest rows → Resting at_rest (without name rows)
-  rest-without name [] rest = tt
-  rest-without name (r ∷ rows) rest = by (bytes_eq name r.0) (rest-without name rows rest.1)
-    where
-      by : (b : Bool) → Resting at_rest (without name rows) → Resting at_rest (if b then rows else r ∷ without name rows)
-      by true more = rest.1
-      by false more = (rest.0, more)
-
-  pub rest-at : (name : List ℕ) (rows : Rows W) (w : W) → Resting at_rest rows → at name rows ≡ Some w → at_rest w ≡ true
-  rest-at name [] w rest h = absurd (cc)
-  rest-at name (r ∷ rows) w rest h = by (bytes_eq name r.0) (rest-at name rows w rest.1) h
-    where
-      by : (b : Bool) → (at name rows ≡ Some w → at_rest w ≡ true) → (if b then Some r.1 else at name rows) ≡ Some w → at_rest w ≡ true
-      by true more k = let same : r.1 ≡ w = cc in ap at_rest (sym same) ∙ rest.0
-      by false more k = more k
-
-  pub rest-found : (o : Option W) (name : List ℕ) (rows : Rows W) → Resting at_rest rows → o ≡ at name rows → IfSome o (λ w. at_rest w ≡ true)
-  rest-found None name rows rest h = tt
-  rest-found (Some w) name rows rest h = rest-at name rows w rest (sym h)
-
-  pub rest-old : (o : Result (Option W) W) (name : List ℕ) (rows : Rows W) → Resting at_rest rows
-      → IfOk o (λ old. old ≡ at name rows) → IfOk o (λ old. IfSome old (λ w. at_rest w ≡ true))
-  rest-old (Ok old) name rows rest h = rest-found old name rows rest h
-  rest-old (Err w) name rows rest h = tt
-
-  pub rest-kept : (o : Result (Option W) W) (name : List ℕ) (w : W) (rows new : Rows W) → at_rest w ≡ true → Resting at_rest rows
-      → OnOk o (new ≡ put name w rows) → OnErr o (new ≡ rows) → Resting at_rest new
-  rest-kept (Ok old) name w rows new h rest ok err = let P : Rows W → Type 0 = λ rs. Resting at_rest rs in subst P (sym ok) (rest-put name w rows h rest)
-  rest-kept (Err back) name w rows new h rest ok err = let P : Rows W → Type 0 = λ rs. Resting at_rest rs in subst P (sym err) rest
-
-  pub rest-keeps : (o : Result (Option W) W) (name : List ℕ) (w : W) (old new : List (String Global × W)) → at_rest w ≡ true → Resting at_rest (rows_of old)
-      → OnOk o (rows_of new ≡ put name w (rows_of old)) → OnErr o (new ≡ old) → Resting at_rest (rows_of new)
-  rest-keeps (Ok was) name w old new h rest ok err = rest-kept (Ok was) name w (rows_of old) (rows_of new) h rest ok tt
-  rest-keeps (Err back) name w old new h rest ok err = rest-kept (Err back) name w (rows_of old) (rows_of new) h rest tt (ap rows_of err)
-
-  -- all but the last, and the last
-  pub rest_last : (es : List (String Global × W)) (e : String Global × W) → Resting at_rest (rows_of (es ++ e ∷ [])) → (at_rest e.1 ≡ true) × Resting at_rest (rows_of es)
-  rest_last [] e rest = (rest.0, tt)
-  rest_last (f ∷ es) e rest = let more = rest_last es e rest.1 in (more.0, (rest.0, more.1))
-
 -- ---- calls
 
 module _ {P T : Type 0} where

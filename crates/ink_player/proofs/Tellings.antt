@@ -228,9 +228,6 @@ module _ {P F O : Type 0} (turn_log : F → List Called) (state : O → Watching
   pub dealt-rest : (a b : DeskView P F O) (es : List Event) → Dealt turn_log state a es b → Resting (rests state) a.watchers → Resting (rests state) b.watchers
   dealt-rest a b es h = rounds-rest state h.1.0 a.watchers b.watchers h.1.1
 
-  pub once-rest : (cs : List Change) (a b : DeskView P F O) (es : List Event) → DealtOnce turn_log state cs a es b → Resting (rests state) a.watchers → Resting (rests state) b.watchers
-  once-rest cs a b es h = dealt-rest a b es (dealt-once cs a b es h)
-
   -- between desks that are the same
   pub dealt-as : (a a' b b' : DeskView P F O) (es : List Event) → a' ≡ a → b' ≡ b → Dealt turn_log state a' es b' → Dealt turn_log state a es b
   dealt-as a a' b b' es e k g = subst (λ x. Dealt turn_log state x es b) e (subst (λ x. Dealt turn_log state a' es x) k g)

@@ -58,8 +58,7 @@ fn serve_input<S: Source, T: Sink>(
     desk: PlayDesk,
     source: &mut S,
     sink: &mut T,
-) -> u8
-{
+) -> u8 {
     match serve_story(alloc, source, sink, desk) {
         Ok(_desk) => SERVED,
         Err(end) => tell(rt, &end.fault),
@@ -74,8 +73,7 @@ fn serve_file<S: Source, T: Sink>(
     desk: PlayDesk,
     source: &mut S,
     sink: &mut T,
-) -> u8
-{
+) -> u8 {
     let Ok(bytes) = file::read(rt, alloc, path) else {
         return refuse_file(rt);
     };

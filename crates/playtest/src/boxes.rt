@@ -16,9 +16,7 @@
 
 use crate::objects::{Constant, Deed, Script, Witness};
 use crate::players::{done, passage, passage_shortly};
-use ink_host::{
-    Bound, HostDesk, Observer, PureBox, PureFn, TurnBox, TurnFn, Watcher, WatcherBox,
-};
+use ink_host::{Bound, HostDesk, Observer, PureBox, PureFn, TurnBox, TurnFn, Watcher, WatcherBox};
 use ink_model::{Given, HostFault, Value};
 use ink_player::{Player, open_story};
 use inkcases::{Answer, NoAnswer, append, told};
@@ -96,8 +94,7 @@ impl Count {
     }
 
     /// One object more of the kind.
-    fn one<X: Drop>(&mut self, alloc: Global, object: X) -> Result<Box<Counted<X>>, NoAnswer>
-    {
+    fn one<X: Drop>(&mut self, alloc: Global, object: X) -> Result<Box<Counted<X>>, NoAnswer> {
         let gone = self.gone.clone()?;
         let counted = Box::new(alloc, Counted { object, gone })?;
         self.bound = self.bound.saturating_add(1);
@@ -187,8 +184,7 @@ impl Kept {
         Ok(())
     }
 
-    fn keep_watcher(&mut self, watcher: Option<WatcherBox>) -> Result<(), NoAnswer>
-    {
+    fn keep_watcher(&mut self, watcher: Option<WatcherBox>) -> Result<(), NoAnswer> {
         if let Some(watcher) = watcher {
             self.watchers.push(watcher)?;
         }
@@ -214,9 +210,21 @@ pub(crate) fn answer(alloc: Global, question: &str) -> Answer {
     let mut player = open_story(alloc, STORY.as_bytes(), HostDesk::new(alloc))?;
     let mut kept = Kept::new(alloc);
     let mut said = String::new(alloc);
-    bind(&mut player, &mut kept, first.turn, first.pure, first.watcher)?;
+    bind(
+        &mut player,
+        &mut kept,
+        first.turn,
+        first.pure,
+        first.watcher,
+    )?;
     play(alloc, &mut player, &mut kept, &mut said, words)?;
-    bind(&mut player, &mut kept, second.turn, second.pure, second.watcher)?;
+    bind(
+        &mut player,
+        &mut kept,
+        second.turn,
+        second.pure,
+        second.watcher,
+    )?;
     play(alloc, &mut player, &mut kept, &mut said, more)?;
     append(&mut said, &counts.shown(alloc)?)?;
     drop(player);
@@ -233,31 +241,27 @@ fn bind(
     turn: TurnBox,
     pure: PureBox,
     watcher: WatcherBox,
-) -> Result<(), NoAnswer>
-{
+) -> Result<(), NoAnswer> {
     bind_turn(player, kept, turn)?;
     bind_pure(player, kept, pure)?;
     watch(player, kept, watcher)
 }
 
-fn bind_turn(player: &mut BoxPlayer, kept: &mut Kept, function: TurnBox) -> Result<(), NoAnswer>
-{
+fn bind_turn(player: &mut BoxPlayer, kept: &mut Kept, function: TurnBox) -> Result<(), NoAnswer> {
     match player.bind_turn("act", function) {
         Ok(was) => kept.keep_function(was),
         Err(_) => Err(NoAnswer::OutOfMemory),
     }
 }
 
-fn bind_pure(player: &mut BoxPlayer, kept: &mut Kept, function: PureBox) -> Result<(), NoAnswer>
-{
+fn bind_pure(player: &mut BoxPlayer, kept: &mut Kept, function: PureBox) -> Result<(), NoAnswer> {
     match player.bind_pure("ask", function) {
         Ok(was) => kept.keep_function(was),
         Err(_) => Err(NoAnswer::OutOfMemory),
     }
 }
 
-fn watch(player: &mut BoxPlayer, kept: &mut Kept, watcher: WatcherBox) -> Result<(), NoAnswer>
-{
+fn watch(player: &mut BoxPlayer, kept: &mut Kept, watcher: WatcherBox) -> Result<(), NoAnswer> {
     match player.watch("gold", watcher) {
         Ok(was) => kept.keep_watcher(was),
         Err(_) => Err(NoAnswer::OutOfMemory),
@@ -271,8 +275,7 @@ fn play(
     kept: &mut Kept,
     said: &mut String,
     words: &str,
-) -> Result<(), NoAnswer>
-{
+) -> Result<(), NoAnswer> {
     for word in words.split_whitespace() {
         call(alloc, player, kept, said, word)?;
     }
@@ -286,8 +289,7 @@ fn call(
     kept: &mut Kept,
     said: &mut String,
     word: &str,
-) -> Result<(), NoAnswer>
-{
+) -> Result<(), NoAnswer> {
     match word {
         "through" => say(alloc, said, passage(alloc, player.through())),
         "short" => say(alloc, said, passage_shortly(alloc, player.through())),

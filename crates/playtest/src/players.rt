@@ -64,8 +64,7 @@ fn call_player(
     case: Case<'_>,
     player: &mut TestPlayer,
     tally: &mut Tally,
-)
-{
+) {
     let mut is_out_of_memory = false;
     for line in case.calls.lines() {
         if is_out_of_memory && !is_comment(line) {
@@ -109,8 +108,7 @@ fn verdict(
     story: &str,
     player: &mut TestPlayer,
     line: &str,
-) -> Result<Verdict, AllocError>
-{
+) -> Result<Verdict, AllocError> {
     let line = expanded(alloc, line)?;
     let (call, wanted) = question_and_answer(&line);
     if call == "opened" {
@@ -138,16 +136,14 @@ fn opened(alloc: Global, story: &str) -> Answer {
     text(alloc, "opened")
 }
 
-fn player_of(alloc: Global, story: &str) -> Result<TestPlayer, NoAnswer>
-{
+fn player_of(alloc: Global, story: &str) -> Result<TestPlayer, NoAnswer> {
     let story = expanded(alloc, story)?;
     Ok(open_story(alloc, story.as_slice(), Desk::new(alloc))?)
 }
 
 // ---- calls of a player
 
-fn said(alloc: Global, player: &mut TestPlayer, call: &str) -> Answer
-{
+fn said(alloc: Global, player: &mut TestPlayer, call: &str) -> Answer {
     let (word, rest) = first_word(call);
     match word {
         "through" => passage(alloc, player.through()),
@@ -234,8 +230,7 @@ fn choices(alloc: Global, player: &TestPlayer) -> Answer {
     Ok(said)
 }
 
-fn choose(alloc: Global, player: &mut TestPlayer, number: &str) -> Answer
-{
+fn choose(alloc: Global, player: &mut TestPlayer, number: &str) -> Answer {
     match number.parse::<u32>() {
         Ok(number) => landed(alloc, player.choose(number)),
         Err(_) => Err(NoAnswer::NoQuestion),
@@ -249,16 +244,14 @@ fn landed(alloc: Global, outcome: Result<(), Refusal>) -> Answer {
     }
 }
 
-fn set(alloc: Global, player: &mut TestPlayer, rest: &str) -> Result<Outcome, NoAnswer>
-{
+fn set(alloc: Global, player: &mut TestPlayer, rest: &str) -> Result<Outcome, NoAnswer> {
     let (name, value) = first_word(rest);
     let value = given_of(value_of(alloc, value)?)?;
     Ok(player.set(name, value))
 }
 
 /// What a call says that may find no memory, which is an answer here.
-fn said_shortly(alloc: Global, player: &mut TestPlayer, call: &str) -> Answer
-{
+fn said_shortly(alloc: Global, player: &mut TestPlayer, call: &str) -> Answer {
     let (word, rest) = first_word(call);
     match word {
         "through" => passage_shortly(alloc, player.through()),
@@ -295,8 +288,7 @@ fn fell_short(alloc: Global, halt: Halt) -> Answer {
 
 // ---- objects
 
-fn bind_turn(alloc: Global, player: &mut TestPlayer, rest: &str) -> Answer
-{
+fn bind_turn(alloc: Global, player: &mut TestPlayer, rest: &str) -> Answer {
     let (name, words) = first_word(rest);
     let mut deeds = Vec::new(alloc);
     for word in words.split_whitespace() {
@@ -308,8 +300,7 @@ fn bind_turn(alloc: Global, player: &mut TestPlayer, rest: &str) -> Answer
     }
 }
 
-fn bind_pure(alloc: Global, player: &mut TestPlayer, rest: &str) -> Answer
-{
+fn bind_pure(alloc: Global, player: &mut TestPlayer, rest: &str) -> Answer {
     let (name, word) = first_word(rest);
     let deed = deed_of(alloc, word)?;
     match player.bind_pure(name, Constant::new(alloc, deed)) {
@@ -318,8 +309,7 @@ fn bind_pure(alloc: Global, player: &mut TestPlayer, rest: &str) -> Answer
     }
 }
 
-fn watch(alloc: Global, player: &mut TestPlayer, rest: &str) -> Answer
-{
+fn watch(alloc: Global, player: &mut TestPlayer, rest: &str) -> Answer {
     let (name, word) = first_word(rest);
     match player.watch(name, Witness::new(alloc, word != "short")) {
         Ok(was) => shown_watcher(alloc, was),
