@@ -1,5 +1,5 @@
 -- The entries of a map as rows.
-use Rattle.std.proofs.Common.{◌≡◌, ◌∙◌, ap, refl, sym, ℕ, List, [], ◌∷◌, ◌++◌, Bool, true, false, cond, is_some, Option, Some, None, IfSome, Result, Ok, Err, OnOk, OnErr, IfOk, subst, String, Global, string_bytes, bytes_eq, if◌then◌else◌}
+use Rattle.std.proofs.Common.{◌≡◌, ◌∙◌, ap, refl, sym, ℕ, List, [], ◌∷◌, ◌++◌, Bool, true, false, cond, is_some, Option, Some, None, String, Global, string_bytes, bytes_eq, if◌then◌else◌}
 use Rattle.std.proofs.lemmas.List.{append-nil}
 use Rattle.std.proofs.lemmas.Slice.Eq.{bytes_eq-Decides}
 use Rattle.std.specs.Bool.{one_answer}
@@ -11,7 +11,7 @@ use Rattle.ink_model.specs.declared.host.Event.{Event}
 use Rattle.ink_model.specs.declared.host.Event.TheVariants.{Call}
 use Rattle.ink_model.specs.declared.host.Given.{Given}
 use Rattle.ink_model.specs.declared.value.Value.{Value}
-use Rattle.ink_host.specs.Desk.{DeskView, Resting, Rows, among, at, by_log, called, each, logs, names, noting, put, shown, without}
+use Rattle.ink_host.specs.Desk.{DeskView, Rows, among, at, by_log, called, each, logs, names, noting, put, shown, without}
 use Rattle.ink_host.specs.declared.objects.Bound.{Bound}
 use Rattle.ink_host.specs.declared.objects.Bound.TheVariants as bound
 use Rattle.ink_host.specs.declared.objects.Called.{Called}

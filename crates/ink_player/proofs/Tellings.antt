@@ -1,5 +1,5 @@
 -- What a command comes to that may call or tell the objects of a host.
-use Rattle.std.proofs.Common.{◌≡◌, ◌≢◌, ◌∙◌, ◌⊎◌, ap, sym, refl, subst, inl, inr, cond, ℕ, ℤ, List, [], ◌∷◌, ◌++◌, map, filter, length, Bool, true, false, bytes_eq, ◌&&◌, ◌||◌, if◌then◌else◌, Option, Some, None, IfSome, is_some, Result, Ok, Err, IfOk, OnOk, OnErr, is_ok, MatchBool, arith}
+use Rattle.std.proofs.Common.{◌≡◌, ◌≢◌, ◌∙◌, ap, sym, refl, subst, inl, inr, cond, ℕ, ℤ, List, [], ◌∷◌, ◌++◌, map, filter, length, Bool, true, false, bytes_eq, ◌&&◌, ◌||◌, if◌then◌else◌, Option, Some, None, IfSome, is_some, Result, Ok, Err, IfOk, OnOk, OnErr, is_ok, MatchBool}
 use Rattle.ink_host.specs.Desk.{DeskView, Grew, Resting, Rows, at, bound_by, each, put, watches, without}
 use Rattle.ink_host.specs.declared.objects.Called.{Called}
 use Rattle.ink_host.specs.Telling.{AreRounds, IsRound, Round, Stand, Watching, log_of, rests, round, rounds}
@@ -7,13 +7,13 @@ use Rattle.ink_host.proofs.Laws.{bound-same, grew-grew, grew-none, watches-same}
 use Rattle.ink_host.proofs.TellingLoops.{stand-round}
 use Rattle.ink_model.specs.Answer.{Reply, Acts, Breaks, Counts, Refuses, Tells, reply_of_visits}
 use Rattle.ink_model.specs.Configuration.{Configuration, can_go_on, settled, with_globals}
-use Rattle.ink_model.specs.Events.{Made, answers_of, calls}
+use Rattle.ink_model.specs.Events.{Made, calls}
 use Rattle.ink_model.specs.Host.{Bindings, value_given}
 use Rattle.ink_model.specs.Choices.{has_any}
 use Rattle.ink_model.specs.Passage.{passage, passage_asks}
 use Rattle.ink_model.specs.Run as run
 use Rattle.ink_model.specs.Session as rules
-use Rattle.ink_model.specs.Session.{BreaksBy, EndsAs, Keeps, Set, SetsIn, TellsDone, TellsOrKeeps, Through, condition_told, left_with, reply_told, settable, telling}
+use Rattle.ink_model.specs.Session.{BreaksBy, Keeps, Set, SetsIn, TellsDone, TellsOrKeeps, Through, condition_told, reply_told, settable, telling}
 use Rattle.ink_model.specs.State.{State, Condition, Ready, Broken, globals_of}
 use Rattle.ink_model.specs.Store.{Values, store, stored}
 use Rattle.ink_model.specs.Told.{ToldAs, change_of, is_other, is_told, told}
@@ -25,7 +25,6 @@ use Rattle.ink_model.specs.declared.fault.Refusal.TheVariants as refusal
 use Rattle.ink_model.specs.declared.host.Change.{Change}
 use Rattle.ink_model.specs.declared.host.Event.{Event}
 use Rattle.ink_model.specs.declared.host.Given.{Given}
-use Rattle.ink_model.specs.declared.limits.TheConstants.{MAX_STEPS}
 use Rattle.ink_model.specs.declared.passage.Passage.{Passage}
 use Rattle.ink_model.specs.declared.value.Value.{Value}
 use Rattle.ink_player.specs.Visits.{FindsVisits, TellsVisits}

@@ -1,5 +1,5 @@
 -- Where a host's path leads, and where memory is asked for to read it (docs/PROTOCOL.md, "Command lines").
-use Rattle.std.specs.Prelude.{◌≡◌, ◌⊎◌, ℕ, List, IsSome, Option, Some, None, Result, Ok, Err}
+use Rattle.std.specs.Prelude.{◌≡◌, ◌⊎◌, ℕ, List, IsSome, Some, None, Result, Ok, Err}
 use Rattle.ink_model.specs.Answer.{Reply}
 use Rattle.ink_model.specs.Choosing.{jump_place}
 use Rattle.ink_model.specs.Path.{read_path}

@@ -1,4 +1,3 @@
-use Rattle.std.proofs.Common.{refl}
 use Rattle.ink_step.proofs.Puts.{put_over_it, top_there}
 use Rattle.ink_step.proofs.operands.put_over.Goals as goal
 

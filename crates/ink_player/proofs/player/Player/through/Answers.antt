@@ -1,4 +1,4 @@
-use Rattle.std.proofs.Common.{◌≡◌, ◌≢◌, ◌∙◌, [], List, false, ap, filter, refl, subst, sym, Ok}
+use Rattle.std.proofs.Common.{◌≢◌, ◌∙◌, [], List, false, ap, filter, refl, subst, sym, Ok}
 use Rattle.ink_host.specs.Desk.{Rows, watches}
 use Rattle.ink_model.specs.Answer.{reply_of, reply_of_halt}
 use Rattle.ink_model.specs.Told.{told}

@@ -1,11 +1,11 @@
-use Rattle.std.proofs.Common.{◌≡◌, ◌≢◌, ◌<◌, ◌≤◌, ◌∙◌, ◌++◌, ◌∷◌, ℕ, Bool, Bor, List, [], Some, None, ap, arith, length, rules, sym}
+use Rattle.std.proofs.Common.{◌≡◌, ◌≢◌, ◌<◌, ◌≤◌, ◌∙◌, ◌++◌, ◌∷◌, ℕ, Bool, List, [], Some, None, ap, arith, length, rules, sym}
 use Rattle.std.proofs.lemmas.Bool.{eqb-true}
 use Rattle.std.proofs.lemmas.List.{append-nil, take_all}
 use Rattle.ink_host.specs.Desk.{watches}
 use Rattle.ink_model.specs.Store.{Values}
 use Rattle.ink_model.specs.Told.{told}
 use Rattle.ink_model.specs.declared.value.Value.{Value}
-use Rattle.ink_vars.specs.Changes.{Tracks, changed_numbers}
+use Rattle.ink_vars.specs.Changes.{Tracks}
 use Rattle.ink_vars.proofs.Noting.{on_error}
 use Rattle.ink_step.proofs.Telling.{told_at, told_changed, told_next, told_nobody, told_of_none, told_some_at, told_some_of, told_unchanged}
 use Rattle.ink_step.proofs.machine.Machine.told.Goals.{then-len-eq0-via-then-len-eq0, then-len-eq0-via-else-len-eq0+then-not-has_watchers, then-len-eq0-via-else-len-eq0+else-not-has_watchers+then-is_empty, in-Some+in_ok-change+in_ok-push, in_default}
