@@ -16,8 +16,7 @@ pub(crate) fn bind_words(
     alloc: Global,
     desk: &mut PlayDesk,
     matches: &ArgMatches<'_>,
-) -> Result<(), WordsRefused>
-{
+) -> Result<(), WordsRefused> {
     for option in read_options(alloc, matches)? {
         bind_option(alloc, desk, option)?;
     }
@@ -28,8 +27,7 @@ fn bind_option(
     alloc: Global,
     desk: &mut PlayDesk,
     option: PlayOption<'_>,
-) -> Result<(), WordsRefused>
-{
+) -> Result<(), WordsRefused> {
     match option {
         PlayOption::Answers { name, answers } => bind_script(alloc, desk, name, answers),
         PlayOption::Table { name, rows } => bind_table(alloc, desk, name, rows),
@@ -42,8 +40,7 @@ fn bind_script(
     desk: &mut PlayDesk,
     name: &str,
     answers: Vec<Given>,
-) -> Result<(), WordsRefused>
-{
+) -> Result<(), WordsRefused> {
     match desk.bind_turn(name, Script::new(alloc, answers)) {
         Ok(None) => Ok(()),
         Ok(Some(_)) | Err(_) => Err(WordsRefused),
@@ -55,16 +52,14 @@ fn bind_table(
     desk: &mut PlayDesk,
     name: &str,
     rows: Vec<Row>,
-) -> Result<(), WordsRefused>
-{
+) -> Result<(), WordsRefused> {
     match desk.bind_pure(name, Table::new(alloc, rows)) {
         Ok(None) => Ok(()),
         Ok(Some(_)) | Err(_) => Err(WordsRefused),
     }
 }
 
-fn watch(alloc: Global, desk: &mut PlayDesk, name: &str) -> Result<(), WordsRefused>
-{
+fn watch(alloc: Global, desk: &mut PlayDesk, name: &str) -> Result<(), WordsRefused> {
     match desk.watch(name, Observer::new(alloc)) {
         Ok(None) => Ok(()),
         Ok(Some(_)) | Err(_) => Err(WordsRefused),

@@ -59,8 +59,7 @@ fn serve_input<R: Read, W: Write>(
     desk: PlayDesk,
     reader: &mut R,
     writer: &mut W,
-) -> u8
-{
+) -> u8 {
     match play(alloc, reader, writer, desk) {
         Ok(_desk) => SERVED,
         Err(end) => tell(rt, &end.fault),
@@ -75,8 +74,7 @@ fn serve_file<R: Read, W: Write>(
     desk: PlayDesk,
     reader: &mut R,
     writer: &mut W,
-) -> u8
-{
+) -> u8 {
     let Ok(bytes) = file::read(rt, alloc, path) else {
         return refuse_file(rt);
     };
