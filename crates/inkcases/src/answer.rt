@@ -2,7 +2,6 @@
 
 use crate::tally::Verdict;
 use ink_model::{Cause, Fault, Halt, ReadRefusal, Refusal};
-use ink_player::{OpenFault, PlayEnd, PlayFault};
 use std::alloc::{AllocError, AllocFailed, Global};
 
 /// The answer to a question, as a table has it.
@@ -64,22 +63,6 @@ impl From<Halt> for NoAnswer {
             Halt::Refused(refusal) => NoAnswer::from(refusal),
             Halt::Fault { fault, events: _ } => NoAnswer::from(fault),
         }
-    }
-}
-
-impl<P: Drop, F: Drop, O: Drop> From<PlayEnd<P, F, O>> for NoAnswer {
-    fn from(end: PlayEnd<P, F, O>) -> NoAnswer {
-        match end.fault {
-            PlayFault::Story(refusal) => NoAnswer::from(refusal),
-            PlayFault::Start(fault) => NoAnswer::from(fault),
-            PlayFault::Run(_) => NoAnswer::NoQuestion,
-        }
-    }
-}
-
-impl<P: Drop, F: Drop, O: Drop> From<OpenFault<P, F, O>> for NoAnswer {
-    fn from(refused: OpenFault<P, F, O>) -> NoAnswer {
-        NoAnswer::from(refused.fault)
     }
 }
 

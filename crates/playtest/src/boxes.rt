@@ -15,7 +15,7 @@
 //! player is closed.
 
 use crate::objects::{Constant, Deed, Script, Witness};
-use crate::players::{done, passage, passage_shortly};
+use crate::players::{done, passage, passage_shortly, why_not};
 use ink_host::{Bound, HostDesk, Observer, PureBox, PureFn, TurnBox, TurnFn, Watcher, WatcherBox};
 use ink_model::{Given, HostFault, Value};
 use ink_player::{Player, open_story};
@@ -202,36 +202,88 @@ pub(crate) fn answer(alloc: Global, question: &str) -> Answer {
     if question == "order" {
         return told_in_order(alloc);
     }
-    let (words, more) = question.split_once("again").unwrap_or((question, ""));
-    let finds_memory = !words.starts_with("short");
     let mut counts = Counts::new(alloc)?;
-    let first = counts.objects(alloc, finds_memory)?;
-    let second = counts.objects(alloc, finds_memory)?;
-    let mut player = open_story(alloc, STORY.as_bytes(), HostDesk::new(alloc))?;
-    let mut kept = Kept::new(alloc);
     let mut said = String::new(alloc);
-    bind(
-        &mut player,
-        &mut kept,
-        first.turn,
-        first.pure,
-        first.watcher,
-    )?;
-    play(alloc, &mut player, &mut kept, &mut said, words)?;
-    bind(
-        &mut player,
-        &mut kept,
-        second.turn,
-        second.pure,
-        second.watcher,
-    )?;
-    play(alloc, &mut player, &mut kept, &mut said, more)?;
-    append(&mut said, &counts.shown(alloc)?)?;
-    drop(player);
-    drop(kept);
+    play_question(alloc, &mut counts, &mut said, question)?;
     append(&mut said, "|")?;
     append(&mut said, &counts.shown(alloc)?)?;
     Ok(said)
+}
+
+/// Does the words of a question on a player, which is closed at the end.
+fn play_question(
+    alloc: Global,
+    counts: &mut Counts,
+    said: &mut String,
+    question: &str,
+) -> Result<(), NoAnswer> {
+    let (words, more) = question.split_once("again").unwrap_or((question, ""));
+    let finds_memory = !words.starts_with("short");
+    let first = counts.objects(alloc, finds_memory)?;
+    let second = counts.objects(alloc, finds_memory)?;
+    let mut player = opened(alloc, STORY, HostDesk::new(alloc))?;
+    let mut kept = Kept::new(alloc);
+    let Objects {
+        turn,
+        pure,
+        watcher,
+    } = first;
+    let mut played = play_with(
+        alloc,
+        &mut player,
+        &mut kept,
+        said,
+        turn,
+        pure,
+        watcher,
+        words,
+    );
+    let Objects {
+        turn,
+        pure,
+        watcher,
+    } = second;
+    if played.is_ok() {
+        played = play_with(
+            alloc,
+            &mut player,
+            &mut kept,
+            said,
+            turn,
+            pure,
+            watcher,
+            more,
+        );
+    }
+    let counted = counts.shown(alloc);
+    drop(player);
+    drop(kept);
+    played?;
+    append(said, &counted?)?;
+    Ok(())
+}
+
+/// A player of a story.
+fn opened(alloc: Global, story: &str, desk: HostDesk) -> Result<BoxPlayer, NoAnswer> {
+    match open_story(alloc, story.as_bytes(), desk) {
+        Ok(player) => Ok(player),
+        Err(end) => Err(why_not(&end.fault)),
+    }
+}
+
+/// Binds an object of each kind, and does words.
+fn play_with(
+    alloc: Global,
+    player: &mut BoxPlayer,
+    kept: &mut Kept,
+    said: &mut String,
+    turn: TurnBox,
+    pure: PureBox,
+    watcher: WatcherBox,
+    words: &str,
+) -> Result<(), NoAnswer> {
+    bind(player, kept, turn, pure, watcher)?;
+    play(alloc, player, kept, said, words)
 }
 
 /// Binds an object of each kind, and keeps what was bound.
@@ -371,13 +423,19 @@ fn told_in_order(alloc: Global) -> Answer {
     let mut desk = HostDesk::new(alloc);
     watch_on(&mut desk, "silver", silver)?;
     watch_on(&mut desk, "gold", gold)?;
-    let mut player = open_story(alloc, TWO_GLOBALS.as_bytes(), desk)?;
-    let _passage = player.through()?;
+    play_through(alloc, desk)?;
     let mut said = String::new(alloc);
     for digit in format!(in alloc; "{}", deeds.get())?.chars() {
         append(&mut said, deed_of(digit))?;
     }
     Ok(said)
+}
+
+/// Plays the story of two globals to its stop.
+fn play_through(alloc: Global, desk: HostDesk) -> Result<(), NoAnswer> {
+    let mut player = opened(alloc, TWO_GLOBALS, desk)?;
+    let _passage = player.through()?;
+    Ok(())
 }
 
 /// The deed of a digit.

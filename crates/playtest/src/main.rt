@@ -67,7 +67,7 @@ impl Tables for Kind {
 
     fn run(&self, rt: &impl Print, alloc: Global, table: Table<'_>, tally: &mut Tally) {
         match self {
-            Kind::Boxes => run_lines(rt, alloc, &Boxes, table, tally),
+            Kind::Boxes => run_lines(rt, alloc, &InBoxes, table, tally),
             Kind::Players => run_players(rt, alloc, table, tally),
             Kind::Sessions => run_sessions(rt, alloc, table, tally),
         }
@@ -75,9 +75,9 @@ impl Tables for Kind {
 }
 
 /// Answers questions about objects in boxes.
-struct Boxes;
+struct InBoxes;
 
-impl Answers for Boxes {
+impl Answers for InBoxes {
     fn answer(&self, alloc: Global, _story: &str, question: &str) -> Answer {
         boxes::answer(alloc, question)
     }

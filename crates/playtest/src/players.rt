@@ -17,8 +17,8 @@ use crate::objects::{Constant, Deed, Script, Witness};
 use ink_check::{Story, check};
 use ink_host::{Called, Seen};
 use ink_json::read_story;
-use ink_model::{Event, Fault, Given, Halt, Passage, Refusal, Seq, Shared, Text, Value};
-use ink_player::{Bound, Desk, Player, open_story};
+use ink_model::{Cause, Event, Fault, Given, Halt, Passage, Refusal, Seq, Shared, Text, Value};
+use ink_player::{Bound, Desk, PlayFault, Player, open_story};
 use inkcases::{
     Answer, NoAnswer, Table, Tally, Verdict, compared, encode, expanded, first_line, first_word,
     given_of, is_comment, question_and_answer, show_given, show_value, shown_value, text, value_of,
@@ -132,13 +132,28 @@ fn accepted(alloc: Global, story: &str) -> Result<Story, NoAnswer> {
 fn opened(alloc: Global, story: &str) -> Answer {
     let story = accepted(alloc, story)?;
     let desk: Desk<Constant, Script, Witness> = Desk::new(alloc);
-    let _player = Player::open(alloc, story, desk)?;
-    text(alloc, "opened")
+    match Player::open(alloc, story, desk) {
+        Ok(_player) => text(alloc, "opened"),
+        Err(end) => Err(NoAnswer::from(end.fault)),
+    }
 }
 
 fn player_of(alloc: Global, story: &str) -> Result<TestPlayer, NoAnswer> {
     let story = expanded(alloc, story)?;
-    Ok(open_story(alloc, story.as_slice(), Desk::new(alloc))?)
+    match open_story(alloc, story.as_slice(), Desk::new(alloc)) {
+        Ok(player) => Ok(player),
+        Err(end) => Err(why_not(&end.fault)),
+    }
+}
+
+/// Why there is no player.
+pub(crate) fn why_not(fault: &PlayFault) -> NoAnswer {
+    match fault {
+        PlayFault::Story(refusal) if refusal.cause == Cause::OutOfMemory => NoAnswer::OutOfMemory,
+        PlayFault::Story(refusal) => NoAnswer::Unread(refusal.cause),
+        PlayFault::Start(fault) => NoAnswer::from(*fault),
+        PlayFault::Run(_) => NoAnswer::NoQuestion,
+    }
 }
 
 // ---- calls of a player
