@@ -18,7 +18,7 @@ use Rattle.ink_model.specs.Place.{knot, landed}
 use Rattle.ink_model.specs.Step.Host.{Acts, Asks, CallEffect, answering, arguments_of, arguments_on, arguments_taken, ask_pure, call_bound, fall_back, has_string, is_argument, or_fails}
 use Rattle.ink_model.specs.Tree.{StoryTree}
 use Rattle.ink_model.specs.declared.fault.Fault.{Fault}
-use Rattle.ink_model.specs.declared.fault.Fault.TheVariants.{BadOperands, HostRefused, OutOfMemory, StackEmpty, Unbound, UnsafeInString}
+use Rattle.ink_model.specs.declared.fault.Fault.TheVariants.{BadOperands, HostRefused, OutOfMemory, Unbound, UnsafeInString}
 use Rattle.ink_model.specs.declared.frame.FrameKind.TheVariants.{Function}
 use Rattle.ink_model.specs.declared.host.Event.{Event}
 use Rattle.ink_model.specs.declared.host.Event.TheVariants as event

@@ -6,7 +6,6 @@ use Rattle.ink_model.specs.Counts.{CountsOf}
 use Rattle.ink_model.specs.Effect.{Fields, Effect, Moves, Stores, Offers, Lands, Calls, Returns, Forks, Done, Ends, Fails, fields_of, with_fields, with_thread}
 use Rattle.ink_model.specs.Flow.{Written, Reached, Reaches, Halts, Breaks, called, depth_of, forked, halt, moved_on, reach, returned}
 use Rattle.ink_model.specs.Frames.{ThreadOf, ThreadsOf, base_threads, map_threads, mode_in, on_top}
-use Rattle.ink_model.specs.Memory.{asks}
 use Rattle.ink_model.specs.Move.{Outcome, Next, Stop, Faults, end_all, finish, going, landing, may_enter, move, place_to, reached_in, with_flow, written_in}
 use Rattle.ink_model.specs.MoveMemory.{flow_asks, move_asks, moved_asks}
 use Rattle.ink_model.specs.Place.{next_place}

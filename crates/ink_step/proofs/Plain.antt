@@ -1,5 +1,5 @@
 -- Effects that store nothing and offer nothing: those of control content, and of calls.
-use Rattle.std.proofs.Common.{◌≡◌, ap, refl, ℕ, ℤ, List, Bool, true, false, if◌then◌else◌, Option, Some, None, OnOk, Result, Ok, Err, reverse}
+use Rattle.std.proofs.Common.{◌≡◌, ap, refl, ℤ, List, Bool, true, false, if◌then◌else◌, Option, Some, None, OnOk, Result, Ok, Err, reverse}
 use Rattle.ink_model.specs.Configuration.{ChoiceOf}
 use Rattle.ink_model.specs.Effect.{Context, Fields, Effect, Stores, Offers, or_else, or_fault, pushing, writing, writing_text}
 use Rattle.ink_model.specs.Frames.{ThreadsOf, map_threads, mode_in, on_top}

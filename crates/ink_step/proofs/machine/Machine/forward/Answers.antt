@@ -10,7 +10,6 @@ use Rattle.ink_step.specs.Words.{config_of}
 use Rattle.ink_step.specs.declared.flow.StepEnd.TheVariants as ends
 use Rattle.ink_step.proofs.Follows.{stands_still}
 use Rattle.ink_step.proofs.Makes.{makes_plainly, makes_went}
-use Rattle.ink_step.proofs.machine.Machine.forward.Given as given
 use Rattle.ink_step.proofs.machine.Machine.forward.Goals as goal
 use Rattle.ink_tree.specs.Nodes.{place_of}
 

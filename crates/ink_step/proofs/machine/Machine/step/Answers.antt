@@ -1,14 +1,14 @@
-use Rattle.std.proofs.Common.{◌≡◌, ◌∙◌, rules, subst, sym, true, false, true≢false, [], Err, Ok}
+use Rattle.std.proofs.Common.{◌≡◌, ◌∙◌, subst, sym, true, false, true≢false, [], Ok}
 use Rattle.ink_check.specs.Words.{story_tree}
 use Rattle.ink_host.proofs.Laws.{grew-none}
 use Rattle.ink_host.specs.Desk.{bound_by}
 use Rattle.ink_host.specs.Telling.{log_of}
 use Rattle.ink_model.specs.Asks.{asks}
 use Rattle.ink_model.specs.Step.{step}
-use Rattle.ink_step.specs.Steps.{StepMakes, Steps, ended, wants}
+use Rattle.ink_step.specs.Steps.{Steps, wants}
 use Rattle.ink_step.specs.Words.{config_of}
 use Rattle.ink_step.specs.declared.flow.StepEnd.TheVariants as ends
-use Rattle.ink_step.proofs.Makes.{quieted, said}
+use Rattle.ink_step.proofs.Makes.{said}
 use Rattle.ink_step.proofs.machine.Machine.step.Given as given
 use Rattle.ink_step.proofs.machine.Machine.step.Goals as goal
 use Rattle.ink_step.proofs.machine.Machine.step.Goals.{After-forward, else-quiet-via-then-quiet+else-wants_call, else-quiet-via-else-quiet}
