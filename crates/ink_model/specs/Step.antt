@@ -57,7 +57,7 @@ control_effect s p seen control.Turns f = push_turns s seen f
 control_effect s p seen control.ReadCount f = push_read_count s seen f
 control_effect s p seen control.Visit f = push_visit s seen p f
 
--- of content that holds no other, at a place; a call of an external function is performed apart
+-- of content that holds no other, at a place. A call of an external function is performed apart (`performed`).
 abbrev pub leaf_effect : StoryTree → List Part → Context → Leaf → Fields → Effect
 leaf_effect s p seen (leaves.Text t) f = write_text t f
 leaf_effect s p seen leaves.Newline f = write_newline f
@@ -87,7 +87,7 @@ effect s p None seen f = Moves f
 effect s p (Some (container name flags content named)) seen f = Moves f
 effect s p (Some (leaf l)) seen f = leaf_effect s p seen l f
 
--- What a step comes to; or a turn function is to be called by a configuration, after which it has these fields, with the
+-- A step comes to an outcome; or a turn function is to be called by a configuration, after which it has these fields, with the
 -- arguments taken.
 pub data Stepped : Type 0 where
   Comes : (outcome : Outcome) → Stepped
@@ -101,7 +101,7 @@ abbrev pub call_made : StoryTree → CallEffect → Configuration → Stepped
 call_made s (Acts e) c = Comes (acted s e c)
 call_made s (Asks name arguments f) c = Wants name arguments f c
 
--- a call, or what else stands at a place, is performed
+-- what stands at a place is performed: a call, or other content
 abbrev pub performed : StoryTree → Bound → List Part → Option StoryTree → Option Call → Configuration → Stepped
 performed s b p found None c = Comes (acted s (effect s p found (context_of c) (fields_of c)) c)
 performed s b p found (Some k) c = call_made s (call_external s b k.name k.arguments k.conditional (fields_of c)) c

@@ -80,8 +80,8 @@ returns-in-Some-clause-step g c =
 
 pub returns-in-None-clause-step : goal.returns-in-None-clause-step
 returns-in-None-clause-step g c = (
-      [],
-      grew-none g.T.TurnFn.log (log_of g.W.Watcher.state) c.args.desk.now,
-      goes_in g (goal.at.returns-in-None-clause-step g c).In_ok-here None (sym c.external_in.ensures ∙ ap (option_map call_of) c.in-None.is) []
-          (config_of (story_tree c.args.story.now) c.act.new.self) c.act.result (refl, c.act.ensures.ends),
-    )
+  [],
+  grew-none g.T.TurnFn.log (log_of g.W.Watcher.state) c.args.desk.now,
+  goes_in g (goal.at.returns-in-None-clause-step g c).In_ok-here None (sym c.external_in.ensures ∙ ap (option_map call_of) c.in-None.is) []
+      (config_of (story_tree c.args.story.now) c.act.new.self) c.act.result (refl, c.act.ensures.ends),
+)
