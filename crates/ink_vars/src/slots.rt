@@ -11,10 +11,7 @@ use ink_model::MAX_COUNT;
 use std::alloc::{AllocError, Global};
 
 /// A copy of the rows, which takes memory only where there are some.
-pub(crate) fn copied(
-    alloc: Global,
-    slots: &[Option<u32>],
-) -> Result<Vec<Option<u32>>, AllocError>
+pub(crate) fn copied(alloc: Global, slots: &[Option<u32>]) -> Result<Vec<Option<u32>>, AllocError>
     ensures rows { IfOk result (λ copy. rows_from 0 copy.items ≡ rows_from 0 slots.now) }
     ensures memory { OnErr result (rows_from 0 slots.now ≢ []) }
     ensures counts { AreCounts slots.now → IfOk result (λ copy. AreCounts copy.items) }

@@ -1,4 +1,3 @@
-use Rattle.ink_model.specs.Mark.{tags}
 use Rattle.ink_step.specs.Words.{config_of}
 use Rattle.ink_step.proofs.Passages.{asks_choices, asks_tags, asks_text, on_error, passage_is}
 use Rattle.ink_step.proofs.machine.Machine.passage.Goals as goal

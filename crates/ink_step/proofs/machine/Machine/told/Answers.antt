@@ -1,4 +1,4 @@
-use Rattle.std.proofs.Common.{◌≡◌, ◌≢◌, ◌<◌, ◌≤◌, ◌∙◌, ◌++◌, ◌∷◌, ℕ, Bool, List, [], Some, None, ap, arith, length, rules, sym}
+use Rattle.std.proofs.Common.{◌≡◌, ◌≢◌, ◌<◌, ◌≤◌, ◌∙◌, ◌++◌, ◌∷◌, ℕ, List, [], Some, None, ap, arith, length, rules, sym}
 use Rattle.std.proofs.lemmas.List.{append-nil, take_all}
 use Rattle.ink_host.specs.Desk.{watches}
 use Rattle.ink_model.specs.Told.{told}
