@@ -1,7 +1,6 @@
 -- What is to be told of globals, one after another.
 use Rattle.std.proofs.Common.{◌≡◌, ◌≢◌, ◌∙◌, ◌++◌, ◌∷◌, ◌+◌, ◌&&◌, ◌<◌, ◌≤◌, ℕ, zero, suc, List, [], Bool, true, false, Option, Some, None, ap, append_assoc, arith, cond, drop, get_or, if◌then◌else◌, length, map, refl, slice_get, sym, take}
 use Rattle.std.proofs.lemmas.List.{append-nil, take-append-drop, take_all, take_more}
-use Rattle.std.proofs.lemmas.List.Sorted.{IsPermutation-refl}
 use Rattle.std.proofs.lemmas.Option.{get_or_from_slice_get, slice_get_within}
 use Rattle.std.specs.List.{filter}
 use Rattle.ink_model.specs.Store.{Values, stored}
@@ -9,10 +8,7 @@ use Rattle.ink_model.specs.Told.{change_of, is_other, is_told, told}
 use Rattle.ink_model.specs.declared.host.Change.{Change}
 use Rattle.ink_model.specs.declared.value.Value.{Value}
 use Rattle.ink_host.specs.Desk.{Rows, has_rows, watches}
-use Rattle.ink_vars.specs.Changes.{Tracks, changed_from, changed_numbers}
-use Rattle.ink_vars.specs.Globals.{DifferInName}
-use Rattle.ink_vars.specs.declared.changes.Before.{Before}
-use Rattle.ink_vars.proofs.Changing.{changed_are}
+use Rattle.ink_vars.specs.Changes.{changed_from, changed_numbers}
 
 -- ---- by numbers
 
@@ -74,22 +70,11 @@ module _ (now : Values) where
       added ∙ ap (λ cs. cs ++ told_one o) h ∙ ap (λ x. told_at (take i ns) ++ told_one x) (sym at) ∙ sym (told_more (take i ns) (get_or ns i 0))
       ∙ ap told_at (sym (take_more ns i 0 within))
 
-  -- where nothing was noted nothing has changed
-  pub told_unchanged : (watches : List ℕ → Bool) (start : Values) (noted : List Before) → Tracks start noted now → DifferInName now → length noted ≡ 0 → [] ≡ told watches start now
-  told_unchanged watches start [] tracks differ none =
-      ap told_at (changed_are watches start now [] [] [] tracks (λ i. refl) differ (IsPermutation-refl []) (λ k d low high. absurd (omega (arith, high)))) ∙ told_changed watches start
-  told_unchanged watches start (b ∷ noted) tracks differ none = absurd (omega (arith, none))
-
 -- where nobody watches nothing is told
 pub told_nobody : {W : Type 0} (rows : Rows W) (start now : Values) → has_rows rows ≡ false → [] ≡ told (watches rows) start now
 told_nobody {W} [] start [] h = refl
 told_nobody {W} [] start (e ∷ es) h = told_nobody {W = W} [] start es h
 told_nobody {W} (r ∷ rows) start now h = absurd (cc)
-
--- nor of no globals
-pub told_of_none : (watches : List ℕ → Bool) (start now : Values) → length now ≡ 0 → [] ≡ told watches start now
-told_of_none watches start [] h = refl
-told_of_none watches start (e ∷ es) h = absurd (omega (arith, h))
 
 -- ---- of two lists of globals
 

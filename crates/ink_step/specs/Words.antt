@@ -59,3 +59,7 @@ seen_by s threads rest = record {
 
 abbrev pub globals_of : Machine → Values
 globals_of m = m.shared.globals.rows
+
+-- the globals as they were when changes of them were counted from
+abbrev pub start_of : Machine → Values
+start_of m = m.shared.globals.start

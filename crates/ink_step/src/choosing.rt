@@ -7,7 +7,7 @@ ghost use Rattle.ink_model.specs.Configuration.{map_choice};
 ghost use Rattle.ink_model.specs.Tree.{StoryTree};
 ghost use Rattle.ink_model.specs.Visits.{entering_around, entering_asks};
 ghost use Rattle.ink_step.specs.Steps.{Chooses, StepEnds};
-ghost use Rattle.ink_step.specs.Words.{config_of};
+ghost use Rattle.ink_step.specs.Words.{config_of, start_of};
 ghost use Rattle.ink_tree.specs.Nodes.{place_of};
 
 use crate::counting::enter_landed;
@@ -27,7 +27,7 @@ impl Machine {
         ensures ends { let s = story_tree story.now in let c = config_of s self.old in let choice = default_choice c.flow.choices in
             StepEnds (default_asks s choice c) (stopped_by s choice c) self.old.shared.globals.rows (config_of s self.new) result }
         ensures globals { self.new.shared.globals.rows ≡ self.old.shared.globals.rows }
-        ensures changes { self.new.changes ≡ self.old.changes }
+        ensures start { start_of self.new ≡ start_of self.old }
     {
         if !self.flow.choices.only_invisible() {
             return Ok(StepEnd::Stopped);
@@ -48,7 +48,7 @@ impl Machine {
     fn take_up(&mut self, choice: Choice<Spot>)
         ensures taken { (s : StoryTree) → config_of s self.new ≡ taken_up (map_choice (place_of s) choice) (config_of s self.old) }
         ensures globals { self.new.shared.globals.rows ≡ self.old.shared.globals.rows }
-        ensures changes { self.new.changes ≡ self.old.changes }
+        ensures start { start_of self.new ≡ start_of self.old }
     {
         let Choice { target, thread, .. } = choice;
         self.flow.threads.replace(thread);

@@ -10,7 +10,7 @@ ghost use Rattle.ink_model.specs.Rows.{place_order};
 ghost use Rattle.ink_model.specs.Step.{gone_in};
 ghost use Rattle.ink_model.specs.Tree.{at};
 ghost use Rattle.ink_model.specs.Visits.{adds_rows, all_visited, around, entering_around};
-ghost use Rattle.ink_step.specs.Words.{config_of, counts_in};
+ghost use Rattle.ink_step.specs.Words.{config_of, counts_in, start_of};
 ghost use Rattle.ink_tree.specs.Kept.{leaf_in};
 ghost use Rattle.ink_tree.specs.Nodes.{node_place, place_of, story_tree};
 ghost use Rattle.ink_tree.specs.Walks.{still_entered};
@@ -158,7 +158,7 @@ impl Machine {
         ensures fault { IfErr result (λ f. f ≡ Fault.OutOfMemory) }
         ensures memory { let s = story_tree tree.now in OnErr result (going_in_asks s (place_of s place) (config_of s self.old) ≡ true) }
         ensures globals { self.new.shared.globals.rows ≡ self.old.shared.globals.rows }
-        ensures changes { self.new.changes ≡ self.old.changes }
+        ensures start { start_of self.new ≡ start_of self.old }
     {
         let Some(node) = tree.node(place) else {
             self.flow.threads.put(Some(place));
@@ -179,7 +179,7 @@ impl Machine {
             OnErr result ((enters && adds_rows s (around s c.flow.threads) c.shared.counts) ≡ true) }
         ensures kept { let s = story_tree tree.now in OnErr result (config_of s self.new ≡ config_of s self.old) }
         ensures globals { self.new.shared.globals.rows ≡ self.old.shared.globals.rows }
-        ensures changes { self.new.changes ≡ self.old.changes }
+        ensures start { start_of self.new ≡ start_of self.old }
     {
         match self.flow.threads.place() {
             Some(place) if enters => {

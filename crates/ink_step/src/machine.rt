@@ -5,7 +5,6 @@ ghost use Rattle.ink_model.specs.Configuration.{begun, settled, can_go_on, with_
 ghost use Rattle.ink_model.specs.Passage.{is_loose};
 ghost use Rattle.ink_model.specs.Store.{store, stored};
 ghost use Rattle.ink_model.specs.Tree.{StoryTree};
-ghost use Rattle.ink_vars.specs.Changes.{Tracks};
 
 use ink_choice::Choices;
 use ink_model::Value;
@@ -13,7 +12,7 @@ use ink_out::Output;
 use ink_stack::Threads;
 use ink_tree::Spot;
 use ink_value::EvalStack;
-use ink_vars::{Changes, Counts, Globals, Turn};
+use ink_vars::{Counts, Globals, Turn};
 use std::alloc::Global;
 
 /// A flow: where it is, what it evaluates, and what it offers.
@@ -34,13 +33,12 @@ pub struct Shared {
     pub turn: Turn,
 }
 
-/// What changes while a story runs: a configuration; and which globals were assigned since the last running command began.
+/// What changes while a story runs: a configuration; and what the globals were when the last running command began.
 #[derive(Drop)]
 pub struct Machine {
     pub(crate) flow: Flow,
     pub(crate) shared: Shared,
     pub(crate) output: Output,
-    pub(crate) changes: Changes,
     pub(crate) alloc: Global,
 }
 
@@ -63,7 +61,7 @@ impl Shared {
 }
 
 impl Machine {
-    ghost use Rattle.ink_step.specs.Words.{config_of, globals_of};
+    ghost use Rattle.ink_step.specs.Words.{config_of, globals_of, start_of};
 
     /// Whether flow has not stopped. Takes no memory.
     pub fn can_go_on(&self) -> bool
@@ -80,13 +78,13 @@ impl Machine {
     }
 
     /// Gives a global that is there a value, without memory. Where there is none nothing has changed, and the value is handed
-    /// back.
+    /// back. Changes of globals are those from now on.
     pub fn set(&mut self, name: &str, value: Value) -> Result<(), Value>
         ensures found { is_ok result ≡ is_some (stored name.now (globals_of self.old)) }
         ensures ok { (s : StoryTree) → OnOk result (config_of s self.new ≡ with_globals (store name.now value (globals_of self.old)) (config_of s self.old)) }
         ensures err { (s : StoryTree) → OnErr result (config_of s self.new ≡ config_of s self.old) }
         ensures handed_back { IfErr result (λ handed_back. handed_back ≡ value) }
-        ensures changes { self.new.changes ≡ self.old.changes }
+        ensures start { start_of self.new ≡ globals_of self.new }
     {
         self.shared.globals.replace(name, value)
     }
@@ -95,10 +93,10 @@ impl Machine {
     pub(crate) fn begin(&mut self)
         ensures begun { (s : StoryTree) → config_of s self.new ≡ begun (config_of s self.old) }
         ensures globals { globals_of self.new ≡ globals_of self.old }
-        ensures tracks { Tracks (globals_of self.new) self.new.changes self.new.shared.globals.rows }
+        ensures start { start_of self.new ≡ globals_of self.old }
     {
         self.flow.set_safe(false);
-        self.changes.start();
+        self.shared.globals.begin();
     }
 
     /// As a running command ends: the text was taken.
@@ -106,7 +104,7 @@ impl Machine {
     pub(crate) fn settle(&mut self)
         ensures settled { (s : StoryTree) → config_of s self.new ≡ settled (config_of s self.old) }
         ensures globals { globals_of self.new ≡ globals_of self.old }
-        ensures changes { self.new.changes ≡ self.old.changes }
+        ensures start { start_of self.new ≡ start_of self.old }
     {
         self.flow.threads.clear_numbers();
         self.flow.choices.clear_numbers();

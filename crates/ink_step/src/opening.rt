@@ -19,7 +19,7 @@ use ink_out::Output;
 use ink_stack::Threads;
 use ink_tree::Spot;
 use ink_value::EvalStack;
-use ink_vars::{Changes, Counts, Globals, Turn};
+use ink_vars::{Counts, Globals, Turn};
 use std::alloc::Global;
 
 /// Declarations that could not be run: why, and the globals as they stood before the step that faulted.
@@ -90,7 +90,6 @@ impl Machine {
                 turn: Turn::first(),
             },
             output: Output::new(alloc),
-            changes: Changes::new(alloc),
             alloc,
         }
     }

@@ -9,7 +9,7 @@ ghost use Rattle.ink_step.specs.Parts.{config_of_fields, config_of_parts};
 use crate::machine::{Flow, Machine, Shared};
 use ink_check::Story;
 use ink_out::Output;
-use ink_vars::{Changes, Globals};
+use ink_vars::Globals;
 use std::alloc::Global;
 
 /// All that a machine has, lent: what its configuration is made of.
@@ -57,7 +57,6 @@ impl Machine {
             flow: fields.flow,
             shared: fields.shared,
             output: fields.output,
-            changes: Changes::new(alloc),
             alloc,
         }
     }

@@ -6,11 +6,9 @@ ghost use Rattle.ink_host.specs.Desk.{Grew, bound_by};
 ghost use Rattle.ink_host.specs.Telling.{log_of};
 ghost use Rattle.ink_model.specs.Events.{Made, calls};
 ghost use Rattle.ink_model.specs.Passage.{passage, passage_asks};
-ghost use Rattle.ink_model.specs.Store.{Values};
 ghost use Rattle.ink_model.specs.Tree.{StoryTree};
 ghost use Rattle.ink_model.specs.Turns.{open_choices};
 ghost use Rattle.ink_step.specs.Runs.{AreBound, RunsThrough, RunsToStop};
-ghost use Rattle.ink_vars.specs.Changes.{Tracks};
 
 use crate::machine::Machine;
 use ink_check::Story;
@@ -19,7 +17,7 @@ use ink_model::{Fault, MAX_STEPS, Passage, Seq, Shown};
 use std::alloc::AllocError;
 
 impl Machine {
-    ghost use Rattle.ink_step.specs.Words.{config_of};
+    ghost use Rattle.ink_step.specs.Words.{config_of, globals_of, start_of};
 
     /// Runs to the stop and answers the passage, without its events. After a fault the machine is of no more use, but for its
     /// globals.
@@ -31,7 +29,7 @@ impl Machine {
         ensures runs { let s = story_tree story.now in let b = bound_by P.meaning desk.old.functions in
             (made : List Made) × Grew T.log (log_of W.state) desk.old (calls desk.old.next made) desk.new × RunsThrough s b (config_of s self.old) made (config_of s self.new) result }
         ensures watchers { desk.new.watchers ≡ desk.old.watchers }
-        ensures tracks { Tracks self.old.shared.globals.rows self.new.changes self.new.shared.globals.rows }
+        ensures start { start_of self.new ≡ globals_of self.old }
     {
         self.begin();
         self.run(story, desk)?;
@@ -49,7 +47,7 @@ impl Machine {
         ensures runs { let s = story_tree story.now in let b = bound_by P.meaning desk.old.functions in
             (made : List Made) × Grew T.log (log_of W.state) desk.old (calls desk.old.next made) desk.new × RunsToStop s b (config_of s self.old) made (config_of s self.new) result × AreBound b made }
         ensures watchers { desk.new.watchers ≡ desk.old.watchers }
-        ensures tracks { (start : Values) → Tracks start self.old.changes self.old.shared.globals.rows → Tracks start self.new.changes self.new.shared.globals.rows }
+        ensures start { start_of self.new ≡ start_of self.old }
     {
         for _step in 0..MAX_STEPS {
             if !self.forward(story, desk)? {

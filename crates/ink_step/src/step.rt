@@ -16,7 +16,6 @@ ghost use Rattle.ink_model.specs.MoveMemory.{landed_asks, move_asks, moved_asks,
 ghost use Rattle.ink_model.specs.Place.{next_place};
 ghost use Rattle.ink_model.specs.Step.{acted, call_made, control_effect, effect, leaf_effect, step};
 ghost use Rattle.ink_model.specs.Step.Host.{call_external};
-ghost use Rattle.ink_model.specs.Store.{Values};
 ghost use Rattle.ink_model.specs.Threads.{frame_count};
 ghost use Rattle.ink_model.specs.Tree.{StoryTree, at, leaf};
 ghost use Rattle.ink_model.specs.declared.host.Event.{Event as Happening};
@@ -24,12 +23,11 @@ ghost use Rattle.ink_model.specs.declared.limits.TheConstants.{MAX_FRAMES};
 ghost use Rattle.ink_step.specs.Performs.{Keeps, KeepsChoices, Performs, landing_of, leading, storing_in, unstored};
 ghost use Rattle.ink_step.specs.External.{call_of};
 ghost use Rattle.ink_step.specs.Steps.{Passes, StepEnds, StepMakes, Steps, ended, wants};
-ghost use Rattle.ink_step.specs.Words.{config_of};
+ghost use Rattle.ink_step.specs.Words.{config_of, globals_of, start_of};
 ghost use Rattle.ink_step.specs.declared.flow.StepEnd.TheVariants.{WantsCall, Went};
 ghost use Rattle.ink_step.specs.declared.machine.Machine.{Machine as Before};
 ghost use Rattle.ink_tree.specs.Kept.{leaf_in};
 ghost use Rattle.ink_tree.specs.Nodes.{place_of};
-ghost use Rattle.ink_vars.specs.Changes.{Tracks};
 
 use crate::diverting::{divert, number_of};
 use crate::evaluating::{begin_eval, duplicate, end_eval, operate, pop, push_target, push_value};
@@ -64,11 +62,11 @@ impl Machine {
         quiet: bool,
     ) -> Result<StepEnd, Fault>
         ensures step { let s = story_tree story.now in let b = bound_by P.meaning desk.old.functions in let c = config_of s self.old in
-            (es : List Happening) × Grew T.log (log_of W.state) desk.old es desk.new × Steps quiet s b desk.old.next (asks s b c) (step s b c) es self.old.shared.globals.rows c (config_of s self.new) result }
+            (es : List Happening) × Grew T.log (log_of W.state) desk.old es desk.new × Steps quiet s b desk.old.next (asks s b c) (step s b c) es (globals_of self.old) c (config_of s self.new) result }
         ensures watchers { desk.new.watchers ≡ desk.old.watchers }
         ensures machine { result ≡ Ok WantsCall → self.new ≡ self.old }
         ensures desk { result ≡ Ok WantsCall → desk.new ≡ desk.old }
-        ensures tracks { (start : Values) → Tracks start self.old.changes self.old.shared.globals.rows → Tracks start self.new.changes self.new.shared.globals.rows }
+        ensures start { start_of self.new ≡ start_of self.old }
     {
         if quiet && self.wants_call(story, desk) {
             return Ok(StepEnd::WantsCall);
@@ -90,7 +88,7 @@ impl Machine {
         ensures step { let s = story_tree story.now in let b = bound_by P.meaning desk.old.functions in let c = config_of s self.old in
             (es : List Happening) × Grew T.log (log_of W.state) desk.old es desk.new × StepMakes s b desk.old.next (asks s b c) (step s b c) es self.old.shared.globals.rows (config_of s self.new) (ended result) }
         ensures watchers { desk.new.watchers ≡ desk.old.watchers }
-        ensures tracks { (start : Values) → Tracks start self.old.changes self.old.shared.globals.rows → Tracks start self.new.changes self.new.shared.globals.rows }
+        ensures start { start_of self.new ≡ start_of self.old }
     {
         let Some(place) = self.flow.threads.place() else {
             return Ok(false);
@@ -116,7 +114,7 @@ impl Machine {
         ensures step { let s = story_tree story.now in let b = bound_by P.meaning desk.old.functions in let c = config_of s self.old in
             (es : List Happening) × Grew T.log (log_of W.state) desk.old es desk.new × StepMakes s b desk.old.next (asks s b c) (step s b c) es self.old.shared.globals.rows (config_of s self.new) result }
         ensures watchers { desk.new.watchers ≡ desk.old.watchers }
-        ensures tracks { (start : Values) → Tracks start self.old.changes self.old.shared.globals.rows → Tracks start self.new.changes self.new.shared.globals.rows }
+        ensures start { start_of self.new ≡ start_of self.old }
     {
         let (here, found) = self.go_in(story.tree(), place)?;
         match external_in(found) {
@@ -132,7 +130,7 @@ impl Machine {
         requires { self.old.flow.threads.threads.thread.frame.place ≡ Some place }
         ensures passes { (b : Bound) → let s = story_tree story.now in let c = config_of s self.old in Passes (asks s b c) (step s b c) self.old.shared.globals.rows (config_of s self.new) result }
         ensures kept { result ≡ Ok None → self.new ≡ self.old }
-        ensures tracks { (start : Values) → Tracks start self.old.changes self.old.shared.globals.rows → Tracks start self.new.changes self.new.shared.globals.rows }
+        ensures start { start_of self.new ≡ start_of self.old }
     {
         match story.tree().leaf_at(place) {
             Some(content) if !is_external(content) => {
@@ -175,7 +173,7 @@ impl Machine {
             (es : List Happening) × Grew T.log (log_of W.state) desk.old es desk.new
             × StepMakes s b desk.old.next (calling_asks s (external_asks (b k.name) k.arguments k.conditional (fields_of c)) called c) (call_made s called c) es self.old.shared.globals.rows (config_of s self.new) result }
         ensures watchers { desk.new.watchers ≡ desk.old.watchers }
-        ensures tracks { (start : Values) → Tracks start self.old.changes self.old.shared.globals.rows → Tracks start self.new.changes self.new.shared.globals.rows }
+        ensures start { start_of self.new ≡ start_of self.old }
     {
         let mut transfer = external::call_external(
             story,
@@ -194,7 +192,7 @@ impl Machine {
         ensures ends { let s = story_tree story.now in let p = place_of s here in let stands = option_map (λ l. leaf l.now) found.entry in let c = config_of s self.old in
             let e = effect s p stands (context_of c) (fields_of c) in
             StepEnds (acting_asks s (content_asks s p stands (context_of c) (fields_of c)) e c) (acted s e c) self.old.shared.globals.rows (config_of s self.new) result }
-        ensures tracks { (start : Values) → Tracks start self.old.changes self.old.shared.globals.rows → Tracks start self.new.changes self.new.shared.globals.rows }
+        ensures start { start_of self.new ≡ start_of self.old }
     {
         let mut transfer = Transfer::Next;
         self.perform(story, here, found, &mut transfer)?;
@@ -224,7 +222,7 @@ impl Machine {
         ensures ends { let s = story_tree story.now in let c = config_of s self.old in
             StepEnds (moved_asks (next_place s) c.flow.threads (written_in c)) (going (moved_on (next_place s)) c) self.old.shared.globals.rows (config_of s self.new) (Ok Went) }
         ensures globals { self.new.shared.globals.rows ≡ self.old.shared.globals.rows }
-        ensures changes { self.new.changes ≡ self.old.changes }
+        ensures start { start_of self.new ≡ start_of self.old }
     {
         move_to(story.tree(), &mut self.flow.threads, next);
     }
@@ -235,7 +233,7 @@ impl Machine {
         ensures ends { let s = story_tree story.now in (old : Before) (asks : Bool) (e : Effect) → Performs s asks e (fields_of (config_of s self.old)) (Ok transfer.old) → Keeps s e old.flow.threads.threads self.old.flow.threads.threads → KeepsChoices s e old.flow.choices.items self.old.flow.choices.items
             → self.old.flow.safe ≡ old.flow.safe → self.old.shared.counts.rows ≡ old.shared.counts.rows → self.old.shared.turn ≡ old.shared.turn → self.old.shared.globals.rows ≡ old.shared.globals.rows → let c = config_of s old in
             StepEnds ((asks || move_asks s e c) || following_asks s (moved s e c)) (following s (moved s e c)) old.shared.globals.rows (config_of s self.new) result }
-        ensures tracks { (start : Values) → Tracks start self.old.changes self.old.shared.globals.rows → Tracks start self.new.changes self.new.shared.globals.rows }
+        ensures start { start_of self.new ≡ start_of self.old }
     {
         let end = self.go(story, transfer)?;
         self.store(transfer, end)
@@ -248,7 +246,7 @@ impl Machine {
             → let o = moved s (unstored self.old.shared.globals.rows e) (config_of s self.old) in
             StepEnds ((asks || move_asks s e (config_of s self.old)) || following_asks s o) (following s o) self.old.shared.globals.rows (config_of s self.new) result }
         ensures globals { self.new.shared.globals.rows ≡ self.old.shared.globals.rows }
-        ensures changes { self.new.changes ≡ self.old.changes }
+        ensures start { start_of self.new ≡ start_of self.old }
     {
         match self.follow(story, transfer) {
             Ok(StepEnd::Stopped) => self.follow_default(story),
@@ -260,7 +258,7 @@ impl Machine {
     /// `OutOfMemory` for a refused request for memory, which leaves the globals as they were.
     #[inline(always)]
     fn store(&mut self, transfer: &mut Transfer<'_>, end: StepEnd) -> Result<StepEnd, Fault>
-        ensures tracks { (start : Values) → Tracks start self.old.changes self.old.shared.globals.rows → Tracks start self.new.changes self.new.shared.globals.rows }
+        ensures start { start_of self.new ≡ start_of self.old }
         ensures stored { (s : StoryTree) (asks whole : Bool) (e : Effect) (f : Fields) (o : Outcome) → (asks ≡ true → whole ≡ true) → f.globals ≡ self.old.shared.globals.rows → Performs s asks e f (Ok transfer.old)
             → StepEnds whole o self.old.shared.globals.rows (config_of s self.old) (Ok end) → StepEnds whole (storing_in e o) self.old.shared.globals.rows (config_of s self.new) result }
     {
@@ -268,8 +266,7 @@ impl Machine {
             Transfer::Store(to) => {
                 let value = mem::replace(&mut to.value, Value::Void);
                 let number = to.name.number();
-                self.changes
-                    .put(&mut self.shared.globals, to.name.as_str(), number, value)?;
+                self.shared.globals.put(to.name.as_str(), number, value)?;
                 Ok(end)
             }
             _ => Ok(end),
@@ -298,7 +295,7 @@ impl Machine {
         ensures turn { self.new.shared.turn ≡ self.old.shared.turn }
         ensures safe { self.new.flow.safe ≡ self.old.flow.safe }
         ensures globals { self.new.shared.globals.rows ≡ self.old.shared.globals.rows }
-        ensures changes { self.new.changes ≡ self.old.changes }
+        ensures start { start_of self.new ≡ start_of self.old }
     {
         match found {
             None => Ok(()),
@@ -327,7 +324,7 @@ impl Machine {
         ensures turn { self.new.shared.turn ≡ self.old.shared.turn }
         ensures safe { self.new.flow.safe ≡ self.old.flow.safe }
         ensures globals { self.new.shared.globals.rows ≡ self.old.shared.globals.rows }
-        ensures changes { self.new.changes ≡ self.old.changes }
+        ensures start { start_of self.new ≡ start_of self.old }
     {
         let evaluating = self.flow.threads.is_evaluating();
         match content {
@@ -467,7 +464,7 @@ impl Machine {
         ensures threads { self.new.flow.threads.threads ≡ on_top (mode_in self.new.flow.threads.threads.thread.frame.evaluating) self.old.flow.threads.threads }
         ensures safe { self.new.flow.safe ≡ self.old.flow.safe }
         ensures globals { self.new.shared.globals.rows ≡ self.old.shared.globals.rows }
-        ensures changes { self.new.changes ≡ self.old.changes }
+        ensures start { start_of self.new ≡ start_of self.old }
     {
         let mut evaluating = self.flow.threads.is_evaluating();
         let outcome = match control {
@@ -531,7 +528,7 @@ impl Machine {
         ensures ends { let s = story_tree story.now in (asks : Bool) (e : Effect) → Performs s asks e (fields_of (config_of s self.old)) (Ok transfer.now) → Keeps s e self.old.flow.threads.threads self.old.flow.threads.threads → KeepsChoices s e self.old.flow.choices.items self.old.flow.choices.items
             → StepEnds (asks || move_asks s e (config_of s self.old)) (moved s (unstored self.old.shared.globals.rows e) (config_of s self.old)) self.old.shared.globals.rows (config_of s self.new) result }
         ensures globals { self.new.shared.globals.rows ≡ self.old.shared.globals.rows }
-        ensures changes { self.new.changes ≡ self.old.changes }
+        ensures start { start_of self.new ≡ start_of self.old }
     {
         match transfer {
             Transfer::Next => self.go_on(story),
@@ -573,7 +570,7 @@ impl Machine {
         ensures ends { let s = story_tree story.now in let c = config_of s self.old in let how = reach (place_of s to.place) in
             StepEnds (landed_asks s to.enters c.shared.counts (how c.flow.threads (written_in c))) (landing s to.enters how c) self.old.shared.globals.rows (config_of s self.new) result }
         ensures globals { self.new.shared.globals.rows ≡ self.old.shared.globals.rows }
-        ensures changes { self.new.changes ≡ self.old.changes }
+        ensures start { start_of self.new ≡ start_of self.old }
     {
         let end = land(&mut self.flow.threads, to.place);
         self.enter_around(story.tree(), to.enters)?;
@@ -587,7 +584,7 @@ impl Machine {
             StepEnds (nat_lt (frame_count c.flow.threads.thread) MAX_FRAMES || landed_asks s to.enters c.shared.counts (how c.flow.threads (written_in c)))
             (landing s to.enters how c) self.old.shared.globals.rows (config_of s self.new) result }
         ensures globals { self.new.shared.globals.rows ≡ self.old.shared.globals.rows }
-        ensures changes { self.new.changes ≡ self.old.changes }
+        ensures start { start_of self.new ≡ start_of self.old }
     {
         let end = flow::call(&mut self.flow.threads, &mut self.output, kind, to.place)?;
         self.enter_around(story.tree(), to.enters)?;
@@ -606,7 +603,7 @@ impl Machine {
             StepEnds (returned_asks (next_place s) kind (place_to goal) c.flow.threads (written_in c) || landed_asks s (may_enter goal) c.shared.counts (how c.flow.threads (written_in c)))
             (landing s (may_enter goal) how c) self.old.shared.globals.rows (config_of s self.new) result }
         ensures globals { self.new.shared.globals.rows ≡ self.old.shared.globals.rows }
-        ensures changes { self.new.changes ≡ self.old.changes }
+        ensures start { start_of self.new ≡ start_of self.old }
     {
         let end = give_back(
             story.tree(),
@@ -626,7 +623,7 @@ impl Machine {
         ensures ends { let s = story_tree story.now in let c = config_of s self.old in
             StepEnds (moved_asks (next_place s) c.flow.threads (written_in c)) (going (moved_on (next_place s)) c) self.old.shared.globals.rows (config_of s self.new) result }
         ensures globals { self.new.shared.globals.rows ≡ self.old.shared.globals.rows }
-        ensures changes { self.new.changes ≡ self.old.changes }
+        ensures start { start_of self.new ≡ start_of self.old }
     {
         move_on(
             story.tree(),

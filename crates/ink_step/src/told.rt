@@ -2,34 +2,35 @@
 
 ghost use Rattle.std.specs.Prelude.{◌≡◌, ◌≢◌, [], IfOk, OnErr, option_map};
 ghost use Rattle.ink_host.specs.Desk.{watches};
-ghost use Rattle.ink_model.specs.Store.{Values};
 ghost use Rattle.ink_model.specs.Told.{is_other, told};
-ghost use Rattle.ink_vars.specs.Changes.{Tracks};
 
 use crate::machine::Machine;
 use ink_host::{Desk, PureFn, TurnFn, Watcher};
 use ink_model::{Change, Seq, Text, Value};
 use ink_value::same_value;
-use ink_vars::{Globals, changed};
+use ink_vars::Globals;
 use std::alloc::{AllocError, Global};
 
 impl Machine {
+    ghost use Rattle.ink_step.specs.Words.{globals_of, start_of};
+
     /// The watched globals that have another value than when the last running command began, or were not there then, in order of
     /// declaration. The one error is a refused request for memory, which is made only where there are such globals.
     pub fn told<P: PureFn, T: TurnFn, W: Watcher>(
         &self,
         desk: &Desk<P, T, W>,
     ) -> Result<Seq<Change>, AllocError>
-        ensures told { (start : Values) → Tracks start self.now.changes self.now.shared.globals.rows → IfOk result (λ changes. changes ≡ told (watches desk.now.watchers) start self.now.shared.globals.rows) }
-        ensures memory { (start : Values) → Tracks start self.now.changes self.now.shared.globals.rows → OnErr result (told (watches desk.now.watchers) start self.now.shared.globals.rows ≢ []) }
+        ensures told { IfOk result (λ changes. changes ≡ told (watches desk.now.watchers) (start_of self.now) (globals_of self.now)) }
+        ensures memory { OnErr result (told (watches desk.now.watchers) (start_of self.now) (globals_of self.now) ≢ []) }
     {
-        if self.shared.globals.len() == 0 || !desk.has_watchers() || self.changes.is_empty() {
+        if !desk.has_watchers() {
             return Ok(Seq::new(self.alloc));
         }
         let mut told = Vec::new(self.alloc);
-        let numbers = changed(self.alloc, &self.changes, &self.shared.globals, |name| {
-            desk.watches(name)
-        })?;
+        let numbers = self
+            .shared
+            .globals
+            .changed(self.alloc, |name| desk.watches(name))?;
         for number in &numbers {
             if let Some((name, value)) = self.shared.globals.pair(*number) {
                 told.push(change(self.alloc, name, value)?)?;

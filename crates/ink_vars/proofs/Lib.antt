@@ -7,3 +7,4 @@ pub mod Marking
 pub mod Numbers
 pub mod Noting
 pub mod Changing
+pub mod Fitting

@@ -1,13 +1,13 @@
 //! Which globals were assigned since a moment, and what they were then.
 
-ghost use Rattle.std.specs.Prelude.{◌≡◌, ◌==◌, ◌≢◌, ◌<◌, ◌⊎◌, ◌++◌, ◌∷◌, ℕ, List, [], Bool, false, true, None, is_some, length, nat_eq, slice_get, slice_index_or, IfOk, OnOk, OnErr};
+ghost use Rattle.std.specs.Prelude.{◌≡◌, ◌≢◌, ◌<◌, ◌⊎◌, ◌++◌, ◌∷◌, ℕ, List, [], Bool, false, true, None, is_some, length, nat_eq, slice_get, slice_index_or, IfOk, OnOk, OnErr};
 ghost use Rattle.std.specs.List.{IsDistinct};
 ghost use Rattle.std.specs.Option.{option_copied};
 ghost use Rattle.ink_model.specs.Store.{Values, store, stored};
 ghost use Rattle.ink_model.specs.declared.value.Value.{Value};
 ghost use Rattle.ink_vars.specs.Changes.{AnswersAs, Marks, Tracks, changed_numbers, changed_to, noted_at, number_of, with_noted};
 
-use crate::globals::Globals;
+use crate::table::Table;
 use ink_model::Value;
 use ink_value::same_value;
 use std::alloc::{AllocError, Global};
@@ -15,7 +15,7 @@ use std::marker::Model;
 
 /// What a global was, by its number in order of declaration: nothing where it was not there.
 #[derive(Drop)]
-pub struct Before {
+pub(crate) struct Before {
     number: usize,
     value: Option<Value>,
 }
@@ -23,7 +23,7 @@ pub struct Before {
 /// Which globals were assigned since a moment, and what they were then. Noting one that was noted costs no memory, and a
 /// new moment costs what was noted since the last, however many globals there are. A contract sees what was noted, in order.
 #[derive(Drop)]
-pub struct Changes {
+pub(crate) struct Changes {
     noted: Vec<Before>,
     marked: Vec<bool>,
     alloc: Global,
@@ -43,7 +43,7 @@ impl Model for Changes {
 
 impl Changes {
     /// Nothing was assigned, which takes no memory.
-    pub fn new(alloc: Global) -> Changes
+    pub(crate) fn new(alloc: Global) -> Changes
         ensures { result ≡ [] }
     {
         Changes {
@@ -53,28 +53,8 @@ impl Changes {
         }
     }
 
-    /// A copy. The one error is a refused request for memory, which is never made where nothing was noted.
-    pub fn clone_in(&self, alloc: Global) -> Result<Changes, AllocError>
-        ensures copy { IfOk result (λ copy. copy ≡ self.now) }
-        ensures memory { OnErr result (self.now ≢ []) }
-    {
-        let mut copy = Changes::new(alloc);
-        for before in &self.noted {
-            let value = copied(alloc, before.value.as_ref())?;
-            copy.add(before.number, value)?;
-        }
-        Ok(copy)
-    }
-
-    /// Whether nothing was noted. Takes no memory.
-    pub fn is_empty(&self) -> bool
-        ensures { result ≡ (length self.now == 0) }
-    {
-        self.noted.is_empty()
-    }
-
     /// Forgets all: from now on, changes are those since this moment. Takes no memory.
-    pub fn start(&mut self)
+    pub(crate) fn start(&mut self)
         ensures none { self.new ≡ [] }
         ensures tracks { (now : Values) → Tracks now self.new now }
     {
@@ -85,17 +65,17 @@ impl Changes {
     /// Notes what the global of a name is, which may have a number, where it was not noted since the moment; called before it is
     /// put. The one error is a refused request for memory, which is made only for the first note of a global, and leaves all as
     /// it was.
-    pub fn note(
+    pub(crate) fn note(
         &mut self,
-        globals: &Globals,
+        globals: &Table,
         name: &str,
         number: Option<usize>,
     ) -> Result<(), AllocError>
-        ensures ok { OnOk result (self.new ≡ with_noted name.now globals.now.rows self.old) }
+        ensures ok { OnOk result (self.new ≡ with_noted name.now globals.now self.old) }
         ensures err { OnErr result (self.new ≡ self.old) }
-        ensures memory { OnErr result (noted_at (number_of name.now globals.now.rows) self.old ≡ None) }
-        ensures tracks { (start : Values) → Tracks start self.old globals.now.rows → Tracks start self.new globals.now.rows }
-        ensures stored { OnOk result ((start : Values) (value : Value) → Tracks start self.old globals.now.rows → Tracks start self.new (store name.now value globals.now.rows)) }
+        ensures memory { OnErr result (noted_at (number_of name.now globals.now) self.old ≡ None) }
+        ensures tracks { (start : Values) → Tracks start self.old globals.now → Tracks start self.new globals.now }
+        ensures stored { OnOk result ((start : Values) (value : Value) → Tracks start self.old globals.now → Tracks start self.new (store name.now value globals.now)) }
     {
         let place = globals.number_at(name, number);
         if is_marked(&self.marked, place) {
@@ -108,18 +88,18 @@ impl Changes {
     /// Gives the global of a name, which may have a number, a value, and notes before what it was, where that was not noted
     /// since the moment. The one error is a refused request for memory, which is made only for the first note of a global, and
     /// for a new one, and leaves the globals as they were.
-    pub fn put(
+    pub(crate) fn put(
         &mut self,
-        globals: &mut Globals,
+        globals: &mut Table,
         name: &str,
         number: Option<usize>,
         value: Value,
     ) -> Result<(), AllocError>
-        ensures ok { OnOk result (globals.new.rows ≡ store name.now value globals.old.rows) }
-        ensures noted { OnOk result (self.new ≡ with_noted name.now globals.old.rows self.old) }
-        ensures err { OnErr result (globals.new.rows ≡ globals.old.rows) }
-        ensures memory { OnErr result ((noted_at (number_of name.now globals.old.rows) self.old ≡ None) ⊎ (is_some (stored name.now globals.old.rows) ≡ false)) }
-        ensures tracks { (start : Values) → Tracks start self.old globals.old.rows → Tracks start self.new globals.new.rows }
+        ensures ok { OnOk result (globals.new ≡ store name.now value globals.old) }
+        ensures noted { OnOk result (self.new ≡ with_noted name.now globals.old self.old) }
+        ensures err { OnErr result (globals.new ≡ globals.old) }
+        ensures memory { OnErr result ((noted_at (number_of name.now globals.old) self.old ≡ None) ⊎ (is_some (stored name.now globals.old) ≡ false)) }
+        ensures tracks { (start : Values) → Tracks start self.old globals.old → Tracks start self.new globals.new }
     {
         if let Some((index, _)) = globals.found(name, number) {
             if is_marked(&self.marked, index) {
@@ -145,16 +125,16 @@ impl Changes {
 
 /// The numbers of the globals that are wanted, by their names, and were not there at the moment, or had another value, in order of
 /// declaration. The one error is a refused request for memory, which is made only where there are such globals.
-pub fn changed<F: Fn(&str) -> bool>(
+pub(crate) fn changed<F: Fn(&str) -> bool>(
     alloc: Global,
     changes: &Changes,
-    globals: &Globals,
+    globals: &Table,
     is_wanted: F,
 ) -> Result<Vec<usize>, AllocError>
     requires { F.IsAlwaysCallable is_wanted }
-    ensures numbers { (wanted : List ℕ → Bool) (start : Values) → AnswersAs (F.post is_wanted) wanted → Tracks start changes.now globals.now.rows → IfOk result (λ numbers. numbers.items ≡ changed_numbers wanted start globals.now.rows) }
+    ensures numbers { (wanted : List ℕ → Bool) (start : Values) → AnswersAs (F.post is_wanted) wanted → Tracks start changes.now globals.now → IfOk result (λ numbers. numbers.items ≡ changed_numbers wanted start globals.now) }
     ensures once { (wanted : List ℕ → Bool) → AnswersAs (F.post is_wanted) wanted → IfOk result (λ numbers. IsDistinct nat_eq numbers.items) }
-    ensures memory { (wanted : List ℕ → Bool) (start : Values) → AnswersAs (F.post is_wanted) wanted → Tracks start changes.now globals.now.rows → OnErr result (changed_numbers wanted start globals.now.rows ≢ []) }
+    ensures memory { (wanted : List ℕ → Bool) (start : Values) → AnswersAs (F.post is_wanted) wanted → Tracks start changes.now globals.now → OnErr result (changed_numbers wanted start globals.now ≢ []) }
 {
     let there = globals.len();
     let mut numbers = Vec::new(alloc);
@@ -168,9 +148,9 @@ pub fn changed<F: Fn(&str) -> bool>(
 }
 
 // Whether a global is there now that is wanted, and was not there, or was another value.
-fn has_changed<F: Fn(&str) -> bool>(before: &Before, globals: &Globals, is_wanted: &F) -> bool
+fn has_changed<F: Fn(&str) -> bool>(before: &Before, globals: &Table, is_wanted: &F) -> bool
     requires { F.IsAlwaysCallable is_wanted.now }
-    ensures { (wanted : List ℕ → Bool) → AnswersAs (F.post is_wanted.now) wanted → result ≡ changed_to wanted before.now.value (slice_get globals.now.rows before.now.number) }
+    ensures { (wanted : List ℕ → Bool) → AnswersAs (F.post is_wanted.now) wanted → result ≡ changed_to wanted before.now.value (slice_get globals.now before.now.number) }
 {
     let Some((name, value)) = globals.pair(before.number) else {
         return false;

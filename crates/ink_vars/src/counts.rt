@@ -1,12 +1,12 @@
 //! Visits and turns of containers.
 
-ghost use Rattle.std.specs.Prelude.{◌≡◌, ℕ, Bool, [], true, ◌&&◌, IfOk, IfErr, OnOk, OnErr};
+ghost use Rattle.std.specs.Prelude.{◌≡◌, ◌≢◌, ℕ, Bool, [], true, ◌&&◌, IfOk, IfErr, OnOk, OnErr};
 ghost use Rattle.std.specs.Ordering.{nat_cmp};
 ghost use Rattle.ink_model.specs.Counts as rules;
 ghost use Rattle.ink_model.specs.Counts.{CountsOf};
 ghost use Rattle.ink_model.specs.Rows.{row};
 
-use crate::slots::{add_one, make_room, put, put_back, slot};
+use crate::slots::{add_one, copied, make_room, put, put_back, slot};
 use crate::turn::Turn;
 use ink_model::{Fault, flags};
 use std::alloc::{AllocError, Global};
@@ -60,14 +60,13 @@ impl Counts {
         }
     }
 
-    /// A copy. The one error is a refused request for memory.
+    /// A copy. The one error is a refused request for memory, which is made only where a container was counted.
     pub fn clone_in(&self, alloc: Global) -> Result<Counts, AllocError>
-        ensures { IfOk result (λ copy. copy.rows ≡ self.now.rows) }
+        ensures copy { IfOk result (λ copy. copy.rows ≡ self.now.rows) }
+        ensures memory { OnErr result (self.now.rows ≢ record { visits = []; turns = [] }) }
     {
-        let mut visits = Vec::new(alloc);
-        visits.extend_from_slice(self.visits.as_slice())?;
-        let mut turns = Vec::new(alloc);
-        turns.extend_from_slice(self.turns.as_slice())?;
+        let visits = copied(alloc, self.visits.as_slice())?;
+        let turns = copied(alloc, self.turns.as_slice())?;
         Ok(Counts { visits, turns })
     }
 

@@ -1,33 +1,37 @@
-//! The globals of a running story.
+//! The globals of a running story, and what they were at a moment.
 
-ghost use Rattle.std.specs.Prelude.{◌≡◌, ◌≢◌, ◌<◌, [], false, true, is_some, is_ok, length, option_map, slice_get, IfOk, IfErr, IfSome, OnOk, OnErr, Some};
+ghost use Rattle.std.specs.Prelude.{◌≡◌, ◌≢◌, ℕ, List, [], Bool, is_ok, is_some, length, nat_eq, option_map, slice_get, IfOk, IfErr, OnOk, OnErr};
+ghost use Rattle.std.specs.List.{IsDistinct};
 ghost use Rattle.ink_model.specs.Store.{stored, store};
-ghost use Rattle.ink_vars.specs.Changes.{number_of};
+ghost use Rattle.ink_vars.specs.Changes.{AnswersAs, changed_numbers};
 ghost use Rattle.ink_vars.specs.Globals.{DifferInName};
 
-use indexmap::IndexMap;
+use crate::changes::{Changes, changed};
+use crate::table::Table;
 use ink_model::Value;
 use std::alloc::{AllocError, Global};
 use std::marker::Model;
 
-/// Values by name, found by hash, in the order in which they were declared. A contract sees the list of them.
+/// Values by name, in the order in which they were declared; and what they were at a moment, which `begin` sets. A contract sees
+/// both lists.
 ///
-/// A name may have a number, which whoever asks gives with it: the slot of that number is where the global was put last, so that
-/// it is found there without a hash. It is looked at whether the name stands there; if not, the global is found by its name.
+/// What they were is found by notes of those that were put since, which fit the globals at all times. So a new moment costs what
+/// was noted since the last, however many globals there are.
 #[derive(Drop)]
 pub struct Globals {
-    values: IndexMap<String, Value>,
-    slots: Vec<usize>,
-    alloc: Global,
+    table: Table,
+    changes: Changes,
 }
 
 impl Model for Globals {
-    ghost use Rattle.ink_vars.specs.Globals.{values_of};
+    ghost use Rattle.ink_vars.specs.Changes.{Fits, as_they_were};
     ghost use Rattle.ink_vars.specs.Views.{GlobalsView};
 
     ghost Value = { GlobalsView };
 
-    ghost view = { λ g. record { rows = values_of g.values.entries } };
+    ghost view = { λ g. record { rows = g.table; start = as_they_were g.changes 0 g.table } };
+
+    ghost invariant = { λ g. Fits g.changes g.table };
 }
 
 impl Globals {
@@ -36,53 +40,53 @@ impl Globals {
         ensures { result.rows ≡ [] }
     {
         Globals {
-            values: IndexMap::new(alloc),
-            slots: Vec::new(alloc),
-            alloc,
+            table: Table::new(alloc),
+            changes: Changes::new(alloc),
         }
     }
 
-    /// A copy. The one error is a refused request for memory, which no globals never make.
+    /// A copy, whose moment is this one. The one error is a refused request for memory, which no globals never make.
     pub fn clone_in(&self, alloc: Global) -> Result<Globals, AllocError>
         ensures copy { IfOk result (λ copy. copy.rows ≡ self.now.rows) }
+        ensures start { IfOk result (λ copy. copy.start ≡ self.now.rows) }
         ensures memory { OnErr result (self.now.rows ≢ []) }
     {
-        let mut copy = Globals::new(alloc);
-        for index in 0..self.values.len() {
-            if let Some((name, value)) = self.values.get_index(index) {
-                let value = value.clone_in(alloc)?;
-                copy.add(name.as_str(), value)?;
-            }
-        }
-        if !self.values.is_empty() {
-            copy.slots.extend_from_slice(self.slots.as_slice())?;
-        }
-        Ok(copy)
+        let table = self.table.clone_in(alloc)?;
+        Ok(Globals {
+            table,
+            changes: Changes::new(alloc),
+        })
+    }
+
+    /// The moment is this one from now on. Takes no memory.
+    pub fn begin(&mut self)
+        ensures rows { self.new.rows ≡ self.old.rows }
+        ensures start { self.new.start ≡ self.old.rows }
+    {
+        self.changes.start();
     }
 
     /// The value of a global, none where there is no such global.
+    #[inline(always)]
     pub fn get(&self, name: &str) -> Option<&Value>
         ensures { option_map (λ value. value.now) result ≡ stored name.now self.now.rows }
     {
-        self.values.get(name)
+        self.table.get(name)
     }
 
-    /// The same by a name and its number.
+    /// The same by a name that may have a number, which finds it sooner.
     #[inline(always)]
     pub fn get_at(&self, name: &str, number: Option<usize>) -> Option<&Value>
         ensures { option_map (λ value. value.now) result ≡ stored name.now self.now.rows }
     {
-        match self.found(name, number) {
-            Some((_, value)) => Some(value),
-            None => self.get(name),
-        }
+        self.table.get_at(name, number)
     }
 
     /// Whether there is such a global.
     pub fn contains(&self, name: &str) -> bool
         ensures { result ≡ is_some (stored name.now self.now.rows) }
     {
-        self.values.contains_key(name)
+        self.table.contains(name)
     }
 
     /// How many globals there are, each with a name of its own.
@@ -90,43 +94,7 @@ impl Globals {
         ensures len { result ≡ length self.now.rows }
         ensures names { DifferInName self.now.rows }
     {
-        self.values.len()
-    }
-
-    /// The number of a global in order of declaration, which is its index; where there is no such global, that of the next
-    /// new one.
-    pub fn number_of(&self, name: &str) -> usize
-        ensures { result ≡ number_of name.now self.now.rows }
-    {
-        let next = self.values.len();
-        self.values.get_index_of(name).unwrap_or(next)
-    }
-
-    /// The same by a name and its number.
-    pub fn number_at(&self, name: &str, number: Option<usize>) -> usize
-        ensures { result ≡ number_of name.now self.now.rows }
-    {
-        match self.found(name, number) {
-            Some((index, _)) => index,
-            None => self.number_of(name),
-        }
-    }
-
-    /// The global that the slot of a number leads to, with its index, where it has that name.
-    #[inline(always)]
-    pub(crate) fn found(&self, name: &str, number: Option<usize>) -> Option<(usize, &Value)>
-        ensures { IfSome result (λ f. (f.0 ≡ number_of name.now self.now.rows) × (Some f.1.now ≡ stored name.now self.now.rows)) }
-    {
-        let index = *self.slots.get(number?)?;
-        if index >= self.values.len() {
-            return None;
-        }
-        let (key, value) = self.values.get_index(index)?;
-        if key.as_str() == name {
-            Some((index, value))
-        } else {
-            None
-        }
+        self.table.len()
     }
 
     /// The name and the value of the global at an index, in the order in which they were declared; none past the last. Takes
@@ -134,124 +102,47 @@ impl Globals {
     pub fn pair(&self, index: usize) -> Option<(&str, &Value)>
         ensures { option_map (λ pair. (pair.0.now, pair.1.now)) result ≡ slice_get self.now.rows index }
     {
-        match self.values.get_index(index) {
-            Some((name, value)) => Some((name.as_str(), value)),
-            None => None,
-        }
+        self.table.pair(index)
     }
 
-    /// Gives a global that is there a value, without memory. Where there is none, the value is handed back.
+    /// Gives a global that is there a value, without memory. Where there is none, the value is handed back. The moment is this
+    /// one then.
     pub fn replace(&mut self, name: &str, value: Value) -> Result<(), Value>
         ensures found { is_ok result ≡ is_some (stored name.now self.old.rows) }
         ensures ok { OnOk result (self.new.rows ≡ store name.now value self.old.rows) }
         ensures err { IfErr result (λ handed_back. handed_back ≡ value) }
         ensures kept { OnErr result (self.new.rows ≡ self.old.rows) }
+        ensures start { self.new.start ≡ self.new.rows }
     {
-        if let Some(place) = self.values.get_mut(name) {
-            *place = value;
-            return Ok(());
-        }
-        Err(value)
+        self.changes.start();
+        self.table.replace(name, value)
     }
 
-    /// Gives a global a value: one that is there keeps its place, and a new one comes last. The one error is a refused
-    /// request for memory, which is made only for a new one, and leaves the globals as they were.
-    pub fn put(&mut self, name: &str, value: Value) -> Result<(), AllocError>
-        ensures ok { OnOk result (self.new.rows ≡ store name.now value self.old.rows) }
-        ensures err { OnErr result (self.new.rows ≡ self.old.rows) }
-        ensures memory { OnErr result (is_some (stored name.now self.old.rows) ≡ false) }
-    {
-        match self.replace(name, value) {
-            Ok(()) => Ok(()),
-            Err(value) => self.add(name, value),
-        }
-    }
-
-    /// The same by a name and its number, whose slot is kept for a new global.
-    pub fn put_at(
-        &mut self,
-        name: &str,
-        number: Option<usize>,
-        value: Value,
-    ) -> Result<(), AllocError>
-        ensures ok { OnOk result (self.new.rows ≡ store name.now value self.old.rows) }
-        ensures err { OnErr result (self.new.rows ≡ self.old.rows) }
-        ensures memory { OnErr result (is_some (stored name.now self.old.rows) ≡ false) }
-    {
-        match self.replace_at(name, number, value) {
-            Ok(()) => Ok(()),
-            Err(value) => self.add_at(name, number, value),
-        }
-    }
-
-    // As `replace`, by a name and its number.
-    fn replace_at(&mut self, name: &str, number: Option<usize>, value: Value) -> Result<(), Value>
-        ensures found { is_ok result ≡ is_some (stored name.now self.old.rows) }
-        ensures ok { OnOk result (self.new.rows ≡ store name.now value self.old.rows) }
-        ensures err { IfErr result (λ handed_back. handed_back ≡ value) }
-        ensures kept { OnErr result (self.new.rows ≡ self.old.rows) }
-    {
-        if let Some((index, _)) = self.found(name, number) {
-            if let Some(slot) = self.values.get_index_mut(index) {
-                *slot = value;
-                return Ok(());
-            }
-        }
-        self.replace(name, value)
-    }
-
-    /// As `put_at`, of a global that stands at an index.
+    /// Gives the global of a name, which may have a number, a value: one that is there keeps its place, and a new one comes last.
+    /// What the globals were at the moment stays known. The one error is a refused request for memory, which is made only where
+    /// the global is as it was at the moment, and leaves all as it was.
     #[inline(always)]
-    pub(crate) fn put_over(
-        &mut self,
-        index: usize,
-        name: &str,
-        number: Option<usize>,
-        value: Value,
-    ) -> Result<(), AllocError>
-        requires index { index ≡ number_of name.now self.old.rows }
-        requires there { is_some (stored name.now self.old.rows) ≡ true }
+    pub fn put(&mut self, name: &str, number: Option<usize>, value: Value) -> Result<(), AllocError>
         ensures ok { OnOk result (self.new.rows ≡ store name.now value self.old.rows) }
         ensures err { OnErr result (self.new.rows ≡ self.old.rows) }
-        ensures memory { OnErr result (is_some (stored name.now self.old.rows) ≡ false) }
+        ensures start { self.new.start ≡ self.old.start }
+        ensures memory { OnErr result (stored name.now self.old.start ≡ stored name.now self.old.rows) }
     {
-        if let Some(slot) = self.values.get_index_mut(index) {
-            *slot = value;
-            return Ok(());
-        }
-        self.put_at(name, number, value)
+        self.changes.put(&mut self.table, name, number, value)
     }
 
-    // As `add`, and the slot of the number leads there.
-    fn add_at(&mut self, name: &str, number: Option<usize>, value: Value) -> Result<(), AllocError>
-        ensures ok { OnOk result (self.new.rows ≡ store name.now value self.old.rows) }
-        ensures err { OnErr result (self.new.rows ≡ self.old.rows) }
+    /// The numbers of the globals that are wanted, by their names, and were not there at the moment, or had another value, in order
+    /// of declaration. The one error is a refused request for memory, which is made only where there are such globals.
+    pub fn changed<F: Fn(&str) -> bool>(
+        &self,
+        alloc: Global,
+        is_wanted: F,
+    ) -> Result<Vec<usize>, AllocError>
+        requires { F.IsAlwaysCallable is_wanted }
+        ensures numbers { (wanted : List ℕ → Bool) → AnswersAs (F.post is_wanted) wanted → IfOk result (λ numbers. numbers.items ≡ changed_numbers wanted self.now.start self.now.rows) }
+        ensures once { (wanted : List ℕ → Bool) → AnswersAs (F.post is_wanted) wanted → IfOk result (λ numbers. IsDistinct nat_eq numbers.items) }
+        ensures memory { (wanted : List ℕ → Bool) → AnswersAs (F.post is_wanted) wanted → OnErr result (changed_numbers wanted self.now.start self.now.rows ≢ []) }
     {
-        let index = self.values.len();
-        if let Some(number) = number {
-            make_slot(&mut self.slots, number)?;
-            self.slots[number] = index;
-        }
-        self.add(name, value)
+        changed(alloc, &self.changes, &self.table, is_wanted)
     }
-
-    // As `put`, with a copy of the name.
-    fn add(&mut self, name: &str, value: Value) -> Result<(), AllocError>
-        ensures ok { OnOk result (self.new.rows ≡ store name.now value self.old.rows) }
-        ensures err { OnErr result (self.new.rows ≡ self.old.rows) }
-    {
-        let key = String::from_str(self.alloc, name)?;
-        self.values.insert(key, value)?;
-        Ok(())
-    }
-}
-
-// Makes room for the slot of a number.
-fn make_slot(slots: &mut Vec<usize>, number: usize) -> Result<(), AllocError>
-    ensures { OnOk result (number < length slots.new.items) }
-{
-    while slots.len() <= number {
-        slots.push(0)?;
-    }
-    Ok(())
 }

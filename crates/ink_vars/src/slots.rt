@@ -1,6 +1,6 @@
 //! Rows by number, which are kept in an array, so that each is found at once.
 
-ghost use Rattle.std.specs.Prelude.{◌≡◌, ◌<◌, ◌≤◌, ℕ, List, None, length, true, unwrap_or, OnOk, OnErr, IfSome, if◌then◌else◌};
+ghost use Rattle.std.specs.Prelude.{◌≡◌, ◌≢◌, ◌<◌, ◌≤◌, ℕ, List, [], None, length, false, true, unwrap_or, IfOk, OnOk, OnErr, IfSome, if◌then◌else◌};
 ghost use Rattle.std.specs.Ordering.{nat_cmp};
 ghost use Rattle.ink_model.specs.Counts.{one_more};
 ghost use Rattle.ink_model.specs.Rows.{row, with_row};
@@ -8,7 +8,33 @@ ghost use Rattle.ink_model.specs.declared.limits.TheConstants.{MAX_COUNT};
 ghost use Rattle.ink_vars.specs.Slots.{AreCounts, Differs, rows_from};
 
 use ink_model::MAX_COUNT;
-use std::alloc::AllocError;
+use std::alloc::{AllocError, Global};
+
+/// A copy of the rows, which takes memory only where there are some.
+pub(crate) fn copied(alloc: Global, slots: &[Option<u32>]) -> Result<Vec<Option<u32>>, AllocError>
+    ensures rows { IfOk result (λ copy. rows_from 0 copy.items ≡ rows_from 0 slots.now) }
+    ensures memory { OnErr result (rows_from 0 slots.now ≢ []) }
+    ensures counts { AreCounts slots.now → IfOk result (λ copy. AreCounts copy.items) }
+{
+    let mut copy = Vec::new(alloc);
+    if has_rows(slots) {
+        copy.extend_from_slice(slots)?;
+    }
+    Ok(copy)
+}
+
+// Whether there is a row.
+fn has_rows(slots: &[Option<u32>]) -> bool
+    ensures some { result ≡ true → rows_from 0 slots.now ≢ [] }
+    ensures none { result ≡ false → rows_from 0 slots.now ≡ [] }
+{
+    for count in slots {
+        if count.is_some() {
+            return true;
+        }
+    }
+    false
+}
 
 /// The row of a number.
 pub(crate) fn slot(slots: &[Option<u32>], number: usize) -> Option<u32>

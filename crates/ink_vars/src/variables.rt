@@ -1,13 +1,13 @@
 //! Variables that are read, assigned and declared.
 
-ghost use Rattle.std.specs.Prelude.{◌≡◌, ◌≤◌, pos, false, true, is_some, Ok, Some, IfErr, OnOk, OnErr, if◌then◌else◌};
+ghost use Rattle.std.specs.Prelude.{◌≡◌, ◌≤◌, pos, true, is_some, Ok, Some, if◌then◌else◌};
 ghost use Rattle.ink_model.specs.Rows.{name_order, row};
 ghost use Rattle.ink_model.specs.Store.{Values};
 ghost use Rattle.ink_model.specs.Threads.{frame_count};
 ghost use Rattle.ink_model.specs.VariableMemory.{is_pointer};
 ghost use Rattle.ink_model.specs.Variables as rules;
 ghost use Rattle.ink_model.specs.declared.value.Value.{Value as Data};
-ghost use Rattle.ink_vars.specs.Words.{Are, Copies, Declares, HandsOut, LeadsInto, LeadsTo, Writes, declaring_asks, held_by, looked, with_variable};
+ghost use Rattle.ink_vars.specs.Words.{Copies, Declares, HandsOut, LeadsInto, LeadsTo, looked};
 
 use crate::globals::Globals;
 use crate::places::{Name, Variable};
@@ -97,29 +97,11 @@ fn copied(alloc: Global, value: &Value) -> Result<Value, Fault>
     }
 }
 
-/// Assigns to a variable: to the global of that name, else to the current frame's temporary, or to what the pointer leads to
-/// that it holds. `NoTemp` where nothing has that name, or the frame that the pointer leads to lacks it; `BadPointer` where
-/// the pointer leads to a global or a frame that is not there, or the chain of pointers is too long; `OutOfMemory` where a
-/// pointer is followed and its name has as many owners as can be. On an error nothing has changed (docs/VARIABLES.md,
+/// The variable that is written where something is assigned to a name, which may have a number: the global of that name, else the
+/// current frame's temporary, or what the pointer leads to that it holds. `NoTemp` where nothing has that name, or the frame that
+/// the pointer leads to lacks it; `BadPointer` where the pointer leads to a global or a frame that is not there, or the chain of
+/// pointers is too long; `OutOfMemory` where a pointer is followed and its name has as many owners as can be (docs/VARIABLES.md,
 /// "Pointers").
-pub fn assign<P: Copy>(
-    globals: &mut Globals,
-    threads: &mut Threads<P>,
-    name: &str,
-    value: Value,
-) -> Result<(), Fault>
-    ensures { let rule = rules.assign globals.old.rows threads.old.threads.thread name.now value in
-        let asks = is_pointer (rules.named globals.old.rows threads.old.threads.thread name.now) in
-        Writes asks rule globals.old.rows globals.new.rows threads.old.threads threads.new.threads result }
-{
-    match assigned(globals, threads, name, None) {
-        Ok(variable) => write(globals, threads, variable, value),
-        Err(fault) => Err(fault),
-    }
-}
-
-/// The variable that is written where something is assigned to a name, which may have a number: what has that name, or what the
-/// pointer leads to that it holds. The errors are those of `assign`.
 pub fn assigned<'a, P: Copy>(
     globals: &Globals,
     threads: &Threads<P>,
@@ -190,51 +172,6 @@ fn pointed<'a, P: Copy>(
             name: Name::Pointed(name),
         }),
         Err(_) => Err(Fault::OutOfMemory),
-    }
-}
-
-// Gives a variable a value, which asks for memory only where it has none.
-fn write<P: Copy>(
-    globals: &mut Globals,
-    threads: &mut Threads<P>,
-    variable: Variable<'_>,
-    value: Value,
-) -> Result<(), Fault>
-    requires { variable.frame ≤ frame_count threads.old.threads.thread }
-    ensures ok { OnOk result (Are (with_variable globals.old.rows threads.old.threads.thread variable.entry value) globals.new.rows threads.old.threads threads.new.threads) }
-    ensures fault { IfErr result (λ f. f ≡ Fault.OutOfMemory) }
-    ensures globals_kept { OnErr result (globals.new.rows ≡ globals.old.rows) }
-    ensures threads_kept { OnErr result (threads.new.threads ≡ threads.old.threads) }
-    ensures memory { OnErr result (is_some (held_by globals.old.rows threads.old.threads.thread variable.entry) ≡ false) }
-{
-    if variable.frame == 0 {
-        globals.put_at(variable.name.as_str(), variable.name.number(), value)?;
-        return Ok(());
-    }
-    threads.set_temp(variable.frame, variable.name.as_str(), value)
-}
-
-/// Declares a variable in a scope, whether there is one of that name or not; a global that is there keeps its place in their
-/// order. Of a pointer the last of its chain is kept, wherever that leads. `BadPointer` where that chain is too long;
-/// `OutOfMemory` for a refused request for memory, which is made only for a new name, and for a pointer where its name has
-/// as many owners as can be. On an error nothing has changed (docs/VARIABLES.md, "Declaring").
-pub fn declare<P: Copy>(
-    globals: &mut Globals,
-    threads: &mut Threads<P>,
-    scope: Scope,
-    name: &str,
-    value: Value,
-) -> Result<(), Fault>
-    ensures { let rule = rules.declare globals.old.rows threads.old.threads.thread scope name.now value in
-        let asks = declaring_asks globals.old.rows threads.old.threads.thread scope name.now value in
-        Writes asks rule globals.old.rows globals.new.rows threads.old.threads threads.new.threads result }
-{
-    match kept(globals, threads, value) {
-        Ok(value) => {
-            let variable = declared(threads, scope, name, None);
-            write(globals, threads, variable, value)
-        }
-        Err(fault) => Err(fault),
     }
 }
 

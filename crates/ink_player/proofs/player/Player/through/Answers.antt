@@ -1,6 +1,7 @@
 use Rattle.std.proofs.Common.{◌≢◌, ◌∙◌, [], List, false, ap, filter, refl, subst, sym, Ok}
 use Rattle.ink_host.specs.Desk.{Rows, watches}
 use Rattle.ink_model.specs.Answer.{reply_of, reply_of_halt}
+use Rattle.ink_model.specs.Store.{Values}
 use Rattle.ink_model.specs.Told.{told}
 use Rattle.ink_model.specs.declared.host.Change.{Change}
 use Rattle.ink_player.specs.Words.{PlayerView, desk_of, state_of, story_of}
@@ -28,7 +29,8 @@ returns-in_default-told-clause-does g c =
     let start = globals_of p.machine in
     let now = globals_of c.through.new.self in
     let some : told (watches p.desk.watchers) start now ≢ [] =
-    subst (λ (ws : Rows _). told (watches ws) start now ≢ []) c.in-Ok.ensures.watchers (c.in_default-told.ensures.memory start c.in-Ok.ensures.tracks) in
+    subst (λ (ws : Rows _). told (watches ws) start now ≢ []) c.in-Ok.ensures.watchers
+    (subst (λ (vs : Values). told (watches mid.watchers) vs now ≢ []) c.in-Ok.ensures.start c.in_default-told.ensures.memory) in
     let broken = c.break_by-in_default-told in
     let q = with_parts p c.through.new.self broken.new.desk broken.new.broken in
     rw (sym c.self.view_is) (through-untold g.F.TurnFn.log g.O.Watcher.state g.P.PureFn.meaning p c.through.new.self mid runs.0 c.in_default.is (none-left p.desk.events c.self.invariant)
@@ -43,7 +45,7 @@ returns-in-Ok-tell-clause-does g c =
     let q = with_parts p c.through.new.self c.end_run.new.desk c.end_run.new.broken in
     let after = config_of (story_of p) c.through.new.self in
     let tells = tells-all g.F.TurnFn.log g.O.Watcher.state {E = Unit {0}} (Ok c.in-Ok-tell.all) mid c.tell.new.desk (globals_of p.machine) (globals_of c.through.new.self) _
-    (c.as_slice.ensures ∙ c.in-Ok-told.ensures.told (globals_of p.machine) c.in-Ok.ensures.tracks) c.in-Ok-tell.ensures.tells in
+    (c.as_slice.ensures ∙ c.in-Ok-told.ensures.told ∙ ap (λ vs. told (watches mid.watchers) vs (globals_of c.through.new.self)) c.in-Ok.ensures.start) c.in-Ok-tell.ensures.tells in
     let leaves = told-state p c.through.new.self c.end_run.new.desk c.tell.new.desk c.end_run.new.broken p.broken c.in-Ok-tell.all after c.in_default.is
     c.end_run.ensures.broken c.end_run.ensures.desk refl in
     rw (sym c.self.view_is) (through-told g.F.TurnFn.log g.O.Watcher.state g.P.PureFn.meaning p c.through.new.self mid runs.0 c.in_default.is (none-left p.desk.events c.self.invariant)
@@ -58,7 +60,7 @@ returns-in-Err-tell-clause-does g c =
     let start = globals_of p.machine in
     let now = globals_of c.through.new.self in
     let w = watches mid.watchers in
-    let all = ap (λ (cs : List Change). filter (λ x. w x.name) cs) (c.as_slice.ensures ∙ c.in-Ok-told.ensures.told start c.in-Ok.ensures.tracks) ∙ told-watched w start now in
+    let all = ap (λ (cs : List Change). filter (λ x. w x.name) cs) (c.as_slice.ensures ∙ c.in-Ok-told.ensures.told ∙ ap (λ vs. told w vs now) c.in-Ok.ensures.start) ∙ told-watched w start now in
     let some : told (watches p.desk.watchers) start now ≢ [] =
     subst (λ (ws : Rows _). told (watches ws) start now ≢ []) c.in-Ok.ensures.watchers (λ none. c.in-Err-tell.ensures.tells.0 (all ∙ none)) in
     let broken = c.break_by-in-Err-tell in

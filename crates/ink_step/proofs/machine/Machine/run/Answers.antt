@@ -8,7 +8,7 @@ use Rattle.ink_step.proofs.machine.Machine.run.Goals as goal
 pub loop-step-init : goal.loop-step-init
 loop-step-init g c =
     let s = story_tree c.args.story.now in
-    record { ran = ran_none g.T.TurnFn.log (log_of g.W.Watcher.state) g.P.PureFn.meaning s c.args.desk.now (config_of s c.args.self.now); watchers = refl; tracks = λ start h. h }
+    record { ran = ran_none g.T.TurnFn.log (log_of g.W.Watcher.state) g.P.PureFn.meaning s c.args.desk.now (config_of s c.args.self.now); watchers = refl; start = refl }
 
 pub loop-step-preserved : goal.loop-step-preserved
 loop-step-preserved g c =
@@ -17,7 +17,7 @@ loop-step-preserved g c =
       ran = ran_on g.T.TurnFn.log (log_of g.W.Watcher.state) g.P.PureFn.meaning s c.args.desk.now (config_of s c.args.self.now) c.loop-step._step c.loop-step.desk c.forward.new.desk
           (config_of s c.loop-step.self) (config_of s c.forward.new.self) c.loop-step.invariant.ran _ c.if-not-branch.false c.in_ok-forward.ensures.step;
       watchers = c.in_ok-forward.ensures.watchers ∙ c.loop-step.invariant.watchers;
-      tracks = λ start h. c.in_ok-forward.ensures.tracks start (c.loop-step.invariant.tracks start h);
+      start = c.in_ok-forward.ensures.start ∙ c.loop-step.invariant.start;
     }
 
 pub returns-then-not-branch-clause-runs : goal.returns-then-not-branch-clause-runs
@@ -29,8 +29,8 @@ returns-then-not-branch-clause-runs g c =
 pub returns-then-not-branch-clause-watchers : goal.returns-then-not-branch-clause-watchers
 returns-then-not-branch-clause-watchers g c = c.in_ok-forward.ensures.watchers ∙ c.loop-step.invariant.watchers
 
-pub returns-then-not-branch-clause-tracks : goal.returns-then-not-branch-clause-tracks
-returns-then-not-branch-clause-tracks g c = λ start h. c.in_ok-forward.ensures.tracks start (c.loop-step.invariant.tracks start h)
+pub returns-then-not-branch-clause-start : goal.returns-then-not-branch-clause-start
+returns-then-not-branch-clause-start g c = c.in_ok-forward.ensures.start ∙ c.loop-step.invariant.start
 
 pub returns-in_err-forward-clause-runs : goal.returns-in_err-forward-clause-runs
 returns-in_err-forward-clause-runs g c =
@@ -43,8 +43,8 @@ returns-in_err-forward-clause-runs g c =
 pub returns-in_err-forward-clause-watchers : goal.returns-in_err-forward-clause-watchers
 returns-in_err-forward-clause-watchers g c = c.in_err-forward.ensures.watchers ∙ c.loop-step.invariant.watchers
 
-pub returns-in_err-forward-clause-tracks : goal.returns-in_err-forward-clause-tracks
-returns-in_err-forward-clause-tracks g c = λ start h. c.in_err-forward.ensures.tracks start (c.loop-step.invariant.tracks start h)
+pub returns-in_err-forward-clause-start : goal.returns-in_err-forward-clause-start
+returns-in_err-forward-clause-start g c = c.in_err-forward.ensures.start ∙ c.loop-step.invariant.start
 
 pub returns-clause-runs : goal.returns-clause-runs
 returns-clause-runs g c =
@@ -54,5 +54,5 @@ returns-clause-runs g c =
 pub returns-clause-watchers : goal.returns-clause-watchers
 returns-clause-watchers g c = c.loop-step.invariant.watchers
 
-pub returns-clause-tracks : goal.returns-clause-tracks
-returns-clause-tracks g c = c.loop-step.invariant.tracks
+pub returns-clause-start : goal.returns-clause-start
+returns-clause-start g c = c.loop-step.invariant.start

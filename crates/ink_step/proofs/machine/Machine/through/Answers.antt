@@ -1,4 +1,4 @@
-use Rattle.std.proofs.Common.{◌≡◌, rules, subst, sym, Err}
+use Rattle.std.proofs.Common.{◌≡◌, ◌∙◌, rules, subst, sym, Err}
 use Rattle.ink_check.specs.Words.{story_tree}
 use Rattle.ink_host.specs.Desk.{bound_by}
 use Rattle.ink_model.specs.declared.fault.Fault.TheVariants.{OutOfMemory}
@@ -6,7 +6,6 @@ use Rattle.ink_step.specs.Runs.{RunsThrough}
 use Rattle.ink_step.specs.Words.{config_of}
 use Rattle.ink_step.proofs.Passages.{comes_to, comes_to_fault, falls_after}
 use Rattle.ink_step.proofs.machine.Machine.through.Goals as goal
-use Rattle.ink_vars.specs.Changes.{Tracks}
 
 pub returns-in_err-run-clause-runs : goal.returns-in_err-run-clause-runs
 returns-in_err-run-clause-runs g c =
@@ -39,17 +38,12 @@ returns-clause-runs g c =
           ran.2 (c.in_ok-passage.ensures.passage s) (c.settle.ensures.settled s),
     )
 
--- the changes are those since the beginning
-pub returns-in_err-run-clause-tracks : goal.returns-in_err-run-clause-tracks
-returns-in_err-run-clause-tracks g c =
-    c.in_err-run.ensures.tracks c.args.self.now.shared.globals.rows (subst (λ vs. Tracks vs c.begin.new.self.changes c.begin.new.self.shared.globals.rows) c.begin.ensures.globals c.begin.ensures.tracks)
+-- changes are counted from the beginning
+pub returns-in_err-run-clause-start : goal.returns-in_err-run-clause-start
+returns-in_err-run-clause-start g c = c.in_err-run.ensures.start ∙ c.begin.ensures.start
 
-pub returns-in_err-passage-clause-tracks : goal.returns-in_err-passage-clause-tracks
-returns-in_err-passage-clause-tracks g c =
-    c.in_ok-run.ensures.tracks c.args.self.now.shared.globals.rows (subst (λ vs. Tracks vs c.begin.new.self.changes c.begin.new.self.shared.globals.rows) c.begin.ensures.globals c.begin.ensures.tracks)
+pub returns-in_err-passage-clause-start : goal.returns-in_err-passage-clause-start
+returns-in_err-passage-clause-start g c = c.in_ok-run.ensures.start ∙ c.begin.ensures.start
 
-pub returns-clause-tracks : goal.returns-clause-tracks
-returns-clause-tracks g c =
-    let start = c.args.self.now.shared.globals.rows in
-    let tracks = c.in_ok-run.ensures.tracks start (subst (λ vs. Tracks vs c.begin.new.self.changes c.begin.new.self.shared.globals.rows) c.begin.ensures.globals c.begin.ensures.tracks) in
-    subst (λ vs. Tracks start c.settle.new.self.changes vs) (sym c.settle.ensures.globals) (subst (λ noted. Tracks start noted c.run.new.self.shared.globals.rows) (sym c.settle.ensures.changes) tracks)
+pub returns-clause-start : goal.returns-clause-start
+returns-clause-start g c = c.settle.ensures.start ∙ c.in_ok-run.ensures.start ∙ c.begin.ensures.start

@@ -1,52 +1,42 @@
 use Rattle.std.proofs.Common.{◌≡◌, ◌≢◌, ◌<◌, ◌≤◌, ◌∙◌, ◌++◌, ◌∷◌, ℕ, List, [], Some, None, ap, arith, length, rules, sym}
-use Rattle.std.proofs.lemmas.Bool.{eqb-true}
 use Rattle.std.proofs.lemmas.List.{append-nil, take_all}
 use Rattle.ink_host.specs.Desk.{watches}
-use Rattle.ink_model.specs.Store.{Values}
 use Rattle.ink_model.specs.Told.{told}
 use Rattle.ink_model.specs.declared.value.Value.{Value}
-use Rattle.ink_vars.specs.Changes.{Tracks}
 use Rattle.ink_vars.proofs.Noting.{on_error}
-use Rattle.ink_step.proofs.Telling.{told_at, told_changed, told_next, told_nobody, told_of_none, told_some_at, told_some_of, told_unchanged}
-use Rattle.ink_step.proofs.machine.Machine.told.Goals.{then-len-eq0-via-then-len-eq0, then-len-eq0-via-else-len-eq0+then-not-has_watchers, then-len-eq0-via-else-len-eq0+else-not-has_watchers+then-is_empty, in-Some+in_ok-change+in_ok-push, in_default}
+use Rattle.ink_step.specs.Words.{globals_of, start_of}
+use Rattle.ink_step.proofs.Telling.{told_at, told_changed, told_next, told_nobody, told_some_at, told_some_of}
+use Rattle.ink_step.proofs.machine.Machine.told.Goals.{in-Some+in_ok-change+in_ok-push, in_default}
 use Rattle.ink_step.proofs.machine.Machine.told.Given as given
 use Rattle.ink_step.proofs.machine.Machine.told.Goals as goal
 use Rattle.ink_step.proofs.machine.Machine.told.Goals.{After-from_vec, In-Some}
 
-pub returns-then-len-eq0-clause-told : goal.returns-then-len-eq0-clause-told
-returns-then-len-eq0-clause-told g c start tracks =
-    let watched = watches c.args.desk.now.watchers in
-    let now = c.args.self.now.shared.globals.rows in
-    let none : [] ≡ told watched start now = elim c.then-len-eq0.branch [
-      | then-len-eq0-via-then-len-eq0 w ↦ told_of_none watched start now (sym c.len.ensures.len ∙ w.if-len-eq0.true)
-      | then-len-eq0-via-else-len-eq0+then-not-has_watchers w ↦ told_nobody c.args.desk.now.watchers start now (sym w.has_watchers.ensures ∙ w.if-not-has_watchers.true)
-      | then-len-eq0-via-else-len-eq0+else-not-has_watchers+then-is_empty w ↦
-          told_unchanged now watched start c.args.self.now.changes tracks c.len.ensures.names (eqb-true (length c.args.self.now.changes) 0 (sym w.is_empty.ensures ∙ w.if-is_empty.true))
-    ] in
-    c.new.ensures ∙ none
+pub returns-then-not-has_watchers-clause-told : goal.returns-then-not-has_watchers-clause-told
+returns-then-not-has_watchers-clause-told g c =
+    c.new.ensures ∙ told_nobody c.args.desk.now.watchers (start_of c.args.self.now) (globals_of c.args.self.now) (sym c.has_watchers.ensures ∙ c.if-not-has_watchers.true)
 
 pub returns-in_err-numbers-clause-memory : goal.returns-in_err-numbers-clause-memory
-returns-in_err-numbers-clause-memory g c start tracks =
+returns-in_err-numbers-clause-memory g c =
     let watched = watches c.args.desk.now.watchers in
     on_error c.from_residual.result
-    (told_some_of c.args.self.now.shared.globals.rows watched start (c.in_err-numbers.ensures.memory watched start (λ name answer k. search rules) tracks))
+    (told_some_of (globals_of c.args.self.now) watched (start_of c.args.self.now) (c.in_err-numbers.ensures.memory watched (λ name answer k. search rules)))
 
 -- something is told where a number was found
-is_there : (g : given.Over) (c : In-Some g) (start : Values) → Tracks start c.args.self.now.changes c.args.self.now.shared.globals.rows → told (watches c.args.desk.now.watchers) start c.args.self.now.shared.globals.rows ≢ []
-is_there g c start tracks =
+is_there : (g : given.Over) (c : In-Some g) → told (watches c.args.desk.now.watchers) (start_of c.args.self.now) (globals_of c.args.self.now) ≢ []
+is_there g c =
     let watched = watches c.args.desk.now.watchers in
     let ns = c.deref-number-items.result.now in
     let within : c.loop-number.number-index < length ns = omega (arith, c.loop-number-test.true) in
-    told_some_at c.args.self.now.shared.globals.rows watched start ns c.loop-number.number-index
-    (c.deref-number-items.ensures.value ∙ c.in_ok-numbers.ensures.numbers watched start (λ name answer k. search rules) tracks) within
+    told_some_at (globals_of c.args.self.now) watched (start_of c.args.self.now) ns c.loop-number.number-index
+    (c.deref-number-items.ensures.value ∙ c.in_ok-numbers.ensures.numbers watched (λ name answer k. search rules)) within
 
 pub returns-in_err-change-clause-memory : goal.returns-in_err-change-clause-memory
-returns-in_err-change-clause-memory g c start tracks =
-    on_error c.from_residual-in_err-change.result (is_there g (goal.at.returns-in_err-change-clause-memory g c).In-Some start tracks)
+returns-in_err-change-clause-memory g c =
+    on_error c.from_residual-in_err-change.result (is_there g (goal.at.returns-in_err-change-clause-memory g c).In-Some)
 
 pub returns-in_err-push-clause-memory : goal.returns-in_err-push-clause-memory
-returns-in_err-push-clause-memory g c start tracks =
-    on_error c.from_residual-in_err-push.result (is_there g (goal.at.returns-in_err-push-clause-memory g c).In-Some start tracks)
+returns-in_err-push-clause-memory g c =
+    on_error c.from_residual-in_err-push.result (is_there g (goal.at.returns-in_err-push-clause-memory g c).In-Some)
 
 pub loop-number-preserved : goal.loop-number-preserved
 loop-number-preserved g c =
@@ -73,8 +63,8 @@ all_at g c =
     c.from_vec.ensures ∙ c.loop-number.invariant ∙ ap (told_at c.args.self.now.shared.globals.rows) (take_all c.loop-number.number-index ns past)
 
 pub returns-clause-told : goal.returns-clause-told
-returns-clause-told g c start tracks =
+returns-clause-told g c =
     let watched = watches c.args.desk.now.watchers in
-    let now = c.args.self.now.shared.globals.rows in
+    let now = globals_of c.args.self.now in
     all_at g (goal.at.returns-clause-told g c).After-from_vec
-    ∙ ap (told_at now) (c.deref-number-items.ensures.value ∙ c.in_ok-numbers.ensures.numbers watched start (λ name answer k. search rules) tracks) ∙ told_changed now watched start
+    ∙ ap (told_at now) (c.deref-number-items.ensures.value ∙ c.in_ok-numbers.ensures.numbers watched (λ name answer k. search rules)) ∙ told_changed now watched (start_of c.args.self.now)

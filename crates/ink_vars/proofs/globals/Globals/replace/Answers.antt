@@ -1,19 +1,15 @@
-use Rattle.std.proofs.Common.{◌∙◌, ap, sym, is_some}
-use Rattle.ink_model.specs.Store.{stored, store}
-use Rattle.ink_vars.specs.Globals.{values_of}
-use Rattle.ink_vars.proofs.Entries.{found_value, written_value}
+use Rattle.std.proofs.Common.{subst, sym}
+use Rattle.ink_vars.specs.Globals.{DifferInName}
+use Rattle.ink_vars.proofs.Fitting.{differ_stored, fits_none, was_none}
+use Rattle.ink_vars.proofs.Noting.{either_way}
 use Rattle.ink_vars.proofs.globals.Globals.replace.Goals as goal
 
-pub returns-in-Some-clause-found : goal.returns-in-Some-clause-found
-returns-in-Some-clause-found c =
-    ap is_some (c.in-Some.ensures.value ∙ found_value c.args.name.now c.self.inside.values.entries ∙ ap (stored c.args.name.now) (ap (λ g. g.rows) c.self.view_is))
+pub invariant_of-self : goal.invariant_of-self
+invariant_of-self c =
+    let old = c.self.inside.table in
+    let differ = c.self.invariant.differ in
+    fits_none c.start.new.self c.replace.new.self c.start.ensures.none (either_way c.replace.result c.replace.ensures.ok c.replace.ensures.kept
+    (λ is. subst DifferInName (sym is) (differ_stored c.args.name.now c.args.value old differ)) (λ is. subst DifferInName (sym is) differ))
 
-pub returns-in-Some-clause-ok : goal.returns-in-Some-clause-ok
-returns-in-Some-clause-ok c =
-    ap values_of (c.get_mut.follows.holds c.args.value).0
-    ∙ written_value c.args.name.now c.args.value c.self.inside.values.entries (sym (ap is_some (c.in-Some.ensures.value ∙ found_value c.args.name.now c.self.inside.values.entries)))
-    ∙ ap (store c.args.name.now c.args.value) (ap (λ g. g.rows) c.self.view_is)
-
-pub returns-clause-found : goal.returns-clause-found
-returns-clause-found c =
-    ap is_some (c.in_default.ensures.value ∙ found_value c.args.name.now c.self.inside.values.entries ∙ ap (stored c.args.name.now) (ap (λ g. g.rows) c.self.view_is))
+pub returns-clause-start : goal.returns-clause-start
+returns-clause-start c = was_none c.start.new.self c.replace.new.self c.start.ensures.none

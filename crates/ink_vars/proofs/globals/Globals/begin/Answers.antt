@@ -1,0 +1,9 @@
+use Rattle.std.proofs.Common.{◌∙◌, ap}
+use Rattle.ink_vars.proofs.Fitting.{fits_none, was_none}
+use Rattle.ink_vars.proofs.globals.Globals.begin.Goals as goal
+
+pub invariant_of-self : goal.invariant_of-self
+invariant_of-self c = fits_none c.start.new.self c.self.inside.table c.start.ensures.none c.self.invariant.differ
+
+pub returns-clause-start : goal.returns-clause-start
+returns-clause-start c = was_none c.start.new.self c.self.inside.table c.start.ensures.none ∙ ap (λ g. g.rows) c.self.view_is

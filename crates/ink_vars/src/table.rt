@@ -1,0 +1,246 @@
+//! Values by name, in order, found by hash and by number.
+
+ghost use Rattle.std.specs.Prelude.{◌≡◌, ◌≢◌, ◌<◌, [], false, true, is_some, is_ok, length, option_map, slice_get, IfOk, IfErr, IfSome, OnOk, OnErr, Some};
+ghost use Rattle.ink_model.specs.Store.{stored, store};
+ghost use Rattle.ink_vars.specs.Changes.{number_of};
+ghost use Rattle.ink_vars.specs.Globals.{DifferInName};
+
+use indexmap::IndexMap;
+use ink_model::Value;
+use std::alloc::{AllocError, Global};
+use std::marker::Model;
+
+/// The values of globals by name, found by hash, in the order in which they were declared. A contract sees the list of them.
+///
+/// A name may have a number, which whoever asks gives with it: the slot of that number is where the global was put last, so that
+/// it is found there without a hash. It is looked at whether the name stands there; if not, the global is found by its name.
+#[derive(Drop)]
+pub(crate) struct Table {
+    values: IndexMap<String, Value>,
+    slots: Vec<usize>,
+    alloc: Global,
+}
+
+impl Model for Table {
+    ghost use Rattle.ink_model.specs.Store.{Values};
+    ghost use Rattle.ink_vars.specs.Globals.{values_of};
+
+    ghost Value = { Values };
+
+    ghost view = { λ t. values_of t.values.entries };
+}
+
+impl Table {
+    /// No globals, which take no memory.
+    pub(crate) fn new(alloc: Global) -> Table
+        ensures { result ≡ [] }
+    {
+        Table {
+            values: IndexMap::new(alloc),
+            slots: Vec::new(alloc),
+            alloc,
+        }
+    }
+
+    /// A copy. The one error is a refused request for memory, which no globals never make.
+    pub(crate) fn clone_in(&self, alloc: Global) -> Result<Table, AllocError>
+        ensures copy { IfOk result (λ copy. copy ≡ self.now) }
+        ensures memory { OnErr result (self.now ≢ []) }
+    {
+        let mut copy = Table::new(alloc);
+        for index in 0..self.values.len() {
+            if let Some((name, value)) = self.values.get_index(index) {
+                let value = value.clone_in(alloc)?;
+                copy.add(name.as_str(), value)?;
+            }
+        }
+        if !self.values.is_empty() {
+            copy.slots.extend_from_slice(self.slots.as_slice())?;
+        }
+        Ok(copy)
+    }
+
+    /// The value of a global, none where there is no such global.
+    pub(crate) fn get(&self, name: &str) -> Option<&Value>
+        ensures { option_map (λ value. value.now) result ≡ stored name.now self.now }
+    {
+        self.values.get(name)
+    }
+
+    /// The same by a name and its number.
+    #[inline(always)]
+    pub(crate) fn get_at(&self, name: &str, number: Option<usize>) -> Option<&Value>
+        ensures { option_map (λ value. value.now) result ≡ stored name.now self.now }
+    {
+        match self.found(name, number) {
+            Some((_, value)) => Some(value),
+            None => self.get(name),
+        }
+    }
+
+    /// Whether there is such a global.
+    pub(crate) fn contains(&self, name: &str) -> bool
+        ensures { result ≡ is_some (stored name.now self.now) }
+    {
+        self.values.contains_key(name)
+    }
+
+    /// How many globals there are, each with a name of its own.
+    pub(crate) fn len(&self) -> usize
+        ensures len { result ≡ length self.now }
+        ensures names { DifferInName self.now }
+    {
+        self.values.len()
+    }
+
+    /// The number of a global in order of declaration, which is its index; where there is no such global, that of the next
+    /// new one.
+    pub(crate) fn number_of(&self, name: &str) -> usize
+        ensures { result ≡ number_of name.now self.now }
+    {
+        let next = self.values.len();
+        self.values.get_index_of(name).unwrap_or(next)
+    }
+
+    /// The same by a name and its number.
+    pub(crate) fn number_at(&self, name: &str, number: Option<usize>) -> usize
+        ensures { result ≡ number_of name.now self.now }
+    {
+        match self.found(name, number) {
+            Some((index, _)) => index,
+            None => self.number_of(name),
+        }
+    }
+
+    /// The global that the slot of a number leads to, with its index, where it has that name.
+    #[inline(always)]
+    pub(crate) fn found(&self, name: &str, number: Option<usize>) -> Option<(usize, &Value)>
+        ensures { IfSome result (λ f. (f.0 ≡ number_of name.now self.now) × (Some f.1.now ≡ stored name.now self.now)) }
+    {
+        let index = *self.slots.get(number?)?;
+        if index >= self.values.len() {
+            return None;
+        }
+        let (key, value) = self.values.get_index(index)?;
+        if key.as_str() == name {
+            Some((index, value))
+        } else {
+            None
+        }
+    }
+
+    /// The name and the value of the global at an index, in the order in which they were declared; none past the last. Takes
+    /// no memory.
+    pub(crate) fn pair(&self, index: usize) -> Option<(&str, &Value)>
+        ensures { option_map (λ pair. (pair.0.now, pair.1.now)) result ≡ slice_get self.now index }
+    {
+        match self.values.get_index(index) {
+            Some((name, value)) => Some((name.as_str(), value)),
+            None => None,
+        }
+    }
+
+    /// Gives a global that is there a value, without memory. Where there is none, the value is handed back.
+    pub(crate) fn replace(&mut self, name: &str, value: Value) -> Result<(), Value>
+        ensures found { is_ok result ≡ is_some (stored name.now self.old) }
+        ensures ok { OnOk result (self.new ≡ store name.now value self.old) }
+        ensures err { IfErr result (λ handed_back. handed_back ≡ value) }
+        ensures kept { OnErr result (self.new ≡ self.old) }
+    {
+        if let Some(place) = self.values.get_mut(name) {
+            *place = value;
+            return Ok(());
+        }
+        Err(value)
+    }
+
+    /// Gives the global of a name, which may have a number, a value: one that is there keeps its place, and a new one comes last,
+    /// and has the slot of the number. The one error is a refused request for memory, which is made only for a new one, and leaves
+    /// the globals as they were.
+    pub(crate) fn put_at(
+        &mut self,
+        name: &str,
+        number: Option<usize>,
+        value: Value,
+    ) -> Result<(), AllocError>
+        ensures ok { OnOk result (self.new ≡ store name.now value self.old) }
+        ensures err { OnErr result (self.new ≡ self.old) }
+        ensures memory { OnErr result (is_some (stored name.now self.old) ≡ false) }
+    {
+        match self.replace_at(name, number, value) {
+            Ok(()) => Ok(()),
+            Err(value) => self.add_at(name, number, value),
+        }
+    }
+
+    // As `replace`, by a name and its number.
+    fn replace_at(&mut self, name: &str, number: Option<usize>, value: Value) -> Result<(), Value>
+        ensures found { is_ok result ≡ is_some (stored name.now self.old) }
+        ensures ok { OnOk result (self.new ≡ store name.now value self.old) }
+        ensures err { IfErr result (λ handed_back. handed_back ≡ value) }
+        ensures kept { OnErr result (self.new ≡ self.old) }
+    {
+        if let Some((index, _)) = self.found(name, number) {
+            if let Some(slot) = self.values.get_index_mut(index) {
+                *slot = value;
+                return Ok(());
+            }
+        }
+        self.replace(name, value)
+    }
+
+    /// As `put_at`, of a global that stands at an index.
+    #[inline(always)]
+    pub(crate) fn put_over(
+        &mut self,
+        index: usize,
+        name: &str,
+        number: Option<usize>,
+        value: Value,
+    ) -> Result<(), AllocError>
+        requires index { index ≡ number_of name.now self.old }
+        requires there { is_some (stored name.now self.old) ≡ true }
+        ensures ok { OnOk result (self.new ≡ store name.now value self.old) }
+        ensures err { OnErr result (self.new ≡ self.old) }
+        ensures memory { OnErr result (is_some (stored name.now self.old) ≡ false) }
+    {
+        if let Some(slot) = self.values.get_index_mut(index) {
+            *slot = value;
+            return Ok(());
+        }
+        self.put_at(name, number, value)
+    }
+
+    // As `add`, and the slot of the number leads there.
+    fn add_at(&mut self, name: &str, number: Option<usize>, value: Value) -> Result<(), AllocError>
+        ensures ok { OnOk result (self.new ≡ store name.now value self.old) }
+        ensures err { OnErr result (self.new ≡ self.old) }
+    {
+        let index = self.values.len();
+        if let Some(number) = number {
+            make_slot(&mut self.slots, number)?;
+            self.slots[number] = index;
+        }
+        self.add(name, value)
+    }
+
+    // As `put_at`, without a slot, and with a copy of the name.
+    fn add(&mut self, name: &str, value: Value) -> Result<(), AllocError>
+        ensures ok { OnOk result (self.new ≡ store name.now value self.old) }
+        ensures err { OnErr result (self.new ≡ self.old) }
+    {
+        let key = String::from_str(self.alloc, name)?;
+        self.values.insert(key, value)?;
+        Ok(())
+    }
+}
+
+// Makes room for the slot of a number.
+fn make_slot(slots: &mut Vec<usize>, number: usize) -> Result<(), AllocError>
+    ensures { OnOk result (number < length slots.new.items) }
+{
+    while slots.len() <= number {
+        slots.push(0)?;
+    }
+    Ok(())
+}
