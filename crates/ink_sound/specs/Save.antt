@@ -1,0 +1,5 @@
+-- Saved configurations (docs/SAVES.md).
+pub mod Spelling
+pub mod Sound
+pub mod Reads
+pub mod Unspelled
