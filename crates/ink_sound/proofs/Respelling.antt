@@ -7,7 +7,7 @@ use Rattle.std.specs.List.{AllByRecursion as Each}
 use Rattle.std.specs.Option.{option_map}
 use Rattle.serde_json.specs.Data.{Data, string}
 use Rattle.serde_json.specs.Find.{of_integer}
-use Rattle.ink_model.specs.Configuration.{ChoiceOf, Configuration, settled, unnumbered_choice}
+use Rattle.ink_model.specs.Configuration.{Configuration, settled, unnumbered_choice}
 use Rattle.ink_model.specs.Entered.{flags_at}
 use Rattle.ink_model.specs.Events.{items_of}
 use Rattle.ink_model.specs.Flags.{counts_visits, notes_turns}
@@ -25,8 +25,8 @@ use Rattle.ink_model.specs.declared.value.Value.TheVariants as value
 use Rattle.ink_sound.specs.Kept.{StoryFits}
 use Rattle.ink_sound.specs.Save.Reads.{Reads}
 use Rattle.ink_sound.specs.Save.Sound.{AnyPlace, ChoiceFits, FlowStands, FrameFits, FrameStands, IsFrame, PlaceFits, RowCounts, RowFits, Sound, ThreadFits, ThreadStands, ValueFits}
-use Rattle.ink_sound.specs.Save.Spelling.{choice_data, count_data, frame_data, global_data, kind_data, part_data, place_data, place_or_null, row_data, spelling, temps_members, thread_data}
-use Rattle.ink_sound.specs.Save.Unspelled.{all_of, any_place_of, choice_of, count_of, frame_of, integer_of, kind_of, list_of, number_integer, pair_of, part_of, place_of, rows_of, small, text_of, thread_in, unspelled, value_of}
+use Rattle.ink_sound.specs.Save.Spelling.{choice_data, frame_data, global_data, kind_data, part_data, place_or_null, row_data, spelling, temps_members, thread_data}
+use Rattle.ink_sound.specs.Save.Unspelled.{all_of, any_place_of, choice_of, count_of, frame_of, kind_of, number_integer, pair_of, part_of, place_of, rows_of, text_of, thread_in, unspelled, value_of}
 use Rattle.ink_sound.proofs.Flows.{any_of}
 use Rattle.ink_sound.proofs.Narrow.{PartNarrow, place_narrow}
 use Rattle.ink_sound.proofs.Offers.{each_reverse}

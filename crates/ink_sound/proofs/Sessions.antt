@@ -1,5 +1,5 @@
 -- Every state of a session is sound and at rest.
-use Rattle.std.proofs.Common.{◌≡◌, sym, refl, subst, ℕ, List, [], ◌∷◌, inl, inr, Bool, true, false, Option, Some, None, is_some, Result, Ok, Err, MatchBool}
+use Rattle.std.proofs.Common.{◌≡◌, ap, sym, refl, subst, ℕ, List, [], ◌∷◌, inl, inr, Bool, true, false, Option, Some, None, is_some, option_map, Result, Ok, Err, MatchBool}
 use Rattle.ink_model.specs.Answer.{Reply, Refuses}
 use Rattle.ink_model.specs.Told.{told}
 use Rattle.ink_model.specs.declared.fault.Fault.{Fault}
@@ -127,13 +127,19 @@ module _ (s : StoryTree) where
     -- ---- running
 
     -- what is kept at the end of a run
-    EndFits : RunEnd → Type 0
+    abbrev EndFits : RunEnd → Type 0
     EndFits (Kept c) = Sound s c
     EndFits (Broke f globals) = Unit {0}
 
+    abbrev ended : RunEnd → List Made → Option (RunEnd × List Made)
+    ended end made = Some (end, made)
+
+    same_end : (end other : RunEnd) (calls made : List Made) → ended end calls ≡ ended other made → end ≡ other
+    same_end end other calls made e = let ends : Some end ≡ Some other = ap (option_map (λ (r : RunEnd × List Made). r.0)) e in cc
+
     end_fits : (m : Moment) (end : RunEnd) (made : List Made) → end_of m ≡ Some (end, made) → MomentFits s m → EndFits end
-    end_fits (Stopped c [] calls) end made e h = let same : Kept c ≡ end = cc in subst EndFits same h
-    end_fits (Faulted f c [] calls) end made e h = let same : Broke f c.shared.globals ≡ end = cc in subst EndFits same tt
+    end_fits (Stopped c [] calls) end made e h = subst EndFits (same_end (Kept c) end calls made e) h
+    end_fits (Faulted f c [] calls) end made e h = subst EndFits (same_end (Broke f c.shared.globals) end calls made e) tt
     end_fits (Stopped c (a ∷ left) calls) end made e h = absurd cc
     end_fits (Faulted f c (a ∷ left) calls) end made e h = absurd cc
     end_fits (At c left calls) end made e h = absurd cc

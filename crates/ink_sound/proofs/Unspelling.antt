@@ -12,15 +12,13 @@ use Rattle.ink_model.specs.Frames.{FrameOf, ThreadOf, ThreadsOf}
 use Rattle.ink_model.specs.Leaves.{is_small}
 use Rattle.ink_model.specs.Path.{path_text, read_path}
 use Rattle.ink_model.specs.ValueJson.{value_data}
-use Rattle.ink_model.specs.declared.frame.FrameKind.{FrameKind}
 use Rattle.ink_model.specs.declared.frame.FrameKind.TheVariants.{Base, Function, Tunnel}
 use Rattle.ink_model.specs.declared.place.Part.{Part}
 use Rattle.ink_model.specs.declared.place.Part.TheVariants.{Index, Name}
-use Rattle.ink_model.specs.declared.place.Path.{Path}
 use Rattle.ink_model.specs.declared.value.Value.{Value}
 use Rattle.ink_model.specs.declared.value.Value.TheVariants as value
 use Rattle.ink_sound.specs.Save.Spelling.{choice_data, count_data, frame_data, global_data, kind_data, list_data, part_data, place_data, place_or_null, row_data, spelling, temps_members, thread_data, threads_data}
-use Rattle.ink_sound.specs.Save.Unspelled.{all_of, any_place_of, choice_of, closed, count_of, format_of, frame_of, from_threads, from_turn, index_of, int_of, integer_of, kind_of, list_of, number_integer, pair_of, part_of, path_if, path_in, place_of, pointer_in, rows_of, small, tag_in, take, target_in, temps_of, text_of, thread_in, thread_with, threads_with, truth_of, unspelled, value_of}
+use Rattle.ink_sound.specs.Save.Unspelled.{all_of, any_place_of, choice_of, closed, count_of, format_of, frame_of, from_threads, from_turn, int_of, integer_of, kind_of, list_of, number_integer, pair_of, part_of, path_if, path_in, place_of, pointer_in, rows_of, small, tag_in, take, target_in, temps_of, text_of, thread_in, thread_with, threads_with, truth_of, unspelled, value_of}
 
 -- ---- what was found
 
@@ -220,11 +218,11 @@ frame_reading (object ms) f e =
     let t = took temps_of (λ rs. object (temps_members rs)) (codes "temps") _ p.rest f temps_reading p.on in
     let z = closed_some _ f t.rest t.on in
     ap object (onto (codes "depth") (count_data a.x) ms a.rest _ a.is
-        (onto (codes "eval") (boolean b.x) a.rest b.rest _ b.is
-        (onto (codes "fresh") (boolean c.x) b.rest c.rest _ c.is
-        (onto (codes "kind") (kind_data k.x) c.rest k.rest _ k.is
-        (onto (codes "place") (place_or_null p.x) k.rest p.rest _ p.is
-        (onto (codes "temps") (object (temps_members t.x)) p.rest t.rest no_members t.is z.0))))))
+    (onto (codes "eval") (boolean b.x) a.rest b.rest _ b.is
+    (onto (codes "fresh") (boolean c.x) b.rest c.rest _ c.is
+    (onto (codes "kind") (kind_data k.x) c.rest k.rest _ k.is
+    (onto (codes "place") (place_or_null p.x) k.rest p.rest _ p.is
+    (onto (codes "temps") (object (temps_members t.x)) p.rest t.rest no_members t.is z.0))))))
     ∙ ap frame_data z.1
 frame_reading d f e = absurd cc
 
@@ -263,10 +261,10 @@ choice_reading (object ms) x e =
     let u = took thread_in thread_data (codes "thread") _ t.rest x thread_reading t.on in
     let z = closed_some _ x u.rest u.on in
     ap object (onto (codes "hidden") (boolean a.x) ms a.rest _ a.is
-        (onto (codes "tags") (list_data string b.x) a.rest b.rest _ b.is
-        (onto (codes "target") (place_data c.x) b.rest c.rest _ c.is
-        (onto (codes "text") (string t.x) c.rest t.rest _ t.is
-        (onto (codes "thread") (thread_data u.x) t.rest u.rest no_members u.is z.0)))))
+    (onto (codes "tags") (list_data string b.x) a.rest b.rest _ b.is
+    (onto (codes "target") (place_data c.x) b.rest c.rest _ c.is
+    (onto (codes "text") (string t.x) c.rest t.rest _ t.is
+    (onto (codes "thread") (thread_data u.x) t.rest u.rest no_members u.is z.0)))))
     ∙ ap choice_data z.1
 choice_reading d x e = absurd cc
 
@@ -342,8 +340,8 @@ unspelled_reads (object ms) x e =
     let s = took (list_of value_of) (list_data value_data) (codes "stack") _ f.rest x (list_reading value_of value_data value_reading) f.on in
     let r = threads_read a.x g.x f.x s.x s.rest x s.on in
     ap object (a.is ∙ (λ i. member (codes "choices") (list_data choice_data (r.choices_are i))
-        ((b.is ∙ (λ i. member (codes "format") (count_data 1)
-        ((g.is ∙ (λ i. member (codes "globals") (list_data global_data (r.globals_are i))
-        ((f.is ∙ (λ i. member (codes "safe") (boolean (r.safe_is i))
-        ((s.is ∙ (λ i. member (codes "stack") (list_data value_data (r.stack_is i)) (r.is i))) i))) i))) i))) i)))
+    ((b.is ∙ (λ i. member (codes "format") (count_data 1)
+    ((g.is ∙ (λ i. member (codes "globals") (list_data global_data (r.globals_are i))
+    ((f.is ∙ (λ i. member (codes "safe") (boolean (r.safe_is i))
+    ((s.is ∙ (λ i. member (codes "stack") (list_data value_data (r.stack_is i)) (r.is i))) i))) i))) i))) i)))
 unspelled_reads d x e = absurd cc

@@ -1,6 +1,9 @@
 -- Small worked examples of saves, each proved by computation (docs/SAVES.md).
-use Rattle.std.specs.Prelude.{◌≡◌, ℕ, ℤ, pos, negsuc, List, [], ◌∷◌, refl, codes, Bool, true, false, Float, Option, Some, None}
+use Rattle.std.specs.Prelude.{◌≡◌, ℕ, pos, negsuc, List, [], ◌∷◌, refl, codes, true, false, Float, Some, None, option_and_then}
+use Rattle.std.specs.Fmt.{digits}
+use Rattle.serde_json.proofs.OnLiterals.{serde_json_on_literals}
 use Rattle.serde_json.specs.Data.{Data, null, boolean, number, string, array, object, no_items, item, Members, no_members, member, unsigned, negative, float}
+use Rattle.serde_json.specs.Read.{read}
 use Rattle.serde_json.specs.Written.{compact_text}
 use Rattle.ink_model.specs.CallStories.{does, now, stack_in, story}
 use Rattle.ink_model.specs.Configuration.{ChoiceOf, Configuration, fresh_at, settled, start}
@@ -47,11 +50,18 @@ in_the_middle = record {
 
 its_save : compact_text (spelling in_the_middle) ≡
     codes "{\"choices\":[],\"format\":1,\"globals\":[],\"safe\":false,\"stack\":[],\"threads\":[{\"frames\":[{\"depth\":0,\"eval\":false,\"fresh\":false,\"kind\":\"base\",\"place\":[0,2],\"temps\":{}}],\"previous\":[0,1]}],\"turn\":0,\"turns\":[],\"visits\":[]}"
-unfolding serde_json_on_literals
+unfolding serde_json_on_literals digits
 its_save = refl
 
 it_is_read : unspelled (spelling in_the_middle) ≡ Some in_the_middle
 it_is_read = refl
+
+-- spaces between are none of the JSON library's value
+its_text_is_read : option_and_then unspelled (read
+    (codes "{\"choices\":[],\"format\":1,\"globals\":[],\"safe\":false,\"stack\":[],\"threads\":[{\"frames\":[{\"depth\":0,\"eval\":false,\"fresh\":false,\"kind\":\"base\",\"place\":[0, 2],\"temps\":{}}],\"previous\":[0, 1]}],\"turn\":0,\"turns\":[],\"visits\":[]}"))
+    ≡ Some in_the_middle
+unfolding serde_json_on_literals digits
+its_text_is_read = refl
 
 it_rests : Rests in_the_middle
 unfolding settled
@@ -68,7 +78,7 @@ abbrev a_function : FrameOf (List Part)
 a_function = record { kind = Function; place = Some (Name (codes "f") ∷ Index 0 ∷ []); temps = (codes "n", value.Int (negsuc 6)) ∷ []; evaluating = true; fresh = true; depth = 1; enter = Some 3 }
 
 a_frame : compact_text (frame_data a_function) ≡ codes "{\"depth\":1,\"eval\":true,\"fresh\":true,\"kind\":\"function\",\"place\":[\"f\",0],\"temps\":{\"n\":-7}}"
-unfolding serde_json_on_literals
+unfolding serde_json_on_literals digits
 a_frame = refl
 
 -- the number of its Enter is not saved
@@ -86,18 +96,18 @@ a_choice = record {
 
 the_choice : compact_text (choice_data a_choice) ≡
     codes "{\"hidden\":false,\"tags\":[\"t\"],\"target\":[\"c-0\",0],\"text\":\"Go\",\"thread\":{\"frames\":[{\"depth\":0,\"eval\":false,\"fresh\":false,\"kind\":\"base\",\"place\":[0],\"temps\":{}}],\"previous\":null}}"
-unfolding serde_json_on_literals
+unfolding serde_json_on_literals digits
 the_choice = refl
 
 the_choice_is_read : choice_of (choice_data a_choice) ≡ Some a_choice
 the_choice_is_read = refl
 
 a_count : compact_text (row_data (Name (codes "k") ∷ Index 1 ∷ [], 5)) ≡ codes "[[\"k\",1],5]"
-unfolding serde_json_on_literals
+unfolding serde_json_on_literals digits
 a_count = refl
 
 a_global : compact_text (global_data (codes "x", value.Tag (codes "t"))) ≡ codes "[\"x\",{\"tag\":\"t\"}]"
-unfolding serde_json_on_literals
+unfolding serde_json_on_literals digits
 a_global = refl
 
 -- ---- values
@@ -115,12 +125,12 @@ a_pointer_is_read : value_of (value_data a_pointer) ≡ Some a_pointer
 a_pointer_is_read = refl
 
 a_target_is_read : value_of (one_member (codes "->") (string (codes "k.0"))) ≡ Some (value.Target (record { relative = false; parts = Name (codes "k") ∷ Index 0 ∷ [] }))
-unfolding read_path
+unfolding read_path digits
 a_target_is_read = refl
 
 -- `00` leads to the same place as `0`, and is no spelling
 another_spelling : value_of (one_member (codes "->") (string (codes "00"))) ≡ None
-unfolding read_path
+unfolding read_path digits
 another_spelling = refl
 
 -- `-0` and `1.0` are floats
@@ -191,13 +201,13 @@ temporaries_of_a_list : temps_of (array no_items) ≡ None
 temporaries_of_a_list = refl
 
 -- a prefix first, an index before a name
-places_in_order : rows_rise place_order ((Index 1 ∷ [], 1) ∷ (Index 1 ∷ Index 0 ∷ [], 1) ∷ (Name (codes "a") ∷ [], 1) ∷ []) ≡ true
+places_in_order : rows_rise {V = ℕ} place_order ((Index 1 ∷ [], 1) ∷ (Index 1 ∷ Index 0 ∷ [], 1) ∷ (Name (codes "a") ∷ [], 1) ∷ []) ≡ true
 places_in_order = refl
 
-places_out_of_order : rows_rise place_order ((Index 1 ∷ Index 0 ∷ [], 1) ∷ (Index 1 ∷ [], 1) ∷ []) ≡ false
+places_out_of_order : rows_rise {V = ℕ} place_order ((Index 1 ∷ Index 0 ∷ [], 1) ∷ (Index 1 ∷ [], 1) ∷ []) ≡ false
 places_out_of_order = refl
 
-a_place_twice : rows_rise place_order ((Index 1 ∷ [], 1) ∷ (Index 1 ∷ [], 2) ∷ []) ≡ false
+a_place_twice : rows_rise {V = ℕ} place_order ((Index 1 ∷ [], 1) ∷ (Index 1 ∷ [], 2) ∷ []) ≡ false
 a_place_twice = refl
 
 a_name_twice : names_once ((codes "x", value.Void) ∷ (codes "y", value.Void) ∷ (codes "x", value.Void) ∷ []) ≡ false
