@@ -14,7 +14,9 @@ use Rattle.ink_model.specs.declared.scope.Scope.TheVariants.{Global, Temporary}
 use Rattle.ink_model.specs.declared.value.Value.TheVariants as value
 use Rattle.ink_sound.specs.Kept.{ContextFits, EffectFits, FieldsFit, LeafFits, StoryFits}
 use Rattle.ink_sound.proofs.Ints.{count_small}
-use Rattle.ink_sound.proofs.Leads.{call_fits, divert_fits, external_fits, push_count_fits, push_read_count_fits, push_turn_fits, push_turns_fits, push_visit_fits, return_function_fits, return_tunnel_fits}
+use Rattle.ink_sound.proofs.Externals.{external_fits}
+use Rattle.ink_sound.proofs.Leads.{call_fits, divert_fits, return_function_fits, return_tunnel_fits}
+use Rattle.ink_sound.proofs.Questions.{push_count_fits, push_read_count_fits, push_turn_fits, push_turns_fits, push_visit_fits}
 use Rattle.ink_sound.proofs.Offers.{offer_fits}
 use Rattle.ink_sound.proofs.Operators.{operate_fits}
 use Rattle.ink_sound.proofs.Places.{Stands}

@@ -10,6 +10,8 @@ pub mod Counts
 pub mod Texts
 pub mod Offers
 pub mod Leads
+pub mod Externals
+pub mod Questions
 pub mod Effects
 pub mod Moves
 pub mod Steps

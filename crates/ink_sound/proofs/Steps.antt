@@ -23,7 +23,7 @@ use Rattle.ink_sound.specs.Save.Sound.{ChoiceFits, FlowStands, PlaceFits, Sound,
 use Rattle.ink_sound.proofs.Counts.{one_more_most}
 use Rattle.ink_sound.proofs.Effects.{effect_fits}
 use Rattle.ink_sound.proofs.Flows.{top_fits}
-use Rattle.ink_sound.proofs.Leads.{answering_fits}
+use Rattle.ink_sound.proofs.Externals.{answering_fits}
 use Rattle.ink_sound.proofs.Moves.{context_fits, ended_sound, entering_runs, fields_fit, move_fits}
 use Rattle.ink_sound.proofs.Places.{entered_fits}
 

@@ -223,10 +223,6 @@ same_target : (s : StoryTree) (p : List Part) (path : Path) → path.relative �
 unfolding target
 same_target s p path e = rw e refl
 
-not_false : (b : Bool) → not b ≡ true → b ≡ false
-not_false true h = absurd (true≢false (sym h))
-not_false false h = refl
-
 -- a target that is good is one that a value may hold
 path_fits : (s : StoryTree) (p : List Part) (text : List ℕ) → (is_absolute (read_path text) && is_some (leads s p text)) ≡ true → PathFits s (path_of text)
 path_fits s p text h = by (read_path text) refl h

@@ -2,7 +2,7 @@
 use Rattle.std.specs.Prelude.{◌≡◌, ℕ, ◌≤◌, List, [], Ok, Option, Some}
 use Rattle.ink_model.specs.Acceptance.{accepted_story, bad_places}
 use Rattle.ink_model.specs.Answer.{Reply}
-use Rattle.ink_model.specs.Configuration.{Configuration}
+use Rattle.ink_model.specs.Configuration.{Configuration, settled}
 use Rattle.ink_model.specs.Grammar.{IsSpelled}
 use Rattle.ink_model.specs.Host.{Bindings, Bound}
 use Rattle.ink_model.specs.Opening.{opened, opening}
@@ -15,7 +15,7 @@ use Rattle.ink_model.specs.declared.command.Command.{Command}
 use Rattle.ink_model.specs.declared.host.Event.{Event}
 use Rattle.ink_model.specs.declared.host.Given.{Given}
 use Rattle.ink_sound.specs.Kept.{MomentFits, OutcomeFits, StateFits, StoryFits}
-use Rattle.ink_sound.specs.Save.Reads.{Reads}
+use Rattle.ink_sound.specs.Save.Reads.{Reads, Rests}
 use Rattle.ink_sound.specs.Save.Sound.{Sound}
 use Rattle.ink_sound.specs.Save.Spelling.{spelling}
 use Rattle.ink_sound.specs.Save.Unspelled.{unspelled}
@@ -41,6 +41,10 @@ StepsFit = (s : StoryTree) → StoryFits s → (b : Bound) (c : Configuration) �
 abbrev pub MomentsFit : Type 0
 MomentsFit = (s : StoryTree) → StoryFits s → (b : Bound) (c : Configuration) → Sound s c
     → (answers : List (Option Given)) (n : ℕ) → MomentFits s (moment s b c answers n)
+
+-- what is settled is as sound as before, and at rest
+abbrev pub SettlingFits : Type 0
+SettlingFits = (s : StoryTree) (c : Configuration) → Sound s c → Sound s (settled c) × Rests (settled c)
 
 -- a story is opened in a sound state
 abbrev pub OpeningsFit : Type 0
