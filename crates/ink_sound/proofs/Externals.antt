@@ -72,4 +72,4 @@ module _ (s : StoryTree) where
   bound_fits (Some (pure_function answers)) name n f h = with_arguments_fits n f _ h (λ arguments left x. answering_fits (answers arguments) left x)
 
   pub external_fits : (b : Bound) (name : List ℕ) (n : ℕ) (conditional : Bool) (f : Fields) → FieldsFit s f → EffectFits s (call_external s b name n conditional f)
-  external_fits b name n conditional f h = where_true_fits conditional f (call_bound s (b name) name n) h (λ left x. bound_fits (b name) name n left x)
+  external_fits b name n conditional f h = where_true_fits s conditional f (call_bound s (b name) name n) h (λ left x. bound_fits (b name) name n left x)

@@ -1,7 +1,7 @@
 -- The effects of diverts, calls and returns.
-use Rattle.std.proofs.Common.{◌≢◌, ◌-◌, List, Bool, true, false, if◌then◌else◌, Option, Some, None, option_map, Result, Ok, Err}
+use Rattle.std.proofs.Common.{◌≢◌, List, Bool, true, false, if◌then◌else◌, Option, Some, None, option_map, Result, Ok, Err}
 use Rattle.std.specs.Option.{ok_or}
-use Rattle.ink_model.specs.Acceptance.{lands, leads}
+use Rattle.ink_model.specs.Acceptance.{lands}
 use Rattle.ink_model.specs.Effect.{Context, Effect, Fields, Landing, Moves, Lands, Calls, Returns}
 use Rattle.ink_model.specs.Move.{place_to}
 use Rattle.ink_model.specs.Step.Calls.{call, call_to, led_back, return_function, return_tunnel}

@@ -1,5 +1,5 @@
 -- The effects of questions for counts.
-use Rattle.std.proofs.Common.{refl, ℕ, ◌-◌, ◌≤◌, ℤ, pos, negsuc, IsTrue, List, reverse, Bool, true, false, if◌then◌else◌, Option, Some, None, Result, Ok, Err}
+use Rattle.std.proofs.Common.{refl, ℕ, ◌≤◌, ℤ, pos, negsuc, IsTrue, List, reverse, Bool, true, false, if◌then◌else◌, Option, Some, None, Result, Ok, Err}
 use Rattle.ink_model.specs.Acceptance.{leads}
 use Rattle.ink_model.specs.Counts as counts
 use Rattle.ink_model.specs.Entered.{flags_at}
