@@ -1,12 +1,13 @@
 -- The effects of external functions, and of what a host answers.
-use Rattle.std.proofs.Common.{◌≡◌, ◌≢◌, refl, arith, ℕ, zero, suc, ◌-◌, ◌≤◌, nat_le, List, [], ◌∷◌, length, take, drop, Bool, true, false, if◌then◌else◌, Option, Some, None}
+use Rattle.std.proofs.Common.{◌≡◌, ◌≢◌, arith, ℕ, zero, suc, ◌-◌, ◌≤◌, nat_le, List, [], ◌∷◌, length, take, Bool, true, false, if◌then◌else◌, Option, Some, None}
+use Rattle.std.proofs.lemmas.Bool.{cond_both}
 use Rattle.std.specs.List.{AllByRecursion as Each, list_all}
-use Rattle.ink_model.specs.Effect.{Effect, Fields, Asks, Fails, pushing}
+use Rattle.ink_model.specs.Effect.{Effect, Fields, Asks, Fails}
 use Rattle.ink_model.specs.Host.{Binding, Bound, turn_function, pure_function, fits_given, value_given}
 use Rattle.ink_model.specs.Place.{knot}
 use Rattle.ink_model.specs.Step.Host.{answering, arguments_on, call_bound, call_external, has_string, is_argument, with_arguments}
 use Rattle.ink_model.specs.Tree.{StoryTree}
-use Rattle.ink_model.specs.declared.fault.Fault.TheVariants.{BadOperands, StackEmpty, TooDeep, Unbound, UnsafeInString}
+use Rattle.ink_model.specs.declared.fault.Fault.TheVariants.{BadOperands, StackEmpty, Unbound, UnsafeInString}
 use Rattle.ink_model.specs.declared.frame.FrameKind.TheVariants.{Base, Function}
 use Rattle.ink_model.specs.declared.host.Given.{Given}
 use Rattle.ink_model.specs.declared.host.Given.TheVariants as given
@@ -32,11 +33,8 @@ module _ (s : StoryTree) where
   few_taken (suc n) (v ∷ vs) = omega (arith, few_taken n vs)
 
   arguments_fit : (n : ℕ) (vs : List Value) → StackFits s vs → Finds (λ (r : List Value × List Value). StackFits s r.1) (arguments_on n vs)
-  arguments_fit n vs h = by (nat_le n (length vs))
-    where
-      by : (b : Bool) → Finds (λ (r : List Value × List Value). StackFits s r.1) (if b then Some (drop (length vs - n) vs, take (length vs - n) vs) else None)
-      by true = record { each = each_take (length vs - n) vs h.each; few = omega (arith, few_taken (length vs - n) vs, h.few) }
-      by false = tt
+  arguments_fit n vs h = cond_both (nat_le n (length vs)) _ _ (Finds (λ (r : List Value × List Value). StackFits s r.1))
+      (λ _. record { each = each_take (length vs - n) vs h.each; few = omega (arith, few_taken (length vs - n) vs, h.few) }) (λ _. tt)
 
   with_arguments_fits : (n : ℕ) (f : Fields) (so : List Value → Fields → Effect) → FieldsFit s f → ((arguments : List Value) (left : Fields) → FieldsFit s left → EffectFits s (so arguments left))
       → EffectFits s (with_arguments n f so)
@@ -56,11 +54,7 @@ module _ (s : StoryTree) where
   -- an answer of a host, whatever it is
   pub answering_fits : (gave : Option Given) (f : Fields) → FieldsFit s f → EffectFits s (answering gave f)
   answering_fits None f h = tt
-  answering_fits (Some g) f h = by (fits_given g) refl
-    where
-      by : (b : Bool) → fits_given g ≡ b → EffectFits s (if b then pushing (value_given g) f else Fails TooDeep)
-      by true e = pushing_fits s (value_given g) f (given_fits g e) h
-      by false e = tt
+  answering_fits (Some g) f h = cond_both (fits_given g) _ _ (EffectFits s) (λ e. pushing_fits s (value_given g) f (given_fits g e) h) (λ _. tt)
 
   bound_fits : (b : Option Binding) (name : List ℕ) (n : ℕ) (f : Fields) → FieldsFit s f → EffectFits s (call_bound s b name n f)
   bound_fits None name n f h = or_else_fits s (PlaceFits s) Unbound (knot name s) _ (knot_fits s name) (λ p x. (no_base, landed_fits s p x, h))

@@ -1,5 +1,6 @@
 -- Where flow goes among frames and threads, all places stay places of the story, and no limit is passed.
 use Rattle.std.proofs.Common.{◌≡◌, ◌≢◌, refl, subst, arith, ℕ, ◌+◌, ◌≤◌, lit≤, List, [], ◌∷◌, length, Bool, true, false, nat_eq, nat_lt, if◌then◌else◌, Option, Some, None, option_and_then, Result, Ok, Err}
+use Rattle.std.proofs.lemmas.Bool.{cond_both}
 use Rattle.std.proofs.lemmas.Bool.Decides.{nat_tests}
 use Rattle.std.specs.List.{AllByRecursion as Each}
 use Rattle.ink_model.specs.Flow.{Written, Reached, Reaches, Halts, Breaks, Ending, Continues, Finishes, Collapses, called, depth_of, done, done_by, doubled_in, enter_for, forked, frames_on, halt, leave_for, moved_on, number_for, on_ending, or_breaks, or_end, reach, reach_or_on, returned, thread_of, threads_on, void_for}
@@ -9,7 +10,7 @@ use Rattle.ink_model.specs.Place.{next_place}
 use Rattle.ink_model.specs.Threads.{back_to, dropped_to, frame_count, new_frame, popped, pushed, same_kind, thread_count}
 use Rattle.ink_model.specs.Tree.{StoryTree}
 use Rattle.ink_model.specs.declared.fault.Fault.{Fault}
-use Rattle.ink_model.specs.declared.fault.Fault.TheVariants.{BadMode, BadPop, StopInString, TooDeep}
+use Rattle.ink_model.specs.declared.fault.Fault.TheVariants.{BadMode, BadPop, TooDeep}
 use Rattle.ink_model.specs.declared.frame.FrameKind.{FrameKind}
 use Rattle.ink_model.specs.declared.frame.FrameKind.TheVariants.{Base, Function, Tunnel}
 use Rattle.ink_model.specs.declared.limits.TheConstants.{MAX_FRAMES, MAX_SECTIONS, MAX_THREADS}
@@ -95,11 +96,7 @@ module _ (s : StoryTree) where
   -- ---- off the end of threads
 
   halt_fits : (ts : ThreadsOf (List Part)) (w : Written) → ThreadsFit s ts → WrittenFits s w → ReachedFits s (halt ts w)
-  halt_fits ts w h g = by (is_line w.page.sections)
-    where
-      by : (b : Bool) → ReachedFits s (if b then Halts ts w else Breaks StopInString)
-      by true = (h, g)
-      by false = tt
+  halt_fits ts w h g = cond_both (is_line w.page.sections) _ _ (ReachedFits s) (λ _. (h, g)) (λ _. tt)
 
   -- flow stops in its one thread
   stopped_fits : (t : ThreadOf (List Part)) → ThreadStands s t → ThreadsFit s (record { thread = gone None t; below = [] })
@@ -179,11 +176,7 @@ module _ (s : StoryTree) where
       by false = tt
 
   popped_frame : (k : FrameKind) (d : ℕ) (t : ThreadOf (List Part)) → ThreadStands s t → Gives (ThreadStands s) (popped k d t)
-  popped_frame k d t h = by (same_kind t.frame.kind k)
-    where
-      by : (b : Bool) → Gives (ThreadStands s) (if b then back_to t.below d t else Err BadPop)
-      by true = back_fits t.below d t refl h
-      by false = tt
+  popped_frame k d t h = cond_both (same_kind t.frame.kind k) _ _ (Gives (ThreadStands s)) (λ _. back_fits t.below d t refl h) (λ _. tt)
 
   reach_or_fits : (to : Option (List Part)) (ts : ThreadsOf (List Part)) (w : Written) → AnyPlace s to → ThreadsStand ts → WrittenFits s w → ReachedFits s (reach_or_on (next_place s) to ts w)
   reach_or_fits None ts w p h g = moved_fits ts w h g

@@ -1,5 +1,6 @@
 -- Each text that a story spells is within its limit, and each number has 32 bits.
 use Rattle.std.proofs.Common.{◌≡◌, sym, refl, arith, ℕ, zero, suc, ◌^◌, ℤ, pos, negsuc, List, [], ◌∷◌, ◌++◌, length, Bool, true, false, true≢false, ◌&&◌, ◌==◌, bytes_eq, codes, nat_lt, if◌then◌else◌, Option, Some, None, unwrap_or, Result, Ok, Err, IsTrue}
+use Rattle.std.proofs.lemmas.Bool.{cond_both}
 use Rattle.std.proofs.lemmas.Bool.Decides.{nat_tests}
 use Rattle.std.specs.List.{AllByRecursion as Each, list_all}
 use Rattle.std.specs.Option.{ok_or, option_or}
@@ -188,21 +189,14 @@ sole_fits (r ∷ q ∷ rs) h = tt
 
 object_fits : (version : InkVersion) (d : Data) → Yields TextsFit (object_leaf version d)
 unfolding object_leaf
-object_fits version d = by (is_beyond version d)
-  where
-    by : (b : Bool) → Yields TextsFit (if b then Err Unsupported else sole (jump_readings d ++ (value_readings d ++ store_readings d)))
-    by true = tt
-    by false = sole_fits _ (each_append _ (jump_readings d) (value_readings d ++ store_readings d) (jumps_fit d) (each_append _ (value_readings d) (store_readings d) (values_fit d) (stores_fit d)))
+object_fits version d = cond_both (is_beyond version d) _ _ (Yields TextsFit)
+    (λ _. tt) (λ _. sole_fits _ (each_append _ (jump_readings d) (value_readings d ++ store_readings d) (jumps_fit d) (each_append _ (value_readings d) (store_readings d) (values_fit d) (stores_fit d))))
 
 -- ---- all leaves
 
 integer_fits : (o : Option ℤ) → Yields TextsFit (integer_leaf o)
 integer_fits None = tt
-integer_fits (Some z) = by (is_small z) refl
-  where
-    by : (b : Bool) → is_small z ≡ b → Yields {E = Cause} TextsFit (if b then Ok (leaves.Int z) else Err Limit)
-    by true e = e
-    by false e = tt
+integer_fits (Some z) = cond_both (is_small z) _ _ (Yields {E = Cause} TextsFit) (λ e. e) (λ _. tt)
 
 pub leaf_of_fits : (version : InkVersion) (d : Data) → Yields TextsFit (leaf_of version d)
 leaf_of_fits version null = tt

@@ -1,5 +1,6 @@
 -- What an effect that fits makes of a sound configuration is sound.
 use Rattle.std.proofs.Common.{◌≡◌, ap, refl, arith, ℕ, suc, lit≤, List, [], ◌∷◌, length, Bool, true, false, ◌||◌, nat_eq, if◌then◌else◌, Option, Some, None}
+use Rattle.std.proofs.lemmas.Bool.{cond_both}
 use Rattle.std.specs.List.{AllByRecursion as Each}
 use Rattle.ink_model.specs.Configuration.{ChoiceOf, Configuration, ended, with_choices, with_safe}
 use Rattle.ink_model.specs.Effect.{Effect, Fields, Moves, Stores, Offers, Lands, Calls, Returns, Forks, Done, Ends, Asks, Fails, context_of, fields_of, with_fields, with_mode, with_staleness, with_thread}
@@ -23,11 +24,7 @@ module _ (s : StoryTree) where
   -- ---- freshness and mode
 
   stale_stands : (d : ℕ) (f : FrameOf (List Part)) → FrameFits s f → FrameFits s (stale d f)
-  stale_stands d f h = by (nat_eq f.depth d)
-    where
-      by : (b : Bool) → FrameFits s (if b then record f { fresh = false } else f)
-      by true = h
-      by false = h
+  stale_stands d f h = cond_both (nat_eq f.depth d) _ _ (FrameFits s) (λ _. h) (λ _. h)
 
   stale_placed : (d : ℕ) (f : FrameOf (List Part)) → SomePlace s f.place → SomePlace s (stale d f).place
   stale_placed d f h = by (nat_eq f.depth d)

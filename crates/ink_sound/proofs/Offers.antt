@@ -1,5 +1,6 @@
 -- The effect of a choice point.
-use Rattle.std.proofs.Common.{◌≡◌, sym, refl, subst, arith, ℕ, ◌≤◌, List, [], ◌∷◌, ◌++◌, length, length-append, reverse, Bool, true, false, nat_lt, if◌then◌else◌, Option, Some, None, Result, Ok, Err, IsTrue}
+use Rattle.std.proofs.Common.{◌≡◌, sym, refl, subst, arith, ℕ, ◌≤◌, List, [], ◌∷◌, length, length-append, reverse, Bool, true, false, nat_lt, if◌then◌else◌, Option, Some, None, Result, Ok, Err, IsTrue}
+use Rattle.std.proofs.lemmas.Bool.{cond_both}
 use Rattle.std.proofs.lemmas.Bool.Decides.{nat_tests}
 use Rattle.std.proofs.lemmas.List.{length-reverse, reverse-append}
 use Rattle.std.specs.List.{AllByRecursion as Each}
@@ -112,11 +113,8 @@ module _ (s : StoryTree) where
       (λ o x. choice_fits flags q visited t o p h x)
 
   added_fits : (c : ChoiceOf (List Part)) (cs : List (ChoiceOf (List Part))) → ChoiceFits s c → ChoicesFit s cs → Gives (ChoicesFit s) (added c cs)
-  added_fits c cs h k = by (nat_lt (length cs) MAX_CHOICES) refl
-    where
-      by : (b : Bool) → nat_lt (length cs) MAX_CHOICES ≡ b → Gives (ChoicesFit s) (if b then Ok (cs ++ c ∷ []) else Err TooDeep)
-      by true e = record { each = each_one (ChoiceFits s) cs c k.each h; few = rw (length-append cs (c ∷ [])) (grind (arith, nat_tests, e)) }
-      by false e = tt
+  added_fits c cs h k = cond_both (nat_lt (length cs) MAX_CHOICES) _ _ (Gives (ChoicesFit s))
+      (λ e. record { each = each_one (ChoiceFits s) cs c k.each h; few = rw (length-append cs (c ∷ [])) (grind (arith, nat_tests, e)) }) (λ _. tt)
 
   -- ---- the effect
 

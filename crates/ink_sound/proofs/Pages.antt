@@ -1,8 +1,9 @@
 -- What is written leaves no more sections open than may be.
 use Rattle.std.proofs.Common.{◌≡◌, refl, arith, ℕ, suc, ◌^◌, List, [], ◌∷◌, length, Bool, true, false, nat_lt, if◌then◌else◌, Option, Result, Ok, Err}
+use Rattle.std.proofs.lemmas.Bool.{cond_both}
 use Rattle.std.proofs.lemmas.Bool.Decides.{nat_tests}
 use Rattle.ink_model.specs.Flow.{Written, enter_for, leave_for, on_page, on_stack, void_for}
-use Rattle.ink_model.specs.Output.{begins_function, ends_function, is_crowded, noted, noted_in, opens, with_next, writes_marks}
+use Rattle.ink_model.specs.Output.{begins_function, ends_function, is_crowded, noted_in, opens, with_next, writes_marks}
 use Rattle.ink_model.specs.Page.{Page, Section, SectionKind}
 use Rattle.ink_model.specs.Stack.{pushed}
 use Rattle.ink_model.specs.Tree.{StoryTree}
@@ -24,18 +25,10 @@ as_many ms line [] n = refl
 as_many ms line (x ∷ xs) n = refl
 
 pub marks_fit : (ms : List Mark) (page : Page) → PageFits page → Gives PageFits (writes_marks ms page)
-marks_fit ms page h = by (is_crowded ms page)
-  where
-    by : (b : Bool) → Gives PageFits (if b then Err TooDeep else Ok (noted ms page))
-    by true = tt
-    by false = record { few = omega (arith, as_many ms page.line page.sections page.next_enter, h.few) }
+marks_fit ms page h = cond_both (is_crowded ms page) _ _ (Gives PageFits) (λ _. tt) (λ _. record { few = omega (arith, as_many ms page.line page.sections page.next_enter, h.few) })
 
 pub begins_fit : (page : Page) → PageFits page → Gives PageFits (begins_function page)
-begins_fit page h = by (nat_lt (suc page.next_enter) (2 ^ 64))
-  where
-    by : (b : Bool) → Gives PageFits (if b then writes_marks (Enter page.next_enter ∷ []) (with_next page) else Err TooDeep)
-    by true = marks_fit (Enter page.next_enter ∷ []) (with_next page) (record { few = h.few })
-    by false = tt
+begins_fit page h = cond_both (nat_lt (suc page.next_enter) (2 ^ 64)) _ _ (Gives PageFits) (λ _. marks_fit (Enter page.next_enter ∷ []) (with_next page) (record { few = h.few })) (λ _. tt)
 
 pub opens_fit : (kind : SectionKind) (page : Page) → PageFits page → Gives PageFits (opens kind page)
 opens_fit kind page h = by (nat_lt (length page.sections) MAX_SECTIONS) refl

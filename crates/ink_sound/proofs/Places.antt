@@ -1,5 +1,6 @@
 -- Places of a story: where flow enters, goes on, lands, and where paths lead.
 use Rattle.std.proofs.Common.{◌≡◌, ◌∙◌, ap, sym, refl, subst, arith, ℕ, zero, suc, ◌+◌, ◌<◌, List, [], ◌∷◌, ◌++◌, reverse, Bool, true, false, ◌&&◌, ◌||◌, nat_lt, nat_le, nat_eq, cond, if◌then◌else◌, Option, Some, None, is_some, option_and_then}
+use Rattle.std.proofs.lemmas.Bool.{cond_both}
 use Rattle.std.proofs.lemmas.Bool.Decides.{nat_tests}
 use Rattle.std.proofs.lemmas.List.{append-nil, reverse-append, reverse-reverse}
 use Rattle.std.specs.Option.{option_map}
@@ -136,11 +137,7 @@ unfolding next_place
 next_fits s p = upwards_fits s (reverse p)
 
 pub start_fits : (s : StoryTree) → PlaceFits s (start_place s)
-start_fits s = by (nat_lt 0 (width (Some s))) refl
-  where
-    by : (b : Bool) → nat_lt 0 (width (Some s)) ≡ b → PlaceFits s (if b then Index 0 ∷ [] else [])
-    by true e = stands_fits s (Index 0 ∷ []) (index_stands s [] 0 (grind (arith, nat_tests, e)))
-    by false e = stands_fits s [] refl
+start_fits s = cond_both (nat_lt 0 (width (Some s))) _ _ (PlaceFits s) (λ e. stands_fits s (Index 0 ∷ []) (index_stands s [] 0 (grind (arith, nat_tests, e)))) (λ _. stands_fits s [] refl)
 
 -- ---- where paths lead
 
@@ -169,11 +166,7 @@ step_stands s p (Index i) h = by (nat_lt i (width (at s p))) refl
     by : (b : Bool) → nat_lt i (width (at s p)) ≡ b → Finds (Stands s) (if b then Some (p ++ Index i ∷ []) else None)
     by true e = index_stands s p i (grind (arith, nat_tests, e))
     by false e = tt
-step_stands s p (Name name) h = by (is_up name)
-  where
-    by : (b : Bool) → Finds (Stands s) (if b then above (reverse p) else by_name s p name)
-    by true = up_stands s p h
-    by false = name_stands s p name
+step_stands s p (Name name) h = cond_both (is_up name) _ _ (Finds (Stands s)) (λ _. up_stands s p h) (λ _. name_stands s p name)
 
 found_fits : (s : StoryTree) (o : Option (List Part)) → Finds (Stands s) o → Finds (PlaceFits s) o
 found_fits s None h = tt
@@ -207,18 +200,10 @@ target_fits s from path h = walked_fits s path.parts (if path.relative then from
 
 pub landed_fits : (s : StoryTree) (p : List Part) → PlaceFits s p → PlaceFits s (landed s p)
 unfolding landed
-landed_fits s p h = by (nat_lt 0 (width (at s p))) refl
-  where
-    by : (b : Bool) → nat_lt 0 (width (at s p)) ≡ b → PlaceFits s (if b then p ++ Index 0 ∷ [] else p)
-    by true e = stands_fits s (p ++ Index 0 ∷ []) (index_stands s p 0 (grind (arith, nat_tests, e)))
-    by false e = h
+landed_fits s p h = cond_both (nat_lt 0 (width (at s p))) _ _ (PlaceFits s) (λ e. stands_fits s (p ++ Index 0 ∷ []) (index_stands s p 0 (grind (arith, nat_tests, e)))) (λ _. h)
 
 landing_fits : (s : StoryTree) (path : Path) (p : List Part) → PlaceFits s p → PlaceFits s (landing s path p)
-landing_fits s path p h = by (ends_in_index path.parts)
-  where
-    by : (b : Bool) → PlaceFits s (if b then p else landed s p)
-    by true = h
-    by false = landed_fits s p h
+landing_fits s path p h = cond_both (ends_in_index path.parts) _ _ (PlaceFits s) (λ _. h) (λ _. landed_fits s p h)
 
 map_finds : {A : Type 0} (P : A → Type 0) (Q : List Part → Type 0) (o : Option A) (so : A → List Part) → Finds P o → ((a : A) → P a → Q (so a)) → Finds Q (option_map so o)
 map_finds P Q None so h k = tt

@@ -1,5 +1,6 @@
 -- The effects of questions for counts.
 use Rattle.std.proofs.Common.{refl, ℕ, ◌≤◌, ℤ, pos, negsuc, IsTrue, List, reverse, Bool, true, false, if◌then◌else◌, Option, Some, None, Result, Ok, Err}
+use Rattle.std.proofs.lemmas.Bool.{cond_both}
 use Rattle.ink_model.specs.Acceptance.{leads}
 use Rattle.ink_model.specs.Counts as counts
 use Rattle.ink_model.specs.Entered.{flags_at}
@@ -45,11 +46,7 @@ module _ (s : StoryTree) where
 
   module _ (seen : Context) (context : ContextFits s seen) where
     visits_fit : (q : List Part) → Gives IsCount (visits_at s seen q)
-    visits_fit q = by (counts_visits (flags_at (at s q)))
-      where
-        by : (b : Bool) → Gives IsCount (if b then Ok (pos (counts.visits_at place_order q seen.counts)) else Err NotCounted)
-        by true = visits_most s q seen.counts context.counts
-        by false = tt
+    visits_fit q = cond_both (counts_visits (flags_at (at s q))) _ _ (Gives IsCount) (λ _. visits_most s q seen.counts context.counts) (λ _. tt)
 
     less_fits : (r : Result ℤ Fault) → Gives IsCount r → Gives Small (less_one s seen r)
     less_fits (Ok (pos n)) h = less_small n h
@@ -66,18 +63,10 @@ module _ (s : StoryTree) where
         by false o h = tt
 
     visits_there_fit : (q : List Part) → Gives Small (visits_there s seen q)
-    visits_there_fit q = by (is_container (at s q))
-      where
-        by : (b : Bool) → Gives Small (if b then visits_at s seen q else Ok (pos 0))
-        by true = counts_fit (visits_at s seen q) (visits_fit q)
-        by false = refl
+    visits_there_fit q = cond_both (is_container (at s q)) _ _ (Gives Small) (λ _. counts_fit (visits_at s seen q) (visits_fit q)) (λ _. refl)
 
     turns_there_fit : (q : List Part) → Gives Small (turns_there s seen q)
-    turns_there_fit q = by (is_container (at s q))
-      where
-        by : (b : Bool) → Gives Small (if b then turns_at s seen q else Ok (negsuc 0))
-        by true = turns_fit q
-        by false = refl
+    turns_there_fit q = cond_both (is_container (at s q)) _ _ (Gives Small) (λ _. turns_fit q) (λ _. refl)
 
   module _ (seen : Context) (context : ContextFits s seen) (f : Fields) (h : FieldsFit s f) where
     pub push_count_fits : (p : List Part) (text : List ℕ) → EffectFits s (push_count s seen p text f)

@@ -1,5 +1,6 @@
 -- A step keeps a configuration sound, and so do an answer and a run.
 use Rattle.std.proofs.Common.{◌≡◌, refl, subst, ℕ, zero, suc, lit≤, List, [], ◌∷◌, slice_get, Bool, true, false, if◌then◌else◌, Option, Some, None, option_map}
+use Rattle.std.proofs.lemmas.Bool.{cond_both}
 use Rattle.std.specs.List.{AllByRecursion as Each}
 use Rattle.ink_model.specs.Choices.{behind, can_take, only_invisible, taken, taken_of, visible}
 use Rattle.ink_model.specs.Choosing.{chosen, default_choice, following, jumped, open_choice, stopped_by, taken_up}
@@ -70,11 +71,7 @@ module _ (P : ChoiceOf (List Part) → Type 0) where
       by false on = (h.0, on)
 
   pub open_finds : (n : ℕ) (c : Configuration) → Each P c.flow.choices → Finds P (open_choice n c)
-  open_finds n c h = by (can_go_on c)
-    where
-      by : (b : Bool) → Finds P (if b then None else slice_get (visible c.flow.choices) n)
-      by true = tt
-      by false = get_finds P (visible c.flow.choices) n (visible_each c.flow.choices h)
+  open_finds n c h = cond_both (can_go_on c) _ _ (Finds P) (λ _. tt) (λ _. get_finds P (visible c.flow.choices) n (visible_each c.flow.choices h))
 
 module _ (s : StoryTree) where
   -- ---- flow is put at a place

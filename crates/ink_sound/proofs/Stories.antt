@@ -1,5 +1,6 @@
 -- An accepted story has what is asked of it.
 use Rattle.std.proofs.Common.{◌≡◌, ◌∙◌, ap, sym, refl, subst, arith, ℕ, zero, suc, ◌+◌, List, [], ◌∷◌, ◌++◌, map, filter, length, Bool, true, false, true≢false, not, ◌&&◌, codes, nat_lt, cond, if◌then◌else◌, Option, Some, None, is_some, option_and_then, unwrap_or, Result, Ok, Err}
+use Rattle.std.proofs.lemmas.Bool.{cond_both}
 use mathlib.Core.Bool.{Bool-set}
 use mathlib.Core.HLevel.{Unit-prop, ×_prop}
 use mathlib.Core.Logic.{∥∥₁_elim}
@@ -13,7 +14,7 @@ use Rattle.std.specs.declared.cmp.Ordering.TheVariants.{Less, Equal, Greater}
 use Rattle.serde_json.specs.Data.{Data, null, boolean, number, string, array, object, Items, no_items, item, Members, no_members, member}
 use Rattle.serde_json.specs.Find.{as_array, get}
 use Rattle.ink_model.specs.Acceptance.{accepted, accepted_story, and_then, bad_path, bad_places, good_content, good_leaf, has_bad_path, is_absolute, leads}
-use Rattle.ink_model.specs.Grammar.{IsSpelled, content, content_of, faults, first, here, is_blank_object, is_empty, is_object, is_own, json, keyed_by, keyed_in, keyed_last, of_json, of_value, of_version, root_of, story, tree_of, unmarked, version_of}
+use Rattle.ink_model.specs.Grammar.{IsSpelled, content, content_of, faults, first, is_blank_object, is_empty, is_object, is_own, json, keyed_by, keyed_in, keyed_last, of_json, of_value, of_version, root_of, story, tree_of, unmarked, version_of}
 use Rattle.ink_model.specs.Leaves.{leaf_of}
 use Rattle.ink_model.specs.Path.{read_path, target}
 use Rattle.ink_model.specs.Places.{places, places_by_key, places_from}
@@ -22,7 +23,6 @@ use Rattle.ink_model.specs.Tree.{StoryTree, leaf, container, Trees, no_trees, tr
 use Rattle.ink_model.specs.declared.content.Leaf.{Leaf}
 use Rattle.ink_model.specs.declared.content.Leaf.TheVariants as leaves
 use Rattle.ink_model.specs.declared.fault.Cause.{Cause}
-use Rattle.ink_model.specs.declared.fault.Cause.TheVariants.{Limit, Shape, Unsupported}
 use Rattle.ink_model.specs.declared.fault.ReadRefusal.{ReadRefusal}
 use Rattle.ink_model.specs.declared.limits.TheConstants.{MAX_STORY}
 use Rattle.ink_model.specs.declared.place.Part.{Part}
@@ -119,26 +119,14 @@ first_fits (r ∷ rs) t h = tt
 
 root_fits : (version : InkVersion) (o : Option Data) → Yields TreeFits (root_of version o)
 root_fits version None = tt
-root_fits version (Some d) = by (is_some (as_array d))
-  where
-    by : (b : Bool) → Yields TreeFits (if b then content version 1 false false d else Err (here Shape))
-    by true = first_fits (faults version 1 false d) (tree_of version false d) (tree_fits version false d)
-    by false = tt
+root_fits version (Some d) = cond_both (is_some (as_array d)) _ _ (Yields TreeFits) (λ _. first_fits (faults version 1 false d) (tree_of version false d) (tree_fits version false d)) (λ _. tt)
 
 of_version_fits : (o : Option InkVersion) (d : Data) → Yields TreeFits (of_version o d)
 of_version_fits None d = tt
-of_version_fits (Some version) d = by (not (is_blank_object (get (codes "listDefs") d)))
-  where
-    by : (b : Bool) → Yields TreeFits (if b then Err (here Unsupported) else root_of version (get (codes "root") d))
-    by true = tt
-    by false = root_fits version (get (codes "root") d)
+of_version_fits (Some version) d = cond_both (not (is_blank_object (get (codes "listDefs") d))) _ _ (Yields TreeFits) (λ _. tt) (λ _. root_fits version (get (codes "root") d))
 
 value_fits : (d : Data) → Yields TreeFits (of_value d)
-value_fits d = by (not (is_object d))
-  where
-    by : (b : Bool) → Yields TreeFits (if b then Err (here Shape) else of_version (version_of d) d)
-    by true = tt
-    by false = of_version_fits (version_of d) d
+value_fits d = cond_both (not (is_object d)) _ _ (Yields TreeFits) (λ _. tt) (λ _. of_version_fits (version_of d) d)
 
 json_fits : (o : Option Data) → Yields TreeFits (of_json o)
 json_fits None = tt
@@ -146,11 +134,7 @@ json_fits (Some d) = value_fits d
 
 story_fits : (bytes : List ℕ) → Yields TreeFits (story bytes)
 unfolding story
-story_fits bytes = by (nat_lt MAX_STORY (length bytes))
-  where
-    by : (b : Bool) → Yields TreeFits (if b then Err (here Limit) else of_json (json (unmarked bytes)))
-    by true = tt
-    by false = json_fits (json (unmarked bytes))
+story_fits bytes = cond_both (nat_lt MAX_STORY (length bytes)) _ _ (Yields TreeFits) (λ _. tt) (λ _. json_fits (json (unmarked bytes)))
 
 -- ---- each place
 

@@ -1,9 +1,10 @@
 -- The effects of values, evaluation mode, text, strings and tags.
 use Rattle.std.proofs.Common.{◌≡◌, ap, refl, arith, ℕ, List, [], ◌∷◌, length, Bool, true, false, if◌then◌else◌, Option, Some, None, Result, Ok, Err, IsTrue}
+use Rattle.std.proofs.lemmas.Bool.{cond_both}
 use Rattle.std.specs.List.{list_any}
 use Rattle.ink_model.specs.Bytes.{fits_text}
 use Rattle.ink_model.specs.Clean.{clean}
-use Rattle.ink_model.specs.Effect.{Fields, Moves, Fails, is_fresh, pushing, writing, writing_text}
+use Rattle.ink_model.specs.Effect.{Fields, Moves, is_fresh, pushing, writing, writing_text}
 use Rattle.ink_model.specs.Mark.{cut}
 use Rattle.ink_model.specs.Output.{closes_string, closes_string_of, closes_tag, closes_tag_of, is_string, is_text, let_through, opens, prints_text, tagged, writes_glue, writes_marks, writes_newline, writes_printed, writes_text, writes_value}
 use Rattle.ink_model.specs.Page.{Page, Section, SectionKind, string_section, tag_section}
@@ -14,7 +15,7 @@ use Rattle.ink_model.specs.Step.Text.{begin_string, begin_tag, beside, closed_ta
 use Rattle.ink_model.specs.Tree.{StoryTree}
 use Rattle.ink_model.specs.Value.{printed}
 use Rattle.ink_model.specs.declared.fault.Fault.{Fault}
-use Rattle.ink_model.specs.declared.fault.Fault.TheVariants.{BadMode, TooDeep}
+use Rattle.ink_model.specs.declared.fault.Fault.TheVariants.{TooDeep}
 use Rattle.ink_model.specs.declared.mark.Mark.{Mark}
 use Rattle.ink_model.specs.declared.mark.Mark.TheVariants as mark
 use Rattle.ink_model.specs.declared.value.Value.{Value}
@@ -116,34 +117,19 @@ module _ (s : StoryTree) where
         by false h k = k
 
     pub write_newline_fits : EffectFits s (write_newline f)
-    write_newline_fits = by f.evaluating
-      where
-        by : (b : Bool) → EffectFits s (if b then pushing (value.Text (10 ∷ [])) f else writing (writes_newline (is_fresh f) f.page) f)
-        by true = pushing_fits s (value.Text (10 ∷ [])) f refl fits
-        by false = writing_fits (writes_newline (is_fresh f) f.page) (marks_fit (let_through (is_fresh f) (mark.Newline ∷ [])) f.page fits.page)
+    write_newline_fits = cond_both f.evaluating _ _ (EffectFits s)
+        (λ _. pushing_fits s (value.Text (10 ∷ [])) f refl fits) (λ _. writing_fits (writes_newline (is_fresh f) f.page) (marks_fit (let_through (is_fresh f) (mark.Newline ∷ [])) f.page fits.page))
 
     pub write_glue_fits : EffectFits s (write_glue f)
-    write_glue_fits = by f.evaluating
-      where
-        by : (b : Bool) → EffectFits s (if b then Fails BadMode else writing (writes_glue f.page) f)
-        by true = tt
-        by false = writing_fits (writes_glue f.page) (marks_fit (mark.Glue ∷ []) f.page fits.page)
+    write_glue_fits = cond_both f.evaluating _ _ (EffectFits s) (λ _. tt) (λ _. writing_fits (writes_glue f.page) (marks_fit (mark.Glue ∷ []) f.page fits.page))
 
     -- ---- evaluation
 
     pub begin_eval_fits : EffectFits s (begin_eval f)
-    begin_eval_fits = by f.evaluating
-      where
-        by : (b : Bool) → EffectFits s (if b then Fails BadMode else Moves (record f { evaluating = true }))
-        by true = tt
-        by false = record { stack = fits.stack; globals = fits.globals; page = fits.page }
+    begin_eval_fits = cond_both f.evaluating _ _ (EffectFits s) (λ _. tt) (λ _. record { stack = fits.stack; globals = fits.globals; page = fits.page })
 
     pub end_eval_fits : EffectFits s (end_eval f)
-    end_eval_fits = by f.evaluating
-      where
-        by : (b : Bool) → EffectFits s (if b then Moves (record f { evaluating = false }) else Fails BadMode)
-        by true = record { stack = fits.stack; globals = fits.globals; page = fits.page }
-        by false = tt
+    end_eval_fits = cond_both f.evaluating _ _ (EffectFits s) (λ _. record { stack = fits.stack; globals = fits.globals; page = fits.page }) (λ _. tt)
 
     pub pop_fits : EffectFits s (pop f)
     pop_fits = popping_fits s f (λ v left. Moves left) fits (λ v left p h. h)
@@ -167,11 +153,8 @@ module _ (s : StoryTree) where
   -- ---- strings and tags
 
   pub begin_string_fits : (f : Fields) → FieldsFit s f → EffectFits s (begin_string f)
-  begin_string_fits f fits = by f.evaluating
-    where
-      by : (b : Bool) → EffectFits s (if b then writing (opens string_section f.page) (record f { evaluating = false }) else Fails BadMode)
-      by true = writing_fits (record f { evaluating = false }) (record { stack = fits.stack; globals = fits.globals; page = fits.page }) (opens string_section f.page) (opens_fit string_section f.page fits.page)
-      by false = tt
+  begin_string_fits f fits = cond_both f.evaluating _ _ (EffectFits s)
+      (λ _. writing_fits (record f { evaluating = false }) (record { stack = fits.stack; globals = fits.globals; page = fits.page }) (opens string_section f.page) (opens_fit string_section f.page fits.page)) (λ _. tt)
 
   pub end_string_fits : (f : Fields) → FieldsFit s f → EffectFits s (end_string f)
   end_string_fits f fits = or_fault_fits s TextFits (closes_string f.page) _ (closes_string_fits f.page fits.page)

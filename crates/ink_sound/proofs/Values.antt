@@ -1,5 +1,6 @@
 -- Values that fit, on a stack and as they are made.
-use Rattle.std.proofs.Common.{◌≡◌, ap, refl, arith, suc, List, [], ◌∷◌, ◌++◌, length, length-append, Bool, true, false, nat_lt, if◌then◌else◌, Option, Some, None, Result, Ok, Err}
+use Rattle.std.proofs.Common.{◌≡◌, ap, refl, arith, suc, List, [], ◌∷◌, ◌++◌, length, length-append, nat_lt, Option, Some, None, Result, Ok, Err}
+use Rattle.std.proofs.lemmas.Bool.{cond_both}
 use Rattle.std.proofs.lemmas.Bool.Decides.{nat_tests}
 use Rattle.std.specs.List.{AllByRecursion as Each}
 use Rattle.std.specs.Option.{option_map}
@@ -7,7 +8,7 @@ use Rattle.ink_model.specs.Effect.{Effect, Fields, Moves, or_else, or_fault, pop
 use Rattle.ink_model.specs.Stack.{popped, pushed}
 use Rattle.ink_model.specs.Tree.{StoryTree}
 use Rattle.ink_model.specs.declared.fault.Fault.{Fault}
-use Rattle.ink_model.specs.declared.fault.Fault.TheVariants.{StackEmpty, TooDeep}
+use Rattle.ink_model.specs.declared.fault.Fault.TheVariants.{StackEmpty}
 use Rattle.ink_model.specs.declared.limits.TheConstants.{MAX_STACK}
 use Rattle.ink_model.specs.declared.value.Value.{Value}
 use Rattle.ink_sound.specs.Kept.{EffectFits, FieldsFit, Finds, Gives}
@@ -38,11 +39,8 @@ or_else_fits s P f None so h k = tt
 -- ---- the stack
 
 pub pushed_fits : (s : StoryTree) (v : Value) (vs : List Value) → ValueFits s v → StackFits s vs → Gives (StackFits s) (pushed v vs)
-pushed_fits s v vs h k = by (nat_lt (length vs) MAX_STACK) refl
-  where
-    by : (b : Bool) → nat_lt (length vs) MAX_STACK ≡ b → Gives (StackFits s) (if b then Ok (vs ++ v ∷ []) else Err TooDeep)
-    by true e = record { each = each_one (ValueFits s) vs v k.each h; few = rw (length-append vs (v ∷ [])) (grind (arith, nat_tests, e)) }
-    by false e = tt
+pushed_fits s v vs h k = cond_both (nat_lt (length vs) MAX_STACK) _ _ (Gives (StackFits s))
+    (λ e. record { each = each_one (ValueFits s) vs v k.each h; few = rw (length-append vs (v ∷ [])) (grind (arith, nat_tests, e)) }) (λ _. tt)
 
 -- what was taken off a stack, and what is left
 pub record TakenFits (s : StoryTree) (vs : List Value) (r : Value × List Value) : Type 0 where

@@ -1,5 +1,6 @@
 -- Variables that are read, assigned and declared, and pointers.
 use Rattle.std.proofs.Common.{◌≡◌, ap, refl, arith, ℕ, zero, suc, ◌+◌, ℤ, pos, negsuc, List, [], ◌∷◌, length, Bool, true, false, nat_eq, if◌then◌else◌, Option, Some, None, is_some, option_and_then, unwrap_or, Result, Ok, Err}
+use Rattle.std.proofs.lemmas.Bool.{cond_both}
 use Rattle.std.proofs.lemmas.Cmp.{nat_list_cmp_total}
 use Rattle.std.specs.List.{AllByRecursion as Each}
 use Rattle.std.specs.Option.{option_or}
@@ -114,11 +115,7 @@ module _ (s : StoryTree) where
 
     read_at : (o : Option (ℤ × List ℕ)) → Gives (ValueFits s) (value_at globals t o)
     read_at None = tt
-    read_at (Some p) = by (stands globals t p.0 p.1)
-      where
-        by : (b : Bool) → Gives (ValueFits s) (if b then Ok (unwrap_or (held globals t p.0 p.1) (Int (pos 0))) else Err BadPointer)
-        by true = unwrap_fits (held globals t p.0 p.1) (Int (pos 0)) (held_finds p.0 p.1) refl
-        by false = tt
+    read_at (Some p) = cond_both (stands globals t p.0 p.1) _ _ (Gives (ValueFits s)) (λ _. unwrap_fits (held globals t p.0 p.1) (Int (pos 0)) (held_finds p.0 p.1) refl) (λ _. tt)
 
     pub read_fits : (name : List ℕ) → Gives (ValueFits s) (read globals t name)
     read_fits name = pointed (Gives (ValueFits s)) (named globals t name) (λ frame m. value_at globals t (chain_end globals t frame m)) (Ok (unwrap_or (named globals t name) (Int (pos 0))))
@@ -135,11 +132,7 @@ module _ (s : StoryTree) where
     held_fits (negsuc n) name v p = (fits, stand)
 
     named_fits : (name : List ℕ) (v : Value) → ValueFits s v → BothFit (with_named globals t name v)
-    named_fits name v p = by (is_some (stored name globals))
-      where
-        by : (b : Bool) → BothFit (if b then (store name v globals, t) else (globals, with_temp (frame_count t) name v t))
-        by true = (stored_fits name v globals p fits, stand)
-        by false = (fits, with_temp_fits (frame_count t) name v t p stand)
+    named_fits name v p = cond_both (is_some (stored name globals)) _ _ BothFit (λ _. (stored_fits name v globals p fits, stand)) (λ _. (fits, with_temp_fits (frame_count t) name v t p stand))
 
     assigned_at : (v : Value) (o : Option (ℤ × List ℕ)) → ValueFits s v → Gives BothFit (assign_at globals t v o)
     assigned_at v None p = tt
@@ -203,11 +196,7 @@ module _ (s : StoryTree) where
 
     point_fits : (frame : ℤ) (name : List ℕ) → is_small frame ≡ true → ValueFits s (point seen.thread frame name)
     point_fits (pos n) name e = e
-    point_fits (negsuc n) name e = by (is_some (row name_order name seen.thread.frame.temps))
-      where
-        by : (b : Bool) → IsFrame (if b then pos (frame_count seen.thread) else pos 0)
-        by true = count_small (frame_count seen.thread) (omega (arith, context.thread.thread.few))
-        by false = refl
+    point_fits (negsuc n) name e = cond_both (is_some (row name_order name seen.thread.frame.temps)) _ _ IsFrame (λ _. count_small (frame_count seen.thread) (omega (arith, context.thread.thread.few))) (λ _. refl)
 
     pub pointer_fits : (name : List ℕ) (frame : ℤ) → is_small frame ≡ true → EffectFits s (step.push_pointer name frame seen f)
     pointer_fits name frame e = push_value_fits (point seen.thread frame name) (point_fits frame name e)
