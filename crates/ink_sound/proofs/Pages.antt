@@ -1,5 +1,5 @@
 -- What is written leaves no more sections open than may be.
-use Rattle.std.proofs.Common.{◌≡◌, refl, arith, ℕ, suc, ◌^◌, List, [], ◌∷◌, length, Bool, true, false, nat_lt, if◌then◌else◌, Option, Result, Ok, Err}
+use Rattle.std.proofs.Common.{◌≡◌, refl, arith, ℕ, suc, ◌^◌, List, [], ◌∷◌, length, Bool, true, false, nat_lt, Option, Result, Ok, Err}
 use Rattle.std.proofs.lemmas.Bool.{cond_both}
 use Rattle.std.proofs.lemmas.Bool.Decides.{nat_tests}
 use Rattle.ink_model.specs.Flow.{Written, enter_for, leave_for, on_page, on_stack, void_for}
@@ -8,7 +8,6 @@ use Rattle.ink_model.specs.Page.{Page, Section, SectionKind}
 use Rattle.ink_model.specs.Stack.{pushed}
 use Rattle.ink_model.specs.Tree.{StoryTree}
 use Rattle.ink_model.specs.declared.fault.Fault.{Fault}
-use Rattle.ink_model.specs.declared.fault.Fault.TheVariants.{TooDeep}
 use Rattle.ink_model.specs.declared.frame.FrameKind.{FrameKind}
 use Rattle.ink_model.specs.declared.frame.FrameKind.TheVariants.{Base, Function, Tunnel}
 use Rattle.ink_model.specs.declared.limits.TheConstants.{MAX_SECTIONS}
@@ -31,12 +30,7 @@ pub begins_fit : (page : Page) → PageFits page → Gives PageFits (begins_func
 begins_fit page h = cond_both (nat_lt (suc page.next_enter) (2 ^ 64)) _ _ (Gives PageFits) (λ _. marks_fit (Enter page.next_enter ∷ []) (with_next page) (record { few = h.few })) (λ _. tt)
 
 pub opens_fit : (kind : SectionKind) (page : Page) → PageFits page → Gives PageFits (opens kind page)
-opens_fit kind page h = by (nat_lt (length page.sections) MAX_SECTIONS) refl
-  where
-    by : (b : Bool) → nat_lt (length page.sections) MAX_SECTIONS ≡ b
-        → Gives PageFits (if b then Ok (record page { sections = record { kind = kind; marks = [] } ∷ page.sections }) else Err TooDeep)
-    by true e = record { few = grind (arith, nat_tests, e) }
-    by false e = tt
+opens_fit kind page h = cond_both (nat_lt (length page.sections) MAX_SECTIONS) _ _ (Gives PageFits) (λ e. record { few = grind (arith, nat_tests, e) }) (λ _. tt)
 
 -- ---- stack and page
 

@@ -1,5 +1,6 @@
 -- Rows that rise, names that stand once, and facts of each row, when a value is put.
 use Rattle.std.proofs.Common.{◌≡◌, ◌∙◌, ap, sym, refl, rules, ℕ, List, [], ◌∷◌, Bool, true, false, true≢false, not, ◌&&◌, bytes_eq, if◌then◌else◌, Option, Some, None, is_some}
+use Rattle.std.proofs.lemmas.Bool.{cond_both}
 use Rattle.std.proofs.lemmas.Cmp.{nat_cmp_total, nat_list_cmp_total, lists_total}
 use Rattle.std.proofs.lemmas.Slice.Eq.{bytes_eq-Decides}
 use Rattle.std.specs.Cmp.{IsTotalOrder}
@@ -161,16 +162,8 @@ once_put name v (w ∷ vs) h = by (bytes_eq name w.0) refl (once_put name v vs a
 module _ (P : Value → Type 0) where
   pub each_stored : (name : List ℕ) (v : Value) (vs : Values) → P v → Each (λ r. P r.1) vs → Each (λ r. P r.1) (store name v vs)
   each_stored name v [] p h = (p, tt)
-  each_stored name v (w ∷ vs) p h = by (bytes_eq name w.0) (each_stored name v vs p h.1)
-    where
-      by : (b : Bool) → Each (λ r. P r.1) (store name v vs) → Each (λ r. P r.1) (if b then (w.0, v) ∷ vs else w ∷ store name v vs)
-      by true on = (p, h.1)
-      by false on = (h.0, on)
+  each_stored name v (w ∷ vs) p h = cond_both (bytes_eq name w.0) _ _ (Each (λ r. P r.1)) (λ _. (p, h.1)) (λ _. (h.0, each_stored name v vs p h.1))
 
   pub stored_finds : (name : List ℕ) (vs : Values) → Each (λ r. P r.1) vs → Finds P (stored name vs)
   stored_finds name [] h = tt
-  stored_finds name (w ∷ vs) h = by (bytes_eq name w.0) (stored_finds name vs h.1)
-    where
-      by : (b : Bool) → Finds P (stored name vs) → Finds P (if b then Some w.1 else stored name vs)
-      by true on = h.0
-      by false on = on
+  stored_finds name (w ∷ vs) h = cond_both (bytes_eq name w.0) _ _ (Finds P) (λ _. h.0) (λ _. stored_finds name vs h.1)

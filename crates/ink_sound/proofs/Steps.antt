@@ -64,11 +64,7 @@ module _ (P : ChoiceOf (List Part) → Type 0) where
 
   pub visible_each : (cs : List (ChoiceOf (List Part))) → Each P cs → Each P (visible cs)
   visible_each [] h = tt
-  visible_each (c ∷ cs) h = by c.hidden (visible_each cs h.1)
-    where
-      by : (b : Bool) → Each P (visible cs) → Each P (if b then visible cs else c ∷ visible cs)
-      by true on = on
-      by false on = (h.0, on)
+  visible_each (c ∷ cs) h = cond_both c.hidden _ _ (Each P) (λ _. visible_each cs h.1) (λ _. (h.0, visible_each cs h.1))
 
   pub open_finds : (n : ℕ) (c : Configuration) → Each P c.flow.choices → Finds P (open_choice n c)
   open_finds n c h = cond_both (can_go_on c) _ _ (Finds P) (λ _. tt) (λ _. get_finds P (visible c.flow.choices) n (visible_each c.flow.choices h))

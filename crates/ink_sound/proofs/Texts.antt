@@ -63,12 +63,7 @@ tagged_fits t page e h = by (list_any is_string page.sections) refl
 tag_fits : (page : Page) (kind : SectionKind) (marks : List Mark) (rest : List Section) → PageFits (record page { sections = rest })
     → Gives TagFits (closes_tag_of page (record { kind = kind; marks = marks } ∷ rest))
 tag_fits page string_section marks rest h = tt
-tag_fits page tag_section marks rest h = by (fits_text (clean (shown_text marks))) refl
-  where
-    by : (b : Bool) → fits_text (clean (shown_text marks)) ≡ b
-        → Gives TagFits (if b then tagged (clean (shown_text marks)) (record page { sections = rest }) else Err TooDeep)
-    by true e = tagged_fits (clean (shown_text marks)) (record page { sections = rest }) e h
-    by false e = tt
+tag_fits page tag_section marks rest h = cond_both (fits_text (clean (shown_text marks))) _ _ (Gives TagFits) (λ e. tagged_fits (clean (shown_text marks)) (record page { sections = rest }) e h) (λ _. tt)
 
 closes_tag_fits : (page : Page) → PageFits page → Gives TagFits (closes_tag page)
 closes_tag_fits page h = by page.sections refl

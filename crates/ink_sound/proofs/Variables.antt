@@ -4,7 +4,7 @@ use Rattle.std.proofs.lemmas.Bool.{cond_both}
 use Rattle.std.proofs.lemmas.Cmp.{nat_list_cmp_total}
 use Rattle.std.specs.List.{AllByRecursion as Each}
 use Rattle.std.specs.Option.{option_or}
-use Rattle.ink_model.specs.Effect.{Context, Fields, Moves, pushing}
+use Rattle.ink_model.specs.Effect.{Context, Fields}
 use Rattle.ink_model.specs.Frames.{FrameOf, ThreadOf, frame_numbered}
 use Rattle.ink_model.specs.Leaves.{is_small}
 use Rattle.ink_model.specs.Rows.{name_order, row}
@@ -188,11 +188,7 @@ module _ (s : StoryTree) where
     variable_fits name = or_fault_fits s (ValueFits s) (read f.globals seen.thread name) _ (read_fits f.globals seen.thread fits.globals context.thread name) (λ v p. pushing_fits s v f p fits)
 
     pub push_value_fits : (v : Value) → ValueFits s v → EffectFits s (push_value v f)
-    push_value_fits v p = by f.evaluating (pushing_fits s v f p fits)
-      where
-        by : (b : Bool) → EffectFits s (pushing v f) → EffectFits s (if b then pushing v f else Moves f)
-        by true h = h
-        by false h = fits
+    push_value_fits v p = cond_both f.evaluating _ _ (EffectFits s) (λ _. pushing_fits s v f p fits) (λ _. fits)
 
     point_fits : (frame : ℤ) (name : List ℕ) → is_small frame ≡ true → ValueFits s (point seen.thread frame name)
     point_fits (pos n) name e = e
