@@ -20,6 +20,7 @@ pub mod Sessions
 pub mod Leaves
 pub mod Stories
 pub mod Depth
+pub mod Plain
 pub mod Temporaries
 pub mod Narrow
 pub mod Unspelling

@@ -1,5 +1,5 @@
 -- The laws: a story that is opened is sound, each step and each command keeps that, and a spelling is read as what it spells.
-use Rattle.std.specs.Prelude.{◌≡◌, ℕ, ◌≤◌, List, [], Ok, Option, Some}
+use Rattle.std.specs.Prelude.{◌≡◌, ℕ, ◌≤◌, List, [], false, Ok, Option, Some}
 use Rattle.ink_model.specs.Acceptance.{accepted_story, bad_places}
 use Rattle.ink_model.specs.Answer.{Reply}
 use Rattle.ink_model.specs.Configuration.{Configuration, settled}
@@ -20,6 +20,7 @@ use Rattle.ink_sound.specs.Save.Sound.{Sound}
 use Rattle.ink_sound.specs.Save.Spelling.{spelling}
 use Rattle.ink_sound.specs.Save.Unspelled.{unspelled}
 use Rattle.serde_json.specs.Data.{Data, depth}
+use Rattle.serde_json.specs.Written.{has_float}
 
 -- ---- stories
 
@@ -70,9 +71,13 @@ OneSpelling = (s : StoryTree) → StoryFits s → (j : Data) (c d : Configuratio
 abbrev pub ReadsExactly : Type 0
 ReadsExactly = (s : StoryTree) → StoryFits s → (j : Data) (c : Configuration) → (Reads s j c → unspelled j ≡ Some c) × (unspelled j ≡ Some c → Sound s c → Reads s j c)
 
--- a spelling nests at most so deep
+-- a spelling nests at most so deep, so that its text is read back
 abbrev pub SpellsFlat : Type 0
 SpellsFlat = (c : Configuration) → depth (spelling c) ≤ 8
+
+-- a spelling has no float, so that its compact text is known
+abbrev pub SpellsPlain : Type 0
+SpellsPlain = (c : Configuration) → has_float (spelling c) ≡ false
 
 -- what a session comes to is read from its spelling
 abbrev pub SessionsReload : Type 0

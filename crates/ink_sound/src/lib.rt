@@ -2,7 +2,7 @@
 //! definitions alone, each the contract of a function that does nothing.
 #![tactic(auto)]
 
-ghost use Rattle.ink_sound.specs.Laws.{AcceptedFit, CommandsFit, MomentsFit, OneSpelling, OpeningsFit, ReadsExactly, SessionsFit, SessionsReload, SettlingFits, SpelledFit, SpellsFlat, StepsFit};
+ghost use Rattle.ink_sound.specs.Laws.{AcceptedFit, CommandsFit, MomentsFit, OneSpelling, OpeningsFit, ReadsExactly, SessionsFit, SessionsReload, SettlingFits, SpelledFit, SpellsFlat, SpellsPlain, StepsFit};
 
 /// An accepted story has what the laws ask of one.
 pub fn accepted_stories_fit()
@@ -62,4 +62,9 @@ pub fn reading_is_exact()
 /// A spelling nests at most eight deep.
 pub fn spellings_are_flat()
     ensures { SpellsFlat }
+{}
+
+/// A spelling has no float.
+pub fn spellings_have_no_float()
+    ensures { SpellsPlain }
 {}
