@@ -1,11 +1,12 @@
 -- Small worked examples of saves, each proved by computation (docs/SAVES.md).
 use Rattle.std.specs.Prelude.{◌≡◌, ℕ, pos, negsuc, List, [], ◌∷◌, refl, codes, true, false, Float, Some, None, option_and_then}
+use Rattle.std.proofs.Common.{lit≤}
 use Rattle.std.specs.Fmt.{digits}
 use Rattle.serde_json.proofs.OnLiterals.{serde_json_on_literals}
 use Rattle.serde_json.specs.Data.{Data, null, boolean, number, string, array, object, no_items, item, Members, no_members, member, unsigned, negative, float}
 use Rattle.serde_json.specs.Read.{read}
 use Rattle.serde_json.specs.Written.{compact_text}
-use Rattle.ink_model.specs.CallStories.{does, now, stack_in, story}
+use Rattle.ink_model.specs.CallStories.{does, now, says, stack_in, story}
 use Rattle.ink_model.specs.Configuration.{ChoiceOf, Configuration, fresh_at, settled, start}
 use Rattle.ink_model.specs.Entered.{entered_places, passed_places}
 use Rattle.ink_model.specs.Frames.{FrameOf, ThreadOf, base_frame}
@@ -25,8 +26,8 @@ use Rattle.ink_model.specs.declared.place.Part.{Part}
 use Rattle.ink_model.specs.declared.place.Part.TheVariants.{Index, Name}
 use Rattle.ink_model.specs.declared.value.Value.{Value}
 use Rattle.ink_model.specs.declared.value.Value.TheVariants as value
-use Rattle.ink_sound.specs.Save.Reads.{Rests}
-use Rattle.ink_sound.specs.Save.Sound.{BaseFirst, FlowStands, ValueFits, names_once}
+use Rattle.ink_sound.specs.Save.Reads.{Reads, Rests}
+use Rattle.ink_sound.specs.Save.Sound.{BaseFirst, FlowStands, Sound, ValueFits, names_once}
 use Rattle.ink_sound.specs.Save.Spelling.{choice_data, frame_data, global_data, list_data, row_data, spelling}
 use Rattle.ink_sound.specs.Save.Unspelled.{any_place_of, choice_of, frame_of, place_of, temps_of, unspelled, value_of}
 
@@ -66,6 +67,31 @@ its_text_is_read = refl
 it_rests : Rests in_the_middle
 unfolding settled
 it_rests = refl
+
+-- of a story whose first container has two texts
+it_is_sound : Sound (story (says (codes "a") ∷ says (codes "b") ∷ []) [] []) in_the_middle
+unfolding is_place
+it_is_sound = record {
+  flow = record {
+    threads = record {
+      thread = record { frame = record { rise = refl; each = tt; depth = lit≤ tt }; below = tt; base = refl; few = lit≤ tt; previous = refl };
+      below = tt;
+      flow = refl;
+      few = lit≤ tt;
+    };
+    stack = record { each = tt; few = lit≤ tt };
+    choices = record { each = tt; few = lit≤ tt };
+  };
+  shared = record {
+    globals = record { once = refl; each = tt };
+    counts = record { visits = record { rise = refl; each = tt }; turns = record { rise = refl; each = tt } };
+    turn = lit≤ tt;
+  };
+  page = record { few = lit≤ tt };
+}
+
+it_reads : Reads (story (says (codes "a") ∷ says (codes "b") ∷ []) [] []) (spelling in_the_middle) in_the_middle
+it_reads = record { spells = refl; sound = it_is_sound; rests = it_rests }
 
 -- as a story is opened there is no previous place
 as_it_is_opened : unspelled (spelling (start (story (does control.Nop ∷ []) [] []) [])) ≡ Some (start (story (does control.Nop ∷ []) [] []) [])
