@@ -4,7 +4,7 @@ use Rattle.ink_model.specs.Acceptance.{lands, leads}
 use Rattle.ink_model.specs.Choices.{make}
 use Rattle.ink_model.specs.Choosing.{following_asks}
 use Rattle.ink_model.specs.Configuration.{ChoiceOf, Configuration, current_place}
-use Rattle.ink_model.specs.Effect.{Context, Fields, context_of, fields_of, is_fresh}
+use Rattle.ink_model.specs.Effect.{Context, Effect, Fields, context_of, fields_of, is_fresh}
 use Rattle.ink_model.specs.Entered.{passed_places}
 use Rattle.ink_model.specs.Move.{move}
 use Rattle.ink_model.specs.MoveMemory.{move_asks}
@@ -16,14 +16,15 @@ use Rattle.ink_model.specs.Place.{entered}
 use Rattle.ink_model.specs.Page.{Section}
 use Rattle.ink_model.specs.Stack.{popped, taken}
 use Rattle.ink_model.specs.Step.{effect, gone_in}
+use Rattle.ink_model.specs.Step.Diverts.{condition}
 use Rattle.ink_model.specs.Host.{Binding, Bound, turn_function, pure_function}
 use Rattle.ink_model.specs.Step.Choices.{was_visited}
-use Rattle.ink_model.specs.Step.Host.{arguments_on, has_string, is_argument}
+use Rattle.ink_model.specs.Step.Host.{Acts, Asks, Call, CallEffect, arguments_on, call_at, call_external, has_string, is_argument}
 use Rattle.std.specs.List.{list_all}
 use Rattle.ink_model.specs.Step.Counts.{visits_at}
 use Rattle.ink_model.specs.Step.Text.{in_tag}
 use Rattle.ink_model.specs.Tree.{StoryTree, leaf, container, at}
-use Rattle.ink_model.specs.Value.{is_true, printed}
+use Rattle.ink_model.specs.Value.{printed}
 use Rattle.ink_model.specs.VariableMemory.{assign_asks, declare_asks, on_popped}
 use Rattle.ink_model.specs.Variables.{read}
 use Rattle.ink_model.specs.Visits.{adds_rows}
@@ -130,63 +131,62 @@ binding_asks (Some turn_function) n f = not (has_string f.page.sections) && take
 binding_asks (Some (pure_function answers)) n f = takes_arguments (arguments_on n f.stack)
 
 -- where a condition is true
-abbrev pub so_where : Result Bool Fault → Bool → Bool
-so_where (Ok wanted) so = wanted && so
+abbrev pub so_where : Result (Bool × Fields) Fault → (Fields → Bool) → Bool
+so_where (Ok r) so = r.0 && so r.1
 so_where (Err f) so = false
 
-abbrev pub where_popped : Option (Value × List Value) → (List Value → Bool) → Bool
-where_popped None so = false
-where_popped (Some r) so = so_where (is_true r.0) (so r.1)
-
 abbrev pub external_asks : Option Binding → ℕ → Bool → Fields → Bool
-external_asks b n conditional f =
-    if conditional then where_popped (popped f.stack) (λ left. binding_asks b n (record f { stack = left })) else binding_asks b n f
+external_asks b n conditional f = so_where (condition conditional f) (binding_asks b n)
 
-abbrev pub leaf_asks : StoryTree → Bound → List Part → Context → Leaf → Fields → Bool
-leaf_asks s b p seen (leaves.Text t) f = if f.evaluating then has_room f.stack else has_bytes t
-leaf_asks s b p seen leaves.Newline f = if f.evaluating then has_room f.stack else not (is_fresh f)
-leaf_asks s b p seen leaves.Glue f = not f.evaluating
-leaf_asks s b p seen (leaves.Int z) f = push_asks f
-leaf_asks s b p seen (leaves.Bool truth) f = push_asks f
-leaf_asks s b p seen leaves.Void f = push_asks f
-leaf_asks s b p seen (leaves.Target text) f = push_asks f
-leaf_asks s b p seen (leaves.Control o) f = control_asks s p seen o f
-leaf_asks s b p seen (leaves.Op o) f = operator_asks o (taken (takes o) f.stack [])
-leaf_asks s b p seen (leaves.Declare name) f = on_popped (popped f.stack) (declare_asks f.globals seen.thread Global name)
-leaf_asks s b p seen (leaves.Assign name) f = on_popped (popped f.stack) (assign_asks f.globals seen.thread name)
-leaf_asks s b p seen (leaves.Variable name) f = is_ok (read f.globals seen.thread name) && has_room f.stack
-leaf_asks s b p seen (leaves.Divert to conditional) f = false
-leaf_asks s b p seen (leaves.Pointer name frame) f = push_asks f
-leaf_asks s b p seen (leaves.Call to conditional) f = false
-leaf_asks s b p seen (leaves.Tunnel to conditional) f = false
-leaf_asks s b p seen (leaves.External name arguments conditional) f = external_asks (b name) arguments conditional f
-leaf_asks s b p seen (leaves.DeclareTemp name) f = on_popped (popped f.stack) (declare_asks f.globals seen.thread Temporary name)
-leaf_asks s b p seen (leaves.AssignTemp name) f = on_popped (popped f.stack) (assign_asks f.globals seen.thread name)
-leaf_asks s b p seen (leaves.Count text) f = visit_asks s seen (leads s p text) && has_room f.stack
-leaf_asks s b p seen (leaves.Choice text flags) f = offer_asks s p seen text flags f (lands s p text)
+abbrev pub leaf_asks : StoryTree → List Part → Context → Leaf → Fields → Bool
+leaf_asks s p seen (leaves.Text t) f = if f.evaluating then has_room f.stack else has_bytes t
+leaf_asks s p seen leaves.Newline f = if f.evaluating then has_room f.stack else not (is_fresh f)
+leaf_asks s p seen leaves.Glue f = not f.evaluating
+leaf_asks s p seen (leaves.Int z) f = push_asks f
+leaf_asks s p seen (leaves.Bool truth) f = push_asks f
+leaf_asks s p seen leaves.Void f = push_asks f
+leaf_asks s p seen (leaves.Target text) f = push_asks f
+leaf_asks s p seen (leaves.Control o) f = control_asks s p seen o f
+leaf_asks s p seen (leaves.Op o) f = operator_asks o (taken (takes o) f.stack [])
+leaf_asks s p seen (leaves.Declare name) f = on_popped (popped f.stack) (declare_asks f.globals seen.thread Global name)
+leaf_asks s p seen (leaves.Assign name) f = on_popped (popped f.stack) (assign_asks f.globals seen.thread name)
+leaf_asks s p seen (leaves.Variable name) f = is_ok (read f.globals seen.thread name) && has_room f.stack
+leaf_asks s p seen (leaves.Divert to conditional) f = false
+leaf_asks s p seen (leaves.Pointer name frame) f = push_asks f
+leaf_asks s p seen (leaves.Call to conditional) f = false
+leaf_asks s p seen (leaves.Tunnel to conditional) f = false
+leaf_asks s p seen (leaves.External name arguments conditional) f = false
+leaf_asks s p seen (leaves.DeclareTemp name) f = on_popped (popped f.stack) (declare_asks f.globals seen.thread Temporary name)
+leaf_asks s p seen (leaves.AssignTemp name) f = on_popped (popped f.stack) (assign_asks f.globals seen.thread name)
+leaf_asks s p seen (leaves.Count text) f = visit_asks s seen (leads s p text) && has_room f.stack
+leaf_asks s p seen (leaves.Choice text flags) f = offer_asks s p seen text flags f (lands s p text)
 
-abbrev pub content_asks : StoryTree → Bound → List Part → Option StoryTree → Context → Fields → Bool
-content_asks s b p None seen f = false
-content_asks s b p (Some (container name flags content named)) seen f = false
-content_asks s b p (Some (leaf l)) seen f = leaf_asks s b p seen l f
+abbrev pub content_asks : StoryTree → List Part → Option StoryTree → Context → Fields → Bool
+content_asks s p None seen f = false
+content_asks s p (Some (container name flags content named)) seen f = false
+content_asks s p (Some (leaf l)) seen f = leaf_asks s p seen l f
 
--- performing what stands at a place asks for memory, or where flow goes after it
-abbrev pub performing_asks : StoryTree → Bound → List Part → Option StoryTree → Configuration → Bool
-performing_asks s b p found c =
-    content_asks s b p found (context_of c) (fields_of c) || move_asks s (effect s b p found (context_of c) (fields_of c)) c
+-- a content asks for memory, or where flow goes after its effect, or following a choice where flow stops so
+abbrev pub acting_asks : StoryTree → Bool → Effect → Configuration → Bool
+acting_asks s asks e c = (asks || move_asks s e c) || following_asks s (move s e c)
+
+abbrev pub calling_asks : StoryTree → Bool → CallEffect → Configuration → Bool
+calling_asks s asks (Acts e) c = acting_asks s asks e c
+calling_asks s asks (Asks name arguments f) c = asks
+
+-- performing a call asks for memory, or what else stands at a place
+abbrev pub performing_asks : StoryTree → Bound → List Part → Option StoryTree → Option Call → Configuration → Bool
+performing_asks s b p found None c = acting_asks s (content_asks s p found (context_of c) (fields_of c)) (effect s p found (context_of c) (fields_of c)) c
+performing_asks s b p found (Some k) c =
+    calling_asks s (external_asks (b k.name) k.arguments k.conditional (fields_of c)) (call_external s b k.name k.arguments k.conditional (fields_of c)) c
 
 -- so does going in, where that is a container's first visit
 abbrev pub going_in_asks : StoryTree → List Part → Configuration → Bool
 going_in_asks s p c = adds_rows s (passed_places s p) c.shared.counts
 
--- and following a choice, where flow stops so
-abbrev pub stopping_asks : StoryTree → Bound → List Part → Option StoryTree → Configuration → Bool
-stopping_asks s b p found c = following_asks s (move s (effect s b p found (context_of c) (fields_of c)) c)
-
 abbrev pub asks_at : StoryTree → Bound → Option (List Part) → Configuration → Bool
 asks_at s b None c = false
-asks_at s b (Some p) c = going_in_asks s p c
-    || (performing_asks s b (entered s p) (at s (entered s p)) (gone_in s p c) || stopping_asks s b (entered s p) (at s (entered s p)) (gone_in s p c))
+asks_at s b (Some p) c = going_in_asks s p c || performing_asks s b (entered s p) (at s (entered s p)) (call_at (at s (entered s p))) (gone_in s p c)
 
 -- the step at a configuration asks for memory
 unfoldable pub asks : StoryTree → Bound → Configuration → Bool

@@ -4,7 +4,7 @@ use Rattle.std.specs.Option.{option_map}
 use Rattle.ink_model.specs.Choices.{only_invisible, taken, visible}
 use Rattle.ink_model.specs.Configuration.{ChoiceOf, Configuration, ConfigurationOf, can_go_on, ended, next_turn, put_at, with_choices, with_threads}
 use Rattle.ink_model.specs.Frames.{put_in}
-use Rattle.ink_model.specs.Move.{Outcome, Next, Stop, Wants, Faults}
+use Rattle.ink_model.specs.Move.{Outcome, Next, Stop, Faults}
 use Rattle.ink_model.specs.Path.{absolute_target, landing, read_path}
 use Rattle.ink_model.specs.Threads.{alone}
 use Rattle.ink_model.specs.Tree.{StoryTree}
@@ -46,7 +46,6 @@ stopped_by s (Some choice) c = Next (entering_around s (taken_up choice c))
 abbrev pub following : StoryTree → Outcome → Outcome
 following s (Stop c) = stopped_by s (default_choice c.flow.choices) c
 following s (Next c) = Next c
-following s (Wants name arguments f c) = Wants name arguments f c
 following s (Faults f) = Faults f
 
 abbrev pub default_asks : StoryTree → Option (ChoiceOf (List Part)) → Configuration → Bool
@@ -57,7 +56,6 @@ default_asks s (Some choice) c = entering_asks s (taken_up choice c)
 abbrev pub following_asks : StoryTree → Outcome → Bool
 following_asks s (Stop c) = default_asks s (default_choice c.flow.choices) c
 following_asks s (Next c) = false
-following_asks s (Wants name arguments f c) = false
 following_asks s (Faults f) = false
 
 -- ---- for a host

@@ -79,7 +79,7 @@ pub record Landing : Type 0 where
 
 -- Flow moves on after its place, or does that with these variables in its thread, or with these choices; it lands at another place, or lands there in
 -- a frame of its own; it comes back from such a frame, to after its call or to a place; it goes on in two threads; it is done
--- with its thread, or ends; it waits for what a turn function gives, with the arguments taken; or a fault comes.
+-- with its thread, or ends; or a fault comes.
 pub data Effect : Type 0 where
   Moves : (after : Fields) → Effect
   Stores : (thread : ThreadOf (List Part)) → (after : Fields) → Effect
@@ -90,7 +90,6 @@ pub data Effect : Type 0 where
   Forks : (after : Fields) → Effect
   Done : (after : Fields) → Effect
   Ends : (after : Fields) → Effect
-  Asks : (name : List ℕ) → (arguments : List Value) → (after : Fields) → Effect
   Fails : (fault : Fault) → Effect
 
 -- ---- parts of effects

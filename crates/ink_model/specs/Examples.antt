@@ -16,7 +16,7 @@ use Rattle.ink_model.specs.Mark.{cut}
 use Rattle.ink_model.specs.Clean.{clean}
 use Rattle.ink_model.specs.Configuration.{Configuration, with_globals, start, fresh_at, ended, with_safe, put_at, moved, settled, begun, can_go_on}
 use Rattle.ink_model.specs.Effect.{with_mode, with_page, with_stack}
-use Rattle.ink_model.specs.Step.{Bound, Faults, step, nothing_bound, Next, Stop}
+use Rattle.ink_model.specs.Step.{Bound, Faults, step, nothing_bound, Next, Stop, Comes}
 use Rattle.ink_model.specs.Run.{Kept, Made, Moment, moment, next, run, through, cut_off, answered, At, Stopped}
 use Rattle.ink_model.specs.Command.{lines_of, command_of}
 use Rattle.ink_model.specs.Answer.{answer, Tells, Acts, Shows, Refuses, Breaks}
@@ -91,21 +91,21 @@ stays_in_name = refl
 
 -- a text is written, and flow moves on
 a_step : step small nothing_bound (start small [])
-    ≡ Next (with_page (record { line = Text (codes "Hi") ∷ []; sections = []; next_enter = 0 }) (moved (Index 0 ∷ []) (Some (Index 1 ∷ [])) (start small [])))
+    ≡ Comes (Next (with_page (record { line = Text (codes "Hi") ∷ []; sections = []; next_enter = 0 }) (moved (Index 0 ∷ []) (Some (Index 1 ∷ [])) (start small []))))
 unfolding step start fresh_at entered next_place cut passed_places entered_places
 a_step = refl
 
 -- `done` stops flow safely, and the previous place stays
-a_done : step (list (tree (leaf (leaves.Control Done)) no_trees)) nothing_bound (start small []) ≡ Stop (with_safe true (put_at None (start small [])))
+a_done : step (list (tree (leaf (leaves.Control Done)) no_trees)) nothing_bound (start small []) ≡ Comes (Stop (with_safe true (put_at None (start small []))))
 unfolding step start fresh_at entered passed_places entered_places
 a_done = refl
 
-an_end : step (list (tree (leaf (leaves.Control End)) no_trees)) nothing_bound (start small []) ≡ Stop (ended (start small []))
+an_end : step (list (tree (leaf (leaves.Control End)) no_trees)) nothing_bound (start small []) ≡ Comes (Stop (ended (start small [])))
 unfolding step start fresh_at entered passed_places entered_places
 an_end = refl
 
 -- off the story's end flow stops, and has moved
-off_the_end : step (list (tree (list no_trees) no_trees)) nothing_bound (start small []) ≡ Stop (moved (Index 0 ∷ []) None (start small []))
+off_the_end : step (list (tree (list no_trees) no_trees)) nothing_bound (start small []) ≡ Comes (Stop (moved (Index 0 ∷ []) None (start small [])))
 unfolding step start fresh_at entered next_place passed_places entered_places
 off_the_end = refl
 
@@ -356,47 +356,47 @@ at_first vs = with_stack vs (fresh_at (Index 0 ∷ []))
 
 -- in evaluation mode a text is pushed and not written
 a_text_pushed : step (story_of (tree (text (codes "x")) (tree newline no_trees))) nothing_bound (evaluating (at_first []))
-    ≡ Next (with_stack (value.Text (codes "x") ∷ []) (moved (Index 0 ∷ []) (Some (Index 1 ∷ [])) (evaluating (at_first []))))
+    ≡ Comes (Next (with_stack (value.Text (codes "x") ∷ []) (moved (Index 0 ∷ []) (Some (Index 1 ∷ [])) (evaluating (at_first [])))))
 unfolding step fresh_at entered next_place cut passed_places entered_places
 a_text_pushed = refl
 
 -- outside it an integer does nothing
 a_number_passed : step (story_of (tree (number_content (pos 5)) (tree newline no_trees))) nothing_bound (at_first [])
-    ≡ Next (moved (Index 0 ∷ []) (Some (Index 1 ∷ [])) (at_first []))
+    ≡ Comes (Next (moved (Index 0 ∷ []) (Some (Index 1 ∷ [])) (at_first [])))
 unfolding step fresh_at entered next_place passed_places entered_places
 a_number_passed = refl
 
 -- `ev` in evaluation mode, and `/ev` outside it
-begun_twice : step (story_of (tree (control_content control.BeginEval) no_trees)) nothing_bound (evaluating (at_first [])) ≡ Faults fault.BadMode
+begun_twice : step (story_of (tree (control_content control.BeginEval) no_trees)) nothing_bound (evaluating (at_first [])) ≡ Comes (Faults fault.BadMode)
 unfolding step fresh_at entered passed_places entered_places
 begun_twice = refl
 
-ended_twice : step (story_of (tree (control_content control.EndEval) no_trees)) nothing_bound (at_first []) ≡ Faults fault.BadMode
+ended_twice : step (story_of (tree (control_content control.EndEval) no_trees)) nothing_bound (at_first []) ≡ Comes (Faults fault.BadMode)
 unfolding step fresh_at entered passed_places entered_places
 ended_twice = refl
 
 -- `out` writes what it pops, and on an empty stack does nothing; `pop` faults there
 an_out : step (story_of (tree (control_content control.Out) (tree newline no_trees))) nothing_bound (at_first (value.Bool true ∷ []))
-    ≡ Next (with_page (record { line = Text (codes "true") ∷ []; sections = []; next_enter = 0 }) (moved (Index 0 ∷ []) (Some (Index 1 ∷ [])) (at_first [])))
+    ≡ Comes (Next (with_page (record { line = Text (codes "true") ∷ []; sections = []; next_enter = 0 }) (moved (Index 0 ∷ []) (Some (Index 1 ∷ [])) (at_first []))))
 unfolding step fresh_at entered printed next_place cut passed_places entered_places
 an_out = refl
 
 an_empty_out : step (story_of (tree (control_content control.Out) (tree newline no_trees))) nothing_bound (at_first [])
-    ≡ Next (moved (Index 0 ∷ []) (Some (Index 1 ∷ [])) (at_first []))
+    ≡ Comes (Next (moved (Index 0 ∷ []) (Some (Index 1 ∷ [])) (at_first [])))
 unfolding step fresh_at entered next_place passed_places entered_places
 an_empty_out = refl
 
-an_empty_pop : step (story_of (tree (control_content control.Pop) no_trees)) nothing_bound (at_first []) ≡ Faults fault.StackEmpty
+an_empty_pop : step (story_of (tree (control_content control.Pop) no_trees)) nothing_bound (at_first []) ≡ Comes (Faults fault.StackEmpty)
 unfolding step fresh_at entered passed_places entered_places
 an_empty_pop = refl
 
 -- a lone operand is popped, and its kind is never looked at
-lacking_an_operand : step (story_of (tree (leaf (leaves.Op op.Add)) no_trees)) nothing_bound (at_first (value.Void ∷ [])) ≡ Faults fault.StackEmpty
+lacking_an_operand : step (story_of (tree (leaf (leaves.Op op.Add)) no_trees)) nothing_bound (at_first (value.Void ∷ [])) ≡ Comes (Faults fault.StackEmpty)
 unfolding step fresh_at entered passed_places entered_places
 lacking_an_operand = refl
 
 a_quotient : step (story_of (tree (leaf (leaves.Op op.Divide)) (tree newline no_trees))) nothing_bound (at_first (value.Int (negsuc 6) ∷ value.Int (pos 2) ∷ []))
-    ≡ Next (with_stack (value.Int (negsuc 2) ∷ []) (moved (Index 0 ∷ []) (Some (Index 1 ∷ [])) (at_first [])))
+    ≡ Comes (Next (with_stack (value.Int (negsuc 2) ∷ []) (moved (Index 0 ∷ []) (Some (Index 1 ∷ [])) (at_first []))))
 unfolding step fresh_at entered apply next_place passed_places entered_places
 a_quotient = refl
 
@@ -408,12 +408,12 @@ declared_last : store (codes "z") value.Void ((codes "x", value.Void) ∷ []) �
 declared_last = refl
 
 -- assigning to a global that is absent faults, and reading one gives 0
-assigned_absent : step (story_of (tree (leaf (leaves.Assign (codes "x"))) no_trees)) nothing_bound (at_first (value.Void ∷ [])) ≡ Faults fault.NoTemp
+assigned_absent : step (story_of (tree (leaf (leaves.Assign (codes "x"))) no_trees)) nothing_bound (at_first (value.Void ∷ [])) ≡ Comes (Faults fault.NoTemp)
 unfolding step fresh_at entered passed_places entered_places
 assigned_absent = refl
 
 read_absent : step (story_of (tree (leaf (leaves.Variable (codes "x"))) (tree newline no_trees))) nothing_bound (at_first [])
-    ≡ Next (with_stack (value.Int (pos 0) ∷ []) (moved (Index 0 ∷ []) (Some (Index 1 ∷ [])) (at_first [])))
+    ≡ Comes (Next (with_stack (value.Int (pos 0) ∷ []) (moved (Index 0 ∷ []) (Some (Index 1 ∷ [])) (at_first []))))
 unfolding step fresh_at entered next_place passed_places entered_places
 read_absent = refl
 

@@ -8,10 +8,9 @@ use Rattle.ink_model.specs.Effect.{Fails, Fields}
 use Rattle.ink_model.specs.Entered.{entered_places, passed_places}
 use Rattle.ink_model.specs.Host.{Bound, pure_function, turn_function}
 use Rattle.ink_model.specs.Mark.{cut}
-use Rattle.ink_model.specs.Move.{Wants}
 use Rattle.ink_model.specs.Place.{entered, knot, landed, next_place}
 use Rattle.ink_model.specs.Run.{Made, Moment, At, Stopped, Faulted, Waits, came, moment, run}
-use Rattle.ink_model.specs.Step.{step}
+use Rattle.ink_model.specs.Step.{Wants, step}
 use Rattle.ink_model.specs.Step.Host.{answering}
 use Rattle.ink_model.specs.Tree.{StoryTree, leaf}
 use Rattle.ink_model.specs.Value.{is_true, printed}

@@ -1,17 +1,14 @@
 -- Where memory may be refused, and what is answered then (docs/RUNNING.md, "Out of memory").
 use Rattle.std.specs.Prelude.{◌≡◌, ◌<◌, ◌⊎◌, ℕ, List, [], ◌∷◌, ◌++◌, length, nat_lt, Bool, true, false, not, ◌&&◌, ◌||◌, Option, Some, None, Result, Ok, Err, OnErr}
-unfoldable pub use Rattle.ink_model.specs.Asks.{asks, asks_at, asks_for, content_asks, control_asks, going_in_asks, has_top, is_found_late, leaf_asks, offer_asks, operator_asks, output_asks, stopping_asks, visit_asks}
+unfoldable pub use Rattle.ink_model.specs.Asks.{acting_asks, asks, asks_at, asks_for, content_asks, control_asks, going_in_asks, has_top, is_found_late, leaf_asks, offer_asks, operator_asks, output_asks, visit_asks}
 use Rattle.ink_model.specs.Tree.{StoryTree}
 use Rattle.ink_model.specs.Choices.{has_any}
-use Rattle.ink_model.specs.Choosing.{following_asks}
 use Rattle.ink_model.specs.Configuration.{Configuration, begun}
 use Rattle.ink_model.specs.Effect.{Fields}
 use Rattle.ink_model.specs.Host.{Bound, nothing_bound, value_given}
 use Rattle.ink_model.specs.Run.{At, Made, answers_of, moment}
-use Rattle.ink_model.specs.Move.{Wants, move}
-use Rattle.ink_model.specs.MoveMemory.{move_asks}
 use Rattle.ink_model.specs.Opening.{declaring}
-use Rattle.ink_model.specs.Step.{step}
+use Rattle.ink_model.specs.Step.{Wants, step}
 use Rattle.ink_model.specs.Step.Host.{answering}
 use Rattle.ink_model.specs.Store.{Values}
 use Rattle.ink_model.specs.declared.fault.Fault.{Fault}
@@ -67,8 +64,7 @@ given_asks arguments f (Some g) = holds_memory (value_given g) || (not (has_any 
 
 -- the answer of a wanted call asks for memory, or where flow goes after it
 abbrev pub answered_asks : StoryTree → List Value → Fields → Configuration → Option Given → Bool
-answered_asks s arguments f c gave =
-    (given_asks arguments f gave || move_asks s (answering gave f) c) || following_asks s (move s (answering gave f) c)
+answered_asks s arguments f c gave = acting_asks s (given_asks arguments f gave) (answering gave f) c
 
 -- ---- runs
 

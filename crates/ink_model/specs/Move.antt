@@ -1,8 +1,8 @@
 -- Where flow goes after an effect (docs/RUNNING.md, "Places"; docs/FRAMES.md). Of what a configuration has it changes where
 -- flow is, the stack and the page alone, visits and turns where flow lands, and `safe` where flow is done.
-use Rattle.std.specs.Prelude.{ℕ, List, Bool, true, false, ◌||◌, Option, Some, None, option_map}
+use Rattle.std.specs.Prelude.{List, Bool, true, false, ◌||◌, Option, Some, None, option_map}
 use Rattle.ink_model.specs.Configuration.{Configuration, ended, with_choices, with_safe, with_threads}
-use Rattle.ink_model.specs.Effect.{Effect, Landing, Moves, Stores, Offers, Lands, Calls, Returns, Forks, Done, Ends, Asks, Fails, Fields, with_fields, with_page, with_stack, with_thread}
+use Rattle.ink_model.specs.Effect.{Effect, Landing, Moves, Stores, Offers, Lands, Calls, Returns, Forks, Done, Ends, Fails, with_fields, with_page, with_stack, with_thread}
 use Rattle.ink_model.specs.Flow.{Written, Reached, Reaches, Halts, Breaks, called, done, forked, halt, is_last, moved_on, reach, returned}
 use Rattle.ink_model.specs.Frames.{ThreadsOf, base_threads}
 use Rattle.ink_model.specs.Place.{next_place}
@@ -10,13 +10,11 @@ use Rattle.ink_model.specs.Tree.{StoryTree}
 use Rattle.ink_model.specs.Visits.{entering_around}
 use Rattle.ink_model.specs.declared.fault.Fault.{Fault}
 use Rattle.ink_model.specs.declared.place.Part.{Part}
-use Rattle.ink_model.specs.declared.value.Value.{Value}
 
--- Wants: a turn function is to be called by a configuration, after which it has these fields, with the arguments taken
+-- what a move comes to
 pub data Outcome : Type 0 where
   Next : (after : Configuration) → Outcome
   Stop : (after : Configuration) → Outcome
-  Wants : (name : List ℕ) → (arguments : List Value) → (after : Fields) → (calling : Configuration) → Outcome
   Faults : (fault : Fault) → Outcome
 
 abbrev pub written_in : Configuration → Written
@@ -68,5 +66,4 @@ move s (Returns k to f) c = landing s (may_enter to) (returned (next_place s) k 
 move s (Forks f) c = going (forked (next_place s)) (with_fields f c)
 move s (Done f) c = finish s (with_fields f c)
 move s (Ends f) c = end_all (with_fields f c)
-move s (Asks name arguments f) c = Wants name arguments f c
 move s (Fails f) c = Faults f

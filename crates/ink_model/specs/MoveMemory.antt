@@ -2,7 +2,7 @@
 -- a landing may be the first visit of a container (docs/RUNNING.md, "Out of memory"; docs/FRAMES.md).
 use Rattle.std.specs.Prelude.{ℕ, List, [], ◌∷◌, Bool, true, false, not, ◌||◌, ◌&&◌, nat_eq, nat_lt, if◌then◌else◌, Option, Some, None, is_some, option_and_then, Result, Ok, Err}
 use Rattle.ink_model.specs.Configuration.{Configuration, with_choices}
-use Rattle.ink_model.specs.Effect.{Effect, Moves, Stores, Offers, Lands, Calls, Returns, Forks, Done, Ends, Asks, Fails, with_fields, with_thread}
+use Rattle.ink_model.specs.Effect.{Effect, Moves, Stores, Offers, Lands, Calls, Returns, Forks, Done, Ends, Fails, with_fields, with_thread}
 use Rattle.ink_model.specs.Counts.{CountsOf}
 use Rattle.ink_model.specs.Flow.{Written, Reached, Reaches, Halts, Breaks, called, depth_of, moved_on, reach, returned}
 use Rattle.ink_model.specs.Frames.{FrameOf, ThreadOf, ThreadsOf, is_function}
@@ -74,7 +74,6 @@ flow_asks s (Returns k to f) counts ts w =
 flow_asks s (Forks f) counts ts w = forked_asks (next_place s) ts w
 flow_asks s (Done f) counts ts w = dropped_asks (next_place s) (dropped ts) w
 flow_asks s (Ends f) counts ts w = false
-flow_asks s (Asks name arguments f) counts ts w = false
 flow_asks s (Fails f) counts ts w = false
 
 -- with the fields as the effect leaves them
@@ -88,7 +87,6 @@ after_effect (Returns k to f) c = with_fields f c
 after_effect (Forks f) c = with_fields f c
 after_effect (Done f) c = with_fields f c
 after_effect (Ends f) c = with_fields f c
-after_effect (Asks name arguments f) c = with_fields f c
 after_effect (Fails f) c = c
 
 -- flow asks for memory after an effect

@@ -9,7 +9,7 @@ use Rattle.ink_model.specs.Configuration.{Configuration, with_safe, put_at, fres
 use Rattle.ink_model.specs.Effect.{with_mode, with_page, with_stack}
 use Rattle.ink_model.specs.Page.{Page, string_section, tag_section}
 use Rattle.ink_model.specs.Output.{let_through, writes_text, writes_newline, begins_function, ends_function, closes_string, closes_tag, ends_line, empty_page}
-use Rattle.ink_model.specs.Step.{step, nothing_bound, Next, Stop, Faults}
+use Rattle.ink_model.specs.Step.{step, nothing_bound, Next, Stop, Faults, Comes}
 use Rattle.ink_model.specs.Value.{printed}
 use Rattle.ink_model.specs.declared.content.Control.{Control}
 use Rattle.ink_model.specs.declared.content.Control.TheVariants as control
@@ -98,43 +98,43 @@ at_first page vs = with_page page (with_stack vs (fresh_at (Index 0 ∷ [])))
 abbrev at_second : Configuration → Configuration
 at_second c = moved (Index 0 ∷ []) (Some (Index 1 ∷ [])) c
 
-glue_is_no_value : step (container None 0 (tree (leaf leaves.Glue) no_trees) no_keys) nothing_bound (with_mode true (at_first empty_page [])) ≡ Faults fault.BadMode
+glue_is_no_value : step (container None 0 (tree (leaf leaves.Glue) no_trees) no_keys) nothing_bound (with_mode true (at_first empty_page [])) ≡ Comes (Faults fault.BadMode)
 unfolding step fresh_at entered passed_places entered_places
 glue_is_no_value = refl
 
-a_string_begins : step (story control.BeginString) nothing_bound (with_mode true (at_first empty_page [])) ≡ Next (at_second (with_mode false (at_first (in_string [] []) [])))
+a_string_begins : step (story control.BeginString) nothing_bound (with_mode true (at_first empty_page [])) ≡ Comes (Next (at_second (with_mode false (at_first (in_string [] []) []))))
 unfolding step fresh_at entered next_place passed_places entered_places
 a_string_begins = refl
 
-not_in_evaluation : step (story control.BeginString) nothing_bound (at_first empty_page []) ≡ Faults fault.BadMode
+not_in_evaluation : step (story control.BeginString) nothing_bound (at_first empty_page []) ≡ Comes (Faults fault.BadMode)
 unfolding step fresh_at entered passed_places entered_places
 not_in_evaluation = refl
 
-a_string_ends : step (story control.EndString) nothing_bound (at_first (in_string [] (a ∷ [])) []) ≡ Next (at_second (with_mode true (at_first empty_page (value.Text (codes "a") ∷ []))))
+a_string_ends : step (story control.EndString) nothing_bound (at_first (in_string [] (a ∷ [])) []) ≡ Comes (Next (at_second (with_mode true (at_first empty_page (value.Text (codes "a") ∷ [])))))
 unfolding step fresh_at entered next_place passed_places entered_places
 a_string_ends = refl
 
-a_tag_begins : step (story control.BeginTag) nothing_bound (at_first (line_of (a ∷ [])) []) ≡ Next (at_second (at_first (in_tag (a ∷ []) []) []))
+a_tag_begins : step (story control.BeginTag) nothing_bound (at_first (line_of (a ∷ [])) []) ≡ Comes (Next (at_second (at_first (in_tag (a ∷ []) []) [])))
 unfolding step fresh_at entered next_place passed_places entered_places
 a_tag_begins = refl
 
 -- and closes one that is on top
-another_tag_begins : step (story control.BeginTag) nothing_bound (at_first (in_tag [] (a ∷ [])) []) ≡ Next (at_second (at_first (in_tag (Tag (codes "a") ∷ []) []) []))
+another_tag_begins : step (story control.BeginTag) nothing_bound (at_first (in_tag [] (a ∷ [])) []) ≡ Comes (Next (at_second (at_first (in_tag (Tag (codes "a") ∷ []) []) [])))
 unfolding step fresh_at entered next_place clean passed_places entered_places
 another_tag_begins = refl
 
-a_tag_ends_in_a_string : step (story control.EndTag) nothing_bound (at_first (tag_in_string [] (a ∷ [])) []) ≡ Next (at_second (at_first (in_string [] []) (value.Tag (codes "a") ∷ [])))
+a_tag_ends_in_a_string : step (story control.EndTag) nothing_bound (at_first (tag_in_string [] (a ∷ [])) []) ≡ Comes (Next (at_second (at_first (in_string [] []) (value.Tag (codes "a") ∷ []))))
 unfolding step fresh_at entered next_place clean passed_places entered_places
 a_tag_ends_in_a_string = refl
 
-stopped_in_a_string : step (story control.Done) nothing_bound (at_first (in_string [] []) []) ≡ Faults fault.StopInString
+stopped_in_a_string : step (story control.Done) nothing_bound (at_first (in_string [] []) []) ≡ Comes (Faults fault.StopInString)
 unfolding step fresh_at entered passed_places entered_places
 stopped_in_a_string = refl
 
-stopped_on_the_line : step (story control.Done) nothing_bound (at_first (line_of (a ∷ [])) []) ≡ Stop (with_safe true (put_at None (at_first (line_of (a ∷ [])) [])))
+stopped_on_the_line : step (story control.Done) nothing_bound (at_first (line_of (a ∷ [])) []) ≡ Comes (Stop (with_safe true (put_at None (at_first (line_of (a ∷ [])) []))))
 unfolding step fresh_at entered passed_places entered_places
 stopped_on_the_line = refl
 
-a_tag_is_not_printed : step (story control.Out) nothing_bound (at_first empty_page (value.Tag [] ∷ [])) ≡ Faults fault.BadOperands
+a_tag_is_not_printed : step (story control.Out) nothing_bound (at_first empty_page (value.Tag [] ∷ [])) ≡ Comes (Faults fault.BadOperands)
 unfolding step fresh_at entered printed passed_places entered_places
 a_tag_is_not_printed = refl

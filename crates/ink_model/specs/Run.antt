@@ -5,11 +5,10 @@ pub use Rattle.ink_model.specs.Events.{Made, answers_of}
 use Rattle.ink_model.specs.Host.{Bound}
 use Rattle.ink_model.specs.Step.Host.{answering}
 use Rattle.ink_model.specs.Tree.{StoryTree}
-use Rattle.ink_model.specs.Choosing.{following}
 use Rattle.ink_model.specs.Configuration.{Configuration, begun}
 use Rattle.ink_model.specs.Effect.{Fields}
-use Rattle.ink_model.specs.Move.{Outcome, Next, Stop, Wants, Faults, move}
-use Rattle.ink_model.specs.Step.{Bound, step}
+use Rattle.ink_model.specs.Move.{Outcome, Next, Stop, Faults}
+use Rattle.ink_model.specs.Step.{Bound, Stepped, Comes, Wants, acted, step}
 use Rattle.ink_model.specs.Store.{Values}
 use Rattle.ink_model.specs.declared.fault.Fault.{Fault}
 use Rattle.ink_model.specs.declared.fault.Fault.TheVariants.{OutOfSteps}
@@ -17,7 +16,7 @@ use Rattle.ink_model.specs.declared.host.Given.{Given}
 
 -- a wanted call was answered, or refused: the answer is pushed, and flow goes on
 abbrev pub answered : StoryTree → Fields → Configuration → Option Given → Outcome
-answered s f c gave = following s (move s (answering gave f) c)
+answered s f c gave = acted s (answering gave f) c
 
 -- ---- moments
 
@@ -32,13 +31,13 @@ abbrev pub moment_after : Configuration → Outcome → List (Option Given) → 
 moment_after c (Next d) left made = At d left made
 moment_after c (Stop d) left made = Stopped d left made
 moment_after c (Faults f) left made = Faulted f c left made
-moment_after c (Wants name arguments f d) left made = Waits name made
 
 -- a wanted call takes the next answer; without one the run waits
-abbrev pub came : StoryTree → Configuration → Outcome → List (Option Given) → List Made → Moment
+abbrev pub came : StoryTree → Configuration → Stepped → List (Option Given) → List Made → Moment
+came s c (Comes outcome) left made = moment_after c outcome left made
 came s c (Wants name arguments f d) (a ∷ left) made =
     moment_after c (answered s f d a) left (made ++ record { name = name; arguments = arguments; gave = a } ∷ [])
-came s c outcome left made = moment_after c outcome left made
+came s c (Wants name arguments f d) [] made = Waits name made
 
 -- the next moment; a run that has ended stays as it is
 abbrev pub next : StoryTree → Bound → Moment → Moment

@@ -11,7 +11,7 @@ use Rattle.ink_model.specs.Place.{entered, landed, next_place}
 use Rattle.ink_model.specs.Places.{places}
 use Rattle.ink_model.specs.Configuration.{Configuration, with_globals, fresh_at, moved}
 use Rattle.ink_model.specs.Effect.{with_stack}
-use Rattle.ink_model.specs.Step.{step, nothing_bound, Next, Faults}
+use Rattle.ink_model.specs.Step.{step, nothing_bound, Next, Faults, Comes}
 use Rattle.ink_model.specs.Value.{is_true}
 use Rattle.ink_model.specs.declared.content.Destination.{Destination}
 use Rattle.ink_model.specs.declared.content.Destination.TheVariants as destination
@@ -182,7 +182,7 @@ counts_nothing = refl
 abbrev here_with : List Value → List (List ℕ × Value) → Configuration
 here_with vs globals = with_globals globals (with_stack vs (fresh_at (Index 1 ∷ Index 0 ∷ [])))
 
-diverted : step to_k nothing_bound (here_with [] []) ≡ Next (moved (Index 1 ∷ Index 0 ∷ []) (Some (Name (codes "k") ∷ Index 0 ∷ [])) (here_with [] []))
+diverted : step to_k nothing_bound (here_with [] []) ≡ Comes (Next (moved (Index 1 ∷ Index 0 ∷ []) (Some (Name (codes "k") ∷ Index 0 ∷ [])) (here_with [] [])))
 unfolding step fresh_at entered read_path target landed passed_places entered_places
 diverted = refl
 
@@ -190,32 +190,32 @@ abbrev if_k : StoryTree
 if_k = with_divert (to (codes "k")) true
 
 where_true : step if_k nothing_bound (here_with (value.Bool true ∷ []) [])
-    ≡ Next (moved (Index 1 ∷ Index 0 ∷ []) (Some (Name (codes "k") ∷ Index 0 ∷ [])) (here_with [] []))
+    ≡ Comes (Next (moved (Index 1 ∷ Index 0 ∷ []) (Some (Name (codes "k") ∷ Index 0 ∷ [])) (here_with [] [])))
 unfolding step fresh_at entered read_path target landed is_true passed_places entered_places
 where_true = refl
 
 where_false : step if_k nothing_bound (here_with (value.Int (pos 0) ∷ []) [])
-    ≡ Next (moved (Index 1 ∷ Index 0 ∷ []) (Some (Index 1 ∷ Index 1 ∷ [])) (here_with [] []))
+    ≡ Comes (Next (moved (Index 1 ∷ Index 0 ∷ []) (Some (Index 1 ∷ Index 1 ∷ [])) (here_with [] [])))
 unfolding step fresh_at entered next_place is_true passed_places entered_places
 where_false = refl
 
-without_a_condition : step if_k nothing_bound (here_with [] []) ≡ Faults fault.StackEmpty
+without_a_condition : step if_k nothing_bound (here_with [] []) ≡ Comes (Faults fault.StackEmpty)
 unfolding step fresh_at entered passed_places entered_places
 without_a_condition = refl
 
 -- the condition is looked at before the target
-bad_condition_first : step (with_divert (destination.Variable (codes "v")) true) nothing_bound (here_with (value.Tag [] ∷ []) []) ≡ Faults fault.BadOperands
+bad_condition_first : step (with_divert (destination.Variable (codes "v")) true) nothing_bound (here_with (value.Tag [] ∷ []) []) ≡ Comes (Faults fault.BadOperands)
 unfolding step fresh_at entered is_true passed_places entered_places
 bad_condition_first = refl
 
-no_target : step (with_divert (destination.Variable (codes "v")) false) nothing_bound (here_with [] []) ≡ Faults fault.BadTarget
+no_target : step (with_divert (destination.Variable (codes "v")) false) nothing_bound (here_with [] []) ≡ Comes (Faults fault.BadTarget)
 unfolding step fresh_at entered passed_places entered_places
 no_target = refl
 
 -- a variable's target is the container itself
 by_a_variable_to_k : step (with_divert (destination.Variable (codes "v")) false) nothing_bound
     (here_with [] ((codes "v", value.Target (record { relative = false; parts = Name (codes "k") ∷ [] })) ∷ []))
-    ≡ Next (moved (Index 1 ∷ Index 0 ∷ []) (Some (Name (codes "k") ∷ []))
-    (here_with [] ((codes "v", value.Target (record { relative = false; parts = Name (codes "k") ∷ [] })) ∷ [])))
+    ≡ Comes (Next (moved (Index 1 ∷ Index 0 ∷ []) (Some (Name (codes "k") ∷ []))
+    (here_with [] ((codes "v", value.Target (record { relative = false; parts = Name (codes "k") ∷ [] })) ∷ []))))
 unfolding step fresh_at entered target passed_places entered_places
 by_a_variable_to_k = refl

@@ -8,77 +8,46 @@ use Rattle.ink_host.specs.declared.objects.Bound.{Bound as Function}
 use Rattle.ink_host.specs.declared.objects.Bound.TheVariants as bound
 use Rattle.ink_host.specs.declared.objects.FnKind.TheVariants as kind
 use Rattle.ink_model.specs.Asks.{binding_asks, takes_arguments}
-use Rattle.ink_model.specs.Effect.{Effect, Fields, Asks, Calls, Moves, Fails, or_else, or_fault, pushing}
-use Rattle.ink_model.specs.Host.{Binding, fits_given, pure_function, turn_function, value_given}
-use Rattle.ink_model.specs.Place.{knot, landed}
-use Rattle.ink_model.specs.Stack.{popped, pushed}
-use Rattle.ink_model.specs.Step.Diverts.{where_true}
-use Rattle.ink_model.specs.Step.Host.{answering, arguments_on, call_bound, fall_back, has_string, is_argument, with_arguments}
+use Rattle.ink_model.specs.Effect.{Fields, Moves, Fails}
+use Rattle.ink_model.specs.Host.{Binding, pure_function, turn_function}
+use Rattle.ink_model.specs.Stack.{popped}
+use Rattle.ink_model.specs.Step.Diverts.{condition, leaving_fields, truth_on}
+use Rattle.ink_model.specs.Step.Host.{Acts, Asks, CallEffect, arguments_of, arguments_on, ask_pure, call_bound, fall_back, has_string, is_argument, or_fails}
 use Rattle.ink_model.specs.Tree.{StoryTree}
 use Rattle.ink_model.specs.Value.{is_true}
 use Rattle.ink_model.specs.declared.fault.Fault.{Fault}
-use Rattle.ink_model.specs.declared.fault.Fault.TheVariants.{BadOperands, StackEmpty, TooDeep, Unbound, UnsafeInString}
-use Rattle.ink_model.specs.declared.frame.FrameKind.TheVariants as frame
-use Rattle.ink_model.specs.declared.place.Part.{Part}
+use Rattle.ink_model.specs.declared.fault.Fault.TheVariants.{BadOperands, UnsafeInString}
 use Rattle.ink_model.specs.declared.host.Event.{Event}
 use Rattle.ink_model.specs.declared.host.Given.{Given}
 use Rattle.ink_model.specs.declared.value.Value.{Value}
 use Rattle.ink_step.specs.External.{PerformsCall, is_asking, is_true_of}
 use Rattle.ink_step.specs.Performs.{Performs}
 use Rattle.ink_step.specs.declared.transfer.Transfer.{Transfer}
-use Rattle.ink_step.proofs.Calls.{bound_none, bound_pure, bound_turn, pure_there, uncalled}
+use Rattle.ink_step.proofs.Calls.{bound_none, bound_pure, bound_turn, pure_there}
 use Rattle.ink_step.proofs.Tops.{top_of}
 
 -- ---- conditions
 
--- what does not ask under any condition
-pub where_unasked : (conditional : Bool) (f : Fields) (so : Fields → Effect) → ((g : Fields) → is_asking (so g) ≡ false) → is_asking (where_true conditional f so) ≡ false
-where_unasked false f so never = never f
-where_unasked true f so never = by_top (popped f.stack)
-  where
-    by_truth : (x : Result Bool Fault) (g : Fields) → is_asking (or_fault x (λ b. if b then so g else Moves g)) ≡ false
-    by_truth (Ok true) g = never g
-    by_truth x g = refl
+module _ (so : Fields → CallEffect) where
+  abbrev pub where_so : Result (Bool × Fields) Fault → CallEffect
+  where_so x = or_fails x (λ r. if r.0 then so r.1 else Acts (Moves r.1))
 
-    by_top : (t : Option (Value × List Value)) → is_asking (or_else StackEmpty t (λ r. or_fault (is_true r.0) (λ b. if b then so (record f { stack = r.1 }) else Moves (record f { stack = r.1 })))) ≡ false
-    by_top None = refl
-    by_top (Some r) = by_truth (is_true r.0) (record f { stack = r.1 })
+  -- what does not ask under any condition
+  where_unasked : ((g : Fields) → is_asking (so g) ≡ false) → (x : Result (Bool × Fields) Fault) → is_asking (where_so x) ≡ false
+  where_unasked never (Ok r) = by r.0
+    where
+      by : (b : Bool) → is_asking (if b then so r.1 else Acts (Moves r.1)) ≡ false
+      by true = never r.1
+      by false = refl
+  where_unasked never (Err f) = refl
 
--- under a condition that is on top
-pub where_asked : (f : Fields) (so : Fields → Effect) (v : Value) (left : List Value) → popped f.stack ≡ Some (v, left)
-    → is_asking (where_true true f so) ≡ (is_true_of (is_true v) && is_asking (so (record f { stack = left })))
-where_asked f so v left top = ap (λ t. is_asking (or_else StackEmpty t (λ r. or_fault (is_true r.0) (λ b. if b then so (record f { stack = r.1 }) else Moves (record f { stack = r.1 }))))) top
-    ∙ by_truth (is_true v) (record f { stack = left })
-  where
-    by_truth : (x : Result Bool Fault) (g : Fields) → is_asking (or_fault x (λ b. if b then so g else Moves g)) ≡ (is_true_of x && is_asking (so g))
-    by_truth (Ok true) g = refl
-    by_truth x g = refl
+  -- under a condition that is on top
+  where_asked : (x : Result Bool Fault) (left : Fields) → is_asking (where_so (leaving_fields left x)) ≡ (is_true_of x && is_asking (so left))
+  where_asked (Ok true) left = refl
+  where_asked (Ok false) left = refl
+  where_asked (Err f) left = refl
 
 -- ---- what is bound
-
-pushed_unasked : (r : Result (List Value) Fault) (f : Fields) → is_asking (or_fault r (λ vs. Moves (record f { stack = vs }))) ≡ false
-pushed_unasked (Ok vs) f = refl
-pushed_unasked (Err e) f = refl
-
-answering_unasked : (gave : Option Given) (f : Fields) → is_asking (answering gave f) ≡ false
-answering_unasked None f = refl
-answering_unasked (Some g) f = by (fits_given g)
-  where
-    by : (b : Bool) → is_asking (if b then pushing (value_given g) f else Fails TooDeep) ≡ false
-    by true = pushed_unasked (pushed (value_given g) f.stack) f
-    by false = refl
-
--- arguments are taken for what does not ask
-with_unasked : (n : ℕ) (f : Fields) (so : List Value → Fields → Effect) → ((vs : List Value) (g : Fields) → is_asking (so vs g) ≡ false) → is_asking (with_arguments n f so) ≡ false
-with_unasked n f so never = by (arguments_on n f.stack)
-  where
-    by_kinds : (b : Bool) (vs : List Value) (g : Fields) → is_asking (if b then so vs g else Fails BadOperands) ≡ false
-    by_kinds true vs g = never vs g
-    by_kinds false vs g = refl
-
-    by : (t : Option (List Value × List Value)) → is_asking (or_else StackEmpty t (λ r. if list_all is_argument r.0 then so r.0 (record f { stack = r.1 }) else Fails BadOperands)) ≡ false
-    by None = refl
-    by (Some r) = by_kinds (list_all is_argument r.0) r.0 (record f { stack = r.1 })
 
 -- a call asks only where a turn function is bound
 abbrev pub is_turn : Option Binding → Bool
@@ -87,28 +56,27 @@ is_turn (Some turn_function) = true
 is_turn (Some (pure_function answers)) = false
 
 module _ (s : StoryTree) (name : List ℕ) (n : ℕ) where
-  fallen : (o : Option (List Part)) (f : Fields) → is_asking (or_else Unbound o (λ p. Calls frame.Function (record { place = landed s p; enters = true }) f)) ≡ false
-  fallen None f = refl
-  fallen (Some p) f = refl
-
   bound_unasked : (o : Option Binding) (f : Fields) → is_turn o ≡ false → is_asking (call_bound s o name n f) ≡ false
-  bound_unasked None f h = fallen (knot name s) f
+  bound_unasked None f h = refl
   bound_unasked (Some turn_function) f h = absurd (cc)
-  bound_unasked (Some (pure_function answers)) f h = with_unasked n f _ (λ vs g. answering_unasked (answers vs) g)
+  bound_unasked (Some (pure_function answers)) f h = refl
 
-  pub unasked : (o : Option Binding) (conditional : Bool) (f : Fields) → is_turn o ≡ false → is_asking (where_true conditional f (call_bound s o name n)) ≡ false
-  unasked o conditional f h = where_unasked conditional f _ (λ g. bound_unasked o g h)
+  pub unasked : (o : Option Binding) (conditional : Bool) (f : Fields) → is_turn o ≡ false → is_asking (where_so (call_bound s o name n) (condition conditional f)) ≡ false
+  unasked o conditional f h = where_unasked (call_bound s o name n) (λ g. bound_unasked o g h) (condition conditional f)
 
-  abbrev in_section : Bool → Fields → Effect
-  in_section b g = if b then Fails UnsafeInString else with_arguments n g (Asks name)
+  abbrev with_taken : Result (List Value × Fields) Fault → CallEffect
+  with_taken x = or_fails x (λ r. Asks name r.0 r.1)
+
+  abbrev in_section : Bool → Fields → CallEffect
+  in_section b g = if b then Acts (Fails UnsafeInString) else with_taken (arguments_of (arguments_on n g.stack) g)
 
   -- no string is open
   module _ (f : Fields) (safe : has_string f.page.sections ≡ false) where
-    asking_with : (t : Option (List Value × List Value)) → is_asking (or_else StackEmpty t (λ r. if list_all is_argument r.0 then Asks name r.0 (record f { stack = r.1 }) else Fails BadOperands)) ≡ takes_arguments t
+    asking_with : (t : Option (List Value × List Value)) → is_asking (with_taken (arguments_of t f)) ≡ takes_arguments t
     asking_with None = refl
     asking_with (Some r) = by (list_all is_argument r.0)
       where
-        by : (b : Bool) → is_asking (if b then Asks name r.0 (record f { stack = r.1 }) else Fails BadOperands) ≡ b
+        by : (b : Bool) → is_asking (with_taken (if b then Ok (r.0, record f { stack = r.1 }) else Err BadOperands)) ≡ b
         by true = refl
         by false = refl
 
@@ -116,27 +84,30 @@ module _ (s : StoryTree) (name : List ℕ) (n : ℕ) where
     bound_asks = ap (λ b. is_asking (in_section b f)) safe ∙ asking_with (arguments_on n f.stack)
 
     -- the arguments decide, where no condition does
-    pub straight : (vs : List Value) (wanted : Bool) → vs ≡ f.stack → wanted ≡ takes_arguments (arguments_on n vs) → wanted ≡ is_asking (where_true false f (call_bound s (Some turn_function) name n))
+    pub straight : (vs : List Value) (wanted : Bool) → vs ≡ f.stack → wanted ≡ takes_arguments (arguments_on n vs) → wanted ≡ is_asking (where_so (call_bound s (Some turn_function) name n) (condition false f))
     straight vs wanted same h = h ∙ ap (λ us. takes_arguments (arguments_on n us)) same ∙ sym bound_asks
 
   -- the condition on top and the arguments below it decide
   module _ (f : Fields) (safe : has_string f.page.sections ≡ false) (vs : List Value) (same : vs ≡ f.stack) (v : Value) (left : List Value) (is : vs ≡ left ++ v ∷ [])
       (truth : Bool) (wanted : truth ≡ is_true_of (is_true v)) where
-    under : is_asking (where_true true f (call_bound s (Some turn_function) name n)) ≡ (truth && takes_arguments (arguments_on n left))
-    under = where_asked f (call_bound s (Some turn_function) name n) v left (ap popped (sym same ∙ is) ∙ top_of left v)
+    abbrev wanted_on : Option (Value × List Value) → Bool
+    wanted_on t = is_asking (where_so (call_bound s (Some turn_function) name n) (truth_on t f))
+
+    under : wanted_on (popped f.stack) ≡ (truth && takes_arguments (arguments_on n left))
+    under = ap wanted_on (ap popped (sym same ∙ is) ∙ top_of left v) ∙ where_asked (call_bound s (Some turn_function) name n) (is_true v) (record f { stack = left })
         ∙ ap (λ b. is_true_of (is_true v) && b) (bound_asks (record f { stack = left }) safe) ∙ ap (λ b. b && takes_arguments (arguments_on n left)) (sym wanted)
 
-    pub under_true : truth ≡ true → (taken : Bool) → taken ≡ takes_arguments (arguments_on n left) → taken ≡ is_asking (where_true true f (call_bound s (Some turn_function) name n))
+    pub under_true : truth ≡ true → (taken : Bool) → taken ≡ takes_arguments (arguments_on n left) → taken ≡ is_asking (where_so (call_bound s (Some turn_function) name n) (condition true f))
     under_true h taken fit = fit ∙ ap (λ b. b && takes_arguments (arguments_on n left)) (sym h) ∙ sym under
 
-    pub under_false : truth ≡ false → truth ≡ is_asking (where_true true f (call_bound s (Some turn_function) name n))
+    pub under_false : truth ≡ false → truth ≡ is_asking (where_so (call_bound s (Some turn_function) name n) (condition true f))
     under_false h = h ∙ ap (λ b. b && takes_arguments (arguments_on n left)) (sym h) ∙ sym under
 
 -- ---- at a desk
 
 module _ {P T : Type 0} (meaning : P → List Value → Option Given) (rows : Rows (Function P T)) (s : StoryTree) (name : List ℕ) (n : ℕ) (conditional : Bool) (f : Fields) where
   abbrev Asking : Option Binding → Bool
-  Asking o = is_asking (where_true conditional f (call_bound s o name n))
+  Asking o = is_asking (where_so (call_bound s o name n) (condition conditional f))
 
   pub none_asks : None ≡ option_map kind_of (at name rows) → false ≡ Asking (bound_by meaning rows name)
   none_asks h = sym (ap Asking (bound_none meaning name rows h) ∙ unasked s name n None conditional f refl)
@@ -155,12 +126,11 @@ module _ {P T : Type 0} (meaning : P → List Value → Option Given) (rows : Ro
     Called_by o es = PerformsCall s from (binding_asks o n f) (call_bound s o name n f) es new r
 
     pub none_called : None ≡ option_map kind_of (at name rows) → Performs s false (fall_back s name f) new r → Called_by (bound_by meaning rows name) []
-    none_called h p = subst (λ o. Called_by o []) (sym (bound_none meaning name rows h)) (uncalled s from false new (fall_back s name f) (bound_unasked s name n None f refl) r p)
+    none_called h p = subst (λ o. Called_by o []) (sym (bound_none meaning name rows h)) (refl, p)
 
     pub pure_called : (q : P) → at name rows ≡ Some (bound.Pure q)
-        → Performs s (binding_asks (Some (pure_function (meaning q))) n f) (call_bound s (Some (pure_function (meaning q))) name n f) new r → Called_by (bound_by meaning rows name) []
-    pure_called q h p = subst (λ o. Called_by o []) (sym (bound_pure meaning name rows q h))
-        (uncalled s from _ new _ (bound_unasked s name n (Some (pure_function (meaning q))) f refl) r p)
+        → Performs s (binding_asks (Some (pure_function (meaning q))) n f) (ask_pure (meaning q) n f) new r → Called_by (bound_by meaning rows name) []
+    pure_called q h p = subst (λ o. Called_by o []) (sym (bound_pure meaning name rows q h)) (refl, p)
 
     pub turn_called : Some kind.Turn ≡ option_map kind_of (at name rows) → (es : List Event) → Called_by (Some turn_function) es → Called_by (bound_by meaning rows name) es
     turn_called h es p = subst (λ o. Called_by o es) (sym (bound_turn meaning name rows h)) p

@@ -9,17 +9,14 @@ use Rattle.ink_host.specs.declared.objects.Bound.TheVariants as bound
 use Rattle.ink_host.specs.declared.objects.Called.{Called}
 use Rattle.ink_host.specs.declared.objects.FnKind.TheVariants as kind
 use Rattle.ink_host.specs.declared.objects.Seen.{Seen}
-use Rattle.ink_model.specs.Asks.{binding_asks, external_asks, so_where, takes_arguments, where_popped}
-use Rattle.ink_model.specs.Effect.{Effect, Fields, Landing as Goal, Asks, Calls, Fails, Moves, or_else, or_fault}
+use Rattle.ink_model.specs.Asks.{binding_asks, so_where, takes_arguments}
+use Rattle.ink_model.specs.Effect.{Effect, Fields, Landing as Goal, Calls, Fails, Moves, or_else, or_fault}
 use Rattle.ink_model.specs.Events.{calls}
 use Rattle.ink_model.specs.Host.{Binding, pure_function, shares, turn_function}
 use Rattle.ink_model.specs.Memory.{given_asks}
 use Rattle.ink_model.specs.Place.{knot, landed}
-use Rattle.ink_model.specs.Stack.{popped}
-use Rattle.ink_model.specs.Step.Diverts.{where_true}
-use Rattle.ink_model.specs.Step.Host.{answering, arguments_on, call_bound, fall_back, has_string, is_argument, with_arguments}
+use Rattle.ink_model.specs.Step.Host.{Acts, Asks, CallEffect, answering, arguments_of, arguments_on, arguments_taken, ask_pure, call_bound, fall_back, has_string, is_argument, or_fails}
 use Rattle.ink_model.specs.Tree.{StoryTree}
-use Rattle.ink_model.specs.Value.{is_true}
 use Rattle.ink_model.specs.declared.fault.Fault.{Fault}
 use Rattle.ink_model.specs.declared.fault.Fault.TheVariants.{BadOperands, HostRefused, OutOfMemory, StackEmpty, Unbound, UnsafeInString}
 use Rattle.ink_model.specs.declared.frame.FrameKind.TheVariants.{Function}
@@ -29,34 +26,14 @@ use Rattle.ink_model.specs.declared.host.Given.{Given}
 use Rattle.ink_model.specs.declared.host.Given.TheVariants.{Text}
 use Rattle.ink_model.specs.declared.place.Part.{Part}
 use Rattle.ink_model.specs.declared.value.Value.{Value}
-use Rattle.ink_step.specs.External.{PerformsCall, is_asking, lent_arguments, lent_of, made_call}
-use Rattle.ink_step.specs.Performs.{Decides, Performs}
+use Rattle.ink_step.specs.External.{PerformsCall, lent_arguments, lent_of, made_call}
+use Rattle.ink_step.specs.Performs.{Performs}
 use Rattle.ink_step.specs.declared.transfer.Transfer.{Transfer}
 use Rattle.ink_step.specs.declared.transfer.Transfer.TheVariants as transfer
 use Rattle.ink_step.proofs.Effects.{performs_more, short}
 use Rattle.ink_tree.specs.Nodes.{node_place, place_of}
 use Rattle.ink_tree.specs.declared.spot.NodeId.{NodeId}
 use Rattle.ink_tree.specs.declared.spot.Spot.{Spot}
-
--- ---- conditions
-
-asks_same : (f g : Fields) → Asks [] [] f ≡ Asks [] [] g → f ≡ g
-asks_same f g e = cc
-
--- a condition that was true was popped
-pub wanted_asks : (conditional : Bool) (f new : Fields) → ((so : Fields → Effect) → where_true conditional f so ≡ so new) → (o : Option Binding) (n : ℕ) → external_asks o n conditional f ≡ binding_asks o n new
-wanted_asks false f new wanted o n = ap (binding_asks o n) (asks_same f new (wanted (Asks [] [])))
-wanted_asks true f new wanted o n = by_top (popped f.stack) (wanted (Asks [] []))
-  where
-    by_truth : (x : Result Bool Fault) (g : Fields) → or_fault x (λ b. if b then Asks [] [] g else Moves g) ≡ Asks [] [] new → so_where x (binding_asks o n g) ≡ binding_asks o n new
-    by_truth (Ok true) g h = ap (binding_asks o n) (asks_same g new h)
-    by_truth (Ok false) g h = absurd (cc)
-    by_truth (Err e) g h = absurd (cc)
-
-    by_top : (t : Option (Value × List Value)) → or_else StackEmpty t (λ r. or_fault (is_true r.0) (λ b. if b then Asks [] [] (record f { stack = r.1 }) else Moves (record f { stack = r.1 }))) ≡ Asks [] [] new
-        → where_popped t (λ left. binding_asks o n (record f { stack = left })) ≡ binding_asks o n new
-    by_top None h = absurd (cc)
-    by_top (Some r) h = by_truth (is_true r.0) (record f { stack = r.1 }) h
 
 -- ---- what a name is bound to
 
@@ -102,25 +79,25 @@ lent (Some r) vs h = by (list_all is_argument r.0) refl h
     by true fits h = let same : vs ≡ r.0 = cc in (r.1, ap (λ us. Some (us, r.1)) (sym same), ap (list_all is_argument) same ∙ fits)
     by false fits h = absurd (cc)
 
-module _ (n : ℕ) (f : Fields) (so : List Value → Fields → Effect) where
-  abbrev of_truth : List Value × List Value → Bool → Effect
-  of_truth r b = if b then so r.0 (record f { stack = r.1 }) else Fails BadOperands
+module _ (n : ℕ) (f : Fields) where
+  abbrev of_kinds : List Value × List Value → Bool → Result (List Value × Fields) Fault
+  of_kinds r b = if b then Ok (r.0, record f { stack = r.1 }) else Err BadOperands
 
   -- none are lent, which is a fault
-  unlent : (fault : Fault) → Err fault ≡ lent_arguments n f.stack → with_arguments n f so ≡ Fails fault
+  unlent : (fault : Fault) → Err fault ≡ lent_arguments n f.stack → arguments_taken n f ≡ Err fault
   unlent fault h = by (arguments_on n f.stack) h
     where
-      by_truth : (r : List Value × List Value) (b : Bool) → Err fault ≡ (if b then Ok r.0 else Err BadOperands) → of_truth r b ≡ Fails fault
-      by_truth r true h = absurd (cc)
-      by_truth r false h = cc
+      by_kinds : (r : List Value × List Value) (b : Bool) → Err fault ≡ (if b then Ok r.0 else Err BadOperands) → of_kinds r b ≡ Err fault
+      by_kinds r true h = absurd (cc)
+      by_kinds r false h = cc
 
-      by : (o : Option (List Value × List Value)) → Err fault ≡ lent_of o → or_else StackEmpty o (λ r. of_truth r (list_all is_argument r.0)) ≡ Fails fault
+      by : (o : Option (List Value × List Value)) → Err fault ≡ lent_of o → arguments_of o f ≡ Err fault
       by None h = cc
-      by (Some r) h = by_truth r (list_all is_argument r.0) h
+      by (Some r) h = by_kinds r (list_all is_argument r.0) h
 
   module _ (vs left : List Value) (there : arguments_on n f.stack ≡ Some (vs, left)) (fits : list_all is_argument vs ≡ true) where
-    taken : with_arguments n f so ≡ so vs (record f { stack = left })
-    taken = ap (λ o. or_else StackEmpty o (λ r. of_truth r (list_all is_argument r.0))) there ∙ ap (of_truth (vs, left)) fits
+    taken : arguments_taken n f ≡ Ok (vs, record f { stack = left })
+    taken = ap (λ o. arguments_of o f) there ∙ ap (of_kinds (vs, left)) fits
 
     taken_asks : takes_arguments (arguments_on n f.stack) ≡ true
     taken_asks = ap takes_arguments there ∙ fits
@@ -128,36 +105,24 @@ module _ (n : ℕ) (f : Fields) (so : List Value → Fields → Effect) where
 -- ---- calls that make none
 
 module _ (s : StoryTree) (n : ℕ) (asks : Bool) (new : Fields) where
-  pub uncalled_on : (e : Effect) → e ≡ Moves new → PerformsCall s n asks e [] new (Ok transfer.Next)
-  uncalled_on e is = subst (λ d. PerformsCall s n asks d [] new (Ok transfer.Next)) (sym is) (refl, refl)
-
-  pub uncalled_fault : (e : Effect) (f : Fault) → e ≡ Fails f → PerformsCall s n asks e [] new (Err f)
+  pub uncalled_fault : (e : CallEffect) (f : Fault) → e ≡ Acts (Fails f) → PerformsCall s n asks e [] new (Err f)
   uncalled_fault e f is = subst (λ d. PerformsCall s n asks d [] new (Err f)) (sym is) (refl, inl refl)
-
-  -- what asks no turn function
-  pub uncalled : (e : Effect) → is_asking e ≡ false → (r : Result Transfer Fault) → Performs s asks e new r → PerformsCall s n asks e [] new r
-  uncalled (Asks name arguments f) other r h = absurd (cc)
-  uncalled e other r h = (refl, h)
-
-  -- a call once no condition keeps from it
-  pub as_wanted : (so : Fields → Effect) (e : Effect) (wanted : Bool) (es : List Event) (last : Fields) (r : Result Transfer Fault) → e ≡ so new → wanted ≡ asks
-      → PerformsCall s n asks (so new) es last r → PerformsCall s n wanted e es last r
-  as_wanted so e wanted es last r is same h = subst (λ a. PerformsCall s n a e es last r) (sym same) (subst (λ d. PerformsCall s n asks d es last r) (sym is) h)
 
 -- ---- a call with its condition
 
-module _ (s : StoryTree) (n : ℕ) (o : Option Binding) (name : List ℕ) (k : ℕ) (conditional : Bool) (f new : Fields) where
-  abbrev Conditional : List Event → Fields → Result Transfer Fault → Type 0
-  Conditional es last r = PerformsCall s n (external_asks o k conditional f) (where_true conditional f (call_bound s o name k)) es last r
+module _ (s : StoryTree) (n : ℕ) (o : Option Binding) (name : List ℕ) (k : ℕ) (x : Result (Bool × Fields) Fault) where
+  abbrev Conditional : Result (Bool × Fields) Fault → List Event → Fields → Result Transfer Fault → Type 0
+  Conditional y es last r = PerformsCall s n (so_where y (binding_asks o k)) (or_fails y (λ r. if r.0 then call_bound s o name k r.1 else Acts (Moves r.1))) es last r
 
-  pub where_wanted : (b : Bool) → b ≡ true → ((so : Fields → Effect) → Decides (where_true conditional f so) so new (Ok b))
-      → (es : List Event) (last : Fields) (r : Result Transfer Fault) → PerformsCall s n (binding_asks o k new) (call_bound s o name k new) es last r → Conditional es last r
-  where_wanted b is decides es last r h =
-      let wanted : (so : Fields → Effect) → where_true conditional f so ≡ so new = λ so. subst (λ x. Decides (where_true conditional f so) so new (Ok x)) is (decides so) in
-      as_wanted s n (binding_asks o k new) new (call_bound s o name k) _ _ es last r (wanted (call_bound s o name k)) (wanted_asks conditional f new wanted o k) h
+  pub where_wanted : (b : Bool) (new : Fields) → b ≡ true → Ok (b, new) ≡ x → (es : List Event) (last : Fields) (r : Result Transfer Fault)
+      → PerformsCall s n (binding_asks o k new) (call_bound s o name k new) es last r → Conditional x es last r
+  where_wanted b new is wanted es last r h = subst (λ y. Conditional y es last r) wanted (subst (λ w. Conditional (Ok (w, new)) es last r) (sym is) h)
 
-  pub where_unwanted : (b : Bool) → b ≡ false → Decides (where_true conditional f (call_bound s o name k)) (call_bound s o name k) new (Ok b) → Conditional [] new (Ok transfer.Next)
-  where_unwanted b is decides = uncalled_on s n _ new _ (subst (λ x. Decides (where_true conditional f (call_bound s o name k)) (call_bound s o name k) new (Ok x)) is decides)
+  pub where_unwanted : (b : Bool) (new : Fields) → b ≡ false → Ok (b, new) ≡ x → Conditional x [] new (Ok transfer.Next)
+  where_unwanted b new is wanted = subst (λ y. Conditional y [] new (Ok transfer.Next)) wanted (subst (λ w. Conditional (Ok (w, new)) [] new (Ok transfer.Next)) (sym is) (refl, refl))
+
+  pub where_fault : (f : Fault) (new : Fields) → Err f ≡ x → Conditional x [] new (Err f)
+  where_fault f new wanted = subst (λ y. Conditional y [] new (Err f)) wanted (refl, inl refl)
 
 -- ---- calls of turn functions
 
@@ -165,22 +130,25 @@ module _ (s : StoryTree) (n : ℕ) (name : List ℕ) (k : ℕ) (f : Fields) wher
   abbrev Turned : List Event → Fields → Result Transfer Fault → Type 0
   Turned es new r = PerformsCall s n (binding_asks (Some turn_function) k f) (call_bound s (Some turn_function) name k f) es new r
 
-  abbrev of_string : Bool → Effect
-  of_string b = if b then Fails UnsafeInString else with_arguments k f (Asks name)
+  abbrev with_taken : Result (List Value × Fields) Fault → CallEffect
+  with_taken x = or_fails x (λ r. Asks name r.0 r.1)
+
+  abbrev of_string : Bool → CallEffect
+  of_string b = if b then Acts (Fails UnsafeInString) else with_taken (arguments_taken k f)
 
   pub unsafe_turn : has_string f.page.sections ≡ true → (new : Fields) → Turned [] new (Err UnsafeInString)
   unsafe_turn h new = uncalled_fault s n _ new _ UnsafeInString (ap of_string h)
 
   module _ (safe : has_string f.page.sections ≡ false) where
     pub unlent_turn : (fault : Fault) → Err fault ≡ lent_arguments k f.stack → (new : Fields) → Turned [] new (Err fault)
-    unlent_turn fault h new = uncalled_fault s n _ new _ fault (ap of_string safe ∙ unlent k f (Asks name) fault h)
+    unlent_turn fault h new = uncalled_fault s n _ new _ fault (ap of_string safe ∙ ap with_taken (unlent k f fault h))
 
     module _ (vs left : List Value) (there : arguments_on k f.stack ≡ Some (vs, left)) (fits : list_all is_argument vs ≡ true) where
       asked : call_bound s (Some turn_function) name k f ≡ Asks name vs (record f { stack = left })
-      asked = ap of_string safe ∙ taken k f (Asks name) vs left there fits
+      asked = ap of_string safe ∙ ap with_taken (taken k f vs left there fits)
 
       asks_memory : binding_asks (Some turn_function) k f ≡ true
-      asks_memory = ap (λ b. not b && takes_arguments (arguments_on k f.stack)) safe ∙ taken_asks k f (Asks name) vs left there fits
+      asks_memory = ap (λ b. not b && takes_arguments (arguments_on k f.stack)) safe ∙ taken_asks k f vs left there fits
 
       made_turn : (gave : Option Given) (es : List Event) (new : Fields) (t : Result Transfer Fault) → es ≡ calls n (made_call name vs gave ∷ [])
           → Performs s (given_asks vs (record f { stack = left }) gave) (answering gave (record f { stack = left })) new t → Turned es new t
@@ -192,13 +160,13 @@ module _ (s : StoryTree) (n : ℕ) (name : List ℕ) (k : ℕ) (f : Fields) wher
 -- a pure function gave an answer
 pub pure_gave : (s : StoryTree) (k : ℕ) (f new : Fields) (vs : List Value) (lends : Ok vs ≡ lent_arguments k f.stack) (so : List Value → Option Given) (given : Given) (t : Result Transfer Fault) → so vs ≡ Some given
     → ((left : List Value) → arguments_on k f.stack ≡ Some (vs, left) → Performs s (given_asks vs (record f { stack = left }) (Some given)) (answering (Some given) (record f { stack = left })) new t)
-    → Performs s (takes_arguments (arguments_on k f.stack)) (with_arguments k f (λ arguments left. answering (so arguments) left)) new t
+    → Performs s (takes_arguments (arguments_on k f.stack)) (ask_pure so k f) new t
 pure_gave s k f new vs lends so given t gave h =
     let l = lent (arguments_on k f.stack) vs lends in
-    let goes : List Value → Fields → Effect = λ arguments left. answering (so arguments) left in
+    let goes : Result (List Value × Fields) Fault → Effect = λ x. or_fault x (λ r. answering (so r.0) r.1) in
     let on = performs_more s _ _ new t (h l.0 l.1) in
-    subst (λ a. Performs s a (with_arguments k f goes) new t) (sym (taken_asks k f goes vs l.0 l.1 l.2))
-    (subst (λ e. Performs s true e new t) (sym (taken k f goes vs l.0 l.1 l.2 ∙ ap (λ o. answering o (record f { stack = l.0 })) gave)) on)
+    subst (λ a. Performs s a (goes (arguments_taken k f)) new t) (sym (taken_asks k f vs l.0 l.1 l.2))
+    (subst (λ e. Performs s true e new t) (sym (ap goes (taken k f vs l.0 l.1 l.2) ∙ ap (λ o. answering o (record f { stack = l.0 })) gave)) on)
 
 -- ---- what the desk tells of a call
 

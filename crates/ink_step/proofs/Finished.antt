@@ -1,22 +1,22 @@
 -- A step at content that holds no other and calls nothing.
-use Rattle.std.proofs.Common.{◌≡◌, ◌∙◌, ◌||◌, ap, option_map, refl, subst, sym, ℕ, [], false, is_some, Bool, Option, Some, None, Result, Ok}
-use Rattle.ink_model.specs.Asks.{asks, going_in_asks}
+use Rattle.std.proofs.Common.{◌≡◌, ◌||◌, ap, option_map, refl, subst, sym, false, is_some, Bool, Option, Some, None, Result, Ok}
+use Rattle.ink_model.specs.Asks.{acting_asks, asks, content_asks, going_in_asks}
 use Rattle.ink_model.specs.Choosing.{following, following_asks}
-use Rattle.ink_model.specs.Configuration.{Configuration, current_place}
-use Rattle.ink_model.specs.Effect.{Effect, fields_of}
+use Rattle.ink_model.specs.Configuration.{Configuration}
+use Rattle.ink_model.specs.Effect.{Effect, context_of, fields_of}
 use Rattle.ink_model.specs.Flow.{moved_on}
 use Rattle.ink_model.specs.Host.{Bound}
 use Rattle.ink_model.specs.Move.{Outcome, Next, going, move, written_in}
 use Rattle.ink_model.specs.MoveMemory.{move_asks, moved_asks}
 use Rattle.ink_model.specs.Place.{next_place}
-use Rattle.ink_model.specs.Step.{step}
+use Rattle.ink_model.specs.Step.{Stepped, Comes, Wants, acted, effect, step}
+use Rattle.ink_model.specs.Step.Host.{Call, call_at}
 use Rattle.ink_model.specs.Store.{Values}
 use Rattle.ink_model.specs.Tree.{StoryTree, leaf, container, at}
 use Rattle.ink_model.specs.declared.content.Leaf.{Leaf}
 use Rattle.ink_model.specs.declared.fault.Fault.{Fault}
-use Rattle.ink_step.specs.External.{Call, external_in}
 use Rattle.ink_step.specs.Performs.{Keeps, KeepsChoices, Performs, storing_in, unstored}
-use Rattle.ink_step.specs.Steps.{StepEnds, Steps, wants}
+use Rattle.ink_step.specs.Steps.{EndsPlainly, StepEnds}
 use Rattle.ink_step.specs.Words.{config_of}
 use Rattle.ink_step.specs.declared.flow.StepEnd.{StepEnd}
 use Rattle.ink_step.specs.declared.flow.StepEnd.TheVariants as ends
@@ -24,8 +24,7 @@ use Rattle.ink_step.specs.declared.machine.Machine.{Machine}
 use Rattle.ink_step.specs.declared.transfer.Transfer.TheVariants as transfer
 use Rattle.ink_step.proofs.Follows.{ends_after, ends_more, kept_stays, offered_stay}
 use Rattle.ink_step.proofs.Goings.{is_in, stays_in}
-use Rattle.ink_step.proofs.Landed.{Performing, ends_performed, goes_on}
-use Rattle.ink_step.proofs.Makes.{quieted, unmade, wants_none}
+use Rattle.ink_step.proofs.Landed.{ends_performed, goes_on, performs_told}
 use Rattle.ink_step.proofs.Stopping.{ends_stored, stores_none}
 use Rattle.ink_tree.specs.Kept.{leaf_in}
 use Rattle.ink_tree.specs.Nodes.{place_of}
@@ -68,28 +67,24 @@ leaf_there (Some (leaf k)) l h = (let is : k ≡ l = cc in ap (λ x. Some (leaf 
 leaf_there (Some (container name flags content named)) l h = absurd cc
 
 module _ (s : StoryTree) (b : Bound) (machine new : Machine) (place : Spot) (l : Leaf) (at_place : machine.flow.threads.threads.thread.frame.place ≡ Some place)
-    (stands : leaf_in (at s (place_of s place)) ≡ Some l) (other : external_in (Some (leaf l)) ≡ None) where
-  -- what is performed at such content is what the step comes to, and it wants no call
-  pub passed : (r : Result StepEnd Fault) → Performing s b (λ asking o. StepEnds asking o machine.shared.globals.rows (config_of s new) r) (place_of s place) (Some (leaf l)) (config_of s machine)
-      → (wants (step s b (config_of s machine)) ≡ false)
-      × StepEnds (asks s b (config_of s machine)) (step s b (config_of s machine)) machine.shared.globals.rows (config_of s new) r
-  passed r performing =
+    (stands : leaf_in (at s (place_of s place)) ≡ Some l) (other : call_at (Some (leaf l)) ≡ None) where
+  more : (r : Result StepEnd Fault) (adds asking : Bool) (o : Stepped) → EndsPlainly asking o machine.shared.globals.rows (config_of s new) r → EndsPlainly (adds || asking) o machine.shared.globals.rows (config_of s new) r
+  more r adds asking (Comes o) h = ends_more adds asking o machine.shared.globals.rows (config_of s new) r h
+  more r adds asking (Wants name arguments f c) h = absurd h
+
+  -- what such content does is what the step comes to
+  pub passed : (r : Result StepEnd Fault)
+      → (let e = effect s (place_of s place) (Some (leaf l)) (context_of (config_of s machine)) (fields_of (config_of s machine)) in
+      StepEnds (acting_asks s (content_asks s (place_of s place) (Some (leaf l)) (context_of (config_of s machine)) (fields_of (config_of s machine))) e (config_of s machine)) (acted s e (config_of s machine))
+      machine.shared.globals.rows (config_of s new) r)
+      → EndsPlainly (asks s b (config_of s machine)) (step s b (config_of s machine)) machine.shared.globals.rows (config_of s new) r
+  passed r acts =
       let p = place_of s place in
       let old = config_of s machine in
-      let d = config_of s new in
-      let at_p : current_place old ≡ Some p = ap (option_map (place_of s)) at_place in
-      let is = stays_in s p l stands in
-      let found = sym (ap (option_map leaf) stands) ∙ ap (λ q. option_map leaf (leaf_in (at s q))) is in (
-        sym (wants_none s b p old at_p (Some (leaf l)) found other),
-        ends_performed s b p old at_p (λ asking o. StepEnds asking o machine.shared.globals.rows d r) p (Some (leaf l)) old is (leaf_there (at s p) l stands) (is_in s p l stands machine place at_place refl)
-            (λ asking o. ends_more (going_in_asks s p old) asking o machine.shared.globals.rows d r) performing,
-      )
+      let Ending : Bool → Stepped → Type 0 = λ asking o. EndsPlainly asking o machine.shared.globals.rows (config_of s new) r in
+      ends_performed s b p old (ap (option_map (place_of s)) at_place) Ending p (Some (leaf l)) old (stays_in s p l stands) (leaf_there (at s p) l stands)
+      (is_in s p l stands machine place at_place refl) (more r (going_in_asks s p old)) (performs_told s b Ending p (Some (leaf l)) None old other acts)
 
 pub not_external : (o : Option Call) → is_some o ≡ false → o ≡ None
 not_external None h = refl
 not_external (Some k) h = absurd cc
-
--- a step that wants no call makes none, quiet or not
-pub steps_unmade : (quiet : Bool) (s : StoryTree) (b : Bound) (n : ℕ) (asking : Bool) (o : Outcome) (globals : Values) (old d : Configuration) (r : Result StepEnd Fault) → wants o ≡ false
-    → StepEnds asking o globals d r → Steps quiet s b n asking o [] globals old d r
-steps_unmade quiet s b n asking o globals old d r unwanted h = quieted s b n [] globals d old r quiet asking o (λ q. unwanted) (unmade s b n asking o globals d r h)

@@ -3,7 +3,7 @@ use Rattle.std.proofs.Common.{◌≡◌, ◌∙◌, ◌||◌, ap, sym, refl, sub
 use Rattle.ink_model.specs.Choosing.{following, following_asks}
 use Rattle.ink_model.specs.Configuration.{ChoiceOf, Configuration, current_place, ended, map_choice, with_choices, with_threads}
 use Rattle.ink_model.specs.Counts.{CountsOf}
-use Rattle.ink_model.specs.Effect.{Fields, Effect, Moves, Stores, Offers, Lands, Calls, Returns, Forks, Done, Ends, Asks, Fails, fields_of, with_fields, with_thread}
+use Rattle.ink_model.specs.Effect.{Fields, Effect, Moves, Stores, Offers, Lands, Calls, Returns, Forks, Done, Ends, Fails, fields_of, with_fields, with_thread}
 use Rattle.ink_model.specs.Flow.{Written, Reached, Reaches, Halts, Breaks, called, depth_of, forked, halt, moved_on, reach, returned}
 use Rattle.ink_model.specs.Frames.{ThreadOf, ThreadsOf, base_threads, map_threads, mode_in, on_top}
 use Rattle.ink_model.specs.Memory.{asks}
@@ -11,14 +11,13 @@ use Rattle.ink_model.specs.Move.{Outcome, Next, Stop, Faults, end_all, finish, g
 use Rattle.ink_model.specs.MoveMemory.{flow_asks, move_asks, moved_asks}
 use Rattle.ink_model.specs.Place.{next_place}
 use Rattle.ink_model.specs.Host.{Bound}
-use Rattle.ink_model.specs.Step.{step, step_at}
+use Rattle.ink_model.specs.Step.{Comes, step, step_at}
 use Rattle.ink_model.specs.Store.{Values}
 use Rattle.ink_model.specs.Threads.{staled}
 use Rattle.ink_model.specs.Tree.{StoryTree}
 use Rattle.ink_model.specs.declared.fault.Fault.{Fault}
 use Rattle.ink_model.specs.declared.fault.Fault.TheVariants.{OutOfMemory}
 use Rattle.ink_model.specs.declared.place.Part.{Part}
-use Rattle.ink_model.specs.declared.value.Value.{Value}
 use Rattle.ink_step.specs.Performs.{Keeps, KeepsChoices, Performs, offered_by, stored_by, unstored}
 use Rattle.ink_step.specs.Reaches.{ReachesAs}
 use Rattle.ink_step.specs.Steps.{StepEnds}
@@ -153,12 +152,7 @@ module _ (s : StoryTree) (old mid : Machine) (safely : mid.flow.safe ≡ old.flo
   offering_alike cs f g None = refl
   offering_alike cs f g (Some depth) = refl
 
-  -- but for one that asks a turn function, which moves nowhere
-  abbrev Alike : Effect → Type 0
-  Alike (Asks name arguments f) = Unit {0}
-  Alike e = move s e (kept e) ≡ move s e (config_of s old)
-
-  goes_alike : (e : Effect) → Alike e
+  goes_alike : (e : Effect) → move s e (kept e) ≡ move s e (config_of s old)
   goes_alike (Moves f) = ap (going (moved_on (next_place s))) (moving_alike f f f.wrote)
   goes_alike (Stores t f) = ap (going (moved_on (next_place s))) (storing_alike t f f f.wrote)
   goes_alike (Offers cs f) = ap (going (moved_on (next_place s))) (offering_alike cs f f f.wrote)
@@ -168,7 +162,6 @@ module _ (s : StoryTree) (old mid : Machine) (safely : mid.flow.safe ≡ old.flo
   goes_alike (Forks f) = ap (going (forked (next_place s))) (moving_alike f f f.wrote)
   goes_alike (Done f) = ap (finish s) (moving_alike f f f.wrote)
   goes_alike (Ends f) = ap end_all (moving_alike f f f.wrote)
-  goes_alike (Asks name arguments f) = tt
   goes_alike (Fails g) = refl
 
   abbrev asks_in : Effect → Configuration → Bool
@@ -191,22 +184,10 @@ module _ (s : StoryTree) (old mid : Machine) (safely : mid.flow.safe ≡ old.flo
 
   pub ends_after : (asking : Bool) (e : Effect) (globals : Values) (d : Configuration) (r : Result StepEnd Fault) → Keeps s e old.flow.threads.threads mid.flow.threads.threads → KeepsChoices s e old.flow.choices.items mid.flow.choices.items
       → Steps asking e (config_of s mid) globals d r → Steps asking e (config_of s old) globals d r
-  ends_after asking e globals d r keeps offers h = by e (asks_alike e) (goes_alike e) (subst (λ c. Steps asking e c globals d r) (is_kept e keeps offers) h)
-    where
-      moves : (e : Effect) → move_asks s e (kept e) ≡ move_asks s e (config_of s old) → move s e (kept e) ≡ move s e (config_of s old) → Steps asking e (kept e) globals d r
-          → Steps asking e (config_of s old) globals d r
-      moves e asks goes alike =
-          let moved = subst (λ o. StepEnds ((asking || move_asks s e (kept e)) || following_asks s o) (following s o) globals d r) goes alike in
-          subst (λ b. StepEnds ((asking || b) || following_asks s (move s e (config_of s old))) (following s (move s e (config_of s old))) globals d r) asks moved
-
-      waits : (name : List ℕ) (arguments : List Value) (f : Fields) (r : Result StepEnd Fault) → Steps asking (Asks name arguments f) (kept (Asks name arguments f)) globals d r
-          → Steps asking (Asks name arguments f) (config_of s old) globals d r
-      waits name arguments f (Ok end) h = h
-      waits name arguments f (Err g) h = h
-
-      by : (e : Effect) → move_asks s e (kept e) ≡ move_asks s e (config_of s old) → Alike e → Steps asking e (kept e) globals d r → Steps asking e (config_of s old) globals d r
-      by (Asks name arguments f) asks goes alike = waits name arguments f r alike
-      by e asks goes alike = moves e asks goes alike
+  ends_after asking e globals d r keeps offers h =
+      let alike = subst (λ c. Steps asking e c globals d r) (is_kept e keeps offers) h in
+      let moved = subst (λ o. StepEnds ((asking || move_asks s e (kept e)) || following_asks s o) (following s o) globals d r) (goes_alike e) alike in
+      subst (λ b. StepEnds ((asking || b) || following_asks s (move s e (config_of s old))) (following s (move s e (config_of s old))) globals d r) (asks_alike e) moved
 
 -- after performing, the thread has the temporaries that the effect stores
 pub kept_stays : (s : StoryTree) (e : Effect) (old new : ThreadsOf Spot) → Keeps s e old new → Keeps s e new new
@@ -219,6 +200,6 @@ offered_stay s (Offers cs f) old new keeps = keeps
 offered_stay s e old new keeps = refl
 
 -- where flow has stopped it stays stopped
-pub stands_still : (s : StoryTree) (b : Bound) (c : Configuration) → current_place c ≡ None → step s b c ≡ Stop c
+pub stands_still : (s : StoryTree) (b : Bound) (c : Configuration) → current_place c ≡ None → step s b c ≡ Comes (Stop c)
 unfolding step
 stands_still s b c no_place = ap (λ o. step_at s b o c) no_place

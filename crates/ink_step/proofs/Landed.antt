@@ -1,17 +1,17 @@
 -- Flow lands, and the containers around are entered; a step goes in before it performs.
 use Rattle.std.proofs.Common.{◌≡◌, ◌∙◌, ◌||◌, ◌&&◌, ap, sym, refl, subst, inl, inr, List, Bool, true, false, true≢false, cond, nat_lt, Option, Some, None, option_map, Result, Ok, Err}
-use Rattle.ink_model.specs.Asks.{going_in_asks}
-use Rattle.ink_model.specs.Choosing.{following, following_asks}
+use Rattle.ink_model.specs.Asks.{going_in_asks, performing_asks}
 use Rattle.ink_model.specs.Configuration.{Configuration, current_place, with_choices, with_threads}
-use Rattle.ink_model.specs.Effect.{Effect, Moves, Stores, Offers, Lands, Calls, Returns, context_of, fields_of}
+use Rattle.ink_model.specs.Effect.{Effect, Moves, Stores, Offers, Lands, Calls, Returns, fields_of}
 use Rattle.ink_model.specs.Flow.{Written, moved_on, Reached, Reaches, Halts, Breaks, called, reach, returned}
 use Rattle.ink_model.specs.Frames.{ThreadsOf, mode_in, on_top}
-use Rattle.ink_model.specs.Memory.{asks, asks_at, content_asks}
-use Rattle.ink_model.specs.Move.{Outcome, going, landed_in, landing, may_enter, move, place_to, with_flow, written_in}
+use Rattle.ink_model.specs.Memory.{asks, asks_at}
+use Rattle.ink_model.specs.Move.{going, landed_in, landing, may_enter, move, place_to, with_flow, written_in}
 use Rattle.ink_model.specs.MoveMemory.{landed_asks, move_asks, moved_asks, returned_asks}
 use Rattle.ink_model.specs.Place.{entered, next_place}
 use Rattle.ink_model.specs.Host.{Bound}
-use Rattle.ink_model.specs.Step.{effect, gone_in, step, step_at}
+use Rattle.ink_model.specs.Step.{Stepped, gone_in, performed, step, step_at}
+use Rattle.ink_model.specs.Step.Host.{Call, call_at}
 use Rattle.ink_model.specs.Store.{Values}
 use Rattle.ink_model.specs.Threads.{frame_count}
 use Rattle.ink_model.specs.Tree.{StoryTree, at, container, leaf}
@@ -126,22 +126,25 @@ module _ (s : StoryTree) (asking : Bool) (c d : Configuration) (r : Result StepE
 -- ---- a step
 
 -- what is performed at a place, from a configuration
-abbrev pub Performing : StoryTree → Bound → (Bool → Outcome → Type 0) → List Part → Option StoryTree → Configuration → Type 0
-Performing s b Ending here found m =
-    let e = effect s b here found (context_of m) (fields_of m) in
-    Ending ((content_asks s b here found (context_of m) (fields_of m) || move_asks s e m) || following_asks s (move s e m)) (following s (move s e m))
+abbrev pub Performing : StoryTree → Bound → (Bool → Stepped → Type 0) → List Part → Option StoryTree → Configuration → Type 0
+Performing s b Ending here found m = Ending (performing_asks s b here found (call_at found) m) (performed s b here found (call_at found) m)
 
--- an empty container is performed as nothing is
-pub performs_alike : (s : StoryTree) (b : Bound) (Ending : Bool → Outcome → Type 0) (here : List Part) (found : Option StoryTree) (m : Configuration)
-    → Performing s b Ending here (option_map leaf (leaf_in found)) m → Performing s b Ending here found m
-performs_alike s b Ending here None m h = h
-performs_alike s b Ending here (Some (leaf l)) m h = h
-performs_alike s b Ending here (Some (container name flags content named)) m h = h
+module _ (s : StoryTree) (b : Bound) (Ending : Bool → Stepped → Type 0) (here : List Part) where
+  -- an empty container is performed as nothing is
+  pub performs_alike : (found : Option StoryTree) (m : Configuration) → Performing s b Ending here (option_map leaf (leaf_in found)) m → Performing s b Ending here found m
+  performs_alike None m h = h
+  performs_alike (Some (leaf l)) m h = h
+  performs_alike (Some (container name flags content named)) m h = h
+
+  -- a call, or other content
+  pub performs_told : (found : Option StoryTree) (k : Option Call) (m : Configuration) → call_at found ≡ k → Ending (performing_asks s b here found k m) (performed s b here found k m)
+      → Performing s b Ending here found m
+  performs_told found k m is h = subst (λ o. Ending (performing_asks s b here found o m) (performed s b here found o m)) (sym is) h
 
 module _ (s : StoryTree) (b : Bound) (p : List Part) (old : Configuration) (at_p : current_place old ≡ Some p) where
   -- a step goes in, performs what stands there and moves
-  pub ends_performed : (Ending : Bool → Outcome → Type 0) (here : List Part) (found : Option StoryTree) (mid : Configuration) → here ≡ entered s p → found ≡ at s here → mid ≡ gone_in s p old
-      → ((asking : Bool) (o : Outcome) → Ending asking o → Ending (going_in_asks s p old || asking) o) → Performing s b Ending here found mid → Ending (asks s b old) (step s b old)
+  pub ends_performed : (Ending : Bool → Stepped → Type 0) (here : List Part) (found : Option StoryTree) (mid : Configuration) → here ≡ entered s p → found ≡ at s here → mid ≡ gone_in s p old
+      → ((asking : Bool) (o : Stepped) → Ending asking o → Ending (going_in_asks s p old || asking) o) → Performing s b Ending here found mid → Ending (asks s b old) (step s b old)
   unfolding step asks
   ends_performed Ending here found mid is stands went more h =
       let gone = subst (λ m. Performing s b Ending here found m) went h in

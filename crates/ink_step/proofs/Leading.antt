@@ -1,10 +1,10 @@
 -- Content that leads elsewhere: diverts and calls.
-use Rattle.std.proofs.Common.{◌≡◌, refl, subst, sym, inl, Bool, true, false, Result, Ok, Err}
-use Rattle.ink_model.specs.Effect.{Fields, Effect, Landing as Goal, Lands, Calls, or_fault}
+use Rattle.std.proofs.Common.{◌≡◌, refl, subst, sym, inl, Bool, true, false, if◌then◌else◌, Result, Ok, Err}
+use Rattle.ink_model.specs.Effect.{Fields, Effect, Landing as Goal, Moves, Lands, Calls, or_fault}
 use Rattle.ink_model.specs.Tree.{StoryTree}
 use Rattle.ink_model.specs.declared.fault.Fault.{Fault}
 use Rattle.ink_model.specs.declared.frame.FrameKind.{FrameKind}
-use Rattle.ink_step.specs.Performs.{Decides, Performs, landing_of}
+use Rattle.ink_step.specs.Performs.{Performs, landing_of}
 use Rattle.ink_step.specs.declared.transfer.Landing.{Landing}
 use Rattle.ink_step.specs.declared.transfer.Transfer.{Transfer}
 use Rattle.ink_step.specs.declared.transfer.Transfer.TheVariants as transfer
@@ -12,12 +12,17 @@ use Rattle.ink_step.specs.declared.transfer.Transfer.TheVariants as transfer
 module _ (s : StoryTree) (asks : Bool) (new : Fields) where
   -- ---- conditions
 
-  pub performed : (e : Effect) (so : Fields → Effect) (b : Bool) (r : Result Transfer Fault) → b ≡ true → Decides e so new (Ok b) → Performs s asks (so new) new r → Performs s asks e new r
-  performed e so b r true_is h p = subst (λ d. Performs s asks d new r) (sym (subst (λ x. Decides e so new (Ok x)) true_is h)) p
+  abbrev where_so : Result (Bool × Fields) Fault → (Fields → Effect) → Effect
+  where_so x so = or_fault x (λ r. if r.0 then so r.1 else Moves r.1)
 
-  pub passed : (e : Effect) (so : Fields → Effect) (b : Bool) (to : Transfer) → to ≡ transfer.Next → b ≡ false → Decides e so new (Ok b) → Performs s asks e new (Ok to)
-  passed e so b to on false_is h =
-      subst (λ t. Performs s asks e new (Ok t)) (sym on) (subst (λ d. Performs s asks d new (Ok transfer.Next)) (sym (subst (λ x. Decides e so new (Ok x)) false_is h)) refl)
+  pub performed : (x : Result (Bool × Fields) Fault) (so : Fields → Effect) (b : Bool) (r : Result Transfer Fault) → b ≡ true → Ok (b, new) ≡ x → Performs s asks (so new) new r
+      → Performs s asks (where_so x so) new r
+  performed x so b r true_is h p = subst (λ y. Performs s asks (where_so y so) new r) h (subst (λ w. Performs s asks (where_so (Ok (w, new)) so) new r) (sym true_is) p)
+
+  pub passed : (x : Result (Bool × Fields) Fault) (so : Fields → Effect) (b : Bool) (to : Transfer) → to ≡ transfer.Next → b ≡ false → Ok (b, new) ≡ x → Performs s asks (where_so x so) new (Ok to)
+  passed x so b to on false_is h =
+      let moves : Performs s asks (where_so (Ok (b, new)) so) new (Ok transfer.Next) = subst (λ w. Performs s asks (where_so (Ok (w, new)) so) new (Ok transfer.Next)) (sym false_is) refl in
+      subst (λ t. Performs s asks (where_so x so) new (Ok t)) (sym on) (subst (λ y. Performs s asks (where_so y so) new (Ok transfer.Next)) h moves)
 
   -- ---- where content leads
 

@@ -27,7 +27,7 @@ pub mod Asked
 pub mod Offered
 pub mod Shows
 pub mod Chosen
-pub mod Unasked
+pub mod Plain
 pub mod Makes
 pub mod Calls
 pub mod Asking

@@ -6,9 +6,9 @@ use Rattle.ink_model.specs.Effect.{Fields}
 use Rattle.ink_model.specs.Events.{calls}
 use Rattle.ink_model.specs.Host.{Bound, turn_function}
 use Rattle.ink_model.specs.Memory.{GetsTo, answered_asks, asks}
-use Rattle.ink_model.specs.Move.{Outcome, Next, Stop, Wants, Faults}
+use Rattle.ink_model.specs.Move.{Outcome, Next, Stop, Faults}
 use Rattle.ink_model.specs.Run.{Made, Moment, At, Stopped, Faulted, answered, answers_of, came, cut_off, moment, moment_after, next, run}
-use Rattle.ink_model.specs.Step.{step}
+use Rattle.ink_model.specs.Step.{Stepped, Comes, Wants, step}
 use Rattle.ink_model.specs.Store.{Values}
 use Rattle.ink_model.specs.Tree.{StoryTree}
 use Rattle.ink_model.specs.declared.fault.Fault.{Fault}
@@ -18,7 +18,7 @@ use Rattle.ink_model.specs.declared.host.Given.{Given}
 use Rattle.ink_model.specs.declared.limits.TheConstants.{MAX_STEPS}
 use Rattle.ink_model.specs.declared.value.Value.{Value}
 use Rattle.ink_step.specs.Runs.{AreBound, RunFalls}
-use Rattle.ink_step.specs.Steps.{StepEnds, Steps}
+use Rattle.ink_step.specs.Steps.{StepEnds, StepMakes}
 use Rattle.ink_step.specs.declared.flow.StepEnd.{StepEnd}
 use Rattle.ink_step.specs.declared.flow.StepEnd.TheVariants as ends
 use Rattle.ink_step.proofs.Follows.{never_wants}
@@ -72,9 +72,9 @@ pub record Did (s : StoryTree) (b : Bound) (made : List Made) (n : ℕ) (es : Li
 module _ (s : StoryTree) (b : Bound) (made : List Made) (n : ℕ) (es : List Event) (old new : Configuration) where
   -- ---- without a call
 
-  module _ (o : Outcome) (is : step s b old ≡ o) (plain : (left : List (Option Given)) → came s old o left made ≡ moment_after old o left made) where
+  module _ (o : Outcome) (is : step s b old ≡ Comes o) where
     came_so : (left : List (Option Given)) (m : List Made → Moment) → moment_after old o left made ≡ m made → came s old (step s b old) left made ≡ m (made ++ [])
-    came_so left m h = ap (λ x. came s old x left made) is ∙ plain left ∙ h ∙ ap m (sym (append-nil made))
+    came_so left m h = ap (λ x. came s old x left made) is ∙ h ∙ ap m (sym (append-nil made))
 
     ends_plainly : (result : Result StepEnd Fault) → StepEnds (asks s b old) o old.shared.globals new result → Ends s b made [] old new result
     ends_plainly (Ok ends.Went) h = λ left. came_so left (At new left) (went left made (asks s b old) old new o h)
@@ -132,13 +132,11 @@ module _ (s : StoryTree) (b : Bound) (made : List Made) (n : ℕ) (es : List Eve
 
   -- ---- a step in a run
 
-  did_so : (result : Result StepEnd Fault) (o : Outcome) → step s b old ≡ o → Steps false s b n (asks s b old) o es old.shared.globals old new result → Did s b made n es old new result
-  did_so result (Next c) is h = did_plainly (Next c) is (λ left. refl) result h
-  did_so result (Stop c) is h = did_plainly (Stop c) is (λ left. refl) result h
-  did_so result (Faults f) is h = did_plainly (Faults f) is (λ left. refl) result h
+  did_so : (result : Result StepEnd Fault) (o : Stepped) → step s b old ≡ o → StepMakes s b n (asks s b old) o es old.shared.globals new result → Did s b made n es old new result
+  did_so result (Comes o) is h = did_plainly o is result h
   did_so result (Wants name arguments f d) is h = did_calling name arguments f d is result h
 
-  pub did : (result : Result StepEnd Fault) → Steps false s b n (asks s b old) (step s b old) es old.shared.globals old new result → Did s b made n es old new result
+  pub did : (result : Result StepEnd Fault) → StepMakes s b n (asks s b old) (step s b old) es old.shared.globals new result → Did s b made n es old new result
   did result h = did_so result (step s b old) refl h
 
 -- ---- from moment to moment

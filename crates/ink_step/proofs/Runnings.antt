@@ -1,5 +1,5 @@
 -- A run with its desk, step by step.
-use Rattle.std.proofs.Common.{◌≡◌, ◌∙◌, ◌++◌, ◌∷◌, ◌+◌, ◌<◌, ℕ, List, [], Option, Result, Ok, Err, ap, subst, false}
+use Rattle.std.proofs.Common.{◌≡◌, ◌∙◌, ◌++◌, ◌∷◌, ◌+◌, ◌<◌, ℕ, List, [], Option, Result, Ok, Err, ap, subst, Bool, true, false}
 use Rattle.ink_model.specs.Configuration.{Configuration}
 use Rattle.ink_model.specs.Events.{Made, calls}
 use Rattle.ink_model.specs.Host.{Bound as Binds, nothing_bound}
@@ -16,9 +16,8 @@ use Rattle.ink_host.specs.Desk.{DeskView, Grew, bound_by, empty_desk}
 use Rattle.ink_host.specs.declared.objects.Called.{Called}
 use Rattle.ink_host.specs.declared.objects.Seen.{Seen}
 use Rattle.ink_step.specs.Runs.{AreBound, RunsToStop}
-use Rattle.ink_step.specs.Steps.{Steps}
+use Rattle.ink_step.specs.Steps.{StepMakes, ended}
 use Rattle.ink_step.specs.declared.flow.StepEnd.{StepEnd}
-use Rattle.ink_step.specs.declared.flow.StepEnd.TheVariants as ends
 use Rattle.ink_host.proofs.Laws.{bound-same, grew-grew, grew-none}
 use Rattle.ink_step.proofs.Growing.{calls_on}
 use Rattle.ink_step.proofs.Openings.{runs_alone}
@@ -49,7 +48,7 @@ module _ {P T W : Type 0} (turn_log : T → List Called) (watch_log : W → List
   -- what a step does, with what is bound at the start
   abbrev pub Stepped : DeskView P T W → Configuration → DeskView P T W → Configuration → Result StepEnd Fault → Type 0
   Stepped before old after new result = let b = bound_by meaning before.functions in
-      (es : List Event) × Grew turn_log watch_log before es after × Steps false s b before.next (asks s b old) (step s b old) es old.shared.globals old new result
+      (es : List Event) × Grew turn_log watch_log before es after × StepMakes s b before.next (asks s b old) (step s b old) es old.shared.globals new result
 
   module _ (n : ℕ) (before after : DeskView P T W) (old new : Configuration) (ran : Ran n before old) where
     same_bound : bound_by meaning before.functions ≡ bound_first
@@ -57,7 +56,7 @@ module _ {P T W : Type 0} (turn_log : T → List Called) (watch_log : W → List
 
     did_in : (result : Result StepEnd Fault) (h : Stepped before old after new result) → Did s bound_first ran.made before.next h.0 old new result
     did_in result h = did s bound_first ran.made before.next h.0 old new result
-        (subst (λ b. Steps false s b before.next (asks s b old) (step s b old) h.0 old.shared.globals old new result) same_bound h.2)
+        (subst (λ b. StepMakes s b before.next (asks s b old) (step s b old) h.0 old.shared.globals new result) same_bound h.2)
 
     grown_by : (result : Result StepEnd Fault) (h : Stepped before old after new result) (d : Did s bound_first ran.made before.next h.0 old new result)
         → Grew turn_log watch_log first (calls first.next (ran.made ++ d.more)) after
@@ -67,20 +66,20 @@ module _ {P T W : Type 0} (turn_log : T → List Called) (watch_log : W → List
         subst (λ es. Grew turn_log watch_log first es after) events (grew-grew turn_log watch_log first before after (calls first.next ran.made) h.0 ran.grew h.1)
 
     -- a step that ended so
-    ended_so : (end so : StepEnd) → end ≡ so → Stepped before old after new (Ok end) → Stepped before old after new (Ok so)
-    ended_so end so is h = subst (λ e. Stepped before old after new (Ok e)) is h
+    ended_so : (on so : Bool) → on ≡ so → Stepped before old after new (ended (Ok on)) → Stepped before old after new (ended (Ok so))
+    ended_so on so is h = subst (λ w. Stepped before old after new (ended (Ok w))) is h
 
-    pub ran_on : (end : StepEnd) → end ≡ ends.Went → Stepped before old after new (Ok end) → Ran (n + 1) after new
-    ran_on end is stepped = let h = ended_so end ends.Went is stepped in let d = did_in (Ok ends.Went) h in record {
+    pub ran_on : (on : Bool) → on ≡ true → Stepped before old after new (ended (Ok on)) → Ran (n + 1) after new
+    ran_on on is stepped = let h = ended_so on true is stepped in let d = did_in (ended (Ok true)) h in record {
       made = ran.made ++ d.more;
-      grew = grown_by (Ok ends.Went) h d;
+      grew = grown_by (ended (Ok true)) h d;
       got_there = run_went s bound_first start n old new ran.made d.more ran.got_there d.ends;
       bound = bound_too bound_first ran.made d.more ran.bound d.bound;
     }
 
-    pub ran_to_stop : (end : StepEnd) → n < MAX_STEPS → end ≡ ends.Stopped → Stepped before old after new (Ok end) → EndsRun after new (Ok tt)
-    ran_to_stop end below is stepped = let h = ended_so end ends.Stopped is stepped in let d = did_in (Ok ends.Stopped) h in
-        (ran.made ++ d.more, grown_by (Ok ends.Stopped) h d, run_stopped s bound_first start n MAX_STEPS old new ran.made d.more below ran.got_there d.ends, bound_too bound_first ran.made d.more ran.bound d.bound)
+    pub ran_to_stop : (on : Bool) → n < MAX_STEPS → on ≡ false → Stepped before old after new (ended (Ok on)) → EndsRun after new (Ok tt)
+    ran_to_stop on below is stepped = let h = ended_so on false is stepped in let d = did_in (ended (Ok false)) h in
+        (ran.made ++ d.more, grown_by (ended (Ok false)) h d, run_stopped s bound_first start n MAX_STEPS old new ran.made d.more below ran.got_there d.ends, bound_too bound_first ran.made d.more ran.bound d.bound)
 
     pub ran_to_fault : (f : Fault) → n < MAX_STEPS → Stepped before old after new (Err f) → EndsRun after new (Err f)
     ran_to_fault f below h = let d = did_in (Err f) h in

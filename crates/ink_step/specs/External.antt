@@ -1,12 +1,11 @@
 -- Calls of external functions, beside the definitions (docs/HOST.md, "Calls").
 use Rattle.std.specs.Prelude.{◌≡◌, ◌⊎◌, ℕ, List, [], ◌∷◌, Bool, true, false, if◌then◌else◌, Option, Some, None, Result, Ok, Err}
 use Rattle.std.specs.List.{list_all}
-use Rattle.ink_model.specs.Effect.{Effect, Fields, Asks}
+use Rattle.ink_model.specs.Effect.{Fields}
 use Rattle.ink_model.specs.Events.{Made, calls}
 use Rattle.ink_model.specs.Memory.{given_asks}
-use Rattle.ink_model.specs.Step.Host.{answering, arguments_on, is_argument}
-use Rattle.ink_model.specs.Tree.{StoryTree, leaf}
-use Rattle.ink_model.specs.declared.content.Leaf.TheVariants as leaves
+use Rattle.ink_model.specs.Step.Host.{Acts, Asks, Call, CallEffect, answering, arguments_on, is_argument}
+use Rattle.ink_model.specs.Tree.{StoryTree}
 use Rattle.ink_model.specs.declared.fault.Fault.{Fault}
 use Rattle.ink_model.specs.declared.fault.Fault.TheVariants.{BadOperands, OutOfMemory, StackEmpty}
 use Rattle.ink_model.specs.declared.host.Event.{Event}
@@ -16,19 +15,8 @@ use Rattle.ink_step.specs.Performs.{Performs}
 use Rattle.ink_step.specs.declared.external.External.{External}
 use Rattle.ink_step.specs.declared.transfer.Transfer.{Transfer}
 
--- a call of an external function: its name, the number of its arguments, and whether a condition decides
-pub record Call : Type 0 where
-  pub name : List ℕ
-  pub arguments : ℕ
-  pub conditional : Bool
-
 abbrev pub call_of : External → Call
 call_of call = record { name = call.name.now; arguments = call.arguments; conditional = call.conditional }
-
--- the call that stands at a place, if one does
-abbrev pub external_in : Option StoryTree → Option Call
-external_in (Some (leaf (leaves.External name arguments conditional))) = Some (record { name = name; arguments = arguments; conditional = conditional })
-external_in found = None
 
 -- what is lent to a function of a host: so many values on top, where all may be arguments
 abbrev pub lent_of : Option (List Value × List Value) → Result (List Value) Fault
@@ -47,15 +35,15 @@ abbrev pub is_true_of : Result Bool Fault → Bool
 is_true_of (Ok truth) = truth
 is_true_of (Err f) = false
 
--- the effect asks a turn function
-abbrev pub is_asking : Effect → Bool
+-- a call asks a turn function
+abbrev pub is_asking : CallEffect → Bool
 is_asking (Asks name arguments f) = true
-is_asking e = false
+is_asking (Acts e) = false
 
--- Performing a call whose effect asks a turn function calls it once, and goes on with what it gave; or memory was refused before
+-- Performing a call that asks a turn function calls it once, and goes on with what it gave; or memory was refused before
 -- that, and nothing was called. Performing another calls nothing. The events count on from a stamp.
-abbrev pub PerformsCall : StoryTree → ℕ → Bool → Effect → List Event → Fields → Result Transfer Fault → Type 0
+abbrev pub PerformsCall : StoryTree → ℕ → Bool → CallEffect → List Event → Fields → Result Transfer Fault → Type 0
 PerformsCall s n asks (Asks name arguments left) es new result =
     ((gave : Option Given) × (es ≡ calls n (made_call name arguments gave ∷ [])) × Performs s (given_asks arguments left gave) (answering gave left) new result)
     ⊎ ((es ≡ []) × (result ≡ Err OutOfMemory) × (asks ≡ true))
-PerformsCall s n asks e es new result = (es ≡ []) × Performs s asks e new result
+PerformsCall s n asks (Acts e) es new result = (es ≡ []) × Performs s asks e new result

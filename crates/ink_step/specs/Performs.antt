@@ -106,9 +106,3 @@ Changes asks e new result = (s : StoryTree) → Performs s asks e new (moving re
 -- The same of one that tells whether it wrote a text.
 abbrev pub Writes : Bool → Effect → Fields → Result Bool Fault → Type 0
 Writes asks e new result = (s : StoryTree) → Performs s asks e new (after_text result)
-
--- What a condition comes to: what it is asked for has the effect, or flow only moves on, or it is a fault.
-abbrev pub Decides : Effect → (Fields → Effect) → Fields → Result Bool Fault → Type 0
-Decides e so new (Ok true) = e ≡ so new
-Decides e so new (Ok false) = e ≡ Moves new
-Decides e so new (Err f) = e ≡ Fails f

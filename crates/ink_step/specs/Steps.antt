@@ -5,9 +5,10 @@ use Rattle.ink_model.specs.Configuration.{ChoiceOf, Configuration}
 use Rattle.ink_model.specs.Events.{calls}
 use Rattle.ink_model.specs.Host.{Bound, turn_function}
 use Rattle.ink_model.specs.Memory.{OpensShort, answered_asks}
-use Rattle.ink_model.specs.Move.{Outcome, Next, Stop, Wants, Faults}
+use Rattle.ink_model.specs.Move.{Outcome, Next, Stop, Faults}
 use Rattle.ink_model.specs.Opening.{opening}
 use Rattle.ink_model.specs.Run.{answered}
+use Rattle.ink_model.specs.Step.{Stepped, Comes, Wants}
 use Rattle.ink_model.specs.Store.{Values}
 use Rattle.ink_model.specs.Tree.{StoryTree}
 use Rattle.ink_model.specs.Visits.{entering_around, entering_asks}
@@ -32,29 +33,45 @@ StepEnds asks outcome globals new (Err f) = ((f ≡ OutOfMemory) × (asks ≡ tr
 StepEnds asks outcome globals new result = ⊥
 
 -- a turn function is to be called
-abbrev pub wants : Outcome → Bool
+abbrev pub wants : Stepped → Bool
 wants (Wants name arguments f d) = true
-wants outcome = false
+wants (Comes outcome) = false
 
--- The same of a step that may call turn functions. Where the outcome wants one, the name is bound to one, which was called once,
+-- flow went on
+abbrev pub went : StepEnd → Bool
+went ends.Went = true
+went end = false
+
+-- that as the end of a step
+abbrev pub ended : Result Bool Fault → Result StepEnd Fault
+ended (Ok true) = Ok ends.Went
+ended (Ok false) = Ok ends.Stopped
+ended (Err f) = Err f
+
+-- The same of a step that may call turn functions. Where it wants one, the name is bound to one, which was called once,
 -- and the step ends as with what it gave; or memory was refused before that, and nothing was called. The events of the step
 -- count on from a stamp.
-abbrev pub StepMakes : StoryTree → Bound → ℕ → Bool → Outcome → List Event → Values → Configuration → Result StepEnd Fault → Type 0
+abbrev pub StepMakes : StoryTree → Bound → ℕ → Bool → Stepped → List Event → Values → Configuration → Result StepEnd Fault → Type 0
 StepMakes s b n asks (Wants name arguments f d) es globals new result =
     ((gave : Option Given) × (b name ≡ Some turn_function) × (es ≡ calls n (made_call name arguments gave ∷ [])) × StepEnds (answered_asks s arguments f d gave) (answered s f d gave) globals new result)
     ⊎ ((es ≡ []) × (result ≡ Err OutOfMemory) × (asks ≡ true) × (new.shared.globals ≡ globals))
-StepMakes s b n asks outcome es globals new result = (es ≡ []) × StepEnds asks outcome globals new result
+StepMakes s b n asks (Comes outcome) es globals new result = (es ≡ []) × StepEnds asks outcome globals new result
 
--- A quiet step calls none: where its outcome wants one, it says so and has changed nothing.
-abbrev pub Steps : Bool → StoryTree → Bound → ℕ → Bool → Outcome → List Event → Values → Configuration → Configuration → Result StepEnd Fault → Type 0
+-- A quiet step calls none: where it wants one, it says so and has changed nothing.
+abbrev pub Steps : Bool → StoryTree → Bound → ℕ → Bool → Stepped → List Event → Values → Configuration → Configuration → Result StepEnd Fault → Type 0
 Steps true s b n asks (Wants name arguments f d) es globals old new result = (result ≡ Ok ends.WantsCall) × (es ≡ []) × (new ≡ old)
-Steps quiet s b n asks outcome es globals old new result = StepMakes s b n asks outcome es globals new result
+Steps quiet s b n asks stepped es globals old new result = StepMakes s b n asks stepped es globals new result
 
--- A step that is taken only where its outcome wants no call ends so, if it is taken.
-abbrev pub Passes : Bool → Outcome → Values → Configuration → Result (Option StepEnd) Fault → Type 0
-Passes asks outcome globals new (Ok None) = ⊤
-Passes asks outcome globals new (Ok (Some end)) = (wants outcome ≡ false) × StepEnds asks outcome globals new (Ok end)
-Passes asks outcome globals new (Err f) = (wants outcome ≡ false) × StepEnds asks outcome globals new (Err f)
+-- A step that wants no call ends so.
+abbrev pub EndsPlainly : Bool → Stepped → Values → Configuration → Result StepEnd Fault → Type 0
+EndsPlainly asks (Comes outcome) globals new result = StepEnds asks outcome globals new result
+EndsPlainly asks (Wants name arguments f d) globals new result = ⊥
+
+-- The same of one that is taken only there, if it is taken.
+abbrev pub Passes : Bool → Stepped → Values → Configuration → Result (Option StepEnd) Fault → Type 0
+Passes asks stepped globals new (Ok None) = ⊤
+Passes asks stepped globals new (Ok (Some end)) = EndsPlainly asks stepped globals new (Ok end)
+Passes asks stepped globals new (Err f) = EndsPlainly asks stepped globals new (Err f)
 
 -- A story does not open: its declarations fault, with these globals, or a step of theirs asks for memory and gets none.
 abbrev pub FailsToOpen : StoryTree → Fault → Values → Type 0

@@ -3,14 +3,13 @@
 ghost use Rattle.std.specs.Prelude.{◌≡◌, ℕ, Bool, false, Option, option_map};
 ghost use Rattle.ink_check.specs.Words.{story_tree};
 ghost use Rattle.ink_model.specs.Acceptance.{lands_to, written_target};
-ghost use Rattle.ink_model.specs.Effect.{Fields, Effect};
 ghost use Rattle.ink_model.specs.Page.{Page};
 ghost use Rattle.ink_model.specs.Step.Diverts as rules;
-ghost use Rattle.ink_model.specs.Step.Diverts.{divert, led_to, where_true};
+ghost use Rattle.ink_model.specs.Step.Diverts.{condition, divert, leaving_fields, led_to};
 ghost use Rattle.ink_model.specs.Store.{Values};
 ghost use Rattle.ink_model.specs.Variables.{read};
 ghost use Rattle.ink_model.specs.declared.value.Value.TheVariants.{Target};
-ghost use Rattle.ink_step.specs.Performs.{Decides, Performs, fields, landing_of, leading, led_as};
+ghost use Rattle.ink_step.specs.Performs.{Performs, fields, landing_of, leading, led_as};
 ghost use Rattle.ink_step.specs.Words.{Rest, seen_by};
 ghost use Rattle.ink_tree.specs.Nodes.{place_of};
 
@@ -60,8 +59,8 @@ pub(crate) fn divert(
 /// none, `BadOperands` where it is no truth.
 #[inline(always)]
 pub(crate) fn is_wanted(conditional: bool, stack: &mut EvalStack) -> Result<bool, Fault>
-    ensures { (evaluating : Bool) (fresh : Option ℕ) (page : Page) (globals : Values) (so : Fields → Effect)
-        → Decides (where_true conditional (fields evaluating fresh stack.old.items page globals) so) so (fields evaluating fresh stack.new.items page globals) result }
+    ensures { (evaluating : Bool) (fresh : Option ℕ) (page : Page) (globals : Values)
+        → leaving_fields (fields evaluating fresh stack.new.items page globals) result ≡ condition conditional (fields evaluating fresh stack.old.items page globals) }
 {
     if !conditional {
         return Ok(true);

@@ -17,7 +17,7 @@ ghost use Rattle.ink_model.specs.Tree.{StoryTree, leaf};
 ghost use Rattle.ink_model.specs.Value as truth;
 ghost use Rattle.ink_model.specs.declared.host.Event.{Event as Happening};
 ghost use Rattle.ink_model.specs.declared.value.Value.{Value as Data};
-ghost use Rattle.ink_step.specs.External.{PerformsCall, call_of, external_in, is_asking, is_true_of, lent_arguments};
+ghost use Rattle.ink_step.specs.External.{PerformsCall, call_of, is_asking, is_true_of, lent_arguments};
 ghost use Rattle.ink_step.specs.Performs.{Performs, fields};
 
 use crate::diverting::is_wanted;
@@ -42,14 +42,14 @@ pub(crate) struct External<'a> {
 /// Whether content is a call of an external function.
 #[inline(always)]
 pub(crate) fn is_external(content: &Leaf) -> bool
-    ensures { result ≡ is_some (external_in (Some (leaf content.now))) }
+    ensures { result ≡ is_some (rules.call_at (Some (leaf content.now))) }
 {
     matches!(content, Leaf::External { .. })
 }
 
 /// The call that stands at a place, none where other content stands there, or nothing.
 pub(crate) fn external_in<'a>(found: Option<&'a Leaf>) -> Option<External<'a>>
-    ensures { option_map call_of result ≡ external_in (option_map (λ l. leaf l.now) found.entry) }
+    ensures { option_map call_of result ≡ rules.call_at (option_map (λ l. leaf l.now) found.entry) }
 {
     match found {
         Some(
@@ -168,7 +168,7 @@ fn ask_pure<'a, P: PureFn, T, W>(
     requires { (p : P) × (at call.now.name.now desk.now.functions ≡ Some (bound.Pure p)) }
     ensures { let k = call_of call.now in (p : P) → at call.now.name.now desk.now.functions ≡ Some (bound.Pure p) → let pure = Some (pure_function (P.meaning p)) in
         (s : StoryTree) (evaluating : Bool) (fresh : Option ℕ) (page : Page) (globals : Values) → let f = fields evaluating fresh stack.old.items page globals in
-        Performs s (binding_asks pure k.arguments f) (rules.call_bound s pure k.name k.arguments f) (fields evaluating fresh stack.new.items page globals) result }
+        Performs s (binding_asks pure k.arguments f) (rules.ask_pure (P.meaning p) k.arguments f) (fields evaluating fresh stack.new.items page globals) result }
 {
     let arguments = lend_arguments(stack, call.arguments)?;
     match desk.ask(call.name, arguments) {
@@ -206,7 +206,7 @@ fn answer<'a>(stack: &mut EvalStack, count: usize, given: Given) -> Result<Trans
     moving(put_over(stack, count, value_given(given)))
 }
 
-/// Whether a call calls a turn function where it is performed: exactly then does its effect ask one.
+/// Whether a call calls a turn function where it is performed.
 pub(crate) fn would_call<P: PureFn, T, W>(
     call: &External<'_>,
     stack: &EvalStack,

@@ -14,6 +14,7 @@ ghost use Rattle.ink_model.specs.declared.frame.FrameKind.TheVariants as kind;
 ghost use Rattle.ink_model.specs.declared.limits.TheConstants.{MAX_FRAMES};
 ghost use Rattle.ink_model.specs.declared.value.Value.{Value as Data};
 ghost use Rattle.ink_step.specs.declared.flow.StepEnd.TheVariants.{Went};
+ghost use Rattle.ink_step.specs.Steps.{went};
 ghost use Rattle.ink_step.specs.Reaches.{PassesAs, ReachesAs, ended, entered, left, left_asks, written};
 ghost use Rattle.ink_tree.specs.Nodes.{place_of, story_tree};
 
@@ -30,6 +31,16 @@ pub enum StepEnd {
     Went,
     Stopped,
     WantsCall,
+}
+
+impl StepEnd {
+    /// Whether flow went on.
+    #[inline(always)]
+    pub(crate) fn went(self) -> bool
+        ensures { result ≡ went self }
+    {
+        matches!(self, StepEnd::Went)
+    }
 }
 
 /// Flow moves on to the place after the one where it is. Off the end of a function it goes on after the call, and off the end

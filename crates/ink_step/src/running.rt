@@ -12,7 +12,6 @@ ghost use Rattle.ink_model.specs.Turns.{open_choices};
 ghost use Rattle.ink_step.specs.Runs.{AreBound, RunsThrough, RunsToStop};
 ghost use Rattle.ink_vars.specs.Changes.{Tracks};
 
-use crate::flow::StepEnd;
 use crate::machine::Machine;
 use ink_check::Story;
 use ink_host::{Desk, PureFn, TurnFn, Watcher};
@@ -53,10 +52,8 @@ impl Machine {
         ensures tracks { (start : Values) → Tracks start self.old.changes self.old.shared.globals.rows → Tracks start self.new.changes self.new.shared.globals.rows }
     {
         for _step in 0..MAX_STEPS {
-            match self.step(story, desk, false)? {
-                StepEnd::Went => {}
-                StepEnd::Stopped => return Ok(()),
-                StepEnd::WantsCall => unreachable!(),
+            if !self.forward(story, desk)? {
+                return Ok(());
             }
         }
         Err(Fault::OutOfSteps)

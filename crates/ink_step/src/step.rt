@@ -4,7 +4,7 @@ ghost use Rattle.std.specs.Prelude.{◌≡◌, ◌||◌, Bool, List, true, None,
 ghost use Rattle.ink_check.specs.Words.{story_tree};
 ghost use Rattle.ink_host.specs.Desk.{Grew, bound_by};
 ghost use Rattle.ink_host.specs.Telling.{log_of};
-ghost use Rattle.ink_model.specs.Asks.{external_asks};
+ghost use Rattle.ink_model.specs.Asks.{acting_asks, calling_asks, external_asks};
 ghost use Rattle.ink_model.specs.Choosing.{following, following_asks};
 ghost use Rattle.ink_model.specs.Effect.{Effect, Fields, context_of, fields_of};
 ghost use Rattle.ink_model.specs.Flow.{called, moved_on, reach, returned};
@@ -14,7 +14,7 @@ ghost use Rattle.ink_model.specs.Memory.{asks, content_asks, control_asks, leaf_
 ghost use Rattle.ink_model.specs.Move.{Outcome, going, landing, may_enter, move as moved, place_to, written_in};
 ghost use Rattle.ink_model.specs.MoveMemory.{landed_asks, move_asks, moved_asks, returned_asks};
 ghost use Rattle.ink_model.specs.Place.{next_place};
-ghost use Rattle.ink_model.specs.Step.{control_effect, effect, leaf_effect, step};
+ghost use Rattle.ink_model.specs.Step.{acted, call_made, control_effect, effect, leaf_effect, step};
 ghost use Rattle.ink_model.specs.Step.Host.{call_external};
 ghost use Rattle.ink_model.specs.Store.{Values};
 ghost use Rattle.ink_model.specs.Threads.{frame_count};
@@ -22,8 +22,8 @@ ghost use Rattle.ink_model.specs.Tree.{StoryTree, at, leaf};
 ghost use Rattle.ink_model.specs.declared.host.Event.{Event as Happening};
 ghost use Rattle.ink_model.specs.declared.limits.TheConstants.{MAX_FRAMES};
 ghost use Rattle.ink_step.specs.Performs.{Keeps, KeepsChoices, Performs, landing_of, leading, storing_in, unstored};
-ghost use Rattle.ink_step.specs.External.{call_of, external_in};
-ghost use Rattle.ink_step.specs.Steps.{Passes, StepEnds, StepMakes, Steps, wants};
+ghost use Rattle.ink_step.specs.External.{call_of};
+ghost use Rattle.ink_step.specs.Steps.{Passes, StepEnds, StepMakes, Steps, ended, wants};
 ghost use Rattle.ink_step.specs.Words.{config_of};
 ghost use Rattle.ink_step.specs.declared.flow.StepEnd.TheVariants.{WantsCall, Went};
 ghost use Rattle.ink_step.specs.declared.machine.Machine.{Machine as Before};
@@ -70,12 +70,37 @@ impl Machine {
         ensures desk { result ≡ Ok WantsCall → desk.new ≡ desk.old }
         ensures tracks { (start : Values) → Tracks start self.old.changes self.old.shared.globals.rows → Tracks start self.new.changes self.new.shared.globals.rows }
     {
+        if quiet && self.wants_call(story, desk) {
+            return Ok(StepEnd::WantsCall);
+        }
+        if self.forward(story, desk)? {
+            Ok(StepEnd::Went)
+        } else {
+            Ok(StepEnd::Stopped)
+        }
+    }
+
+    /// The same of a step that may call; answers whether flow went on.
+    #[inline(always)]
+    pub(crate) fn forward<P: PureFn, T: TurnFn, W: Watcher>(
+        &mut self,
+        story: &Story,
+        desk: &mut Desk<P, T, W>,
+    ) -> Result<bool, Fault>
+        ensures step { let s = story_tree story.now in let b = bound_by P.meaning desk.old.functions in let c = config_of s self.old in
+            (es : List Happening) × Grew T.log (log_of W.state) desk.old es desk.new × StepMakes s b desk.old.next (asks s b c) (step s b c) es self.old.shared.globals.rows (config_of s self.new) (ended result) }
+        ensures watchers { desk.new.watchers ≡ desk.old.watchers }
+        ensures tracks { (start : Values) → Tracks start self.old.changes self.old.shared.globals.rows → Tracks start self.new.changes self.new.shared.globals.rows }
+    {
         let Some(place) = self.flow.threads.place() else {
-            return Ok(StepEnd::Stopped);
+            return Ok(false);
         };
         match self.pass(story, place)? {
-            Some(end) => Ok(end),
-            None => self.step_from(story, desk, quiet, place),
+            Some(end) => Ok(end.went()),
+            None => {
+                let end = self.step_from(story, desk, place)?;
+                Ok(end.went())
+            }
         }
     }
 
@@ -85,20 +110,14 @@ impl Machine {
         &mut self,
         story: &Story,
         desk: &mut Desk<P, T, W>,
-        quiet: bool,
         place: Spot,
     ) -> Result<StepEnd, Fault>
         requires { self.old.flow.threads.threads.thread.frame.place ≡ Some place }
         ensures step { let s = story_tree story.now in let b = bound_by P.meaning desk.old.functions in let c = config_of s self.old in
-            (es : List Happening) × Grew T.log (log_of W.state) desk.old es desk.new × Steps quiet s b desk.old.next (asks s b c) (step s b c) es self.old.shared.globals.rows c (config_of s self.new) result }
+            (es : List Happening) × Grew T.log (log_of W.state) desk.old es desk.new × StepMakes s b desk.old.next (asks s b c) (step s b c) es self.old.shared.globals.rows (config_of s self.new) result }
         ensures watchers { desk.new.watchers ≡ desk.old.watchers }
-        ensures machine { result ≡ Ok WantsCall → self.new ≡ self.old }
-        ensures desk { result ≡ Ok WantsCall → desk.new ≡ desk.old }
         ensures tracks { (start : Values) → Tracks start self.old.changes self.old.shared.globals.rows → Tracks start self.new.changes self.new.shared.globals.rows }
     {
-        if quiet && self.wants_call(story, desk, place) {
-            return Ok(StepEnd::WantsCall);
-        }
         let (here, found) = self.go_in(story.tree(), place)?;
         match external_in(found) {
             Some(call) => self.act_external(story, desk, &call),
@@ -124,17 +143,18 @@ impl Machine {
         }
     }
 
-    // Whether the step from this place calls a turn function.
+    // Whether the step calls a turn function.
     #[inline(never)]
     fn wants_call<P: PureFn, T: TurnFn, W: Watcher>(
         &self,
         story: &Story,
         desk: &Desk<P, T, W>,
-        place: Spot,
     ) -> bool
-        requires { self.now.flow.threads.threads.thread.frame.place ≡ Some place }
         ensures { let s = story_tree story.now in result ≡ wants (step s (bound_by P.meaning desk.now.functions) (config_of s self.now)) }
     {
+        let Some(place) = self.flow.threads.place() else {
+            return false;
+        };
         let (_, found) = story.tree().first_leaf(place);
         match external_in(found) {
             Some(call) => would_call(&call, &self.flow.stack, &self.output, desk),
@@ -142,7 +162,7 @@ impl Machine {
         }
     }
 
-    /// A call has its effect, and flow moves; where it stops it may follow a choice.
+    /// A call is performed, and flow moves; where it stops it may follow a choice.
     #[inline(never)]
     fn act_external<P: PureFn, T: TurnFn, W: Watcher>(
         &mut self,
@@ -151,9 +171,9 @@ impl Machine {
         call: &External<'_>,
     ) -> Result<StepEnd, Fault>
         ensures step { let s = story_tree story.now in let b = bound_by P.meaning desk.old.functions in let c = config_of s self.old in let k = call_of call.now in
-            let e = call_external s b k.name k.arguments k.conditional (fields_of c) in
+            let called = call_external s b k.name k.arguments k.conditional (fields_of c) in
             (es : List Happening) × Grew T.log (log_of W.state) desk.old es desk.new
-            × StepMakes s b desk.old.next ((external_asks (b k.name) k.arguments k.conditional (fields_of c) || move_asks s e c) || following_asks s (moved s e c)) (following s (moved s e c)) es self.old.shared.globals.rows (config_of s self.new) result }
+            × StepMakes s b desk.old.next (calling_asks s (external_asks (b k.name) k.arguments k.conditional (fields_of c)) called c) (call_made s called c) es self.old.shared.globals.rows (config_of s self.new) result }
         ensures watchers { desk.new.watchers ≡ desk.old.watchers }
         ensures tracks { (start : Values) → Tracks start self.old.changes self.old.shared.globals.rows → Tracks start self.new.changes self.new.shared.globals.rows }
     {
@@ -170,11 +190,10 @@ impl Machine {
     /// What stands where flow is has its effect, and flow moves; where it stops it may follow a choice.
     #[inline(always)]
     fn act(&mut self, story: &Story, here: Spot, found: Option<&Leaf>) -> Result<StepEnd, Fault>
-        requires stands { let s = story_tree story.now in option_map (λ l. l.now) found ≡ leaf_in (at s (place_of s here)) }
-        requires other { external_in (option_map (λ l. leaf l.now) found) ≡ None }
-        ensures ends { (b : Bound) → let s = story_tree story.now in let p = place_of s here in let stands = option_map (λ l. leaf l.now) found.entry in let c = config_of s self.old in
-            let e = effect s b p stands (context_of c) (fields_of c) in
-            StepEnds ((content_asks s b p stands (context_of c) (fields_of c) || move_asks s e c) || following_asks s (moved s e c)) (following s (moved s e c)) self.old.shared.globals.rows (config_of s self.new) result }
+        requires { let s = story_tree story.now in option_map (λ l. l.now) found ≡ leaf_in (at s (place_of s here)) }
+        ensures ends { let s = story_tree story.now in let p = place_of s here in let stands = option_map (λ l. leaf l.now) found.entry in let c = config_of s self.old in
+            let e = effect s p stands (context_of c) (fields_of c) in
+            StepEnds (acting_asks s (content_asks s p stands (context_of c) (fields_of c)) e c) (acted s e c) self.old.shared.globals.rows (config_of s self.new) result }
         ensures tracks { (start : Values) → Tracks start self.old.changes self.old.shared.globals.rows → Tracks start self.new.changes self.new.shared.globals.rows }
     {
         let mut transfer = Transfer::Next;
@@ -269,13 +288,12 @@ impl Machine {
     ) -> Result<(), Fault>
         requires on { transfer.old ≡ Transfer.Next }
         requires stands { let s = story_tree story.now in option_map (λ l. l.now) found ≡ leaf_in (at s (place_of s here)) }
-        requires other { external_in (option_map (λ l. leaf l.now) found) ≡ None }
-        ensures effect { (b : Bound) → let s = story_tree story.now in let p = place_of s here in let stands = option_map (λ l. leaf l.now) found.entry in let c = config_of s self.old in
-            Performs s (content_asks s b p stands (context_of c) (fields_of c)) (effect s b p stands (context_of c) (fields_of c)) (fields_of (config_of s self.new)) (leading result transfer.new) }
-        ensures threads { (b : Bound) → let s = story_tree story.now in let stands = option_map (λ l. leaf l.now) found.entry in let c = config_of s self.old in
-            OnOk result (Keeps s (effect s b (place_of s here) stands (context_of c) (fields_of c)) self.old.flow.threads.threads self.new.flow.threads.threads) }
-        ensures choices { (b : Bound) → let s = story_tree story.now in let stands = option_map (λ l. leaf l.now) found.entry in let c = config_of s self.old in
-            OnOk result (KeepsChoices s (effect s b (place_of s here) stands (context_of c) (fields_of c)) self.old.flow.choices.items self.new.flow.choices.items) }
+        ensures effect { let s = story_tree story.now in let p = place_of s here in let stands = option_map (λ l. leaf l.now) found.entry in let c = config_of s self.old in
+            Performs s (content_asks s p stands (context_of c) (fields_of c)) (effect s p stands (context_of c) (fields_of c)) (fields_of (config_of s self.new)) (leading result transfer.new) }
+        ensures threads { let s = story_tree story.now in let stands = option_map (λ l. leaf l.now) found.entry in let c = config_of s self.old in
+            OnOk result (Keeps s (effect s (place_of s here) stands (context_of c) (fields_of c)) self.old.flow.threads.threads self.new.flow.threads.threads) }
+        ensures choices { let s = story_tree story.now in let stands = option_map (λ l. leaf l.now) found.entry in let c = config_of s self.old in
+            OnOk result (KeepsChoices s (effect s (place_of s here) stands (context_of c) (fields_of c)) self.old.flow.choices.items self.new.flow.choices.items) }
         ensures counts { self.new.shared.counts.rows ≡ self.old.shared.counts.rows }
         ensures turn { self.new.shared.turn ≡ self.old.shared.turn }
         ensures safe { self.new.flow.safe ≡ self.old.flow.safe }
@@ -288,7 +306,7 @@ impl Machine {
         }
     }
 
-    // What is bound is of no matter to content that is no call of an external function.
+    // A call of an external function is performed apart.
     #[inline(always)]
     fn perform_leaf<'a>(
         &mut self,
@@ -299,13 +317,12 @@ impl Machine {
     ) -> Result<(), Fault>
         requires on { transfer.old ≡ Transfer.Next }
         requires stands { let s = story_tree story.now in at s (place_of s here) ≡ Some (leaf content.now) }
-        requires other { external_in (Some (leaf content.now)) ≡ None }
-        ensures effect { (b : Bound) → let s = story_tree story.now in let p = place_of s here in let c = config_of s self.old in
-            Performs s (leaf_asks s b p (context_of c) content.now (fields_of c)) (leaf_effect s b p (context_of c) content.now (fields_of c)) (fields_of (config_of s self.new)) (leading result transfer.new) }
-        ensures threads { (b : Bound) → let s = story_tree story.now in let c = config_of s self.old in
-            OnOk result (Keeps s (leaf_effect s b (place_of s here) (context_of c) content.now (fields_of c)) self.old.flow.threads.threads self.new.flow.threads.threads) }
-        ensures choices { (b : Bound) → let s = story_tree story.now in let c = config_of s self.old in
-            OnOk result (KeepsChoices s (leaf_effect s b (place_of s here) (context_of c) content.now (fields_of c)) self.old.flow.choices.items self.new.flow.choices.items) }
+        ensures effect { let s = story_tree story.now in let p = place_of s here in let c = config_of s self.old in
+            Performs s (leaf_asks s p (context_of c) content.now (fields_of c)) (leaf_effect s p (context_of c) content.now (fields_of c)) (fields_of (config_of s self.new)) (leading result transfer.new) }
+        ensures threads { let s = story_tree story.now in let c = config_of s self.old in
+            OnOk result (Keeps s (leaf_effect s (place_of s here) (context_of c) content.now (fields_of c)) self.old.flow.threads.threads self.new.flow.threads.threads) }
+        ensures choices { let s = story_tree story.now in let c = config_of s self.old in
+            OnOk result (KeepsChoices s (leaf_effect s (place_of s here) (context_of c) content.now (fields_of c)) self.old.flow.choices.items self.new.flow.choices.items) }
         ensures counts { self.new.shared.counts.rows ≡ self.old.shared.counts.rows }
         ensures turn { self.new.shared.turn ≡ self.old.shared.turn }
         ensures safe { self.new.flow.safe ≡ self.old.flow.safe }
@@ -429,7 +446,7 @@ impl Machine {
                 &mut self.flow.choices,
                 target,
             ),
-            Leaf::External { .. } => unreachable!(),
+            Leaf::External { .. } => Ok(()),
         }
     }
 

@@ -1,8 +1,9 @@
 -- The effects of diverts (docs/RUNNING.md, "Diverts").
-use Rattle.std.specs.Prelude.{ℕ, List, [], Bool, true, false, if◌then◌else◌, Option, None, unwrap_or, option_map, Result, Ok, Err, ok_or}
+use Rattle.std.specs.Prelude.{ℕ, List, [], Bool, true, false, if◌then◌else◌, Option, Some, None, unwrap_or, option_map, Result, Ok, Err, ok_or}
 use Rattle.ink_model.specs.Acceptance.{lands}
-use Rattle.ink_model.specs.Effect.{Context, Fields, Effect, Landing, Moves, Lands, or_fault, popping}
+use Rattle.ink_model.specs.Effect.{Context, Fields, Effect, Landing, Moves, Lands, or_fault}
 use Rattle.ink_model.specs.Path.{ends_in_index, read_path, target}
+use Rattle.ink_model.specs.Stack.{popped}
 use Rattle.ink_model.specs.Store.{Values}
 use Rattle.ink_model.specs.Tree.{StoryTree}
 use Rattle.ink_model.specs.Value.{is_true}
@@ -10,7 +11,7 @@ use Rattle.ink_model.specs.Variables.{read}
 use Rattle.ink_model.specs.declared.content.Destination.{Destination}
 use Rattle.ink_model.specs.declared.content.Destination.TheVariants as destination
 use Rattle.ink_model.specs.declared.fault.Fault.{Fault}
-use Rattle.ink_model.specs.declared.fault.Fault.TheVariants.{BadTarget}
+use Rattle.ink_model.specs.declared.fault.Fault.TheVariants.{BadTarget, StackEmpty}
 use Rattle.ink_model.specs.declared.place.Part.{Part}
 use Rattle.ink_model.specs.declared.place.Path.{Path}
 use Rattle.ink_model.specs.declared.value.Value.{Value}
@@ -38,9 +39,22 @@ led_to s p seen (destination.Variable name) globals = led_by s (read globals see
 abbrev pub divert_to : StoryTree → List Part → Context → Destination → Fields → Effect
 divert_to s p seen to f = or_fault (led_to s p seen to f.globals) (λ l. Lands l f)
 
--- a condition is popped and looked at before all else; where it is false flow moves on
+-- what was found out, with the fields that it leaves
+abbrev pub leaving_fields : {A : Type 0} → Fields → Result A Fault → Result (A × Fields) Fault
+leaving_fields f (Ok a) = Ok (a, f)
+leaving_fields f (Err g) = Err g
+
+abbrev pub truth_on : Option (Value × List Value) → Fields → Result (Bool × Fields) Fault
+truth_on None f = Err StackEmpty
+truth_on (Some r) f = leaving_fields (record f { stack = r.1 }) (is_true r.0)
+
+-- whether content is performed: a condition is popped and looked at before all else
+abbrev pub condition : Bool → Fields → Result (Bool × Fields) Fault
+condition conditional f = if conditional then truth_on (popped f.stack) f else Ok (true, f)
+
+-- where it is false flow moves on
 abbrev pub where_true : Bool → Fields → (Fields → Effect) → Effect
-where_true conditional f so = if conditional then popping f (λ v left. or_fault (is_true v) (λ b. if b then so left else Moves left)) else so f
+where_true conditional f so = or_fault (condition conditional f) (λ r. if r.0 then so r.1 else Moves r.1)
 
 abbrev pub divert : StoryTree → List Part → Context → Destination → Bool → Fields → Effect
 divert s p seen to conditional f = where_true conditional f (divert_to s p seen to)

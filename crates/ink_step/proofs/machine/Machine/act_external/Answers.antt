@@ -1,16 +1,15 @@
-use Rattle.std.proofs.Common.{◌≡◌, ◌||◌, refl, rules, sym, subst, Err}
+use Rattle.std.proofs.Common.{◌≡◌, refl, rules, sym, subst, Err}
 use Rattle.ink_check.specs.Words.{story_tree}
 use Rattle.ink_host.specs.Desk.{bound_by}
-use Rattle.ink_model.specs.Asks.{external_asks}
-use Rattle.ink_model.specs.Choosing.{following, following_asks}
+use Rattle.ink_model.specs.Asks.{calling_asks, external_asks}
 use Rattle.ink_model.specs.Effect.{fields_of}
-use Rattle.ink_model.specs.Move.{move}
-use Rattle.ink_model.specs.MoveMemory.{move_asks}
+use Rattle.ink_model.specs.Step.{call_made}
 use Rattle.ink_model.specs.Step.Host.{call_external}
 use Rattle.ink_step.specs.External.{call_of}
 use Rattle.ink_step.specs.Steps.{StepMakes}
 use Rattle.ink_step.specs.Words.{config_of}
-use Rattle.ink_step.proofs.Makes.{external_call, keeps_call, makes_broken, makes_ended, offers_call}
+use Rattle.ink_step.proofs.Makes.{external_call, makes_broken, makes_ended}
+use Rattle.ink_step.proofs.Plain.{keeps_plain, offers_plain}
 use Rattle.ink_step.proofs.machine.Machine.act_external.Goals as goal
 
 pub returns-in_err-transfer-clause-step : goal.returns-in_err-transfer-clause-step
@@ -28,7 +27,7 @@ returns-in_err-transfer-clause-step g c =
     let is : c.from_residual.result ≡ Err c.in_err-transfer.field-0.0 = search rules in (
       called.0,
       called.1,
-      subst (λ r. StepMakes s b desk.next ((asking || move_asks s e before) || following_asks s (move s e before)) (following s (move s e before)) called.0 before.shared.globals d r) (sym is)
+      subst (λ r. StepMakes s b desk.next (calling_asks s asking e before) (call_made s e before) called.0 before.shared.globals d r) (sym is)
           (makes_broken s b desk.next asking before d _ before.shared.globals _ refl e called.0 (external_call b s k.name k.arguments k.conditional f) called.2),
     )
 
@@ -47,6 +46,6 @@ returns-clause-step g c =
       called.0,
       called.1,
       makes_ended s b desk.next asking before (config_of s c.finish.new.self) _ before.shared.globals _ c.finish.result
-          (λ asks e call performs. c.finish.ensures.ends old asks e performs (keeps_call b s e old.flow.threads.threads call) (offers_call b s e old.flow.choices.items call) refl refl refl refl)
+          (λ asks e plain performs. c.finish.ensures.ends old asks e performs (keeps_plain s e old.flow.threads.threads old.flow.threads.threads plain refl) (offers_plain s e old.flow.choices.items plain) refl refl refl refl)
           e called.0 (external_call b s k.name k.arguments k.conditional f) called.2,
     )

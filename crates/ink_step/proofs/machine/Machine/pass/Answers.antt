@@ -2,8 +2,8 @@ use Rattle.std.proofs.Common.{◌≡◌, ◌∙◌, ap, option_map, rules, subst
 use Rattle.ink_check.specs.Words.{story_tree}
 use Rattle.ink_model.specs.Asks.{asks}
 use Rattle.ink_model.specs.Step.{step}
+use Rattle.ink_model.specs.Step.Host.{call_at}
 use Rattle.ink_model.specs.Tree.{at, leaf}
-use Rattle.ink_step.specs.External.{external_in}
 use Rattle.ink_step.specs.Steps.{Passes}
 use Rattle.ink_step.specs.Words.{config_of}
 use Rattle.ink_step.proofs.Finished.{not_external, passed}
@@ -22,13 +22,13 @@ returns-in_err-end-in-Some-clause-passes c b =
     let s = story_tree c.args.story.now in
     let before = config_of s c.args.self.now in
     let f = c.in_err-end-in-Some.field-0.0 in
-    let other : is_some (external_in (Some (leaf c.in-Some.content.now))) ≡ false = search rules in
+    let other : is_some (call_at (Some (leaf c.in-Some.content.now))) ≡ false = search rules in
     let is : c.from_residual.result ≡ Err f = search rules in
     subst (λ r. Passes (asks s b before) (step s b before) c.args.self.now.shared.globals.rows (config_of s c.act.new.self) r) (sym is)
-    (passed s b c.args.self.now c.act.new.self c.args.place c.in-Some.content.now c.requires (stands (goal.at.returns-in_err-end-in-Some-clause-passes c).In-Some) (not_external _ other) (Err f) (c.in_err-end-in-Some.ensures.ends b))
+    (passed s b c.args.self.now c.act.new.self c.args.place c.in-Some.content.now c.requires (stands (goal.at.returns-in_err-end-in-Some-clause-passes c).In-Some) (not_external _ other) (Err f) c.in_err-end-in-Some.ensures.ends)
 
 pub returns-in_ok-end-in-Some-clause-passes : goal.returns-in_ok-end-in-Some-clause-passes
 returns-in_ok-end-in-Some-clause-passes c b =
     let s = story_tree c.args.story.now in
-    let other : is_some (external_in (Some (leaf c.in-Some.content.now))) ≡ false = search rules in
-    passed s b c.args.self.now c.act.new.self c.args.place c.in-Some.content.now c.requires (stands (goal.at.returns-in_ok-end-in-Some-clause-passes c).In-Some) (not_external _ other) (Ok c.in_ok-end-in-Some.end) (c.in_ok-end-in-Some.ensures.ends b)
+    let other : is_some (call_at (Some (leaf c.in-Some.content.now))) ≡ false = search rules in
+    passed s b c.args.self.now c.act.new.self c.args.place c.in-Some.content.now c.requires (stands (goal.at.returns-in_ok-end-in-Some-clause-passes c).In-Some) (not_external _ other) (Ok c.in_ok-end-in-Some.end) c.in_ok-end-in-Some.ensures.ends

@@ -15,28 +15,28 @@ leaf_found : (c : In-Some) → option_map (λ x. leaf x.now) c.args.found ≡ So
 leaf_found c = ap (option_map (λ x. leaf x.now)) c.in-Some.is
 
 pub returns-in-Some-clause-effect : goal.returns-in-Some-clause-effect
-returns-in-Some-clause-effect c b =
+returns-in-Some-clause-effect c =
     let s = story_tree c.args.story.now in
     let p = place_of s c.args.here in
     let machine = c.args.self.now in
     let seen = context_of (config_of s machine) in
     let old = fields_of (config_of s machine) in
-    subst (λ o. Performs s (content_asks s b p o seen old) (effect s b p o seen old) (fields_of (config_of s c.perform_leaf.new.self)) (leading c.perform_leaf.result c.perform_leaf.new.transfer)) (sym (leaf_found (goal.at.returns-in-Some-clause-effect c).In-Some)) (c.perform_leaf.ensures.effect b)
+    subst (λ o. Performs s (content_asks s p o seen old) (effect s p o seen old) (fields_of (config_of s c.perform_leaf.new.self)) (leading c.perform_leaf.result c.perform_leaf.new.transfer)) (sym (leaf_found (goal.at.returns-in-Some-clause-effect c).In-Some)) c.perform_leaf.ensures.effect
 
 pub returns-in-Some-clause-threads : goal.returns-in-Some-clause-threads
-returns-in-Some-clause-threads c b =
+returns-in-Some-clause-threads c =
     let s = story_tree c.args.story.now in
     let p = place_of s c.args.here in
     let machine = c.args.self.now in
     let seen = context_of (config_of s machine) in
     let old = fields_of (config_of s machine) in
-    subst (λ o. OnOk c.perform_leaf.result (Keeps s (effect s b p o seen old) machine.flow.threads.threads c.perform_leaf.new.self.flow.threads.threads)) (sym (leaf_found (goal.at.returns-in-Some-clause-threads c).In-Some)) (c.perform_leaf.ensures.threads b)
+    subst (λ o. OnOk c.perform_leaf.result (Keeps s (effect s p o seen old) machine.flow.threads.threads c.perform_leaf.new.self.flow.threads.threads)) (sym (leaf_found (goal.at.returns-in-Some-clause-threads c).In-Some)) c.perform_leaf.ensures.threads
 
 pub returns-in-Some-clause-choices : goal.returns-in-Some-clause-choices
-returns-in-Some-clause-choices c b =
+returns-in-Some-clause-choices c =
     let s = story_tree c.args.story.now in
     let p = place_of s c.args.here in
     let machine = c.args.self.now in
     let seen = context_of (config_of s machine) in
     let old = fields_of (config_of s machine) in
-    subst (λ o. OnOk c.perform_leaf.result (KeepsChoices s (effect s b p o seen old) machine.flow.choices.items c.perform_leaf.new.self.flow.choices.items)) (sym (leaf_found (goal.at.returns-in-Some-clause-choices c).In-Some)) (c.perform_leaf.ensures.choices b)
+    subst (λ o. OnOk c.perform_leaf.result (KeepsChoices s (effect s p o seen old) machine.flow.choices.items c.perform_leaf.new.self.flow.choices.items)) (sym (leaf_found (goal.at.returns-in-Some-clause-choices c).In-Some)) c.perform_leaf.ensures.choices

@@ -2,7 +2,6 @@ use Rattle.std.proofs.Common.{◌≡◌, ◌∙◌, List, OnOk, Result, Some, ap
 use Rattle.ink_check.specs.Words.{story_tree}
 use Rattle.ink_model.specs.Effect.{Fields, context_of, fields_of}
 use Rattle.ink_model.specs.Frames.{ThreadsOf}
-use Rattle.ink_model.specs.Host.{Bound}
 use Rattle.ink_model.specs.Memory.{leaf_asks}
 use Rattle.ink_model.specs.Step.{leaf_effect}
 use Rattle.ink_model.specs.Tree.{StoryTree, leaf}
@@ -16,7 +15,7 @@ use Rattle.ink_step.specs.declared.machine.Machine.{Machine}
 use Rattle.ink_step.specs.declared.transfer.Transfer.{Transfer}
 use Rattle.ink_step.proofs.Landings.{leaf_landing}
 use Rattle.ink_step.proofs.Stored.{fields_kept}
-use Rattle.ink_step.proofs.Unasked.{control_keeps, when_ok}
+use Rattle.ink_step.proofs.Plain.{control_plain, keeps_plain, when_ok}
 use Rattle.ink_step.proofs.machine.Machine.perform_leaf.Goals as goal
 use Rattle.ink_stack.specs.Threads.{ThreadsView}
 use Rattle.ink_tree.specs.Nodes.{place_of}
@@ -25,9 +24,9 @@ use Rattle.ink_value.specs.Stack.{Stack}
 
 -- ---- content that is known
 
-module _ (s : StoryTree) (b : Bound) (p : List Part) (machine : Machine) where
+module _ (s : StoryTree) (p : List Part) (machine : Machine) where
   abbrev Does : Leaf → Fields → Result Transfer Fault → Type 0
-  Does l new r = let c = config_of s machine in Performs s (leaf_asks s b p (context_of c) l (fields_of c)) (leaf_effect s b p (context_of c) l (fields_of c)) new r
+  Does l new r = let c = config_of s machine in Performs s (leaf_asks s p (context_of c) l (fields_of c)) (leaf_effect s p (context_of c) l (fields_of c)) new r
 
   does : (l k : Leaf) (new : Fields) (led r : Result Transfer Fault) → l ≡ k → led ≡ r → Does k new r → Does l new led
   does l k new led r is leads h = subst (λ x. Does x new led) (sym is) (subst (Does k new) (sym leads) h)
@@ -41,7 +40,7 @@ module _ (s : StoryTree) (b : Bound) (p : List Part) (machine : Machine) where
 
   module _ {A : Type 0} where
     abbrev KeptBy : Leaf → ThreadsOf Spot → Result A Fault → Type 0
-    KeptBy l threads r = let c = config_of s machine in OnOk r (Keeps s (leaf_effect s b p (context_of c) l (fields_of c)) machine.flow.threads.threads threads)
+    KeptBy l threads r = let c = config_of s machine in OnOk r (Keeps s (leaf_effect s p (context_of c) l (fields_of c)) machine.flow.threads.threads threads)
 
     keeps : (l k : Leaf) (threads : ThreadsOf Spot) (r : Result A Fault) → l ≡ k → KeptBy k threads r → KeptBy l threads r
     keeps l k threads r is h = subst (λ x. KeptBy x threads r) (sym is) h
@@ -58,112 +57,112 @@ pub call-requires-in-Tunnel-clause-path : goal.call-requires-in-Tunnel-clause-pa
 call-requires-in-Tunnel-clause-path c = leaf_landing (story_tree c.args.story.now) (place_of (story_tree c.args.story.now) c.args.here) _ (c.requires.stands ∙ ap (λ l. Some (leaf l)) c.in-Tunnel.is)
 
 pub returns-in-Control-clause-threads : goal.returns-in-Control-clause-threads
-returns-in-Control-clause-threads c b =
+returns-in-Control-clause-threads c =
     let s = story_tree c.args.story.now in
     let p = place_of s c.args.here in
     let machine = c.args.self.now in
     let before = config_of s machine in
     let new = c.perform_control.new.self.flow.threads.threads in
-    keeps s b p machine _ _ new _ c.in-Control.is
-    (when_ok c.perform_control.result _ (control_keeps s p (context_of before) c.in-Control.control (fields_of before) machine.flow.threads.threads new c.perform_control.ensures.threads))
+    keeps s p machine _ _ new _ c.in-Control.is
+    (when_ok c.perform_control.result _ (keeps_plain s _ machine.flow.threads.threads new (control_plain s p (context_of before) c.in-Control.control (fields_of before)) c.perform_control.ensures.threads))
 
 pub returns-in-Divert-clause-effect : goal.returns-in-Divert-clause-effect
-returns-in-Divert-clause-effect c b =
+returns-in-Divert-clause-effect c =
     let s = story_tree c.args.story.now in
     let machine = c.args.self.now in
-    does s b (place_of s c.args.here) machine _ _ _ _ _ c.in-Divert.is refl (c.divert.ensures _ _ _ (rest_of machine))
+    does s (place_of s c.args.here) machine _ _ _ _ _ c.in-Divert.is refl (c.divert.ensures _ _ _ (rest_of machine))
 
 pub returns-in-Call-clause-effect : goal.returns-in-Call-clause-effect
-returns-in-Call-clause-effect c b =
+returns-in-Call-clause-effect c =
     let s = story_tree c.args.story.now in
     let machine = c.args.self.now in
-    does s b (place_of s c.args.here) machine _ _ _ _ _ c.in-Call.is refl (c.call.ensures _ _ _ (rest_of machine))
+    does s (place_of s c.args.here) machine _ _ _ _ _ c.in-Call.is refl (c.call.ensures _ _ _ (rest_of machine))
 
 pub returns-in-Tunnel-clause-effect : goal.returns-in-Tunnel-clause-effect
-returns-in-Tunnel-clause-effect c b =
+returns-in-Tunnel-clause-effect c =
     let s = story_tree c.args.story.now in
     let machine = c.args.self.now in
-    does s b (place_of s c.args.here) machine _ _ _ _ _ c.in-Tunnel.is refl (c.call-in-Tunnel.ensures _ _ _ (rest_of machine))
+    does s (place_of s c.args.here) machine _ _ _ _ _ c.in-Tunnel.is refl (c.call-in-Tunnel.ensures _ _ _ (rest_of machine))
 
 pub returns-in-Count-clause-effect : goal.returns-in-Count-clause-effect
-returns-in-Count-clause-effect c b =
+returns-in-Count-clause-effect c =
     let s = story_tree c.args.story.now in
     let machine = c.args.self.now in
-    does s b (place_of s c.args.here) machine _ _ _ _ _ c.in-Count.is (ap (leading c.push_count.result) c.requires.on) (c.push_count.ensures machine.flow.threads.threads (rest_of machine) _ _ _ _ s)
+    does s (place_of s c.args.here) machine _ _ _ _ _ c.in-Count.is (ap (leading c.push_count.result) c.requires.on) (c.push_count.ensures machine.flow.threads.threads (rest_of machine) _ _ _ _ s)
 
 pub returns-in-Variable-clause-effect : goal.returns-in-Variable-clause-effect
-returns-in-Variable-clause-effect c b =
+returns-in-Variable-clause-effect c =
     let s = story_tree c.args.story.now in
     let machine = c.args.self.now in
-    does s b (place_of s c.args.here) machine _ _ _ _ _ c.in-Variable.is (ap (leading c.push_variable.result) c.requires.on) (c.push_variable.ensures s (rest_of machine) _ _ _ s)
+    does s (place_of s c.args.here) machine _ _ _ _ _ c.in-Variable.is (ap (leading c.push_variable.result) c.requires.on) (c.push_variable.ensures s (rest_of machine) _ _ _ s)
 
 pub returns-in-Pointer-clause-effect : goal.returns-in-Pointer-clause-effect
-returns-in-Pointer-clause-effect c b =
+returns-in-Pointer-clause-effect c =
     let s = story_tree c.args.story.now in
     let machine = c.args.self.now in
     let old = fields_of (config_of s machine) in
     let is : to_z w32 (of_z w32 c.in-Pointer.frame) ≡ c.in-Pointer.frame = search (rules, to_z-of_z) in
     let pushed = rw (is, c.is_evaluating-evaluating.ensures) at (c.push_pointer.ensures s (rest_of machine) old.fresh old.page old.globals s) in
-    does s b (place_of s c.args.here) machine _ _ _ _ _ c.in-Pointer.is (ap (leading c.push_pointer.result) c.requires.on) pushed
+    does s (place_of s c.args.here) machine _ _ _ _ _ c.in-Pointer.is (ap (leading c.push_pointer.result) c.requires.on) pushed
 
 pub returns-in-Declare-clause-effect : goal.returns-in-Declare-clause-effect
-returns-in-Declare-clause-effect c b =
+returns-in-Declare-clause-effect c =
     let s = story_tree c.args.story.now in
     let machine = c.args.self.now in
-    does_storing s b (place_of s c.args.here) machine _ _ c.declare.new.threads c.declare.new.stack _ _ c.in-Declare.is refl c.declare.ensures.frame (c.declare.ensures.effect s (rest_of machine) _ _ _)
+    does_storing s (place_of s c.args.here) machine _ _ c.declare.new.threads c.declare.new.stack _ _ c.in-Declare.is refl c.declare.ensures.frame (c.declare.ensures.effect s (rest_of machine) _ _ _)
 
 pub returns-in-Declare-clause-threads : goal.returns-in-Declare-clause-threads
-returns-in-Declare-clause-threads c b =
+returns-in-Declare-clause-threads c =
     let s = story_tree c.args.story.now in
     let machine = c.args.self.now in
-    keeps s b (place_of s c.args.here) machine _ _ _ _ c.in-Declare.is (c.declare.ensures.threads s (rest_of machine) _ _ _)
+    keeps s (place_of s c.args.here) machine _ _ _ _ c.in-Declare.is (c.declare.ensures.threads s (rest_of machine) _ _ _)
 
 pub returns-in-DeclareTemp-clause-effect : goal.returns-in-DeclareTemp-clause-effect
-returns-in-DeclareTemp-clause-effect c b =
+returns-in-DeclareTemp-clause-effect c =
     let s = story_tree c.args.story.now in
     let machine = c.args.self.now in
-    does_storing s b (place_of s c.args.here) machine _ _ c.declare-in-DeclareTemp.new.threads c.declare-in-DeclareTemp.new.stack _ _ c.in-DeclareTemp.is refl c.declare-in-DeclareTemp.ensures.frame (c.declare-in-DeclareTemp.ensures.effect s (rest_of machine) _ _ _)
+    does_storing s (place_of s c.args.here) machine _ _ c.declare-in-DeclareTemp.new.threads c.declare-in-DeclareTemp.new.stack _ _ c.in-DeclareTemp.is refl c.declare-in-DeclareTemp.ensures.frame (c.declare-in-DeclareTemp.ensures.effect s (rest_of machine) _ _ _)
 
 pub returns-in-DeclareTemp-clause-threads : goal.returns-in-DeclareTemp-clause-threads
-returns-in-DeclareTemp-clause-threads c b =
+returns-in-DeclareTemp-clause-threads c =
     let s = story_tree c.args.story.now in
     let machine = c.args.self.now in
-    keeps s b (place_of s c.args.here) machine _ _ _ _ c.in-DeclareTemp.is (c.declare-in-DeclareTemp.ensures.threads s (rest_of machine) _ _ _)
+    keeps s (place_of s c.args.here) machine _ _ _ _ c.in-DeclareTemp.is (c.declare-in-DeclareTemp.ensures.threads s (rest_of machine) _ _ _)
 
 pub returns-in-Assign-clause-effect : goal.returns-in-Assign-clause-effect
-returns-in-Assign-clause-effect c b =
+returns-in-Assign-clause-effect c =
     let s = story_tree c.args.story.now in
     let p = place_of s c.args.here in
     let machine = c.args.self.now in
     let threads = c.assign.new.threads in
     let stack = c.assign.new.stack in
     elim c.in-Assign.is [
-      | inl is ↦ does_storing s b p machine _ _ threads stack _ _ is refl c.assign.ensures.frame (c.assign.ensures.effect s (rest_of machine) _ _ _)
-      | inr is ↦ does_storing s b p machine _ _ threads stack _ _ is refl c.assign.ensures.frame (c.assign.ensures.effect s (rest_of machine) _ _ _)
+      | inl is ↦ does_storing s p machine _ _ threads stack _ _ is refl c.assign.ensures.frame (c.assign.ensures.effect s (rest_of machine) _ _ _)
+      | inr is ↦ does_storing s p machine _ _ threads stack _ _ is refl c.assign.ensures.frame (c.assign.ensures.effect s (rest_of machine) _ _ _)
     ]
 
 pub returns-in-Assign-clause-threads : goal.returns-in-Assign-clause-threads
-returns-in-Assign-clause-threads c b =
+returns-in-Assign-clause-threads c =
     let s = story_tree c.args.story.now in
     let p = place_of s c.args.here in
     let machine = c.args.self.now in
     elim c.in-Assign.is [
-      | inl is ↦ keeps s b p machine _ _ _ _ is (c.assign.ensures.threads s (rest_of machine) _ _ _)
-      | inr is ↦ keeps s b p machine _ _ _ _ is (c.assign.ensures.threads s (rest_of machine) _ _ _)
+      | inl is ↦ keeps s p machine _ _ _ _ is (c.assign.ensures.threads s (rest_of machine) _ _ _)
+      | inr is ↦ keeps s p machine _ _ _ _ is (c.assign.ensures.threads s (rest_of machine) _ _ _)
     ]
 
 pub returns-in-Choice-clause-effect : goal.returns-in-Choice-clause-effect
-returns-in-Choice-clause-effect c b =
+returns-in-Choice-clause-effect c =
     let s = story_tree c.args.story.now in
     let machine = c.args.self.now in
-    does s b (place_of s c.args.here) machine _ _ _ _ _ c.in-Choice.is (ap (leading c.offer.result) c.requires.on) (c.offer.ensures.effect (rest_of machine) _ _ _ _ s)
+    does s (place_of s c.args.here) machine _ _ _ _ _ c.in-Choice.is (ap (leading c.offer.result) c.requires.on) (c.offer.ensures.effect (rest_of machine) _ _ _ _ s)
 
 pub returns-in-Choice-clause-choices : goal.returns-in-Choice-clause-choices
-returns-in-Choice-clause-choices c b =
+returns-in-Choice-clause-choices c =
     let s = story_tree c.args.story.now in
     let p = place_of s c.args.here in
     let seen = context_of (config_of s c.args.self.now) in
     let old = fields_of (config_of s c.args.self.now) in
     let l = leaves.Choice c.in-Choice.target c.in-Choice.flags in
-    subst (λ l. OnOk c.offer.result (KeepsChoices s (leaf_effect s b p seen l old) c.args.self.now.flow.choices.items c.offer.new.choices.items)) (sym c.in-Choice.is)
+    subst (λ l. OnOk c.offer.result (KeepsChoices s (leaf_effect s p seen l old) c.args.self.now.flow.choices.items c.offer.new.choices.items)) (sym c.in-Choice.is)
     (c.offer.ensures.choices (rest_of c.args.self.now) old.evaluating old.fresh old.page old.globals)

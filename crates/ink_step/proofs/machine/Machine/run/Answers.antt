@@ -14,37 +14,37 @@ pub loop-step-preserved : goal.loop-step-preserved
 loop-step-preserved g c =
     let s = story_tree c.args.story.now in
     record {
-      ran = ran_on g.T.TurnFn.log (log_of g.W.Watcher.state) g.P.PureFn.meaning s c.args.desk.now (config_of s c.args.self.now) c.loop-step._step c.loop-step.desk c.step.new.desk
-          (config_of s c.loop-step.self) (config_of s c.step.new.self) c.loop-step.invariant.ran _ c.in-Went.is c.in_ok-step.ensures.step;
-      watchers = c.in_ok-step.ensures.watchers ∙ c.loop-step.invariant.watchers;
-      tracks = λ start h. c.in_ok-step.ensures.tracks start (c.loop-step.invariant.tracks start h);
+      ran = ran_on g.T.TurnFn.log (log_of g.W.Watcher.state) g.P.PureFn.meaning s c.args.desk.now (config_of s c.args.self.now) c.loop-step._step c.loop-step.desk c.forward.new.desk
+          (config_of s c.loop-step.self) (config_of s c.forward.new.self) c.loop-step.invariant.ran _ c.if-not-branch.false c.in_ok-forward.ensures.step;
+      watchers = c.in_ok-forward.ensures.watchers ∙ c.loop-step.invariant.watchers;
+      tracks = λ start h. c.in_ok-forward.ensures.tracks start (c.loop-step.invariant.tracks start h);
     }
 
-pub returns-in-Stopped-clause-runs : goal.returns-in-Stopped-clause-runs
-returns-in-Stopped-clause-runs g c =
+pub returns-then-not-branch-clause-runs : goal.returns-then-not-branch-clause-runs
+returns-then-not-branch-clause-runs g c =
     let s = story_tree c.args.story.now in
-    ran_to_stop g.T.TurnFn.log (log_of g.W.Watcher.state) g.P.PureFn.meaning s c.args.desk.now (config_of s c.args.self.now) c.loop-step._step c.loop-step.desk c.step.new.desk
-    (config_of s c.loop-step.self) (config_of s c.step.new.self) c.loop-step.invariant.ran _ (omega arith) c.in-Stopped.is c.in_ok-step.ensures.step
+    ran_to_stop g.T.TurnFn.log (log_of g.W.Watcher.state) g.P.PureFn.meaning s c.args.desk.now (config_of s c.args.self.now) c.loop-step._step c.loop-step.desk c.forward.new.desk
+    (config_of s c.loop-step.self) (config_of s c.forward.new.self) c.loop-step.invariant.ran _ (omega arith) c.if-not-branch.true c.in_ok-forward.ensures.step
 
-pub returns-in-Stopped-clause-watchers : goal.returns-in-Stopped-clause-watchers
-returns-in-Stopped-clause-watchers g c = c.in_ok-step.ensures.watchers ∙ c.loop-step.invariant.watchers
+pub returns-then-not-branch-clause-watchers : goal.returns-then-not-branch-clause-watchers
+returns-then-not-branch-clause-watchers g c = c.in_ok-forward.ensures.watchers ∙ c.loop-step.invariant.watchers
 
-pub returns-in-Stopped-clause-tracks : goal.returns-in-Stopped-clause-tracks
-returns-in-Stopped-clause-tracks g c = λ start h. c.in_ok-step.ensures.tracks start (c.loop-step.invariant.tracks start h)
+pub returns-then-not-branch-clause-tracks : goal.returns-then-not-branch-clause-tracks
+returns-then-not-branch-clause-tracks g c = λ start h. c.in_ok-forward.ensures.tracks start (c.loop-step.invariant.tracks start h)
 
-pub returns-in_err-step-clause-runs : goal.returns-in_err-step-clause-runs
-returns-in_err-step-clause-runs g c =
+pub returns-in_err-forward-clause-runs : goal.returns-in_err-forward-clause-runs
+returns-in_err-forward-clause-runs g c =
     let s = story_tree c.args.story.now in
-    let is : c.from_residual.result ≡ Err c.in_err-step.field-0.0 = search rules in
-    subst (λ r. EndsRun g.T.TurnFn.log (log_of g.W.Watcher.state) g.P.PureFn.meaning s c.args.desk.now (config_of s c.args.self.now) c.step.new.desk (config_of s c.step.new.self) r) (sym is)
-    (ran_to_fault g.T.TurnFn.log (log_of g.W.Watcher.state) g.P.PureFn.meaning s c.args.desk.now (config_of s c.args.self.now) c.loop-step._step c.loop-step.desk c.step.new.desk
-    (config_of s c.loop-step.self) (config_of s c.step.new.self) c.loop-step.invariant.ran _ (omega arith) c.in_err-step.ensures.step)
+    let is : c.from_residual.result ≡ Err c.in_err-forward.field-0.0 = search rules in
+    subst (λ r. EndsRun g.T.TurnFn.log (log_of g.W.Watcher.state) g.P.PureFn.meaning s c.args.desk.now (config_of s c.args.self.now) c.forward.new.desk (config_of s c.forward.new.self) r) (sym is)
+    (ran_to_fault g.T.TurnFn.log (log_of g.W.Watcher.state) g.P.PureFn.meaning s c.args.desk.now (config_of s c.args.self.now) c.loop-step._step c.loop-step.desk c.forward.new.desk
+    (config_of s c.loop-step.self) (config_of s c.forward.new.self) c.loop-step.invariant.ran _ (omega arith) c.in_err-forward.ensures.step)
 
-pub returns-in_err-step-clause-watchers : goal.returns-in_err-step-clause-watchers
-returns-in_err-step-clause-watchers g c = c.in_err-step.ensures.watchers ∙ c.loop-step.invariant.watchers
+pub returns-in_err-forward-clause-watchers : goal.returns-in_err-forward-clause-watchers
+returns-in_err-forward-clause-watchers g c = c.in_err-forward.ensures.watchers ∙ c.loop-step.invariant.watchers
 
-pub returns-in_err-step-clause-tracks : goal.returns-in_err-step-clause-tracks
-returns-in_err-step-clause-tracks g c = λ start h. c.in_err-step.ensures.tracks start (c.loop-step.invariant.tracks start h)
+pub returns-in_err-forward-clause-tracks : goal.returns-in_err-forward-clause-tracks
+returns-in_err-forward-clause-tracks g c = λ start h. c.in_err-forward.ensures.tracks start (c.loop-step.invariant.tracks start h)
 
 pub returns-clause-runs : goal.returns-clause-runs
 returns-clause-runs g c =

@@ -1,0 +1,57 @@
+use Rattle.std.proofs.Common.{◌≡◌, ◌∙◌, ap, option_map, refl, rules, subst, sym, [], Err, Ok}
+use Rattle.ink_check.specs.Words.{story_tree}
+use Rattle.ink_host.proofs.Laws.{grew-none}
+use Rattle.ink_host.specs.Desk.{bound_by}
+use Rattle.ink_host.specs.Telling.{log_of}
+use Rattle.ink_model.specs.Asks.{asks}
+use Rattle.ink_model.specs.Step.{step}
+use Rattle.ink_step.specs.Steps.{Passes, StepMakes, ended}
+use Rattle.ink_step.specs.Words.{config_of}
+use Rattle.ink_step.specs.declared.flow.StepEnd.TheVariants as ends
+use Rattle.ink_step.proofs.Follows.{stands_still}
+use Rattle.ink_step.proofs.Makes.{makes_plainly, makes_went}
+use Rattle.ink_step.proofs.machine.Machine.forward.Given as given
+use Rattle.ink_step.proofs.machine.Machine.forward.Goals as goal
+use Rattle.ink_tree.specs.Nodes.{place_of}
+
+pub returns-in_default-clause-step : goal.returns-in_default-clause-step
+returns-in_default-clause-step g c =
+    let s = story_tree c.args.story.now in
+    let desk = c.args.desk.now in
+    let b = bound_by g.P.PureFn.meaning desk.functions in
+    let before = config_of s c.args.self.now in (
+      [],
+      grew-none g.T.TurnFn.log (log_of g.W.Watcher.state) desk,
+      subst (λ o. StepMakes s b desk.next (asks s b before) o [] before.shared.globals before (Ok ends.Stopped))
+          (sym (stands_still s b before (ap (option_map (place_of s)) (sym c.place.ensures ∙ c.in_default.is)))) (refl, refl),
+    )
+
+pub returns-in_err-end-clause-step : goal.returns-in_err-end-clause-step
+returns-in_err-end-clause-step g c =
+    let s = story_tree c.args.story.now in
+    let desk = c.args.desk.now in
+    let b = bound_by g.P.PureFn.meaning desk.functions in
+    let before = config_of s c.args.self.now in
+    let new = config_of s c.pass.new.self in
+    let f = c.in_err-end.field-0.0 in
+    let is : c.from_residual.result ≡ Err f = search rules in (
+      [],
+      grew-none g.T.TurnFn.log (log_of g.W.Watcher.state) desk,
+      subst (λ r. StepMakes s b desk.next (asks s b before) (step s b before) [] before.shared.globals new (ended r)) (sym is)
+          (makes_plainly s b desk.next (asks s b before) (step s b before) before.shared.globals new (Err f) (c.in_err-end.ensures.passes b)),
+    )
+
+pub returns-in-Some-2-clause-step : goal.returns-in-Some-2-clause-step
+returns-in-Some-2-clause-step g c =
+    let s = story_tree c.args.story.now in
+    let desk = c.args.desk.now in
+    let b = bound_by g.P.PureFn.meaning desk.functions in
+    let before = config_of s c.args.self.now in
+    let new = config_of s c.pass.new.self in
+    let end = c.in-Some-2.end in
+    let passes = subst (λ o. Passes (asks s b before) (step s b before) before.shared.globals new (Ok o)) c.in-Some-2.is (c.in_ok-end.ensures.passes b) in (
+      [],
+      grew-none g.T.TurnFn.log (log_of g.W.Watcher.state) desk,
+      subst (λ on. StepMakes s b desk.next (asks s b before) (step s b before) [] before.shared.globals new (ended (Ok on))) (sym c.went.ensures)
+          (makes_went s b desk.next [] before.shared.globals new (asks s b before) (step s b before) end (makes_plainly s b desk.next (asks s b before) (step s b before) before.shared.globals new (Ok end) passes)),
+    )
