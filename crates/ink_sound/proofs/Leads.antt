@@ -1,11 +1,12 @@
 -- The effects of diverts, calls and returns.
-use Rattle.std.proofs.Common.{◌≢◌, List, Bool, true, false, if◌then◌else◌, Option, Some, None, option_map, Result, Ok, Err}
+use Rattle.std.proofs.Common.{◌≢◌, arith, List, Bool, true, false, if◌then◌else◌, Option, Some, None, option_map, Result, Ok, Err}
 use Rattle.std.specs.Option.{ok_or}
 use Rattle.ink_model.specs.Acceptance.{lands}
 use Rattle.ink_model.specs.Effect.{Context, Effect, Fields, Landing, Moves, Lands, Calls, Returns}
 use Rattle.ink_model.specs.Move.{place_to}
 use Rattle.ink_model.specs.Step.Calls.{call, call_to, led_back, return_function, return_tunnel}
-use Rattle.ink_model.specs.Step.Diverts.{divert, divert_to, landing_by, led_by, led_to, where_true}
+use Rattle.ink_model.specs.Step.Diverts.{condition, divert, divert_to, landing_by, leaving_fields, led_by, led_to, truth_on, where_true}
+use Rattle.ink_model.specs.Stack.{popped}
 use Rattle.ink_model.specs.Store.{Values}
 use Rattle.ink_model.specs.Tree.{StoryTree}
 use Rattle.ink_model.specs.Value.{is_true}
@@ -22,7 +23,7 @@ use Rattle.ink_model.specs.declared.value.Value.TheVariants as value
 use Rattle.ink_sound.specs.Kept.{EffectFits, FieldsFit, Finds, Gives}
 use Rattle.ink_sound.specs.Save.Sound.{AnyPlace, PlaceFits}
 use Rattle.ink_sound.proofs.Places.{Stands, lands_fits, led_fits}
-use Rattle.ink_sound.proofs.Values.{or_fault_fits, popping_fits}
+use Rattle.ink_sound.proofs.Values.{TakenFits, or_fault_fits, popped_fits, popping_fits}
 
 abbrev pub Any : {A : Type 0} → A → Type 0
 Any a = Unit {0}
@@ -38,10 +39,24 @@ any_finds None = tt
 module _ (s : StoryTree) where
   -- ---- conditions
 
+  abbrev pub LeavesFields : {A : Type 0} → A × Fields → Type 0
+  LeavesFields r = FieldsFit s r.1
+
+  truth_fits : (f : Fields) (o : Option (Value × List Value)) → FieldsFit s f → Finds (TakenFits s f.stack) o → Gives LeavesFields (truth_on o f)
+  truth_fits f None h k = tt
+  truth_fits f (Some r) h k = by (is_true r.0)
+    where
+      by : (t : Result Bool Fault) → Gives LeavesFields (leaving_fields (record f { stack = r.1 }) t)
+      by (Ok b) = record { stack = record { each = k.left; few = omega (arith, k.less, h.stack.few) }; globals = h.globals; page = h.page }
+      by (Err g) = tt
+
+  pub condition_fits : (conditional : Bool) (f : Fields) → FieldsFit s f → Gives LeavesFields (condition conditional f)
+  condition_fits true f h = truth_fits f (popped f.stack) h (popped_fits s f.stack h.stack.each)
+  condition_fits false f h = h
+
   pub where_true_fits : (conditional : Bool) (f : Fields) (so : Fields → Effect) → FieldsFit s f → ((left : Fields) → FieldsFit s left → EffectFits s (so left))
       → EffectFits s (where_true conditional f so)
-  where_true_fits false f so h k = k f h
-  where_true_fits true f so h k = popping_fits s f _ h (λ v left p x. or_fault_fits s Any (is_true v) (λ b. if b then so left else Moves left) (any_gives (is_true v)) (λ b u. by left x b))
+  where_true_fits conditional f so h k = or_fault_fits s LeavesFields (condition conditional f) (λ r. if r.0 then so r.1 else Moves r.1) (condition_fits conditional f h) (λ r x. by r.1 x r.0)
     where
       by : (left : Fields) → FieldsFit s left → (b : Bool) → EffectFits s (if b then so left else Moves left)
       by left x true = k left x

@@ -3,7 +3,7 @@ use Rattle.std.proofs.Common.{◌≡◌, ap, refl, arith, ℕ, suc, lit≤, List
 use Rattle.std.proofs.lemmas.Bool.{cond_both}
 use Rattle.std.specs.List.{AllByRecursion as Each}
 use Rattle.ink_model.specs.Configuration.{ChoiceOf, Configuration, ended, with_choices, with_safe}
-use Rattle.ink_model.specs.Effect.{Effect, Fields, Moves, Stores, Offers, Lands, Calls, Returns, Forks, Done, Ends, Asks, Fails, context_of, fields_of, with_fields, with_mode, with_staleness, with_thread}
+use Rattle.ink_model.specs.Effect.{Effect, Fields, Moves, Stores, Offers, Lands, Calls, Returns, Forks, Done, Ends, Fails, context_of, fields_of, with_fields, with_mode, with_staleness, with_thread}
 use Rattle.ink_model.specs.Flow.{Written, Reached, Reaches, Halts, Breaks, is_last, moved_on}
 use Rattle.ink_model.specs.Frames.{FrameOf, ThreadOf, ThreadsOf, base_threads, is_function, place_in}
 use Rattle.ink_model.specs.Move.{end_all, landed_in, may_enter, move, place_to, reached_in, with_flow, written_in}
@@ -207,5 +207,4 @@ module _ (s : StoryTree) where
       reached_fits (with_safe (d.flow.safe || is_last d.flow.threads) d) _ (safe_sound (d.flow.safe || is_last d.flow.threads) d r.0)
       (done_fits s d.flow.threads (written_in d) (threads_of d r) (written_fits d r.0))
   move_fits (Ends f) c k h = end_fits (with_fields f c) (fields_run f c k h).0
-  move_fits (Asks name arguments f) c k h = (k, h)
   move_fits (Fails fault) c k h = tt

@@ -5,26 +5,26 @@ use Rattle.std.specs.List.{AllByRecursion as Each}
 use Rattle.ink_model.specs.Choices.{behind, can_take, only_invisible, taken, taken_of, visible}
 use Rattle.ink_model.specs.Choosing.{chosen, default_choice, following, jumped, open_choice, stopped_by, taken_up}
 use Rattle.ink_model.specs.Configuration.{ChoiceOf, Configuration, begun, can_go_on, current_place, ended, next_turn, put_at}
-use Rattle.ink_model.specs.Effect.{Fields, context_of, fields_of}
+use Rattle.ink_model.specs.Effect.{Effect, Fields, context_of, fields_of}
 use Rattle.ink_model.specs.Entered.{passed_places}
 use Rattle.ink_model.specs.Frames.{ThreadOf}
 use Rattle.ink_model.specs.Host.{Bound}
-use Rattle.ink_model.specs.Move.{Outcome, Next, Stop, Wants, Faults, move}
+use Rattle.ink_model.specs.Move.{Outcome, Next, Stop, Faults, move}
 use Rattle.ink_model.specs.Place.{entered}
 use Rattle.ink_model.specs.Run.{Made, Moment, At, Stopped, Faulted, Waits, answered, came, cut_off, moment, moment_after, next, run, through}
-use Rattle.ink_model.specs.Step.{effect, gone_in, perform, step, step_at}
-use Rattle.ink_model.specs.Step.Host.{answering}
+use Rattle.ink_model.specs.Step.{Stepped, Comes, Wants, acted, call_made, effect, gone_in, performed, step, step_at}
+use Rattle.ink_model.specs.Step.Host.{Acts, Asks, Call, CallEffect, answering, call_at, call_external}
 use Rattle.ink_model.specs.Tree.{StoryTree, at}
 use Rattle.ink_model.specs.Visits.{around, entering_around, entering_at}
 use Rattle.ink_model.specs.declared.host.Given.{Given}
 use Rattle.ink_model.specs.declared.limits.TheConstants.{MAX_STEPS}
 use Rattle.ink_model.specs.declared.place.Part.{Part}
-use Rattle.ink_sound.specs.Kept.{FieldsFit, Finds, MomentFits, OutcomeFits, Runs, StoryFits}
+use Rattle.ink_sound.specs.Kept.{CallFits, EffectFits, FieldsFit, Finds, MomentFits, OutcomeFits, Runs, SteppedFits, StoryFits}
 use Rattle.ink_sound.specs.Save.Sound.{ChoiceFits, FlowStands, PlaceFits, Sound, ThreadFits, ThreadStands}
 use Rattle.ink_sound.proofs.Counts.{one_more_most}
 use Rattle.ink_sound.proofs.Effects.{effect_fits}
 use Rattle.ink_sound.proofs.Flows.{top_fits}
-use Rattle.ink_sound.proofs.Externals.{answering_fits}
+use Rattle.ink_sound.proofs.Externals.{answering_fits, external_fits}
 use Rattle.ink_sound.proofs.Moves.{context_fits, ended_sound, entering_runs, fields_fit, move_fits}
 use Rattle.ink_sound.proofs.Places.{entered_fits}
 
@@ -99,7 +99,6 @@ module _ (s : StoryTree) where
       by None k = h
       by (Some choice) k = enters_around (taken_up choice c) (taken_runs choice c k h)
   following_fits (Next c) h = h
-  following_fits (Wants name arguments f c) h = h
   following_fits (Faults f) h = h
 
   -- ---- steps
@@ -130,36 +129,41 @@ module _ (s : StoryTree) where
       )
 
   module _ (story : StoryFits s) (b : Bound) where
-    perform_fits : (p : List Part) (c : Configuration) → Runs s c → OutcomeFits s (perform s b p c)
-    perform_fits p c h = move_fits s (effect s b p (at s p) (context_of c) (fields_of c)) c
-        (effect_fits s b p (context_of c) (context_fits s c h) (fields_of c) (fields_fit s c h.0) story (at s p) refl) h
+    acted_fits : (e : Effect) (c : Configuration) → EffectFits s e → Runs s c → OutcomeFits s (acted s e c)
+    acted_fits e c k h = following_fits (move s e c) (move_fits s e c k h)
+
+    made_fits : (k : CallEffect) (c : Configuration) → CallFits s k → Runs s c → SteppedFits s (call_made s k c)
+    made_fits (Acts e) c k h = acted_fits e c k h
+    made_fits (Asks name arguments f) c k h = (k, h)
+
+    performed_fits : (p : List Part) (call : Option Call) (c : Configuration) → Runs s c → SteppedFits s (performed s b p (at s p) call c)
+    performed_fits p None c h =
+        acted_fits (effect s p (at s p) (context_of c) (fields_of c)) c (effect_fits s p (context_of c) (context_fits s c h) (fields_of c) (fields_fit s c h.0) story (at s p) refl) h
+    performed_fits p (Some k) c h = made_fits (call_external s b k.name k.arguments k.conditional (fields_of c)) c (external_fits s b k.name k.arguments k.conditional (fields_of c) (fields_fit s c h.0)) h
 
     -- each step of a sound configuration leads to a sound one
-    pub step_fits : (c : Configuration) → Sound s c → OutcomeFits s (step s b c)
+    pub step_fits : (c : Configuration) → Sound s c → SteppedFits s (step s b c)
     unfolding step
     step_fits c h = by (current_place c) refl
       where
-        by : (o : Option (List Part)) → current_place c ≡ o → OutcomeFits s (step_at s b o c)
+        by : (o : Option (List Part)) → current_place c ≡ o → SteppedFits s (step_at s b o c)
         by None is = h
-        by (Some p) is = following_fits (perform s b (entered s p) (gone_in s p c)) (perform_fits (entered s p) (gone_in s p c) (gone_in_runs p c is h))
+        by (Some p) is = performed_fits (entered s p) (call_at (at s (entered s p))) (gone_in s p c) (gone_in_runs p c is h)
 
     -- ---- answers and runs
 
     pub answered_fits : (f : Fields) (c : Configuration) (gave : Option Given) → FieldsFit s f → Runs s c → OutcomeFits s (answered s f c gave)
-    answered_fits f c gave h k = following_fits (move s (answering gave f) c) (move_fits s (answering gave f) c (answering_fits s gave f h) k)
+    answered_fits f c gave h k = acted_fits (answering gave f) c (answering_fits s gave f h) k
 
     after_fits : (c : Configuration) (o : Outcome) (left : List (Option Given)) (made : List Made) → Sound s c → OutcomeFits s o → MomentFits s (moment_after c o left made)
     after_fits c (Next d) left made h k = k.0
     after_fits c (Stop d) left made h k = k
     after_fits c (Faults f) left made h k = h
-    after_fits c (Wants name arguments f d) left made h k = tt
 
-    came_fits : (c : Configuration) (o : Outcome) (left : List (Option Given)) (made : List Made) → Sound s c → OutcomeFits s o → MomentFits s (came s c o left made)
+    came_fits : (c : Configuration) (o : Stepped) (left : List (Option Given)) (made : List Made) → Sound s c → SteppedFits s o → MomentFits s (came s c o left made)
+    came_fits c (Comes o) left made h k = after_fits c o left made h k
     came_fits c (Wants name arguments f d) [] made h k = tt
     came_fits c (Wants name arguments f d) (a ∷ left) made h k = after_fits c (answered s f d a) left _ h (answered_fits f d a k.0 k.1)
-    came_fits c (Next d) left made h k = k.0
-    came_fits c (Stop d) left made h k = k
-    came_fits c (Faults f) left made h k = h
 
     next_fits : (m : Moment) → MomentFits s m → MomentFits s (next s b m)
     next_fits (At c left made) h = came_fits c (step s b c) left made h (step_fits c h)

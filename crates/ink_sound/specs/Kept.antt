@@ -2,14 +2,16 @@
 use Rattle.std.specs.Prelude.{◌≡◌, ◌≢◌, ◌<◌, ◌≤◌, ◌^◌, List, IsTrue, Option, Some, None, Result, Ok, Err}
 use Rattle.ink_model.specs.Bytes.{fits_text}
 use Rattle.ink_model.specs.Configuration.{Configuration}
-use Rattle.ink_model.specs.Effect.{Context, Effect, Fields, Moves, Stores, Offers, Lands, Calls, Returns, Forks, Done, Ends, Asks, Fails}
+use Rattle.ink_model.specs.Effect.{Context, Effect, Fields, Moves, Stores, Offers, Lands, Calls, Returns, Forks, Done, Ends, Fails}
 use Rattle.ink_model.specs.Flow.{Written, Reached, Reaches, Halts, Breaks, Ending, Continues, Finishes, Collapses}
 use Rattle.ink_model.specs.Frames.{place_in}
 use Rattle.ink_model.specs.Leaves.{is_small}
-use Rattle.ink_model.specs.Move.{Outcome, Next, Stop, Wants, Faults, place_to}
+use Rattle.ink_model.specs.Move.{Outcome, Next, Stop, Faults, place_to}
 use Rattle.ink_model.specs.Run.{Moment, At, Stopped, Faulted, Waits}
 use Rattle.ink_model.specs.State.{State, Condition, Ready, Broken}
+use Rattle.ink_model.specs.Step.{Stepped, Comes, Wants}
 use Rattle.ink_model.specs.Step.Diverts.{path_of}
+use Rattle.ink_model.specs.Step.Host.{CallEffect, Acts, Asks}
 use Rattle.ink_model.specs.Tree.{StoryTree, leaf, container, Trees, no_trees, tree, Keyed, no_keys, key, at, width}
 use Rattle.ink_model.specs.declared.content.Leaf.{Leaf}
 use Rattle.ink_model.specs.declared.content.Leaf.TheVariants as leaves
@@ -70,8 +72,12 @@ EffectFits s (Returns k to f) = AnyPlace s (place_to to) × FieldsFit s f
 EffectFits s (Forks f) = FieldsFit s f
 EffectFits s (Done f) = FieldsFit s f
 EffectFits s (Ends f) = FieldsFit s f
-EffectFits s (Asks name arguments f) = FieldsFit s f
 EffectFits s (Fails fault) = Unit {0}
+
+-- what a call of an external function comes to
+abbrev pub CallFits : StoryTree → CallEffect → Type 0
+CallFits s (Acts e) = EffectFits s e
+CallFits s (Asks name arguments f) = FieldsFit s f
 
 -- ---- flow
 
@@ -98,8 +104,11 @@ Runs s c = Sound s c × SomePlace s c.flow.threads.thread.frame.place
 abbrev pub OutcomeFits : StoryTree → Outcome → Type 0
 OutcomeFits s (Next c) = Runs s c
 OutcomeFits s (Stop c) = Sound s c
-OutcomeFits s (Wants name arguments f c) = FieldsFit s f × Runs s c
 OutcomeFits s (Faults f) = Unit {0}
+
+abbrev pub SteppedFits : StoryTree → Stepped → Type 0
+SteppedFits s (Comes outcome) = OutcomeFits s outcome
+SteppedFits s (Wants name arguments f c) = FieldsFit s f × Runs s c
 
 -- ---- runs
 

@@ -14,7 +14,7 @@ use Rattle.ink_model.specs.Tree.{StoryTree}
 use Rattle.ink_model.specs.declared.command.Command.{Command}
 use Rattle.ink_model.specs.declared.host.Event.{Event}
 use Rattle.ink_model.specs.declared.host.Given.{Given}
-use Rattle.ink_sound.specs.Kept.{MomentFits, OutcomeFits, StateFits, StoryFits}
+use Rattle.ink_sound.specs.Kept.{MomentFits, StateFits, SteppedFits, StoryFits}
 use Rattle.ink_sound.specs.Save.Reads.{Reads, Rests}
 use Rattle.ink_sound.specs.Save.Sound.{Sound}
 use Rattle.ink_sound.specs.Save.Spelling.{spelling}
@@ -36,7 +36,7 @@ SpelledFit = (s : StoryTree) → IsSpelled s → bad_places s ≡ [] → StoryFi
 
 -- a step of a sound configuration leads to a sound one
 abbrev pub StepsFit : Type 0
-StepsFit = (s : StoryTree) → StoryFits s → (b : Bound) (c : Configuration) → Sound s c → OutcomeFits s (step s b c)
+StepsFit = (s : StoryTree) → StoryFits s → (b : Bound) (c : Configuration) → Sound s c → SteppedFits s (step s b c)
 
 -- each moment of a run from a sound configuration is sound
 abbrev pub MomentsFit : Type 0
