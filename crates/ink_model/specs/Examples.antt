@@ -459,7 +459,12 @@ an_absent_variable : Set no_objects [] (codes "y") (Some (given.Int (pos 1))) wi
 unfolding start fresh_at
 an_absent_variable = (refl, (refl, refl))
 
--- an answer of the host is pushed within the stack's limit, and no text over its limit is
+-- an integer that is set has 32 bits
+too_large_a_value : Set no_objects [] (codes "x") (Some (given.Int (pos 2147483648))) with_x (Refuses refusal.BadValue) with_x
+unfolding start fresh_at
+too_large_a_value = (refl, (refl, refl))
+
+-- an answer of the host is pushed within the stack's limit; no text over its limit is, and no integer of more than 32 bits
 a_full_stack : (s : StoryTree) (f : Fields) (c : Configuration) → nat_lt (length f.stack) MAX_STACK ≡ false
     → answered s f c (Some (given.Int (pos 1))) ≡ Faults fault.TooDeep
 a_full_stack s f c full = rw full refl
@@ -467,6 +472,9 @@ a_full_stack s f c full = rw full refl
 a_long_answer : (s : StoryTree) (f : Fields) (c : Configuration) (t : List ℕ) → fits_text t ≡ false
     → answered s f c (Some (given.Text t)) ≡ Faults fault.TooDeep
 a_long_answer s f c t long = rw long refl
+
+a_large_answer : (s : StoryTree) (f : Fields) (c : Configuration) → answered s f c (Some (given.Int (pos 2147483648))) ≡ Faults fault.TooDeep
+a_large_answer s f c = refl
 
 -- a refusal is a fault
 a_refusal_of_the_host : (s : StoryTree) (f : Fields) (c : Configuration) → answered s f c None ≡ Faults fault.HostRefused

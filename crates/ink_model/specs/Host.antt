@@ -1,6 +1,7 @@
 -- What a host's objects give, and what names are bound to (docs/HOST.md).
 use Rattle.std.specs.Prelude.{ℕ, List, Bool, true, false, Option, None}
 use Rattle.ink_model.specs.Bytes.{fits_text}
+use Rattle.ink_model.specs.Leaves.{is_small}
 use Rattle.ink_model.specs.declared.host.Given.{Given}
 use Rattle.ink_model.specs.declared.host.Given.TheVariants as given
 use Rattle.ink_model.specs.declared.value.Value.{Value}
@@ -14,9 +15,9 @@ value_given (given.Bool b) = value.Bool b
 value_given (given.Text t) = value.Text t
 value_given given.Void = value.Void
 
--- a text that is given is within its limit
+-- an integer that is given has 32 bits, and a text is within its limit
 abbrev pub fits_given : Given → Bool
-fits_given (given.Int z) = true
+fits_given (given.Int z) = is_small z
 fits_given (given.Bool b) = true
 fits_given (given.Text t) = fits_text t
 fits_given given.Void = true

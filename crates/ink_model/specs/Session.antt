@@ -1,6 +1,7 @@
 -- What a player answers to command lines (docs/PROTOCOL.md, "Sessions").
 use Rattle.std.specs.Prelude.{is_some, Result, Ok, Err, ◌≡◌, ◌≢◌, ℕ, ℤ, List, [], ◌∷◌, ◌++◌, Bool, true, false, ◌||◌, ◌⊎◌, Option, Some, None, MatchBool}
 use Rattle.ink_model.specs.Bytes.{fits_text}
+use Rattle.ink_model.specs.Leaves.{is_small}
 use Rattle.ink_model.specs.Tree.{StoryTree}
 use Rattle.ink_model.specs.Choices.{has_any}
 use Rattle.ink_model.specs.Configuration.{Configuration, can_go_on, settled, with_globals}
@@ -120,9 +121,9 @@ GetsFrom (Some v) old reply new = Keeps (Shows v) old reply new ⊎ ((holds_memo
 abbrev pub Get : List ℕ → State → Reply → State → Type 0
 Get name old reply new = GetsFrom (stored name (globals_of old.condition)) old reply new
 
--- a value that may be set: no void, and no text over its limit
+-- a value that may be set: an integer of 32 bits, a boolean, or a text within its limit
 abbrev pub settable : Given → Bool
-settable (given.Int z) = true
+settable (given.Int z) = is_small z
 settable (given.Bool b) = true
 settable (given.Text t) = fits_text t
 settable given.Void = false

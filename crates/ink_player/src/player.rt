@@ -439,12 +439,16 @@ fn break_by<P, F, O>(desk: &mut Desk<P, F, O>, broken: &mut Option<Fault>, fault
     }
 }
 
-/// Whether a value may be set: it is no void, and no text over its limit.
+/// Whether a value may be set: it is no void, and no text over its limit; an integer has 32 bits by its type.
 fn is_settable(value: &Given) -> bool
     ensures { result ≡ settable value.now }
 {
     match value {
-        Given::Int(_) | Given::Bool(_) => true,
+        Given::Int(number) => {
+            let _number = *number;
+            true
+        }
+        Given::Bool(_) => true,
         Given::Text(text) => text.get().as_str().len() <= MAX_TEXT,
         Given::Void => false,
     }

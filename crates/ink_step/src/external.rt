@@ -270,12 +270,16 @@ fn is_argument(value: &Value) -> bool
     }
 }
 
-// Whether what is given is no text over its limit.
+// Whether what is given is no text over its limit; an integer has 32 bits by its type.
 fn fits(given: &Given) -> bool
     ensures { result ≡ fits_given given.now }
 {
     match given {
-        Given::Int(_) | Given::Bool(_) | Given::Void => true,
+        Given::Int(number) => {
+            let _number = *number;
+            true
+        }
+        Given::Bool(_) | Given::Void => true,
         Given::Text(text) => text.get().as_str().len() <= MAX_TEXT,
     }
 }

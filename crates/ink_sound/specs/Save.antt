@@ -1,0 +1,6 @@
+-- Saved configurations (docs/SAVES.md).
+pub mod Spelling
+pub mod Sound
+pub mod Reads
+pub mod ReadValue
+pub mod Unspelled
