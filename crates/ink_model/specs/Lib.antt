@@ -55,6 +55,7 @@ pub mod Turns
 pub mod Passage
 pub mod Unread
 pub mod Session
+pub mod Save
 pub mod PathExamples
 pub mod StoryExamples
 pub mod FrameExamples

@@ -15,8 +15,8 @@ use Rattle.ink_model.specs.Visits.{entering_around}
 use Rattle.ink_model.specs.declared.frame.FrameKind.{FrameKind}
 use Rattle.ink_model.specs.declared.place.Part.{Part}
 use Rattle.ink_sound.specs.Kept.{Finds, MomentFits, StoryFits}
-use Rattle.ink_sound.specs.Save.Reads.{Rests}
-use Rattle.ink_sound.specs.Save.Sound.{BaseFirst, ChoiceFits, FlowStands, FrameStands, GlobalsFit, PlaceFits, Sound, ThreadFits, ThreadStands, ThreadsFit}
+use Rattle.ink_model.specs.Save.Reads.{Rests}
+use Rattle.ink_model.specs.Save.Sound.{BaseFirst, ChoiceFits, FlowStands, FrameStands, GlobalsFit, PlaceFits, Sound, ThreadFits, ThreadStands, ThreadsFit}
 use Rattle.ink_sound.proofs.Places.{knot_fits, landed_fits, start_fits}
 use Rattle.ink_sound.proofs.Steps.{through_fits}
 

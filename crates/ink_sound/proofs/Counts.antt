@@ -11,7 +11,7 @@ use Rattle.ink_model.specs.Visits.{all_visited}
 use Rattle.ink_model.specs.declared.limits.TheConstants.{MAX_COUNT}
 use Rattle.ink_model.specs.declared.place.Part.{Part}
 use Rattle.ink_sound.specs.Kept.{Finds}
-use Rattle.ink_sound.specs.Save.Sound.{CountsFit, RowCounts, RowsCount}
+use Rattle.ink_model.specs.Save.Sound.{CountsFit, RowCounts, RowsCount}
 use Rattle.ink_sound.proofs.Rows.{each_put, place_total, rise_put, row_finds}
 
 module _ (s : StoryTree) where

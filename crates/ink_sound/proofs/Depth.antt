@@ -11,7 +11,7 @@ use Rattle.ink_model.specs.declared.place.Part.{Part}
 use Rattle.ink_model.specs.declared.place.Part.TheVariants.{Index, Name}
 use Rattle.ink_model.specs.declared.value.Value.{Value}
 use Rattle.ink_model.specs.declared.value.Value.TheVariants as value
-use Rattle.ink_sound.specs.Save.Spelling.{choice_data, frame_data, global_data, kind_data, part_data, place_data, place_or_null, row_data, spelling, temps_members, thread_data}
+use Rattle.ink_model.specs.Save.Spelling.{choice_data, frame_data, global_data, kind_data, part_data, place_data, place_or_null, row_data, spelling, temps_members, thread_data}
 
 -- all of these nest at most so deep
 items_deep : {A : Type 0} (f : A → Data) (n : ℕ) → ((x : A) → depth (f x) ≤ n) → (xs : List A) → items_depth (items_of (map f xs)) ≤ n

@@ -15,7 +15,7 @@ use Rattle.ink_model.specs.declared.host.Given.{Given}
 use Rattle.ink_model.specs.declared.host.Given.TheVariants as given
 use Rattle.ink_model.specs.declared.value.Value.{Value}
 use Rattle.ink_sound.specs.Kept.{CallFits, EffectFits, FieldsFit, Finds, Gives}
-use Rattle.ink_sound.specs.Save.Sound.{PlaceFits, StackFits, ValueFits}
+use Rattle.ink_model.specs.Save.Sound.{PlaceFits, StackFits, ValueFits}
 use Rattle.ink_sound.proofs.Places.{knot_fits, landed_fits}
 use Rattle.ink_sound.proofs.Values.{or_else_fits, or_fault_fits, pushing_fits}
 use Rattle.ink_sound.proofs.Leads.{LeavesFields, condition_fits}

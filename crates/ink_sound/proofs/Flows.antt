@@ -16,7 +16,7 @@ use Rattle.ink_model.specs.declared.frame.FrameKind.TheVariants.{Base, Function,
 use Rattle.ink_model.specs.declared.limits.TheConstants.{MAX_FRAMES, MAX_SECTIONS, MAX_THREADS}
 use Rattle.ink_model.specs.declared.place.Part.{Part}
 use Rattle.ink_sound.specs.Kept.{EndingFits, Finds, Gives, ReachedFits, WrittenFits}
-use Rattle.ink_sound.specs.Save.Sound.{AnyPlace, FlowStands, PlaceFits, SomePlace, ThreadFits, ThreadStands, ThreadsFit}
+use Rattle.ink_model.specs.Save.Sound.{AnyPlace, FlowStands, PlaceFits, SomePlace, ThreadFits, ThreadStands, ThreadsFit}
 use Rattle.ink_sound.proofs.Pages.{enter_fits, leave_fits, void_fits}
 use Rattle.ink_sound.proofs.Places.{next_fits}
 

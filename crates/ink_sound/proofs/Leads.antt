@@ -21,7 +21,7 @@ use Rattle.ink_model.specs.declared.place.Part.{Part}
 use Rattle.ink_model.specs.declared.value.Value.{Value}
 use Rattle.ink_model.specs.declared.value.Value.TheVariants as value
 use Rattle.ink_sound.specs.Kept.{EffectFits, FieldsFit, Finds, Gives}
-use Rattle.ink_sound.specs.Save.Sound.{AnyPlace, PlaceFits}
+use Rattle.ink_model.specs.Save.Sound.{AnyPlace, PlaceFits}
 use Rattle.ink_sound.proofs.Places.{Stands, lands_fits, led_fits}
 use Rattle.ink_sound.proofs.Values.{TakenFits, or_fault_fits, popped_fits, popping_fits}
 

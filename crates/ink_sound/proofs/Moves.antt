@@ -16,7 +16,7 @@ use Rattle.ink_model.specs.declared.fault.Fault.TheVariants.{StopInString}
 use Rattle.ink_model.specs.declared.frame.FrameKind.{FrameKind}
 use Rattle.ink_model.specs.declared.place.Part.{Part}
 use Rattle.ink_sound.specs.Kept.{ContextFits, EffectFits, FieldsFit, OutcomeFits, ReachedFits, Runs, WrittenFits}
-use Rattle.ink_sound.specs.Save.Sound.{BaseFirst, ChoicesFit, FrameFits, FrameStands, SomePlace, Sound, ThreadFits, ThreadStands, ThreadsFit}
+use Rattle.ink_model.specs.Save.Sound.{BaseFirst, ChoicesFit, FrameFits, FrameStands, SomePlace, Sound, ThreadFits, ThreadStands, ThreadsFit}
 use Rattle.ink_sound.proofs.Counts.{all_visited_fits}
 use Rattle.ink_sound.proofs.Flows.{ThreadsStand, called_fits, done_fits, forked_fits, moved_fits, reach_stands, returned_fits, stand_of, top_fits, any_of}
 

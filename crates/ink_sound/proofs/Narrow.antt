@@ -8,7 +8,7 @@ use Rattle.ink_model.specs.Tree.{StoryTree, leaf, container, Trees, no_trees, tr
 use Rattle.ink_model.specs.declared.place.Part.{Part}
 use Rattle.ink_model.specs.declared.place.Part.TheVariants.{Index, Name}
 use Rattle.ink_sound.specs.Kept.{StoryFits}
-use Rattle.ink_sound.specs.Save.Sound.{PlaceFits}
+use Rattle.ink_model.specs.Save.Sound.{PlaceFits}
 use Rattle.ink_sound.proofs.Places.{Stands, at_append, stands_before}
 use Rattle.ink_sound.proofs.Rows.{one, two}
 use Rattle.ink_sound.proofs.Values.{each_one}

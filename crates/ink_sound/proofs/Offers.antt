@@ -21,7 +21,7 @@ use Rattle.ink_model.specs.declared.place.Part.{Part}
 use Rattle.ink_model.specs.declared.value.Value.{Value}
 use Rattle.ink_model.specs.declared.value.Value.TheVariants.{Tag, Text}
 use Rattle.ink_sound.specs.Kept.{ContextFits, EffectFits, FieldsFit, Finds, Gives}
-use Rattle.ink_sound.specs.Save.Sound.{ChoiceFits, ChoicesFit, PlaceFits, StackFits, ThreadStands, ValueFits}
+use Rattle.ink_model.specs.Save.Sound.{ChoiceFits, ChoicesFit, PlaceFits, StackFits, ThreadStands, ValueFits}
 use Rattle.ink_sound.proofs.Places.{Stands, lands_fits}
 use Rattle.ink_sound.proofs.Values.{each_append, each_one, or_else_fits, or_fault_fits}
 

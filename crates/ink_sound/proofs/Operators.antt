@@ -17,7 +17,7 @@ use Rattle.ink_model.specs.declared.place.Path.{Path}
 use Rattle.ink_model.specs.declared.value.Value.{Value}
 use Rattle.ink_model.specs.declared.value.Value.TheVariants.{Int, Bool as Truth, Text}
 use Rattle.ink_sound.specs.Kept.{EffectFits, FieldsFit, Finds, Gives}
-use Rattle.ink_sound.specs.Save.Sound.{StackFits, ValueFits}
+use Rattle.ink_model.specs.Save.Sound.{StackFits, ValueFits}
 use Rattle.ink_sound.proofs.Ints.{add_small, div_small, max_small, min_small, mul_small, neg_small, rem_small, sub_small}
 use Rattle.ink_sound.proofs.Values.{TakenFits, each_one, or_fault_fits, popped_fits}
 

@@ -16,7 +16,7 @@ use Rattle.ink_model.specs.declared.mark.Mark.TheVariants.{Enter, Leave}
 use Rattle.ink_model.specs.declared.value.Value.{Value}
 use Rattle.ink_model.specs.declared.value.Value.TheVariants.{Void}
 use Rattle.ink_sound.specs.Kept.{Gives, WrittenFits}
-use Rattle.ink_sound.specs.Save.Sound.{PageFits, StackFits}
+use Rattle.ink_model.specs.Save.Sound.{PageFits, StackFits}
 use Rattle.ink_sound.proofs.Values.{pushed_fits}
 
 as_many : (ms line : List Mark) (xs : List Section) (n : ℕ) → length (noted_in ms line xs n).sections ≡ length xs

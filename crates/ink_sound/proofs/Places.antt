@@ -17,7 +17,7 @@ use Rattle.ink_model.specs.declared.place.Path.{Path}
 use Rattle.ink_model.specs.declared.value.Value.{Value}
 use Rattle.ink_model.specs.declared.value.Value.TheVariants as value
 use Rattle.ink_sound.specs.Kept.{Finds}
-use Rattle.ink_sound.specs.Save.Sound.{PlaceFits}
+use Rattle.ink_model.specs.Save.Sound.{PlaceFits}
 
 -- content stands there
 abbrev pub Stands : StoryTree → List Part → Type 0

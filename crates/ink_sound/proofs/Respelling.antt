@@ -23,10 +23,10 @@ use Rattle.ink_model.specs.declared.place.Part.TheVariants.{Index, Name}
 use Rattle.ink_model.specs.declared.value.Value.{Value}
 use Rattle.ink_model.specs.declared.value.Value.TheVariants as value
 use Rattle.ink_sound.specs.Kept.{StoryFits}
-use Rattle.ink_sound.specs.Save.Reads.{Reads}
-use Rattle.ink_sound.specs.Save.Sound.{AnyPlace, ChoiceFits, FlowStands, FrameFits, FrameStands, IsFrame, PlaceFits, RowCounts, RowFits, Sound, ThreadFits, ThreadStands, ValueFits}
-use Rattle.ink_sound.specs.Save.Spelling.{choice_data, frame_data, global_data, kind_data, part_data, place_or_null, row_data, spelling, temps_members, thread_data}
-use Rattle.ink_sound.specs.Save.Unspelled.{all_of, any_place_of, choice_of, count_of, frame_of, kind_of, number_integer, pair_of, part_of, place_of, rows_of, text_of, thread_in, unspelled, value_of}
+use Rattle.ink_model.specs.Save.Reads.{Reads}
+use Rattle.ink_model.specs.Save.Sound.{AnyPlace, ChoiceFits, FlowStands, FrameFits, FrameStands, IsFrame, PlaceFits, RowCounts, RowFits, Sound, ThreadFits, ThreadStands, ValueFits}
+use Rattle.ink_model.specs.Save.Spelling.{choice_data, frame_data, global_data, kind_data, part_data, place_or_null, row_data, spelling, temps_members, thread_data}
+use Rattle.ink_model.specs.Save.Unspelled.{all_of, any_place_of, choice_of, count_of, frame_of, kind_of, number_integer, pair_of, part_of, place_of, rows_of, text_of, thread_in, unspelled, value_of}
 use Rattle.ink_sound.proofs.Flows.{any_of}
 use Rattle.ink_sound.proofs.Narrow.{PartNarrow, place_narrow}
 use Rattle.ink_sound.proofs.Offers.{each_reverse}

@@ -14,7 +14,7 @@ use Rattle.ink_model.specs.declared.place.Part.{Part}
 use Rattle.ink_model.specs.declared.place.Part.TheVariants.{Index, Name}
 use Rattle.ink_model.specs.declared.value.Value.{Value}
 use Rattle.ink_sound.specs.Kept.{Finds}
-use Rattle.ink_sound.specs.Save.Sound.{names_once}
+use Rattle.ink_model.specs.Save.Sound.{names_once}
 
 -- ---- tests
 

@@ -27,8 +27,8 @@ use Rattle.ink_model.specs.declared.host.Given.{Given}
 use Rattle.ink_model.specs.declared.host.Given.TheVariants as given
 use Rattle.ink_model.specs.declared.place.Part.{Part}
 use Rattle.ink_sound.specs.Kept.{ConditionFits, Finds, MomentFits, StateFits, StoryFits}
-use Rattle.ink_sound.specs.Save.Reads.{Rests}
-use Rattle.ink_sound.specs.Save.Sound.{ChoiceFits, PlaceFits, Sound, ValueFits}
+use Rattle.ink_model.specs.Save.Reads.{Rests}
+use Rattle.ink_model.specs.Save.Sound.{ChoiceFits, PlaceFits, Sound, ValueFits}
 use Rattle.ink_sound.proofs.Between.{Opens, choices_rest, chosen_rests, globals_rest, globals_sound, jumped_rests, opening_fits, settled_rests, settled_sound}
 use Rattle.ink_sound.proofs.Places.{jump_fits}
 use Rattle.ink_sound.proofs.Steps.{chosen_sound, jumped_sound, open_finds, through_fits}

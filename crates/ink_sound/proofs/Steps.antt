@@ -20,7 +20,7 @@ use Rattle.ink_model.specs.declared.host.Given.{Given}
 use Rattle.ink_model.specs.declared.limits.TheConstants.{MAX_STEPS}
 use Rattle.ink_model.specs.declared.place.Part.{Part}
 use Rattle.ink_sound.specs.Kept.{CallFits, EffectFits, FieldsFit, Finds, MomentFits, OutcomeFits, Runs, SteppedFits, StoryFits}
-use Rattle.ink_sound.specs.Save.Sound.{ChoiceFits, FlowStands, PlaceFits, Sound, ThreadFits, ThreadStands}
+use Rattle.ink_model.specs.Save.Sound.{ChoiceFits, FlowStands, PlaceFits, Sound, ThreadFits, ThreadStands}
 use Rattle.ink_sound.proofs.Counts.{one_more_most}
 use Rattle.ink_sound.proofs.Effects.{effect_fits}
 use Rattle.ink_sound.proofs.Flows.{top_fits}

@@ -33,7 +33,7 @@ use Rattle.ink_json.proofs.Narrow.{width_at}
 use Rattle.ink_json.proofs.Width.{story_narrow}
 use Rattle.ink_model.specs.Narrow.{is_narrow}
 use Rattle.ink_sound.specs.Kept.{Finds, KeyedFit, LeafFits, StoryFits, TextsFit, TreeFits, TreesFit, Yields}
-use Rattle.ink_sound.specs.Save.Sound.{PathFits}
+use Rattle.ink_model.specs.Save.Sound.{PathFits}
 use Rattle.ink_path.proofs.Back.{reads_back}
 use Rattle.ink_sound.proofs.Leaves.{leaf_of_fits}
 

@@ -7,7 +7,7 @@ use Rattle.serde_json.specs.Data.{put, member}
 use Rattle.ink_model.specs.Rows.{is_before, name_order, rows_rise}
 use Rattle.ink_model.specs.ValueJson.{value_data}
 use Rattle.ink_model.specs.declared.value.Value.{Value}
-use Rattle.ink_sound.specs.Save.Spelling.{temps_members}
+use Rattle.ink_model.specs.Save.Spelling.{temps_members}
 use Rattle.ink_sound.proofs.Rows.{less_of, one, two}
 
 -- the first key is below one further on

@@ -21,7 +21,7 @@ use Rattle.ink_model.specs.declared.mark.Mark.TheVariants as mark
 use Rattle.ink_model.specs.declared.value.Value.{Value}
 use Rattle.ink_model.specs.declared.value.Value.TheVariants as value
 use Rattle.ink_sound.specs.Kept.{EffectFits, FieldsFit, Finds, Gives}
-use Rattle.ink_sound.specs.Save.Sound.{PageFits, StackFits}
+use Rattle.ink_model.specs.Save.Sound.{PageFits, StackFits}
 use Rattle.ink_sound.proofs.Pages.{marks_fit, opens_fit}
 use Rattle.ink_sound.proofs.Values.{TakenFits, or_fault_fits, popped_fits, popping_fits, pushed_fits, pushing_fits}
 

@@ -17,8 +17,8 @@ use Rattle.ink_model.specs.declared.place.Part.{Part}
 use Rattle.ink_model.specs.declared.place.Part.TheVariants.{Index, Name}
 use Rattle.ink_model.specs.declared.value.Value.{Value}
 use Rattle.ink_model.specs.declared.value.Value.TheVariants as value
-use Rattle.ink_sound.specs.Save.Spelling.{choice_data, count_data, frame_data, global_data, kind_data, list_data, part_data, place_data, place_or_null, row_data, spelling, temps_members, thread_data, threads_data}
-use Rattle.ink_sound.specs.Save.Unspelled.{all_of, any_place_of, choice_of, closed, count_of, format_of, frame_of, from_threads, from_turn, int_of, integer_of, kind_of, list_of, number_integer, pair_of, part_of, path_if, path_in, place_of, pointer_in, rows_of, small, tag_in, take, target_in, temps_of, text_of, thread_in, thread_with, threads_with, truth_of, unspelled, value_of}
+use Rattle.ink_model.specs.Save.Spelling.{choice_data, count_data, frame_data, global_data, kind_data, list_data, part_data, place_data, place_or_null, row_data, spelling, temps_members, thread_data, threads_data}
+use Rattle.ink_model.specs.Save.Unspelled.{all_of, any_place_of, choice_of, closed, count_of, format_of, frame_of, from_threads, from_turn, int_of, integer_of, kind_of, list_of, number_integer, pair_of, part_of, path_if, path_in, place_of, pointer_in, rows_of, small, tag_in, take, target_in, temps_of, text_of, thread_in, thread_with, threads_with, truth_of, unspelled, value_of}
 
 -- ---- what was found
 

@@ -12,7 +12,7 @@ use Rattle.ink_model.specs.declared.fault.Fault.TheVariants.{StackEmpty}
 use Rattle.ink_model.specs.declared.limits.TheConstants.{MAX_STACK}
 use Rattle.ink_model.specs.declared.value.Value.{Value}
 use Rattle.ink_sound.specs.Kept.{EffectFits, FieldsFit, Finds, Gives}
-use Rattle.ink_sound.specs.Save.Sound.{StackFits, ValueFits}
+use Rattle.ink_model.specs.Save.Sound.{StackFits, ValueFits}
 
 -- ---- lists
 

@@ -20,8 +20,8 @@ use Rattle.ink_model.specs.declared.frame.FrameKind.TheVariants.{Base}
 use Rattle.ink_model.specs.declared.limits.TheConstants.{MAX_COUNT}
 use Rattle.ink_model.specs.declared.place.Part.{Part}
 use Rattle.ink_model.specs.declared.value.Value.TheVariants as value
-use Rattle.ink_sound.specs.Save.Reads.{Rests}
-use Rattle.ink_sound.specs.Save.Sound.{AnyPlace, ChoicesFit, CountsFit, GlobalsFit, PageFits, PlaceFits, Sound, SomePlace, StackFits, ThreadStands, ThreadsFit, ValueFits}
+use Rattle.ink_model.specs.Save.Reads.{Rests}
+use Rattle.ink_model.specs.Save.Sound.{AnyPlace, ChoicesFit, CountsFit, GlobalsFit, PageFits, PlaceFits, Sound, SomePlace, StackFits, ThreadStands, ThreadsFit, ValueFits}
 
 -- ---- stories
 

@@ -15,10 +15,10 @@ use Rattle.ink_model.specs.declared.command.Command.{Command}
 use Rattle.ink_model.specs.declared.host.Event.{Event}
 use Rattle.ink_model.specs.declared.host.Given.{Given}
 use Rattle.ink_sound.specs.Kept.{MomentFits, StateFits, SteppedFits, StoryFits}
-use Rattle.ink_sound.specs.Save.Reads.{Reads, Rests}
-use Rattle.ink_sound.specs.Save.Sound.{Sound}
-use Rattle.ink_sound.specs.Save.Spelling.{spelling}
-use Rattle.ink_sound.specs.Save.Unspelled.{unspelled}
+use Rattle.ink_model.specs.Save.Reads.{Reads, Rests}
+use Rattle.ink_model.specs.Save.Sound.{Sound}
+use Rattle.ink_model.specs.Save.Spelling.{spelling}
+use Rattle.ink_model.specs.Save.Unspelled.{unspelled}
 use Rattle.serde_json.specs.Data.{Data, depth}
 use Rattle.serde_json.specs.Written.{has_float}
 

@@ -1,4 +1,3 @@
-pub mod Save
 pub mod Kept
 pub mod Laws
 pub mod SaveExamples

@@ -26,10 +26,10 @@ use Rattle.ink_model.specs.declared.place.Part.{Part}
 use Rattle.ink_model.specs.declared.place.Part.TheVariants.{Index, Name}
 use Rattle.ink_model.specs.declared.value.Value.{Value}
 use Rattle.ink_model.specs.declared.value.Value.TheVariants as value
-use Rattle.ink_sound.specs.Save.Reads.{Reads, Rests}
-use Rattle.ink_sound.specs.Save.Sound.{BaseFirst, FlowStands, Sound, ValueFits, names_once}
-use Rattle.ink_sound.specs.Save.Spelling.{choice_data, frame_data, global_data, list_data, row_data, spelling}
-use Rattle.ink_sound.specs.Save.Unspelled.{any_place_of, choice_of, frame_of, place_of, temps_of, unspelled, value_of}
+use Rattle.ink_model.specs.Save.Reads.{Reads, Rests}
+use Rattle.ink_model.specs.Save.Sound.{BaseFirst, FlowStands, Sound, ValueFits, names_once}
+use Rattle.ink_model.specs.Save.Spelling.{choice_data, frame_data, global_data, list_data, row_data, spelling}
+use Rattle.ink_model.specs.Save.Unspelled.{any_place_of, choice_of, frame_of, place_of, temps_of, unspelled, value_of}
 
 -- ---- a whole save
 

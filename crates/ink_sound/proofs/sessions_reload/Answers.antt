@@ -4,8 +4,8 @@ use Rattle.ink_sound.proofs.Respelling.{reads_back}
 use Rattle.ink_sound.proofs.Sessions.{session_states}
 use Rattle.ink_sound.proofs.Stories.{accepted_story_fits}
 use Rattle.ink_sound.proofs.sessions_reload.Goals as goal
-use Rattle.ink_sound.specs.Save.Spelling.{spelling}
-use Rattle.ink_sound.specs.Save.Reads.{Reads}
+use Rattle.ink_model.specs.Save.Spelling.{spelling}
+use Rattle.ink_model.specs.Save.Reads.{Reads}
 
 pub returns : goal.returns
 returns c = λ bytes s accepted d opens h es lines written new session x ready.

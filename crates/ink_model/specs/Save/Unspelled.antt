@@ -10,7 +10,7 @@ use Rattle.ink_model.specs.declared.frame.FrameKind.TheVariants.{Base, Function,
 use Rattle.ink_model.specs.declared.place.Part.{Part}
 use Rattle.ink_model.specs.declared.place.Part.TheVariants.{Index, Name}
 use Rattle.ink_model.specs.declared.value.Value.{Value}
-pub use Rattle.ink_sound.specs.Save.ReadValue.{next_named, take, closed, integer_of, small, number_integer, int_of, text_of, path_if, path_in, target_in, pointer_in, tag_in, value_of}
+pub use Rattle.ink_model.specs.Save.ReadValue.{next_named, take, closed, integer_of, small, number_integer, int_of, text_of, path_if, path_in, target_in, pointer_in, tag_in, value_of}
 
 -- ---- plain values
 

@@ -3,8 +3,8 @@ use Rattle.std.specs.Prelude.{◌≡◌}
 use Rattle.serde_json.specs.Data.{Data}
 use Rattle.ink_model.specs.Configuration.{Configuration, settled}
 use Rattle.ink_model.specs.Tree.{StoryTree}
-use Rattle.ink_sound.specs.Save.Sound.{Sound}
-use Rattle.ink_sound.specs.Save.Spelling.{spelling}
+use Rattle.ink_model.specs.Save.Sound.{Sound}
+use Rattle.ink_model.specs.Save.Spelling.{spelling}
 
 -- as a command leaves it: nothing is being written, and no frame has the number of an Enter
 abbrev pub Rests : Configuration → Type 0
