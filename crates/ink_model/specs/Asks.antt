@@ -10,7 +10,6 @@ use Rattle.ink_model.specs.Move.{move}
 use Rattle.ink_model.specs.MoveMemory.{move_asks}
 use Rattle.ink_model.specs.Joining.{makes_text}
 use Rattle.ink_model.specs.Operator.{takes}
-use Rattle.ink_model.specs.Output.{closes_string, closes_tag}
 use Rattle.ink_model.specs.Path.{above}
 use Rattle.ink_model.specs.Place.{entered}
 use Rattle.ink_model.specs.Page.{Section}
@@ -22,9 +21,8 @@ use Rattle.ink_model.specs.Step.Choices.{was_visited}
 use Rattle.ink_model.specs.Step.Host.{Acts, Asks, Call, CallEffect, arguments_on, call_at, call_external, has_string, is_argument}
 use Rattle.std.specs.List.{list_all}
 use Rattle.ink_model.specs.Step.Counts.{visits_at}
-use Rattle.ink_model.specs.Step.Text.{in_tag}
+use Rattle.ink_model.specs.Step.Text.{in_string, in_tag}
 use Rattle.ink_model.specs.Tree.{StoryTree, leaf, container, at}
-use Rattle.ink_model.specs.Value.{printed}
 use Rattle.ink_model.specs.VariableMemory.{assign_asks, declare_asks, on_popped}
 use Rattle.ink_model.specs.Variables.{read}
 use Rattle.ink_model.specs.Visits.{adds_rows}
@@ -39,6 +37,7 @@ use Rattle.ink_model.specs.declared.operator.Op.{Op}
 use Rattle.ink_model.specs.declared.place.Part.{Part}
 use Rattle.ink_model.specs.declared.scope.Scope.TheVariants.{Global, Temporary}
 use Rattle.ink_model.specs.declared.value.Value.{Value}
+use Rattle.ink_model.specs.declared.value.Value.TheVariants as value
 
 -- a limit is looked at once the answer is made; every other fault is found before
 abbrev pub is_found_late : Fault → Bool
@@ -74,9 +73,20 @@ abbrev pub has_top : Option (Value × List Value) → Bool
 has_top None = false
 has_top (Some r) = true
 
+-- what is printed of a value has bytes: nothing is printed of void, and a target, a pointer or a tag does not print
+abbrev pub prints_bytes : Value → Bool
+prints_bytes (value.Int z) = true
+prints_bytes (value.Bool b) = true
+prints_bytes (value.Text t) = has_bytes t
+prints_bytes v = false
+
 abbrev pub output_asks : Option (Value × List Value) → Bool
 output_asks None = false
-output_asks (Some r) = asks_for (printed r.0)
+output_asks (Some r) = prints_bytes r.0
+
+-- there is room for a tag that ends: in a string it is pushed
+abbrev pub has_tag_room : List Section → List Value → Bool
+has_tag_room sections vs = not (has_string sections) || has_room vs
 
 abbrev pub operator_asks : Op → Option (List Value × List Value) → Bool
 operator_asks o None = false
@@ -101,9 +111,9 @@ abbrev pub control_asks : StoryTree → List Part → Context → Control → Fi
 control_asks s p seen control.Out f = output_asks (popped f.stack)
 control_asks s p seen control.Duplicate f = has_top (popped f.stack) && has_room f.stack
 control_asks s p seen control.BeginString f = f.evaluating && may_open f.page.sections
-control_asks s p seen control.EndString f = asks_for (closes_string f.page)
-control_asks s p seen control.BeginTag f = in_tag f.page.sections || may_open f.page.sections
-control_asks s p seen control.EndTag f = asks_for (closes_tag f.page)
+control_asks s p seen control.EndString f = in_string f.page.sections && has_room f.stack
+control_asks s p seen control.BeginTag f = if in_tag f.page.sections then has_tag_room f.page.sections f.stack else may_open f.page.sections
+control_asks s p seen control.EndTag f = in_tag f.page.sections && has_tag_room f.page.sections f.stack
 control_asks s p seen control.BeginEval f = false
 control_asks s p seen control.EndEval f = false
 control_asks s p seen control.Pop f = false

@@ -27,7 +27,7 @@ use Rattle.ink_model.specs.Host.{no_objects}
 use Rattle.ink_model.specs.Memory.{GetsTo, asks}
 use Rattle.ink_model.specs.Passage.{passage, passage_asks}
 use Rattle.ink_model.specs.Session.{Session, Serves, Set, Get, Restart}
-use Rattle.ink_model.specs.Shown.{shows_text}
+use Rattle.ink_model.specs.Shown.{shows_more}
 use Rattle.ink_model.specs.State.{State, Ready, Broken}
 use Rattle.ink_model.specs.Opening.{opened, opened_by, opening}
 use Rattle.ink_model.specs.Store.{store}
@@ -292,8 +292,15 @@ its_text_asks : passage_asks small_end ≡ true
 unfolding start fresh_at
 its_text_asks = refl
 
-a_newline_does_not : shows_text (Newline ∷ []) ≡ false
+a_newline_does_not : shows_more (Newline ∷ []) ≡ false
 a_newline_does_not = refl
+
+-- nor do blanks, unless a line's end is shown behind them
+blanks_do_not : shows_more (Newline ∷ Blank (codes " ") ∷ []) ≡ false
+blanks_do_not = refl
+
+a_newline_behind_them_does : shows_more (Blank (codes " ") ∷ Newline ∷ []) ≡ true
+a_newline_behind_them_does = refl
 
 abbrev after_small : State
 after_small = record { condition = Ready (settled small_end); stamp = 0 }

@@ -26,6 +26,7 @@ pub mod Told
 pub mod Stack
 pub mod Page
 pub mod Frames
+pub mod Bases
 pub mod Rows
 pub mod Threads
 pub mod Variables

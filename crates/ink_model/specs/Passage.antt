@@ -4,7 +4,7 @@ use Rattle.ink_model.specs.Choices.{has_any}
 use Rattle.ink_model.specs.Clean.{clean}
 use Rattle.ink_model.specs.Configuration.{Configuration, ChoiceOf, can_go_on}
 use Rattle.ink_model.specs.Mark.{tags}
-use Rattle.ink_model.specs.Shown.{shown_text, shows_text}
+use Rattle.ink_model.specs.Shown.{shown_text, shows_more}
 use Rattle.ink_model.specs.Turns.{open_choices}
 use Rattle.ink_model.specs.declared.passage.Passage.{Passage}
 use Rattle.ink_model.specs.declared.place.Part.{Part}
@@ -27,6 +27,6 @@ passage c = record {
   loose = is_loose c;
 }
 
--- the passage is made in memory: a text is shown, there is a tag, or there is a choice to choose
+-- the passage is made in memory: a text is shown, and not blanks alone, there is a tag, or there is a choice to choose
 abbrev pub passage_asks : Configuration → Bool
-passage_asks c = shows_text c.page.line || (has_any (tags c.page.line) || has_any (open_choices c))
+passage_asks c = shows_more c.page.line || (has_any (tags c.page.line) || has_any (open_choices c))

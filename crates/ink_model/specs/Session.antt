@@ -99,7 +99,8 @@ ThroughFrom s h es (Ready c) old reply new = MatchBool (can_go_on c)
 abbrev pub Through : StoryTree → Bindings → List Event → State → Reply → State → Type 0
 Through s h es old reply new = ThroughFrom s h es old.condition old reply new
 
--- a fault of the declarations breaks the player, with these globals; but where it is refused memory nothing has changed
+-- A fault of the declarations breaks the player, with these globals; but where it is refused memory nothing has changed. No rule
+-- has OutOfMemory, so that fault alone tells refused memory apart.
 abbrev pub FailsToRestart : Fault → Values → List Event → State → Reply → State → Type 0
 FailsToRestart OutOfMemory globals es old reply new = (es ≡ []) × FailsAllocation old reply new
 FailsToRestart f globals es old reply new = BreaksBy f globals [] es old reply new

@@ -1,5 +1,7 @@
 -- Which marks are shown, by the marks that stand before and after them (docs/TEXT.md, "What is shown").
 use Rattle.std.specs.Prelude.{ℕ, ◌==◌, List, [], ◌∷◌, ◌++◌, length, drop, reverse, Option, None, Some, Bool, true, false, not, ◌||◌, ◌&&◌, if◌then◌else◌}
+use Rattle.std.specs.List.{list_any}
+use Rattle.ink_model.specs.Bytes.{is_blank}
 use Rattle.ink_model.specs.declared.mark.Mark.{Mark}
 use Rattle.ink_model.specs.declared.mark.Mark.TheVariants.{Text, Blank, Newline, Glue, Tag, Enter, Leave}
 
@@ -80,6 +82,23 @@ ends (m ∷ before) after = ends before (m ∷ after)
 
 abbrev pub newline_shown : List Mark → List Mark → Bool
 newline_shown before after = clear before after && (some before (Newline ∷ after) && not (ends before (Newline ∷ after)))
+
+-- ---- more than blanks
+
+-- a Text stands among these
+abbrev pub has_text : List Mark → Bool
+has_text [] = false
+has_text (Text t ∷ ms) = true
+has_text (m ∷ ms) = has_text ms
+
+-- a Blank that holds something else, which no text is cut into
+abbrev pub is_filled_blank : Mark → Bool
+is_filled_blank (Blank t) = list_any (λ c. not (is_blank c)) t
+is_filled_blank m = false
+
+-- a Text, a Newline or such a Blank is shown, and not blanks alone
+abbrev pub shows_more : List Mark → Bool
+shows_more ms = shows_text ms && (has_text (reverse ms) || (ends (reverse ms) [] || list_any is_filled_blank ms))
 
 -- ---- the text
 

@@ -19,7 +19,7 @@ pub more_of : (marks : List Mark) (settled : List ℕ) (s : State) (i : ℕ) →
 more_of marks settled s i h =
     ap (is_past i) h.more ∙ sym (more_is (reverse marks) i) ∙ ap (λ ms. has_more (drop i ms)) (reverse-reverse marks)
 
-waits_now : (before : List Mark) (w : Waiting) → waits before w [] ≡ true
+pub waits_now : (before : List Mark) (w : Waiting) → waits before w [] ≡ true
 waits_now before w = rw (hidden_now w.hides) refl
 
 shown_now : (before : List Mark) (s : Tracker) (settled : List ℕ) (w : Waiting) → s.newline ≡ Some w → Tracks before s settled → newlines_before before [] ≡ w.at ∷ settled

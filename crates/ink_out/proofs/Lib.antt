@@ -5,6 +5,7 @@ pub mod Tracking
 pub mod Standing
 pub mod Opens
 pub mod Answering
+pub mod Blanks
 pub mod Walking
 pub mod Noting
 pub mod Closing

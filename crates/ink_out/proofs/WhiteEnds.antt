@@ -12,7 +12,7 @@ use Rattle.ink_model.specs.Bytes.{has_newline, is_blank, is_newline, is_white, l
 
 -- ---- whether the white there holds a newline
 
-blank_no_newline : (c : ℕ) → is_blank c ≡ true → eqb c 10 ≡ false
+pub blank_no_newline : (c : ℕ) → is_blank c ≡ true → eqb c 10 ≡ false
 blank_no_newline c e =
     elim (or_cases (eqb c 32) (eqb c 9) e) [ inl h ↦ rw (eqb-true c 32 h) refl | inr h ↦ rw (eqb-true c 9 h) refl ]
 

@@ -1,5 +1,6 @@
 -- What a tracker knows of the marks of a section.
 use Rattle.std.specs.Prelude.{◌≡◌, ℕ, ◌<◌, nat_lt, nat_le, List, [], ◌∷◌, ◌++◌, length, Option, None, Some, Bool, true, false, not, ◌||◌, ◌&&◌, ◌==◌, if◌then◌else◌}
+pub use Rattle.ink_model.specs.Shown.{has_text}
 use Rattle.ink_model.specs.Shown.{glued, broken, glues, covered, some, ends, newlines_before, has_more}
 use Rattle.ink_model.specs.declared.mark.Mark.{Mark}
 use Rattle.ink_model.specs.declared.mark.Mark.TheVariants.{Text, Enter}
@@ -10,11 +11,6 @@ use Rattle.ink_out.specs.declared.tracker.First.{First}
 use Rattle.ink_out.specs.declared.tracker.Tracker.{Tracker}
 
 -- Marks before are listed nearest first, marks after in order.
-
-abbrev pub has_text : List Mark → Bool
-has_text [] = false
-has_text (Text t ∷ before) = true
-has_text (m ∷ before) = has_text before
 
 -- the marks behind an index, the last first
 abbrev pub since : List Mark → ℕ → List Mark

@@ -195,7 +195,7 @@ fn trailing(text: &str, space: Space) -> usize
 
 /// Some byte of a text is no blank.
 #[inline(always)]
-fn has_words(text: &str) -> bool
+pub(crate) fn has_words(text: &str) -> bool
     ensures { result ≡ list_any (λ byte. not (is_blank byte)) text.now }
 {
     text.as_bytes().iter().any(|byte| !is_blank(*byte))

@@ -1,15 +1,17 @@
 //! The text being written (docs/TEXT.md, "Sections").
 
-ghost use Rattle.std.specs.Prelude.{◌≡◌, ◌<◌, ◌≤◌, [], ◌∷◌, length, map, reverse, true, ◌≢◌, IfErr, IfOk, IsOk, IsTrue, OnErr};
+ghost use Rattle.std.specs.Prelude.{◌≡◌, ◌<◌, ◌≤◌, ◌&&◌, [], ◌∷◌, Err, length, map, reverse, true, ◌≢◌, IfErr, IfOk, IsOk, IsTrue, OnErr};
 ghost use Rattle.std.specs.List.{list_any};
+ghost use Rattle.ink_model.specs.Asks.{prints_bytes};
 ghost use Rattle.ink_model.specs.Clean.{clean};
 ghost use Rattle.ink_model.specs.Configuration.{string_section, tag_section};
 ghost use Rattle.ink_model.specs.Mark.{cut, piece, tags};
 ghost use Rattle.ink_model.specs.Memory.{Gives, Hands, Leaves};
 ghost use Rattle.ink_model.specs.Output.{writes_marks, writes_value, writes_text, writes_newline, writes_glue, begins_function, ends_function, opens, closes_string, closes_tag, prints_text, ends_line, empty_page, is_string, is_text, kept_text, let_through};
 ghost use Rattle.ink_model.specs.declared.limits.TheConstants.{MAX_MARKS};
-ghost use Rattle.ink_model.specs.Shown.{shown_text, shows_text, is_shown, open_newline, more_from};
+ghost use Rattle.ink_model.specs.Shown.{shown_text, shows_more, is_shown, open_newline, more_from};
 ghost use Rattle.ink_model.specs.Step.Host as host;
+ghost use Rattle.ink_model.specs.Step.Text.{in_string, in_tag};
 ghost use Rattle.ink_model.specs.Value.{printed};
 ghost use Rattle.ink_out.specs.Cutting.{piece_mark};
 ghost use Rattle.ink_out.specs.Opened.{section_kind};
@@ -80,12 +82,14 @@ impl Output {
     /// fresh in that section, which lets no newline through before a text. True where a text is among the marks.
     ///
     /// `BadOperands` for a value that does not print, `TooDeep` for more than 100,000 marks in the line, `OutOfMemory` for a
-    /// refused request for memory, which is never made for void and for a text without bytes; nothing has changed then.
+    /// refused request for memory, which is never made for void, for a text without bytes and for what does not print; nothing
+    /// has changed then.
     #[tactic(auto, unfolding(ink_model::specs::Value::printed))]
     pub fn write(&mut self, value: &Value, fresh: bool) -> Result<bool, Fault>
         ensures page { Leaves (writes_value fresh value.now self.old.page) self.old.page self.new.page result }
         ensures text { IfOk result (λ has_text. has_text ≡ prints_text (printed value.now)) }
         ensures nothing { IsTrue (prints_nothing value.now) → IsOk result }
+        ensures memory { result ≡ Err Fault.OutOfMemory → prints_bytes value.now ≡ true }
     {
         let alloc = self.alloc;
         match value {
@@ -249,6 +253,26 @@ impl Output {
         self.sections.len()
     }
 
+    /// Whether a string is open on top. Takes no memory.
+    pub fn is_string(&self) -> bool
+        ensures { result ≡ in_string self.now.page.sections }
+    {
+        match self.sections.last() {
+            Some(opened) => opened.is_string(),
+            None => false,
+        }
+    }
+
+    /// Whether a tag is open on top, and a string below it. Takes no memory.
+    pub fn is_tag_in_string(&self) -> bool
+        ensures { result ≡ (in_tag self.now.page.sections && host.has_string self.now.page.sections) }
+    {
+        match self.sections.last() {
+            Some(opened) => !opened.is_string() && has_string(&self.sections),
+            None => false,
+        }
+    }
+
     /// Whether a string is open, on top or below tags. Takes no memory.
     pub fn in_string(&self) -> bool
         ensures { result ≡ host.has_string self.now.page.sections }
@@ -293,10 +317,10 @@ impl Output {
     }
 
     /// The line's text, cleaned (docs/TEXT.md, "Cleaning"). The one error is a refused request for memory, which is made only
-    /// where a text or a blank is shown.
+    /// where more than blanks is shown.
     pub fn text(&self) -> Result<Text, AllocError>
         ensures text { IfOk result (λ text. text ≡ clean (shown_text self.now.page.line)) }
-        ensures memory { OnErr result (shows_text self.now.page.line ≡ true) }
+        ensures memory { OnErr result (shows_more self.now.page.line ≡ true) }
     {
         self.line.text(self.alloc)
     }

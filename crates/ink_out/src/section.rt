@@ -1,14 +1,15 @@
 //! A section of marks.
 
 ghost use Rattle.std.specs.Prelude.{◌≡◌, ◌≤◌, ◌+◌, [], ◌∷◌, ◌++◌, length, map, true, vec_len, vec_capacity, IfOk, IsOk, OnOk, OnErr};
+ghost use Rattle.std.specs.List.{list_any};
 ghost use Rattle.ink_model.specs.Clean.{clean};
 ghost use Rattle.ink_model.specs.Mark.{tags};
-ghost use Rattle.ink_model.specs.Shown.{is_shown, more_from, open_newline, shown_text, shows_text};
+ghost use Rattle.ink_model.specs.Shown.{is_filled_blank, is_shown, more_from, open_newline, shown_text, shows_more};
 ghost use Rattle.ink_out.specs.Cutting.{piece_mark};
 ghost use Rattle.ink_out.specs.Stands.{Sees, is_past};
 
 use crate::copying::copied_mark;
-use crate::cutting::Piece;
+use crate::cutting::{Piece, has_words};
 use crate::enters::Enters;
 use crate::state::{State, is_settled, make_room, settle};
 use crate::tags::tag_texts;
@@ -127,16 +128,30 @@ impl Section {
         is_past(index, self.state.more)
     }
 
-    /// The shown text, cleaned (docs/TEXT.md). The one error is a refused request for memory, which is made only where a text
-    /// or a blank is shown.
+    /// The shown text, cleaned (docs/TEXT.md). The one error is a refused request for memory, which is made only where more than
+    /// blanks is shown.
     pub(crate) fn text(&self, alloc: Global) -> Result<Text, AllocError>
         ensures text { IfOk result (λ text. text ≡ clean (shown_text self.now)) }
-        ensures memory { OnErr result (shows_text self.now ≡ true) }
+        ensures memory { OnErr result (shows_more self.now ≡ true) }
     {
-        if !self.state.tracker.shows_text() {
+        if !self.shows_more() {
             return Ok(Text::from_string(String::new(alloc)));
         }
         shown_text(alloc, self.marks.as_slice(), true)
+    }
+
+    // Whether more than blanks is shown.
+    fn shows_more(&self) -> bool
+        ensures { result ≡ shows_more self.now }
+    {
+        let tracker = self.state.tracker;
+        if !tracker.shows_text() {
+            return false;
+        }
+        if tracker.shows_line() {
+            return true;
+        }
+        has_filled_blank(self.marks.as_slice())
     }
 
     /// The shown text as it is, not cleaned. The one error is a refused request for memory.
@@ -162,6 +177,21 @@ impl Section {
         self.settled.clear();
         self.state = State::new();
         self.enters.clear();
+    }
+}
+
+fn has_filled_blank(marks: &[Mark]) -> bool
+    ensures { result ≡ list_any is_filled_blank marks.now }
+{
+    marks.iter().any(|mark| is_filled_blank(mark))
+}
+
+fn is_filled_blank(mark: &Mark) -> bool
+    ensures { result ≡ is_filled_blank mark.now }
+{
+    match mark {
+        Mark::Blank(text) => has_words(text.get().as_str()),
+        _ => false,
     }
 }
 

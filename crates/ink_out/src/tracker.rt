@@ -65,6 +65,13 @@ impl Tracker {
         self.text || self.blank.is_some()
     }
 
+    /// Whether a text or a newline is shown.
+    pub(crate) fn shows_line(&self) -> bool
+        ensures { result ≡ (self.now.text || is_some self.now.newline) }
+    {
+        self.text || self.newline.is_some()
+    }
+
     /// Goes past a mark at an index, where the starts of the numbers up to it are known.
     #[inline(always)]
     pub(crate) fn add(&mut self, mark: &Mark, at: usize, enters: &Enters)

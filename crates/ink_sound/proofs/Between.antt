@@ -1,6 +1,7 @@
 -- What a command begins with and leaves: opening, settling, choosing, jumping and setting.
 use Rattle.std.proofs.Common.{◌≡◌, ap, refl, arith, suc, lit≤, List, [], ◌∷◌, map, length, Option, Some, None, option_map, Result, Ok, Err}
 use Rattle.std.specs.List.{AllByRecursion as Each}
+use Rattle.ink_model.specs.Bases.{BaseFirst}
 use Rattle.ink_model.specs.Choosing.{chosen, jumped}
 use Rattle.ink_model.specs.Configuration.{ChoiceOf, Configuration, fresh_at, settled, start, unnumbered_choice, with_globals}
 use Rattle.ink_model.specs.Frames.{FrameOf, ThreadOf, ThreadsOf, place_in, put_in, unnumbered_frame, unnumbered_thread, unnumbered_threads}
@@ -16,7 +17,7 @@ use Rattle.ink_model.specs.declared.frame.FrameKind.{FrameKind}
 use Rattle.ink_model.specs.declared.place.Part.{Part}
 use Rattle.ink_sound.specs.Kept.{Finds, MomentFits, StoryFits}
 use Rattle.ink_model.specs.Save.Reads.{Rests}
-use Rattle.ink_model.specs.Save.Sound.{BaseFirst, ChoiceFits, FlowStands, FrameStands, GlobalsFit, PlaceFits, Sound, ThreadFits, ThreadStands, ThreadsFit}
+use Rattle.ink_model.specs.Save.Sound.{ChoiceFits, FlowStands, FrameStands, GlobalsFit, PlaceFits, Sound, ThreadFits, ThreadStands, ThreadsFit}
 use Rattle.ink_sound.proofs.Places.{knot_fits, landed_fits, start_fits}
 use Rattle.ink_sound.proofs.Steps.{through_fits}
 

@@ -2,6 +2,7 @@
 use Rattle.std.proofs.Common.{◌≡◌, ap, refl, arith, ℕ, suc, lit≤, List, [], ◌∷◌, length, Bool, true, false, ◌||◌, nat_eq, if◌then◌else◌, Option, Some, None}
 use Rattle.std.proofs.lemmas.Bool.{cond_both}
 use Rattle.std.specs.List.{AllByRecursion as Each}
+use Rattle.ink_model.specs.Bases.{BaseFirst}
 use Rattle.ink_model.specs.Configuration.{ChoiceOf, Configuration, ended, with_choices, with_safe}
 use Rattle.ink_model.specs.Effect.{Effect, Fields, Moves, Stores, Offers, Lands, Calls, Returns, Forks, Done, Ends, Fails, context_of, fields_of, with_fields, with_mode, with_staleness, with_thread}
 use Rattle.ink_model.specs.Flow.{Written, Reached, Reaches, Halts, Breaks, is_last, moved_on}
@@ -16,7 +17,7 @@ use Rattle.ink_model.specs.declared.fault.Fault.TheVariants.{StopInString}
 use Rattle.ink_model.specs.declared.frame.FrameKind.{FrameKind}
 use Rattle.ink_model.specs.declared.place.Part.{Part}
 use Rattle.ink_sound.specs.Kept.{ContextFits, EffectFits, FieldsFit, OutcomeFits, ReachedFits, Runs, WrittenFits}
-use Rattle.ink_model.specs.Save.Sound.{BaseFirst, ChoicesFit, FrameFits, FrameStands, SomePlace, Sound, ThreadFits, ThreadStands, ThreadsFit}
+use Rattle.ink_model.specs.Save.Sound.{ChoicesFit, FrameFits, FrameStands, SomePlace, Sound, ThreadFits, ThreadStands, ThreadsFit}
 use Rattle.ink_sound.proofs.Counts.{all_visited_fits}
 use Rattle.ink_sound.proofs.Flows.{ThreadsStand, called_fits, done_fits, forked_fits, moved_fits, reach_stands, returned_fits, stand_of, top_fits, any_of}
 

@@ -4,6 +4,7 @@ use Rattle.std.proofs.lemmas.Bool.{cond_both}
 use Rattle.std.proofs.lemmas.Cmp.{nat_list_cmp_total}
 use Rattle.std.specs.List.{AllByRecursion as Each}
 use Rattle.std.specs.Option.{option_or}
+use Rattle.ink_model.specs.Bases.{BaseFirst}
 use Rattle.ink_model.specs.Effect.{Context, Fields}
 use Rattle.ink_model.specs.Frames.{FrameOf, ThreadOf, frame_numbered}
 use Rattle.ink_model.specs.Leaves.{is_small}
@@ -23,7 +24,7 @@ use Rattle.ink_model.specs.declared.scope.Scope.TheVariants.{Global, Temporary}
 use Rattle.ink_model.specs.declared.value.Value.{Value}
 use Rattle.ink_model.specs.declared.value.Value.TheVariants.{Int, Pointer}
 use Rattle.ink_sound.specs.Kept.{ContextFits, EffectFits, FieldsFit, Finds, Gives}
-use Rattle.ink_model.specs.Save.Sound.{BaseFirst, FrameFits, FrameStands, GlobalsFit, IsFrame, RowFits, ThreadStands, ValueFits}
+use Rattle.ink_model.specs.Save.Sound.{FrameFits, FrameStands, GlobalsFit, IsFrame, RowFits, ThreadStands, ValueFits}
 use Rattle.ink_sound.proofs.Ints.{count_small}
 use Rattle.ink_sound.proofs.Rows.{each_put, each_stored, once_put, rise_put, row_finds, stored_finds}
 use Rattle.ink_sound.proofs.Values.{or_fault_fits, popping_fits, pushing_fits}

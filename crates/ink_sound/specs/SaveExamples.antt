@@ -6,6 +6,7 @@ use Rattle.serde_json.proofs.OnLiterals.{serde_json_on_literals}
 use Rattle.serde_json.specs.Data.{Data, null, boolean, number, string, array, object, no_items, item, Members, no_members, member, unsigned, negative, float}
 use Rattle.serde_json.specs.Read.{read}
 use Rattle.serde_json.specs.Written.{compact_text}
+use Rattle.ink_model.specs.Bases.{BaseFirst}
 use Rattle.ink_model.specs.CallStories.{does, now, says, stack_in, story}
 use Rattle.ink_model.specs.Configuration.{ChoiceOf, Configuration, fresh_at, settled, start}
 use Rattle.ink_model.specs.Entered.{entered_places, passed_places}
@@ -27,7 +28,7 @@ use Rattle.ink_model.specs.declared.place.Part.TheVariants.{Index, Name}
 use Rattle.ink_model.specs.declared.value.Value.{Value}
 use Rattle.ink_model.specs.declared.value.Value.TheVariants as value
 use Rattle.ink_model.specs.Save.Reads.{Reads, Rests}
-use Rattle.ink_model.specs.Save.Sound.{BaseFirst, FlowStands, Sound, ValueFits, names_once}
+use Rattle.ink_model.specs.Save.Sound.{FlowStands, Sound, ValueFits, names_once}
 use Rattle.ink_model.specs.Save.Spelling.{choice_data, frame_data, global_data, list_data, row_data, spelling}
 use Rattle.ink_model.specs.Save.Unspelled.{any_place_of, choice_of, frame_of, place_of, temps_of, unspelled, value_of}
 

@@ -1,4 +1,5 @@
 pub mod Threads
 pub mod Words
+pub mod Calls
 pub mod Quiet
 pub mod Rows

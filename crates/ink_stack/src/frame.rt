@@ -4,11 +4,30 @@ ghost use Rattle.std.specs.Prelude.{◌≡◌, ◌≢◌, [], None, option_map, 
 ghost use Rattle.ink_model.specs.Frames.{fresh_depth, is_function};
 ghost use Rattle.ink_model.specs.Rows.{name_order, row};
 ghost use Rattle.ink_model.specs.Threads.{new_frame, same_kind, stale, with_row_in};
+ghost use Rattle.ink_stack.specs.Calls.{frame_kind};
 
 use crate::temps::Temps;
 use ink_model::{FrameKind, Value};
 use std::alloc::{AllocError, Global};
 use std::marker::Model;
+
+/// What a frame is pushed for: it is never a base.
+#[derive(Clone, Copy)]
+pub enum CallKind {
+    Function,
+    Tunnel,
+}
+
+impl CallKind {
+    pub(crate) fn frame_kind(self) -> FrameKind
+        ensures { result ≡ frame_kind self }
+    {
+        match self {
+            CallKind::Function => FrameKind::Function,
+            CallKind::Tunnel => FrameKind::Tunnel,
+        }
+    }
+}
 
 /// A frame: what it was pushed for, where it is, its temporaries, whether it evaluates, whether it is a fresh function, how
 /// many sections were open at its push, and the number of its mark on this line.

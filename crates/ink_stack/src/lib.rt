@@ -6,5 +6,6 @@ mod temps;
 mod thread;
 mod threads;
 
+pub use frame::CallKind;
 pub use thread::Thread;
 pub use threads::Threads;

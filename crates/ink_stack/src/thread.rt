@@ -1,20 +1,22 @@
 //! Threads.
 
 ghost use Rattle.std.specs.Prelude.{◌≡◌, ◌≢◌, ◌⊎◌, [], ◌∷◌, ◌<◌, ◌≤◌, None, map, option_map, reverse, IfOk, OnOk, OnErr};
+ghost use Rattle.ink_model.specs.Bases.{BaseFirst};
 ghost use Rattle.ink_model.specs.Frames.{base_frame, fresh_depth, frame_numbered, gone, mode_in, put_in, unnumbered_frame, unnumbered_thread};
 ghost use Rattle.ink_model.specs.declared.limits.TheConstants.{MAX_FRAMES};
 ghost use Rattle.ink_model.specs.Threads.{frame_count, number_in, popped, pushed, stale_run, staled, temp_in, with_temp};
+ghost use Rattle.ink_stack.specs.Calls.{frame_kind};
 ghost use Rattle.ink_stack.specs.Quiet.{is_quiet};
 ghost use Rattle.ink_stack.specs.Words.{Changes, Grows};
 
-use crate::frame::Frame;
+use crate::frame::{CallKind, Frame};
 use ink_model::{Fault, FrameKind, MAX_FRAMES, Value};
 use std::alloc::{AllocError, Global};
 use std::marker::Model;
 use std::mem;
 
-/// A thread: frames, of which there is always one on top, and the place from which flow last moved in it. A contract sees
-/// the frames below the top one with the nearest first.
+/// A thread: frames, of which there is always one on top and the bottom one alone is the base, and the place from which flow
+/// last moved in it. A contract sees the frames below the top one with the nearest first.
 ///
 /// `quiet` says that of the function frames that are nearest below the top one none is fresh, so that a text need not look at
 /// them.
@@ -29,6 +31,7 @@ pub struct Thread<P> {
 
 impl<P> Model for Thread<P> {
     ghost use Rattle.std.specs.Prelude.{◌≡◌, reverse, ◌<◌, length, true};
+    ghost use Rattle.ink_model.specs.Bases.{BaseFirst};
     ghost use Rattle.ink_model.specs.Frames.{ThreadOf};
     ghost use Rattle.ink_model.specs.declared.limits.TheConstants.{MAX_FRAMES};
     ghost use Rattle.ink_stack.specs.Quiet.{is_quiet};
@@ -37,7 +40,7 @@ impl<P> Model for Thread<P> {
 
     ghost view = { λ t. record { frame = t.frame; below = reverse t.below.items; previous = t.previous } };
 
-    ghost invariant = { λ t. (length t.below.items < MAX_FRAMES) × (t.quiet ≡ true → is_quiet (reverse t.below.items) ≡ true) };
+    ghost invariant = { λ t. (length t.below.items < MAX_FRAMES) × (t.quiet ≡ true → is_quiet (reverse t.below.items) ≡ true) × BaseFirst t.frame.kind (reverse t.below.items) };
 }
 
 impl<P: Copy> Thread<P> {
@@ -54,10 +57,11 @@ impl<P: Copy> Thread<P> {
         }
     }
 
-    /// How many frames there are, 1,000 at the most.
+    /// How many frames there are, 1,000 at the most; the bottom one alone is the base.
     pub fn frames(&self) -> usize
         ensures count { result ≡ frame_count self.now }
         ensures most { result ≤ MAX_FRAMES }
+        ensures base { BaseFirst self.now.frame.kind self.now.below }
     {
         self.below.len() + 1
     }
@@ -163,8 +167,8 @@ impl<P: Copy> Thread<P> {
         }
     }
 
-    pub(crate) fn push(&mut self, kind: FrameKind, depth: usize) -> Result<(), Fault>
-        ensures { Grows (pushed kind depth self.old) self.old self.new result }
+    pub(crate) fn push(&mut self, kind: CallKind, depth: usize) -> Result<(), Fault>
+        ensures { Grows (pushed (frame_kind kind) depth self.old) self.old self.new result }
     {
         if self.frames() >= MAX_FRAMES {
             return Err(Fault::TooDeep);
@@ -172,7 +176,7 @@ impl<P: Copy> Thread<P> {
         if self.below.reserve(1).is_err() {
             return Err(Fault::OutOfMemory);
         }
-        let frame = Frame::new(self.alloc, kind, self.frame.place(), depth);
+        let frame = Frame::new(self.alloc, kind.frame_kind(), self.frame.place(), depth);
         let caller = mem::replace(&mut self.frame, frame);
         self.quiet = !caller.is_function() || !caller.is_fresh() && self.quiet;
         self.below.push(caller).unwrap();

@@ -3,15 +3,19 @@
 ghost use Rattle.std.specs.Prelude.{◌≡◌, ◌≢◌, ◌⊎◌, ◌<◌, ◌≤◌, [], None, is_some, map, option_map, unwrap_or, IfOk, IfErr, OnOk, OnErr};
 ghost use Rattle.ink_model.specs.Flow.{is_last};
 ghost use Rattle.ink_model.specs.Frames.{base_threads, fresh_depth, gone, mode_in, on_top, place_in, put_in, unnumbered_thread, unnumbered_threads};
-ghost use Rattle.ink_model.specs.Threads.{alone, doubled, dropped, frame_count, number_in, popped, pushed, staled, temp_in, top_result, with_temp};
+ghost use Rattle.ink_model.specs.Threads.{alone, doubled, dropped, frame_count, number_in, popped, pushed, staled, temp_in, thread_count, top_result, with_temp};
+ghost use Rattle.ink_model.specs.declared.limits.TheConstants.{MAX_THREADS};
+ghost use Rattle.ink_stack.specs.Calls.{frame_kind};
 ghost use Rattle.ink_stack.specs.Words.{Changes, Grows};
 
+use crate::frame::CallKind;
 use crate::thread::Thread;
 use ink_model::{Fault, FrameKind, MAX_THREADS, Value};
 use std::alloc::Global;
 use std::marker::Model;
 
-/// Where flow is: threads, of which there is always one on top. A contract sees those below it with the nearest first.
+/// Where flow is: threads, of which there is always one on top, 100 at the most. A contract sees those below it with the
+/// nearest first.
 #[derive(Drop)]
 pub struct Threads<P> {
     thread: Thread<P>,
@@ -20,12 +24,15 @@ pub struct Threads<P> {
 }
 
 impl<P> Model for Threads<P> {
-    ghost use Rattle.std.specs.Prelude.{reverse};
+    ghost use Rattle.std.specs.Prelude.{reverse, ◌<◌, length};
+    ghost use Rattle.ink_model.specs.declared.limits.TheConstants.{MAX_THREADS};
     ghost use Rattle.ink_stack.specs.Threads.{ThreadsView};
 
     ghost Value = { ThreadsView P };
 
     ghost view = { λ ts. record { threads = record { thread = ts.thread; below = reverse ts.below.items } } };
+
+    ghost invariant = { λ ts. length ts.below.items < MAX_THREADS };
 }
 
 impl<P: Copy> Threads<P> {
@@ -116,8 +123,8 @@ impl<P: Copy> Threads<P> {
     /// Pushes a frame at the place of the one below, outside evaluation mode and without temporaries; a function is fresh.
     /// `depth` says how many sections are open. `TooDeep` where the thread has 1,000 frames; `OutOfMemory` for a refused
     /// request for memory. On an error nothing has changed (docs/FRAMES.md, "Frames").
-    pub fn push_frame(&mut self, kind: FrameKind, depth: usize) -> Result<(), Fault>
-        ensures { Grows (top_result (pushed kind depth self.old.threads.thread) self.old.threads) self.old.threads self.new.threads result }
+    pub fn push_frame(&mut self, kind: CallKind, depth: usize) -> Result<(), Fault>
+        ensures { Grows (top_result (pushed (frame_kind kind) depth self.old.threads.thread) self.old.threads) self.old.threads self.new.threads result }
     {
         self.thread.push(kind, depth)
     }
@@ -161,9 +168,10 @@ impl<P: Copy> Threads<P> {
         true
     }
 
-    /// Whether the top thread is the only one. Takes no memory.
+    /// Whether the top thread is the only one; there are 100 at the most. Takes no memory.
     pub fn is_last(&self) -> bool
-        ensures { result ≡ is_last self.now.threads }
+        ensures last { result ≡ is_last self.now.threads }
+        ensures most { thread_count self.now.threads ≤ MAX_THREADS }
     {
         self.below.is_empty()
     }

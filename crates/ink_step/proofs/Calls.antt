@@ -28,6 +28,7 @@ use Rattle.ink_model.specs.declared.place.Part.{Part}
 use Rattle.ink_model.specs.declared.value.Value.{Value}
 use Rattle.ink_step.specs.External.{PerformsCall, lent_arguments, lent_of, made_call}
 use Rattle.ink_step.specs.Performs.{Performs}
+use Rattle.ink_stack.specs.declared.frame.CallKind.TheVariants as call
 use Rattle.ink_step.specs.declared.transfer.Transfer.{Transfer}
 use Rattle.ink_step.specs.declared.transfer.Transfer.TheVariants as transfer
 use Rattle.ink_step.proofs.Effects.{performs_more, short}
@@ -236,6 +237,6 @@ module _ (s t : StoryTree) (same : t ≡ s) (name : List ℕ) (f : Fields) where
   entering p = record { place = p; enters = true }
 
   pub knot_there : (holder : NodeId) (to : Spot) → Some (node_place t holder) ≡ knot name t → place_of t to ≡ landed t (place_of t (record { holder = holder; index = None }))
-      → Performs s false (fall_back s name f) f (Ok (transfer.Call Function (record { place = to; enters = true })))
-  knot_there holder to h lands = falls_on _ (subst (λ o. Performs t false (or_else Unbound o to_knot) f (Ok (transfer.Call Function (record { place = to; enters = true })))) h
+      → Performs s false (fall_back s name f) f (Ok (transfer.Call call.Function (record { place = to; enters = true })))
+  knot_there holder to h lands = falls_on _ (subst (λ o. Performs t false (or_else Unbound o to_knot) f (Ok (transfer.Call call.Function (record { place = to; enters = true })))) h
       (refl, ap entering (sym (lands ∙ ap (landed t) (append-nil (node_place t holder)))), refl))

@@ -21,6 +21,8 @@ use Rattle.ink_model.specs.declared.fault.Fault.TheVariants.{OutOfMemory}
 use Rattle.ink_model.specs.declared.frame.FrameKind.{FrameKind}
 use Rattle.ink_model.specs.declared.limits.TheConstants.{MAX_FRAMES}
 use Rattle.ink_model.specs.declared.place.Part.{Part}
+use Rattle.ink_stack.specs.Calls.{frame_kind}
+use Rattle.ink_stack.specs.declared.frame.CallKind.{CallKind}
 use Rattle.ink_step.specs.Performs.{Performs, landing_of, offered_by, stored_by, unstored}
 use Rattle.ink_step.specs.Reaches.{ReachesAs}
 use Rattle.ink_step.specs.Steps.{StepEnds}
@@ -105,12 +107,12 @@ module _ (s : StoryTree) (asking : Bool) (c d : Configuration) (r : Result StepE
       (ends_more asking _ (landing s to.enters (reach (place_of s to.place)) c) _ d r go))
   goes_there to e h go = absurd h
 
-  pub goes_into : (kind : FrameKind) (to : Landing) (e : Effect) → Performs s asking e (fields_of c) (Ok (transfer.Call kind to))
-      → StepEnds (nat_lt (frame_count c.flow.threads.thread) MAX_FRAMES || landed_asks s to.enters c.shared.counts (called kind (place_of s to.place) c.flow.threads (written_in c)))
-      (landing s to.enters (called kind (place_of s to.place)) c) c.shared.globals d r
+  pub goes_into : (kind : CallKind) (to : Landing) (e : Effect) → Performs s asking e (fields_of c) (Ok (transfer.Call kind to))
+      → StepEnds (nat_lt (frame_count c.flow.threads.thread) MAX_FRAMES || landed_asks s to.enters c.shared.counts (called (frame_kind kind) (place_of s to.place) c.flow.threads (written_in c)))
+      (landing s to.enters (called (frame_kind kind) (place_of s to.place)) c) c.shared.globals d r
       → Follows e
-  goes_into kind to (Calls k l f) h go = subst (λ x. Follows (Calls x l f)) (sym h.0) (subst (λ q. Follows (Calls kind q f)) (sym h.1)
-      (subst (λ g. Follows (Calls kind (landing_of s to) g)) h.2 (ends_more asking _ (landing s to.enters (called kind (place_of s to.place)) c) _ d r go)))
+  goes_into kind to (Calls k l f) h go = subst (λ x. Follows (Calls x l f)) (sym h.0) (subst (λ q. Follows (Calls (frame_kind kind) q f)) (sym h.1)
+      (subst (λ g. Follows (Calls (frame_kind kind) (landing_of s to) g)) h.2 (ends_more asking _ (landing s to.enters (called (frame_kind kind) (place_of s to.place)) c) _ d r go)))
   goes_into kind to e h go = absurd h
 
   pub goes_back : (kind : FrameKind) (back : Option Landing) (e : Effect) → Performs s asking e (fields_of c) (Ok (transfer.Return kind back))

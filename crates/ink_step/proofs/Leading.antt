@@ -3,8 +3,9 @@ use Rattle.std.proofs.Common.{◌≡◌, refl, subst, sym, inl, Bool, true, fals
 use Rattle.ink_model.specs.Effect.{Fields, Effect, Landing as Goal, Moves, Lands, Calls, or_fault}
 use Rattle.ink_model.specs.Tree.{StoryTree}
 use Rattle.ink_model.specs.declared.fault.Fault.{Fault}
-use Rattle.ink_model.specs.declared.frame.FrameKind.{FrameKind}
 use Rattle.ink_step.specs.Performs.{Performs, landing_of}
+use Rattle.ink_stack.specs.Calls.{frame_kind}
+use Rattle.ink_stack.specs.declared.frame.CallKind.{CallKind}
 use Rattle.ink_step.specs.declared.transfer.Landing.{Landing}
 use Rattle.ink_step.specs.declared.transfer.Transfer.{Transfer}
 use Rattle.ink_step.specs.declared.transfer.Transfer.TheVariants as transfer
@@ -29,9 +30,9 @@ module _ (s : StoryTree) (asks : Bool) (new : Fields) where
   pub lands_there : (to : Landing) (led : Result Goal Fault) → Ok (landing_of s to) ≡ led → Performs s asks (or_fault led (λ l. Lands l new)) new (Ok (transfer.Land to))
   lands_there to led h = subst (λ o. Performs s asks (or_fault o (λ l. Lands l new)) new (Ok (transfer.Land to))) h (refl, refl)
 
-  pub calls_there : (k : FrameKind) (to : Landing) (led : Result Goal Fault) → Ok (landing_of s to) ≡ led
-      → Performs s asks (or_fault led (λ l. Calls k l new)) new (Ok (transfer.Call k to))
-  calls_there k to led h = subst (λ o. Performs s asks (or_fault o (λ l. Calls k l new)) new (Ok (transfer.Call k to))) h (refl, refl, refl)
+  pub calls_there : (k : CallKind) (to : Landing) (led : Result Goal Fault) → Ok (landing_of s to) ≡ led
+      → Performs s asks (or_fault led (λ l. Calls (frame_kind k) l new)) new (Ok (transfer.Call k to))
+  calls_there k to led h = subst (λ o. Performs s asks (or_fault o (λ l. Calls (frame_kind k) l new)) new (Ok (transfer.Call k to))) h (refl, refl, refl)
 
   pub leads_nowhere : (f : Fault) (led : Result Goal Fault) (so : Goal → Effect) → Err f ≡ led → Performs s asks (or_fault led so) new (Err f)
   leads_nowhere f led so h = subst (λ o. Performs s asks (or_fault o so) new (Err f)) h (inl refl)

@@ -32,3 +32,4 @@ pub mod Makes
 pub mod Calls
 pub mod Asking
 pub mod Finished
+pub mod Closing

@@ -4,7 +4,7 @@ use Rattle.ink_model.specs.Tree.{StoryTree}
 use Rattle.ink_model.specs.Mark.{tags}
 use Rattle.ink_model.specs.Choices.{has_any}
 use Rattle.ink_model.specs.Clean.{clean}
-use Rattle.ink_model.specs.Shown.{shown_text, shows_text}
+use Rattle.ink_model.specs.Shown.{shown_text, shows_more}
 use Rattle.ink_model.specs.Configuration.{Configuration, can_go_on, begun, settled}
 use Rattle.ink_model.specs.Host.{Bound}
 use Rattle.ink_model.specs.Memory.{CallsAt, FallsShort, GetsTo}
@@ -44,14 +44,14 @@ any_of [] h = absurd (h refl)
 any_of (x ∷ xs) h = refl
 
 module _ (c : Configuration) where
-  pub asks_text : shows_text c.page.line ≡ true → passage_asks c ≡ true
+  pub asks_text : shows_more c.page.line ≡ true → passage_asks c ≡ true
   asks_text h = or_first _ _ h
 
   pub asks_tags : tags c.page.line ≢ [] → passage_asks c ≡ true
-  asks_tags h = or_more (shows_text c.page.line) _ (or_first _ _ (any_of _ h))
+  asks_tags h = or_more (shows_more c.page.line) _ (or_first _ _ (any_of _ h))
 
   pub asks_choices : open_choices c ≢ [] → passage_asks c ≡ true
-  asks_choices h = or_more (shows_text c.page.line) _ (or_more (has_any (tags c.page.line)) _ (any_of _ h))
+  asks_choices h = or_more (shows_more c.page.line) _ (or_more (has_any (tags c.page.line)) _ (any_of _ h))
 
 -- ---- a running command, from the run that it makes
 

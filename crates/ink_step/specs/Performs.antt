@@ -14,6 +14,7 @@ use Rattle.ink_model.specs.declared.place.Part.{Part}
 use Rattle.ink_step.specs.declared.transfer.Landing.{Landing}
 use Rattle.ink_step.specs.declared.transfer.Transfer.{Transfer}
 use Rattle.ink_step.specs.declared.transfer.Transfer.TheVariants as transfer
+use Rattle.ink_stack.specs.Calls.{frame_kind}
 use Rattle.ink_tree.specs.Nodes.{place_of}
 use Rattle.ink_tree.specs.declared.spot.Spot.{Spot}
 use Rattle.ink_vars.specs.Words.{name_of}
@@ -46,7 +47,7 @@ Performs s asks (Stores t f) new (Ok transfer.Next) = new ≡ f
 Performs s asks (Stores t f) new (Ok (transfer.Store a)) = (f ≡ record new { globals = store (name_of a.name) a.value new.globals }) × (asks ≡ true)
 Performs s asks (Offers choices f) new (Ok transfer.Next) = new ≡ f
 Performs s asks (Lands l f) new (Ok (transfer.Land to)) = (l ≡ landing_of s to) × (new ≡ f)
-Performs s asks (Calls k l f) new (Ok (transfer.Call kind to)) = (k ≡ kind) × (l ≡ landing_of s to) × (new ≡ f)
+Performs s asks (Calls k l f) new (Ok (transfer.Call kind to)) = (k ≡ frame_kind kind) × (l ≡ landing_of s to) × (new ≡ f)
 Performs s asks (Returns k to f) new (Ok (transfer.Return kind back)) = (k ≡ kind) × (to ≡ option_map (landing_of s) back) × (new ≡ f)
 Performs s asks (Forks f) new (Ok transfer.Fork) = new ≡ f
 Performs s asks (Done f) new (Ok transfer.Done) = new ≡ f

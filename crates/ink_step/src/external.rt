@@ -25,8 +25,9 @@ use crate::operands::put_over;
 use crate::transfer::{Landing, Transfer, moving};
 use ink_check::Story;
 use ink_host::{Desk, FnKind, PureFn, TurnFn, Watcher};
-use ink_model::{Fault, FrameKind, Given, Leaf, MAX_TEXT, Value, value_given};
+use ink_model::{Fault, Given, Leaf, MAX_TEXT, Value, value_given};
 use ink_out::Output;
+use ink_stack::CallKind;
 use ink_tree::Spot;
 use ink_value::{EvalStack, is_true};
 
@@ -127,7 +128,7 @@ fn fall_back<'a>(story: &Story, name: &str) -> Result<Transfer<'a>, Fault>
         index: None,
     });
     Ok(Transfer::Call(
-        FrameKind::Function,
+        CallKind::Function,
         Landing {
             place,
             enters: true,

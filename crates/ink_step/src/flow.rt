@@ -13,6 +13,7 @@ ghost use Rattle.ink_model.specs.Tree.{StoryTree};
 ghost use Rattle.ink_model.specs.declared.frame.FrameKind.TheVariants as kind;
 ghost use Rattle.ink_model.specs.declared.limits.TheConstants.{MAX_FRAMES};
 ghost use Rattle.ink_model.specs.declared.value.Value.{Value as Data};
+ghost use Rattle.ink_stack.specs.Calls.{frame_kind};
 ghost use Rattle.ink_step.specs.declared.flow.StepEnd.TheVariants.{Went};
 ghost use Rattle.ink_step.specs.Steps.{went};
 ghost use Rattle.ink_step.specs.Reaches.{PassesAs, ReachesAs, ended, entered, left, left_asks, written};
@@ -21,7 +22,7 @@ ghost use Rattle.ink_tree.specs.Nodes.{place_of, story_tree};
 use crate::operands::push;
 use ink_model::{Fault, FrameKind, Value};
 use ink_out::Output;
-use ink_stack::Threads;
+use ink_stack::{CallKind, Threads};
 use ink_tree::{Spot, Tree};
 use ink_value::EvalStack;
 
@@ -116,11 +117,11 @@ pub(crate) fn land(threads: &mut Threads<Spot>, place: Spot) -> StepEnd
 pub(crate) fn call(
     threads: &mut Threads<Spot>,
     output: &mut Output,
-    kind: FrameKind,
+    kind: CallKind,
     place: Spot,
 ) -> Result<StepEnd, Fault>
     ensures { (s : StoryTree) (values : List Data) → let ts = map_threads (place_of s) threads.old.threads in let w : Written = record { stack = values; page = output.old.page } in
-        ReachesAs (nat_lt (frame_count ts.thread) MAX_FRAMES) (called kind (place_of s place) ts w) (map_threads (place_of s) threads.new.threads) (record { stack = values; page = output.new.page }) result }
+        ReachesAs (nat_lt (frame_count ts.thread) MAX_FRAMES) (called (frame_kind kind) (place_of s place) ts w) (map_threads (place_of s) threads.new.threads) (record { stack = values; page = output.new.page }) result }
 {
     threads.push_frame(kind, output.depth())?;
     enter(threads, output, kind)?;
@@ -243,17 +244,17 @@ fn push_void(stack: &mut EvalStack, evaluating: bool) -> Result<(), Fault>
 
 /// A function that was called has its mark in the text, and its frame the mark's number. `TooDeep` for more than 100,000 marks in
 /// the line, and where no number is left; `OutOfMemory` for a refused request for memory.
-fn enter(threads: &mut Threads<Spot>, output: &mut Output, kind: FrameKind) -> Result<(), Fault>
+fn enter(threads: &mut Threads<Spot>, output: &mut Output, kind: CallKind) -> Result<(), Fault>
     ensures { (s : StoryTree) (values : List Data) → let ts = map_threads (place_of s) threads.old.threads in let w : Written = record { stack = values; page = output.old.page } in
-        PassesAs (is_function kind) (entered kind ts w) (map_threads (place_of s) threads.new.threads) (record { stack = values; page = output.new.page }) result }
+        PassesAs (is_function (frame_kind kind)) (entered (frame_kind kind) ts w) (map_threads (place_of s) threads.new.threads) (record { stack = values; page = output.new.page }) result }
 {
     match kind {
-        FrameKind::Function => {
+        CallKind::Function => {
             let number = output.enter()?;
             threads.set_number(number);
             Ok(())
         }
-        FrameKind::Base | FrameKind::Tunnel => Ok(()),
+        CallKind::Tunnel => Ok(()),
     }
 }
 

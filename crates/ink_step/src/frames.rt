@@ -6,6 +6,7 @@ ghost use Rattle.ink_model.specs.Acceptance.{lands_to, written_target};
 ghost use Rattle.ink_model.specs.Page.{Page};
 ghost use Rattle.ink_model.specs.Step.Calls.{call, return_tunnel};
 ghost use Rattle.ink_model.specs.Store.{Values};
+ghost use Rattle.ink_stack.specs.Calls.{frame_kind};
 ghost use Rattle.ink_step.specs.Performs.{Performs, fields, leading};
 ghost use Rattle.ink_step.specs.Words.{Rest, seen_by};
 ghost use Rattle.ink_tree.specs.Nodes.{place_of};
@@ -15,7 +16,7 @@ use crate::operands::top;
 use crate::transfer::Transfer;
 use ink_check::Story;
 use ink_model::{Destination, Fault, FrameKind, Value};
-use ink_stack::Threads;
+use ink_stack::{CallKind, Threads};
 use ink_tree::Spot;
 use ink_value::EvalStack;
 use ink_vars::Globals;
@@ -27,7 +28,7 @@ use ink_vars::Globals;
 pub(crate) fn call(
     story: &Story,
     here: Spot,
-    kind: FrameKind,
+    kind: CallKind,
     to: &Destination,
     conditional: bool,
     stack: &mut EvalStack,
@@ -38,7 +39,7 @@ pub(crate) fn call(
     requires on { transfer.old ≡ Transfer.Next }
     requires path { let s = story_tree story.now in written_target s (place_of s here) ≡ lands_to s (place_of s here) to.now }
     ensures { let s = story_tree story.now in (evaluating : Bool) (fresh : Option ℕ) (page : Page) (rest : Rest)
-        → Performs s false (call kind s (place_of s here) (seen_by s threads.now.threads rest) to.now conditional (fields evaluating fresh stack.old.items page globals.now.rows)) (fields evaluating fresh stack.new.items page globals.now.rows) (leading result transfer.new) }
+        → Performs s false (call (frame_kind kind) s (place_of s here) (seen_by s threads.now.threads rest) to.now conditional (fields evaluating fresh stack.old.items page globals.now.rows)) (fields evaluating fresh stack.new.items page globals.now.rows) (leading result transfer.new) }
 {
     match is_wanted(conditional, stack) {
         Ok(true) => match destination(story, here, to, globals, threads) {

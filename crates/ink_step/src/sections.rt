@@ -1,15 +1,14 @@
 //! Strings and tags begin and end (docs/TEXT.md, "Sections").
 
-ghost use Rattle.std.specs.Prelude.{◌≡◌, ◌&&◌, ◌||◌, ℕ, List, Bool, true, Option, Ok, Err, IfErr, if◌then◌else◌};
-ghost use Rattle.ink_model.specs.Asks.{may_open};
-ghost use Rattle.ink_model.specs.Memory.{Gives, asks_for, leaving};
-ghost use Rattle.ink_model.specs.Output.{closes_string, closes_tag};
-ghost use Rattle.ink_model.specs.Step.Text.{begin_string, begin_tag, closed_tag, end_string, end_tag, in_tag};
+ghost use Rattle.std.specs.Prelude.{◌≡◌, ◌&&◌, ℕ, List, Bool, true, false, Option, Ok, Err, IfErr, OnOk, if◌then◌else◌};
+ghost use Rattle.ink_model.specs.Asks.{has_room, has_tag_room, may_open};
+ghost use Rattle.ink_model.specs.Memory.{Gives, leaving};
+ghost use Rattle.ink_model.specs.Step.Text.{begin_string, begin_tag, closed_tag, end_string, end_tag, in_string, in_tag};
 ghost use Rattle.ink_model.specs.Store.{Values};
 ghost use Rattle.ink_model.specs.declared.value.Value.{Value as Data};
 ghost use Rattle.ink_step.specs.Performs.{Changes, fields};
 
-use crate::operands::push;
+use crate::operands::{check_room, push};
 use ink_model::{Fault, Value};
 use ink_out::Output;
 use ink_value::EvalStack;
@@ -27,15 +26,20 @@ pub(crate) fn begin_string(output: &mut Output, evaluating: &mut bool) -> Result
     Ok(())
 }
 
-/// The text of a string that ends is pushed, and evaluation goes on.
+/// The text of a string that ends is pushed, and evaluation goes on. Where there is no room for it, that is found before the
+/// text is made.
 pub(crate) fn end_string(
     stack: &mut EvalStack,
     output: &mut Output,
     evaluating: &mut bool,
 ) -> Result<(), Fault>
     ensures { (fresh : Option ℕ) (globals : Values)
-        → Changes (asks_for (closes_string output.old.page)) (end_string (fields evaluating.old fresh stack.old.items output.old.page globals)) (fields evaluating.new fresh stack.new.items output.new.page globals) result }
+        → Changes (in_string output.old.page.sections && has_room stack.old.items) (end_string (fields evaluating.old fresh stack.old.items output.old.page globals)) (fields evaluating.new fresh stack.new.items output.new.page globals) result }
 {
+    if !output.is_string() {
+        return Err(Fault::BadMode);
+    }
+    check_room(stack)?;
     let text = output.close_string()?;
     *evaluating = true;
     push(stack, Value::Text(text))
@@ -44,7 +48,7 @@ pub(crate) fn end_string(
 /// A tag begins; one that is on top is closed first.
 pub(crate) fn begin_tag(stack: &mut EvalStack, output: &mut Output) -> Result<(), Fault>
     ensures { (evaluating : Bool) (fresh : Option ℕ) (globals : Values)
-        → Changes (in_tag output.old.page.sections || may_open output.old.page.sections) (begin_tag (fields evaluating fresh stack.old.items output.old.page globals)) (fields evaluating fresh stack.new.items output.new.page globals) result }
+        → Changes (if in_tag output.old.page.sections then has_tag_room output.old.page.sections stack.old.items else may_open output.old.page.sections) (begin_tag (fields evaluating fresh stack.old.items output.old.page globals)) (fields evaluating fresh stack.new.items output.new.page globals) result }
 {
     close_tag_on_top(stack, output)?;
     output.open_tag()
@@ -53,7 +57,7 @@ pub(crate) fn begin_tag(stack: &mut EvalStack, output: &mut Output) -> Result<()
 /// The tag on top ends; in a string its text is pushed.
 pub(crate) fn end_tag(stack: &mut EvalStack, output: &mut Output) -> Result<(), Fault>
     ensures { (evaluating : Bool) (fresh : Option ℕ) (globals : Values)
-        → Changes (asks_for (closes_tag output.old.page)) (end_tag (fields evaluating fresh stack.old.items output.old.page globals)) (fields evaluating fresh stack.new.items output.new.page globals) result }
+        → Changes (in_tag output.old.page.sections && has_tag_room output.old.page.sections stack.old.items) (end_tag (fields evaluating fresh stack.old.items output.old.page globals)) (fields evaluating fresh stack.new.items output.new.page globals) result }
 {
     close_tag(stack, output)
 }
@@ -62,6 +66,7 @@ pub(crate) fn end_tag(stack: &mut EvalStack, output: &mut Output) -> Result<(), 
 fn close_tag_on_top(stack: &mut EvalStack, output: &mut Output) -> Result<(), Fault>
     ensures closed { Gives (leaving (stack.new.items, output.new.page) result) (if in_tag output.old.page.sections then closed_tag stack.old.items output.old.page else Ok (stack.old.items, output.old.page)) }
     ensures memory { result ≡ Err Fault.OutOfMemory → in_tag output.old.page.sections ≡ true }
+    ensures room { in_tag output.old.page.sections ≡ true → has_tag_room output.old.page.sections stack.old.items ≡ false → result ≡ Err Fault.TooDeep }
 {
     match close_tag(stack, output) {
         Err(Fault::BadMode) => Ok(()),
@@ -69,14 +74,29 @@ fn close_tag_on_top(stack: &mut EvalStack, output: &mut Output) -> Result<(), Fa
     }
 }
 
-/// Closes the tag on top; in a string its text is pushed. After `BadMode`, where none is on top, nothing has changed.
+/// Closes the tag on top; in a string its text is pushed, and where there is no room for it, that is found before the text is
+/// made. After `BadMode`, where none is on top, nothing has changed.
 fn close_tag(stack: &mut EvalStack, output: &mut Output) -> Result<(), Fault>
     ensures closed { Gives (leaving (stack.new.items, output.new.page) result) (closed_tag stack.old.items output.old.page) }
     ensures none { IfErr result (λ fault. fault ≡ Fault.BadMode → (stack.new.items ≡ stack.old.items) × (output.new.page ≡ output.old.page)) }
+    ensures memory { result ≡ Err Fault.OutOfMemory → in_tag output.old.page.sections ≡ true }
+    ensures room { in_tag output.old.page.sections ≡ true → has_tag_room output.old.page.sections stack.old.items ≡ false → result ≡ Err Fault.TooDeep }
 {
+    check_tag_room(stack, output)?;
     match output.close_tag() {
         Ok(Some(text)) => push(stack, Value::Tag(text)),
         Ok(None) => Ok(()),
         Err(fault) => Err(fault),
     }
+}
+
+/// `TooDeep` where a tag is on top whose text would be pushed, and there is no room for it. Takes no memory.
+fn check_tag_room(stack: &EvalStack, output: &Output) -> Result<(), Fault>
+    ensures room { OnOk result (in_tag output.now.page.sections ≡ true → has_tag_room output.now.page.sections stack.now.items ≡ true) }
+    ensures full { IfErr result (λ f. (f ≡ Fault.TooDeep) × (in_tag output.now.page.sections ≡ true) × (has_tag_room output.now.page.sections stack.now.items ≡ false)) }
+{
+    if output.is_tag_in_string() {
+        return check_room(stack);
+    }
+    Ok(())
 }

@@ -20,6 +20,7 @@ ghost use Rattle.ink_model.specs.Threads.{frame_count};
 ghost use Rattle.ink_model.specs.Tree.{StoryTree, at, leaf};
 ghost use Rattle.ink_model.specs.declared.host.Event.{Event as Happening};
 ghost use Rattle.ink_model.specs.declared.limits.TheConstants.{MAX_FRAMES};
+ghost use Rattle.ink_stack.specs.Calls.{frame_kind};
 ghost use Rattle.ink_step.specs.Performs.{Keeps, KeepsChoices, Performs, landing_of, leading, storing_in, unstored};
 ghost use Rattle.ink_step.specs.External.{call_of};
 ghost use Rattle.ink_step.specs.Steps.{Passes, StepEnds, StepMakes, Steps, ended, wants};
@@ -45,6 +46,7 @@ use crate::{external, flow};
 use ink_check::Story;
 use ink_host::{Desk, PureFn, TurnFn, Watcher};
 use ink_model::{Control, Fault, FrameKind, Leaf, Scope, Value};
+use ink_stack::CallKind;
 use ink_tree::Spot;
 use std::mem;
 
@@ -413,7 +415,7 @@ impl Machine {
             Leaf::Call { to, conditional } => call(
                 story,
                 here,
-                FrameKind::Function,
+                CallKind::Function,
                 to,
                 *conditional,
                 &mut self.flow.stack,
@@ -424,7 +426,7 @@ impl Machine {
             Leaf::Tunnel { to, conditional } => call(
                 story,
                 here,
-                FrameKind::Tunnel,
+                CallKind::Tunnel,
                 to,
                 *conditional,
                 &mut self.flow.stack,
@@ -579,8 +581,8 @@ impl Machine {
 
     /// Flow lands in a frame of this kind, which may enter containers around.
     #[inline(never)]
-    fn go_into(&mut self, story: &Story, kind: FrameKind, to: Landing) -> Result<StepEnd, Fault>
-        ensures ends { let s = story_tree story.now in let c = config_of s self.old in let how = called kind (place_of s to.place) in
+    fn go_into(&mut self, story: &Story, kind: CallKind, to: Landing) -> Result<StepEnd, Fault>
+        ensures ends { let s = story_tree story.now in let c = config_of s self.old in let how = called (frame_kind kind) (place_of s to.place) in
             StepEnds (nat_lt (frame_count c.flow.threads.thread) MAX_FRAMES || landed_asks s to.enters c.shared.counts (how c.flow.threads (written_in c)))
             (landing s to.enters how c) self.old.shared.globals.rows (config_of s self.new) result }
         ensures globals { self.new.shared.globals.rows ≡ self.old.shared.globals.rows }

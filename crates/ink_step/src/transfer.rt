@@ -4,6 +4,7 @@ ghost use Rattle.std.specs.Prelude.{◌≡◌};
 ghost use Rattle.ink_step.specs.Performs.{after_text, leading, moving};
 
 use ink_model::{Fault, FrameKind, Value};
+use ink_stack::CallKind;
 use ink_tree::Spot;
 use ink_vars::Name;
 
@@ -34,7 +35,7 @@ pub(crate) enum Transfer<'a> {
     /// To another place.
     Land(Landing),
     /// To another place, in a frame of its own.
-    Call(FrameKind, Landing),
+    Call(CallKind, Landing),
     /// Back from such a frame, to after its call, or to a place.
     Return(FrameKind, Option<Landing>),
     /// On, after the content, in two threads.

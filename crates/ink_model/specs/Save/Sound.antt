@@ -1,6 +1,7 @@
 -- What is asked of a configuration that is saved or loaded (docs/SAVES.md). Each one that a session comes to has it.
-use Rattle.std.specs.Prelude.{◌≡◌, ◌≢◌, ℕ, ◌≤◌, ℤ, pos, negsuc, List, [], ◌∷◌, length, Bool, true, false, not, ◌&&◌, IsTrue, Option, Some, None, is_some}
+use Rattle.std.specs.Prelude.{◌≡◌, ℕ, ◌≤◌, ℤ, pos, negsuc, List, [], ◌∷◌, length, Bool, true, false, not, ◌&&◌, IsTrue, Option, Some, None, is_some}
 use Rattle.std.specs.List.{AllByRecursion as Each}
+use Rattle.ink_model.specs.Bases.{BaseFirst}
 use Rattle.ink_model.specs.Bytes.{fits_text}
 use Rattle.ink_model.specs.Configuration.{ChoiceOf, Configuration, FlowOf, SharedOf}
 use Rattle.ink_model.specs.Counts.{CountsOf}
@@ -14,8 +15,6 @@ use Rattle.ink_model.specs.Rows.{name_order, place_order, rows_rise}
 use Rattle.ink_model.specs.Store.{Values, stored}
 use Rattle.ink_model.specs.Threads.{frame_count, thread_count}
 use Rattle.ink_model.specs.Tree.{StoryTree, at}
-use Rattle.ink_model.specs.declared.frame.FrameKind.{FrameKind}
-use Rattle.ink_model.specs.declared.frame.FrameKind.TheVariants.{Base}
 use Rattle.ink_model.specs.declared.limits.TheConstants.{MAX_CHOICES, MAX_COUNT, MAX_FRAMES, MAX_SECTIONS, MAX_STACK, MAX_THREADS}
 use Rattle.ink_model.specs.declared.place.Part.{Part}
 use Rattle.ink_model.specs.declared.place.Path.{Path}
@@ -92,11 +91,6 @@ FrameFits s f = FrameHolds s f.temps f.depth
 -- a frame that is at a place
 abbrev pub FrameStands : StoryTree → FrameOf (List Part) → Type 0
 FrameStands s f = FrameFits s f × SomePlace s f.place
-
--- of a frame of a kind and those below it the bottom one alone is the base
-abbrev pub BaseFirst : FrameKind → List (FrameOf (List Part)) → Type 0
-BaseFirst k [] = k ≡ Base
-BaseFirst k (f ∷ fs) = (k ≢ Base) × BaseFirst f.kind fs
 
 -- the frames below the top one are at places
 pub record ThreadFits (s : StoryTree) (t : ThreadOf (List Part)) : Type 0 where

@@ -50,6 +50,11 @@ closed_tag vs page = keeps_tag vs (closes_tag page)
 abbrev pub end_tag : Fields → Effect
 end_tag f = or_fault (closed_tag f.stack f.page) (λ r. Moves (record f { stack = r.0; page = r.1 }))
 
+-- a string is on top
+abbrev pub in_string : List Section → Bool
+in_string [] = false
+in_string (x ∷ rest) = is_string x
+
 -- a tag is on top
 abbrev pub in_tag : List Section → Bool
 in_tag [] = false

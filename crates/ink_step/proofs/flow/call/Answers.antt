@@ -3,6 +3,7 @@ use Rattle.ink_model.specs.Flow.{Written, depth_of}
 use Rattle.ink_model.specs.Frames.{is_function, map_threads}
 use Rattle.ink_model.specs.Threads.{pushed, top_result}
 use Rattle.ink_model.specs.declared.value.Value.{Value}
+use Rattle.ink_stack.specs.Calls.{frame_kind}
 use Rattle.ink_stack.specs.Words.{Grows}
 use Rattle.ink_step.proofs.Calling.{call_breaks, call_lands}
 use Rattle.ink_step.proofs.Passing.{pushes}
@@ -12,7 +13,7 @@ use Rattle.ink_tree.specs.Nodes.{place_of}
 
 -- the frame that was pushed
 pushing : (c : In_ok-push_frame) (values : List Value) → let w : Written = record { stack = values; page = c.args.output.now.page } in let old = c.args.threads.now.threads in
-    Grows (top_result (pushed c.args.kind (depth_of w) old.thread) old) old c.push_frame.new.self.threads (Ok c.in_ok-push_frame.field-0)
+    Grows (top_result (pushed (frame_kind c.args.kind) (depth_of w) old.thread) old) old c.push_frame.new.self.threads (Ok c.in_ok-push_frame.field-0)
 pushing c values = rw c.depth.ensures at c.in_ok-push_frame.ensures
 
 pub returns : goal.returns
@@ -21,8 +22,8 @@ returns c s values =
     let w : Written = record { stack = values; page = c.args.output.now.page } in
     let v : Written = record { stack = values; page = c.enter.new.output.page } in
     let old = c.args.threads.now.threads in
-    call_lands c.args.kind (f c.args.place) (map_threads f old) (map_threads f c.push_frame.new.self.threads) w c.in_ok-push_frame.field-0 (pushes f c.args.kind (depth_of w) old _ c.in_ok-push_frame.field-0 (pushing (goal.at.returns c).In_ok-push_frame values))
-    (is_function c.args.kind) (map_threads f c.enter.new.threads.threads) v c.in_ok-enter.field-0 (c.in_ok-enter.ensures s values) _ (Ok c.land.result) (c.land.ensures s v)
+    call_lands (frame_kind c.args.kind) (f c.args.place) (map_threads f old) (map_threads f c.push_frame.new.self.threads) w c.in_ok-push_frame.field-0 (pushes f (frame_kind c.args.kind) (depth_of w) old _ c.in_ok-push_frame.field-0 (pushing (goal.at.returns c).In_ok-push_frame values))
+    (is_function (frame_kind c.args.kind)) (map_threads f c.enter.new.threads.threads) v c.in_ok-enter.field-0 (c.in_ok-enter.ensures s values) _ (Ok c.land.result) (c.land.ensures s v)
 
 pub returns-in_err-enter : goal.returns-in_err-enter
 returns-in_err-enter c s values =
@@ -31,5 +32,5 @@ returns-in_err-enter c s values =
     let v : Written = record { stack = values; page = c.enter.new.output.page } in
     let old = c.args.threads.now.threads in
     let is : c.from_residual-in_err-enter.result ≡ Err c.in_err-enter.field-0.0 = search rules in
-    rw is (call_breaks c.args.kind (f c.args.place) (map_threads f old) (map_threads f c.push_frame.new.self.threads) w c.in_ok-push_frame.field-0 (pushes f c.args.kind (depth_of w) old _ c.in_ok-push_frame.field-0 (pushing (goal.at.returns-in_err-enter c).In_ok-push_frame values))
-    (is_function c.args.kind) (map_threads f c.enter.new.threads.threads) v c.in_err-enter.field-0.0 (c.in_err-enter.ensures s values))
+    rw is (call_breaks (frame_kind c.args.kind) (f c.args.place) (map_threads f old) (map_threads f c.push_frame.new.self.threads) w c.in_ok-push_frame.field-0 (pushes f (frame_kind c.args.kind) (depth_of w) old _ c.in_ok-push_frame.field-0 (pushing (goal.at.returns-in_err-enter c).In_ok-push_frame values))
+    (is_function (frame_kind c.args.kind)) (map_threads f c.enter.new.threads.threads) v c.in_err-enter.field-0.0 (c.in_err-enter.ensures s values))

@@ -1,5 +1,6 @@
 use Rattle.std.proofs.Common.{◌≤◌, ap, arith, length, length-set}
 use Rattle.std.proofs.lemmas.List.{length-reverse}
+use Rattle.ink_stack.proofs.Bases.{base_along}
 use Rattle.ink_stack.proofs.Numbers.{memory_along, quiet_along, temp_along}
 use Rattle.ink_stack.proofs.thread.Thread.set_temp.Goals as goal
 
@@ -11,6 +12,8 @@ invariant_of-self-2 g c =
       λ quiet.
           rw (quiet_along c.set_temp-2.result items c.args.frame c.index_mut.result.now c.set_temp-2.new.self c.args.name.now c.args.value c.requires.from within
           (rw (← c.index_mut.ensures.value) c.set_temp-2.ensures.ok) (rw (← c.index_mut.ensures.value) c.set_temp-2.ensures.err)) (c.self.invariant.1 quiet),
+      base_along c.set_temp-2.result c.args.name.now c.args.value c.self.inside.frame.kind items c.args.frame c.index_mut.result.now c.set_temp-2.new.self c.requires.from within
+          (rw (← c.index_mut.ensures.value) c.set_temp-2.ensures.ok) (rw (← c.index_mut.ensures.value) c.set_temp-2.ensures.err) c.self.invariant.2,
     )
 
 pub returns-clause-ok : goal.returns-clause-ok

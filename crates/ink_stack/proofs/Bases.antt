@@ -1,0 +1,101 @@
+-- The base stays the bottom frame alone, and threads stay within their limit.
+use Rattle.std.proofs.Common.{◌≡◌, ◌≢◌, ◌∙◌, ◌<◌, ◌≤◌, ◌+◌, ◌-◌, ℕ, List, [], ◌∷◌, ◌++◌, true, false, Result, Ok, Err, OnOk, OnErr, ap, arith, get_or, if◌then◌else◌, length, map, nat_eq, nat_lt, refl, reverse, set, subst, sym}
+use Rattle.std.proofs.lemmas.Bool.Decides.{nat_tests}
+use Rattle.std.proofs.lemmas.List.{length-reverse, reverse-append, set-get_or}
+use Rattle.ink_model.specs.Bases.{BaseFirst}
+use Rattle.ink_model.specs.Frames.{FrameOf, ThreadOf, ThreadsOf, is_function, unnumbered_frame}
+use Rattle.ink_model.specs.Threads.{changed, doubled, stale, stale_run, thread_count, top_result, with_row_in}
+use Rattle.ink_model.specs.declared.fault.Fault.{Fault}
+use Rattle.ink_model.specs.declared.frame.FrameKind.{FrameKind}
+use Rattle.ink_model.specs.declared.frame.FrameKind.TheVariants.{Base}
+use Rattle.ink_model.specs.declared.limits.TheConstants.{MAX_THREADS}
+use Rattle.ink_model.specs.declared.value.Value.{Value}
+use Rattle.ink_stack.specs.Calls.{frame_kind}
+use Rattle.ink_stack.specs.Words.{Changes, Grows}
+use Rattle.ink_stack.specs.declared.frame.CallKind.{CallKind}
+use Rattle.ink_stack.specs.declared.frame.CallKind.TheVariants as call
+use Rattle.ink_stack.proofs.Numbers.{changed_is}
+
+fewer : (m n : ℕ) → m < n → nat_lt m n ≡ true
+fewer m n h = grind (arith, nat_tests)
+
+pub call_is : (k : CallKind) → frame_kind k ≢ Base
+call_is call.Function e = absurd cc
+call_is call.Tunnel e = absurd cc
+
+module _ {P : Type 0} where
+  -- a frame of the same kind is on top
+  pub base_same : (k j : FrameKind) (fs : List (FrameOf P)) → j ≡ k → BaseFirst k fs → BaseFirst j fs
+  base_same k j fs e h = subst (λ i. BaseFirst i fs) (sym e) h
+
+  -- the last one in a list is the nearest
+  pub base_pushed : (k : CallKind) (j : FrameKind) (fs : List (FrameOf P)) (f : FrameOf P) → j ≡ frame_kind k → BaseFirst f.kind (reverse fs) → BaseFirst j (reverse (fs ++ f ∷ []))
+  base_pushed k j fs f e h = subst (λ gs. BaseFirst j gs) (sym (reverse-append fs (f ∷ []))) (base_same (frame_kind k) j (f ∷ reverse fs) e (call_is k, h))
+
+  pub base_popped : (k : FrameKind) (fs : List (FrameOf P)) (f : FrameOf P) → BaseFirst k (reverse (fs ++ f ∷ [])) → BaseFirst f.kind (reverse fs)
+  base_popped k fs f h = (subst (λ gs. BaseFirst k gs) (reverse-append fs (f ∷ [])) h).1
+
+  pub stale_kind : (d : ℕ) (f : FrameOf P) → (stale d f).kind ≡ f.kind
+  stale_kind d f = elim (nat_eq f.depth d) as (λ b. (if b then record f { fresh = false } else f).kind ≡ f.kind) [
+    | true ↦ refl
+    | false ↦ refl
+  ]
+
+  pub base_stale : (d : ℕ) (k : FrameKind) (fs : List (FrameOf P)) → BaseFirst k fs → BaseFirst k (stale_run d fs)
+  base_stale d k [] h = h
+  base_stale d k (f ∷ fs) h = elim (is_function f.kind) as (λ b. BaseFirst k (if b then stale d f ∷ stale_run d fs else f ∷ fs)) [
+    | true ↦ (h.0, base_same f.kind (stale d f).kind (stale_run d fs) (stale_kind d f) (base_stale d f.kind fs h.1))
+    | false ↦ h
+  ]
+
+  pub base_unnumbered : (k : FrameKind) (fs : List (FrameOf P)) → BaseFirst k fs → BaseFirst k (map unnumbered_frame fs)
+  base_unnumbered k [] h = h
+  base_unnumbered k (f ∷ fs) h = (h.0, base_unnumbered f.kind fs h.1)
+
+  base_changed : (name : List ℕ) (v : Value) (n : ℕ) (k : FrameKind) (fs : List (FrameOf P)) → BaseFirst k fs → BaseFirst k (changed (with_row_in name v) n fs)
+  base_changed name v n k [] h = h
+  base_changed name v n k (f ∷ fs) h =
+      elim (nat_eq n (length fs + 1)) as (λ b. BaseFirst k (if b then with_row_in name v f ∷ fs else f ∷ changed (with_row_in name v) n fs)) [
+        | true ↦ h
+        | false ↦ (h.0, base_changed name v n f.kind fs h.1)
+      ]
+
+  module _ {E : Type 0} (r : Result Unit E) (name : List ℕ) (v : Value) where
+    -- after a call that gives a frame a temporary
+    pub kind_along : (f g : FrameOf P) → OnOk r (g ≡ with_row_in name v f) → OnErr r (g ≡ f) → g.kind ≡ f.kind
+    kind_along f g ok err = by r ok err
+      where
+        by : (r : Result Unit E) → OnOk r (g ≡ with_row_in name v f) → OnErr r (g ≡ f) → g.kind ≡ f.kind
+        by (Ok u) made kept = ap (λ h. h.kind) made
+        by (Err e) made kept = ap (λ h. h.kind) kept
+
+    -- the same of one below the top frame
+    pub base_along : (k : FrameKind) (fs : List (FrameOf P)) (n : ℕ) (d g : FrameOf P) → 0 < n → n ≤ length fs
+        → OnOk r (g ≡ with_row_in name v (get_or fs (n - 1) d)) → OnErr r (g ≡ get_or fs (n - 1) d)
+        → BaseFirst k (reverse fs) → BaseFirst k (reverse (set fs (n - 1) g))
+    base_along k fs n d g above within ok err h = by r ok err
+      where
+        by : (r : Result Unit E) → OnOk r (g ≡ with_row_in name v (get_or fs (n - 1) d)) → OnErr r (g ≡ get_or fs (n - 1) d) → BaseFirst k (reverse (set fs (n - 1) g))
+        by (Ok u) made kept =
+            subst (λ gs. BaseFirst k gs) (sym (ap (λ x. reverse (set fs (n - 1) x)) made ∙ changed_is (with_row_in name v) fs n d above within))
+            (base_changed name v n k (reverse fs) h)
+        by (Err e) made kept =
+            subst (λ gs. BaseFirst k gs) (sym (ap (λ x. reverse (set fs (n - 1) x)) kept ∙ ap reverse (set-get_or fs (n - 1) d))) h
+
+  -- a copy is put on top where there are fewer threads
+  pub doubled_there : (ts : ThreadsOf P) → thread_count ts < MAX_THREADS → doubled ts ≡ Ok (record ts { below = ts.thread ∷ ts.below })
+  doubled_there ts few = rw (fewer (thread_count ts) MAX_THREADS few) refl
+
+  -- what becomes of the top thread becomes of the threads
+  pub top_changes : {U : Type 0} (r : Result (ThreadOf P) Fault) (ts : ThreadsOf P) (new : ThreadOf P) (x : Result U Fault) → Changes r ts.thread new x
+      → Changes (top_result r ts) ts (record ts { thread = new }) x
+  top_changes (Ok t) ts new (Ok u) h = ap (λ t. record ts { thread = t }) h
+  top_changes (Err g) ts new (Err f) h = (h.0, ap (λ t. record ts { thread = t }) h.1)
+  top_changes r ts new x h = absurd h
+
+  pub top_grows : {U : Type 0} (r : Result (ThreadOf P) Fault) (ts : ThreadsOf P) (new : ThreadOf P) (x : Result U Fault) → Grows r ts.thread new x
+      → Grows (top_result r ts) ts (record ts { thread = new }) x
+  top_grows (Ok t) ts new (Ok u) h = ap (λ t. record ts { thread = t }) h
+  top_grows (Ok t) ts new (Err f) h = (h.0, ap (λ t. record ts { thread = t }) h.1)
+  top_grows (Err g) ts new (Err f) h = (h.0, ap (λ t. record ts { thread = t }) h.1)
+  top_grows r ts new x h = absurd h
