@@ -241,7 +241,7 @@ a_name_twice : names_once ((codes "x", value.Void) ∷ (codes "y", value.Void) �
 a_name_twice = refl
 
 -- a thread without a base, and one with the base on top
-no_base : BaseFirst Function [] ≡ (Function ≡ Base)
+no_base : BaseFirst {P = List Part} Function [] ≡ (Function ≡ Base)
 no_base = refl
 
 -- flow that has stopped has one thread
