@@ -9,10 +9,12 @@ use Rattle.ink_model.specs.State.{State}
 use Rattle.ink_model.specs.Host.{Bindings}
 use Rattle.ink_model.specs.declared.host.Event.{Event}
 use Rattle.ink_host.specs.Desk.{DeskView}
+use Rattle.ink_host.specs.Telling.{Watching}
+use Rattle.ink_host.specs.declared.objects.Called.{Called}
 use Rattle.ink_protocol.specs.Buffered.{Buffered}
 use Rattle.ink_protocol.specs.Input.{Takes}
 use Rattle.ink_protocol.specs.Lines.{TakesLine, GivesLine}
-use Rattle.ink_player.specs.Playing.{IsStoryLine, PlaysOn, EndsEarly, PlayFails, PlayEnds, Plays, play_fault, OpenFails, Opens}
+use Rattle.ink_player.specs.Playing.{IsStoryLine, PlaysOn, EndsEarly, PlayFails, PlayEnds, Plays, play_fault, DealtBy, DealtFor, OpenFails, Opens}
 use Rattle.ink_player.specs.Serving.{RunEnds, Runs}
 use Rattle.ink_protocol.specs.Spelled.{HasRoom}
 use Rattle.ink_player.specs.Words.{PlayerView, state_of, story_of}
@@ -62,6 +64,29 @@ all_is a b o n line t = record {
   within = t.1;
   whole = inr (ap (λ l. line ++ l) t.2 ∙ append-nil line, refl, t.3);
 }
+
+-- ---- the desk, where no player was opened
+
+module _ {P F O : Type 0} (turn_log : F → List Called) (state : O → Watching) where
+  left_for : (a b : Option (List ℕ)) (o n : Buffered) (f : RunFault) (d : DeskView P F O) → GivesLine a b o n MAX_STORY (Err f)
+      → DealtFor turn_log state d [] (play_fault f) d
+  left_for a b o n fault.Read d g = inl (refl, (refl, refl))
+  left_for a b o n fault.Write d g = absurd g
+  left_for a b o n fault.TooLong d g = (refl, refl)
+  left_for a b o n fault.OutOfMemory d g = (refl, refl)
+
+  pub left_alone : (a b : Option (List ℕ)) (o n : Buffered) (f : RunFault) (pf : PlayFault) (d : DeskView P F O)
+      → GivesLine a b o n MAX_STORY (Err f) → pf ≡ play_fault f → DealtFor turn_log state d [] pf d
+  left_alone a b o n f pf d g k = subst (λ x. DealtFor turn_log state d [] x d) (sym k) (left_for a b o n f d g)
+
+  left_by : (line : List ℕ) (d e : DeskView P F O) (f : PlayFault) → OpenFails line f → e ≡ d → DealtFor turn_log state d [] f e
+  left_by line d e (play.Story r) p same = (same, refl)
+  left_by line d e (play.Start f) p same = (same, refl)
+  left_by line d e (play.Run f) p same = absurd p
+
+  pub left_unopened : (line : List ℕ) (d : DeskView P F O) (x : PlayEnd P F O) → Opens line (Err x) → x.desk ≡ d
+      → DealtBy turn_log state d [] (Err x)
+  left_unopened line d x p same = left_by line d x.desk x.fault p same
 
 module _ {P F O : Type 0} (host : Bindings) where
   -- ---- ends before a session

@@ -12,6 +12,8 @@ use Rattle.ink_model.specs.State.{State}
 use Rattle.ink_model.specs.Host.{Bindings}
 use Rattle.ink_model.specs.declared.host.Event.{Event}
 use Rattle.ink_host.specs.Desk.{DeskView}
+use Rattle.ink_host.specs.Telling.{Watching}
+use Rattle.ink_host.specs.declared.objects.Called.{Called}
 use Rattle.ink_model.specs.Store.{Values}
 use Rattle.ink_model.specs.Tree.{StoryTree}
 use Rattle.ink_model.specs.declared.fault.Cause.TheVariants as cause
@@ -20,7 +22,7 @@ use Rattle.ink_model.specs.declared.fault.ReadRefusal.{ReadRefusal}
 use Rattle.ink_player.specs.Serving.{RunEnds}
 use Rattle.ink_protocol.specs.Spelled.{HasRoom}
 use Rattle.ink_step.specs.Steps.{FailsToOpen}
-use Rattle.ink_player.specs.Words.{PlayerView, anew, desk_of, state_of, story_of}
+use Rattle.ink_player.specs.Words.{DealtAnew, PlayerView, anew, desk_of, state_of, story_of}
 use Rattle.ink_player.specs.declared.end.PlayEnd.{PlayEnd}
 use Rattle.ink_player.specs.declared.end.PlayFault.{PlayFault}
 use Rattle.ink_player.specs.declared.end.PlayFault.TheVariants as play
@@ -121,3 +123,18 @@ module _ {P F O : Type 0} where
   abbrev pub OpensDesk : DeskView P F O → Result (PlayerView P F O) (PlayEnd P F O) → Type 0
   OpensDesk desk (Ok p) = desk_of p ≡ anew desk
   OpensDesk desk (Err e) = e.desk ≡ desk
+
+  -- no player was opened: nothing happened, and the desk is as it was
+  abbrev pub LeftAlone : DeskView P F O → List Event → DeskView P F O → Type 0
+  LeftAlone old es new = (new ≡ old) × (es ≡ [])
+
+  -- What happened to a desk by how a play ended: a story that is refused or cannot be opened leaves it alone, and so does a reader
+  -- that fails within the story; else a player had it.
+  abbrev pub DealtFor : (F → List Called) → (O → Watching) → DeskView P F O → List Event → PlayFault → DeskView P F O → Type 0
+  DealtFor turn_log state old es (play.Story r) new = LeftAlone old es new
+  DealtFor turn_log state old es (play.Start f) new = LeftAlone old es new
+  DealtFor turn_log state old es (play.Run f) new = ((f ≡ fault.Read) × LeftAlone old es new) ⊎ DealtAnew turn_log state old es new
+
+  abbrev pub DealtBy : (F → List Called) → (O → Watching) → DeskView P F O → List Event → Result (DeskView P F O) (PlayEnd P F O) → Type 0
+  DealtBy turn_log state old es (Ok desk) = DealtAnew turn_log state old es desk
+  DealtBy turn_log state old es (Err e) = DealtFor turn_log state old es e.fault e.desk

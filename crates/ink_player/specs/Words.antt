@@ -70,9 +70,9 @@ module _ {P F O : Type 0} where
   Dealt turn_log state old es new = Grew turn_log (log_of state) old es (record new { events = old.events ++ es })
       × ((rs : List Round) × AreRounds state rs old.watchers new.watchers)
 
-  -- The same of the desk with which a player was opened, on which no event is left; or none was opened, and it is as it was.
+  -- The same of the desk with which a player was opened, on which no event is left.
   abbrev pub DealtAnew : (F → List Called) → (O → Watching) → DeskView P F O → List Event → DeskView P F O → Type 0
-  DealtAnew turn_log state old es new = ((new ≡ old) × (es ≡ [])) ⊎ ((new.events ≡ []) × Dealt turn_log state (anew old) es new)
+  DealtAnew turn_log state old es new = (new.events ≡ []) × Dealt turn_log state (anew old) es new
 
   -- what is told where globals were those of a state, and are these now
   abbrev pub told_from : DeskView P F O → State → Values → List Change

@@ -20,8 +20,7 @@ invariant_of-self g c =
     let items : c.clear_numbers_of.new.frames ≡ map unnumbered_frame old =
     c.clear_numbers_of.ensures ∙ ap (map unnumbered_frame) c.as_mut_slice.ensures.value in
     let kept : length c.clear_numbers_of.new.frames ≡ vec_len c.self.inside.below = c.clear_numbers_of.auto.frames ∙ c.as_mut_slice.ensures.len in
-    rw (with_items_is c.self.inside.below c.clear_numbers_of.new.frames kept, items)
-    (
+    rw (with_items_is c.self.inside.below c.clear_numbers_of.new.frames kept, items) (
       rw length-map c.self.invariant.0,
       λ quiet. rw (← map-reverse unnumbered_frame old, quiet_unnumbered (reverse old)) (c.self.invariant.1 quiet),
       subst (λ fs. BaseFirst c.set_number.new.self.kind fs) (map-reverse unnumbered_frame old)
