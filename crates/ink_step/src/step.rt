@@ -80,7 +80,7 @@ impl Machine {
         }
     }
 
-    /// The same of a step that may call; answers whether flow went on.
+    /// The same of a step that is not quiet; answers whether flow went on.
     #[inline(always)]
     pub(crate) fn forward<P: PureFn, T: TurnFn, W: Watcher>(
         &mut self,
