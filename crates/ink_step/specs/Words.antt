@@ -60,6 +60,6 @@ seen_by s threads rest = record {
 abbrev pub globals_of : Machine → Values
 globals_of m = m.shared.globals.rows
 
--- the globals as they were when changes of them were counted from
+-- the globals as they were at the moment that was begun last
 abbrev pub start_of : Machine → Values
 start_of m = m.shared.globals.start
