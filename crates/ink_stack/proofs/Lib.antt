@@ -5,3 +5,4 @@ pub mod Quietness
 pub mod Rows
 pub mod Rises
 pub mod Numbers
+pub mod Rising

@@ -2,3 +2,4 @@ pub mod Threads
 pub mod Words
 pub mod Quiet
 pub mod Rows
+pub mod Saving

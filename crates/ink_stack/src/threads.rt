@@ -14,9 +14,9 @@ use std::marker::Model;
 /// Where flow is: threads, of which there is always one on top. A contract sees those below it with the nearest first.
 #[derive(Drop)]
 pub struct Threads<P> {
-    thread: Thread<P>,
-    below: Vec<Thread<P>>,
-    alloc: Global,
+    pub(crate) thread: Thread<P>,
+    pub(crate) below: Vec<Thread<P>>,
+    pub(crate) alloc: Global,
 }
 
 impl<P> Model for Threads<P> {
