@@ -16,8 +16,8 @@ use std::marker::Model;
 /// contract sees two lists of rows, which rise by number.
 #[derive(Drop)]
 pub struct Counts {
-    visits: Vec<Option<u32>>,
-    turns: Vec<Option<u32>>,
+    pub(crate) visits: Vec<Option<u32>>,
+    pub(crate) turns: Vec<Option<u32>>,
 }
 
 impl Model for Counts {
@@ -34,8 +34,8 @@ impl Model for Counts {
 /// What counts say of one container: how often it was visited, and in which turn last.
 #[derive(Drop)]
 pub struct Noted {
-    visits: Option<u32>,
-    turn: Option<u32>,
+    pub(crate) visits: Option<u32>,
+    pub(crate) turn: Option<u32>,
 }
 
 impl Model for Noted {
