@@ -1,1 +1,5 @@
 pub mod Lists
+pub mod Making
+pub mod Standing
+pub mod Arrays
+pub mod Leading

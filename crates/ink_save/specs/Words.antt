@@ -1,7 +1,9 @@
 -- Words for what readers read.
-use Rattle.std.specs.Prelude.{◌≡◌, ℕ, List, Option, Some, None, option_and_then}
+use Rattle.std.specs.Prelude.{◌≡◌, ℕ, List, [], ◌∷◌, Option, Some, None, option_and_then}
 use Rattle.std.specs.Option.{option_map, option_or}
-use Rattle.serde_json.specs.Data.{Data, Items, no_items, item, Members}
+use Rattle.serde_json.specs.Data.{Data, Items, no_items, item, Members, put}
+use Rattle.ink_model.specs.Store.{Values}
+use Rattle.ink_model.specs.ValueJson.{value_data}
 use Rattle.ink_model.specs.Path.{path_text, read_path}
 use Rattle.ink_model.specs.declared.place.Path.{Path}
 use Rattle.ink_model.specs.declared.value.Value.{Value}
@@ -40,3 +42,8 @@ two_in (item d (item e (item h ds))) = None
 -- what they spell
 abbrev pub pair_by : {A B : Type 0} → (Data → Option A) → (Data → Option B) → Option (Data × Data) → Option (A × B)
 pair_by f g two = option_and_then (λ (p : Data × Data). option_and_then (λ x. option_map (λ y. (x, y)) (g p.1)) (f p.0)) two
+
+-- rows are put one by one
+abbrev pub put_all : Members → Values → Members
+put_all ms [] = ms
+put_all ms (r ∷ rs) = put_all (put r.0 (value_data r.1) ms) rs

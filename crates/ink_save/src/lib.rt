@@ -1,10 +1,16 @@
 //! Saves: machines as JSON values, and back (docs/SAVES.md).
 #![tactic(auto)]
 
+mod building;
 mod choice;
+mod choices;
+mod fitting;
 mod frame;
+mod frames;
+mod framing;
 mod listed;
 mod members;
+mod offering;
 mod pair;
 mod place;
 mod plain;
@@ -13,7 +19,10 @@ mod spelled;
 mod temps;
 mod thread;
 mod value;
+mod writing;
+mod written;
 
+pub use building::Built;
 pub use choice::SavedChoice;
 pub use frame::SavedFrame;
 pub use listed::Listed;
@@ -22,3 +31,4 @@ pub use spelled::Spelled;
 pub use temps::SavedTemps;
 pub use thread::{SavedThread, SavedThreads};
 pub use value::SavedValue;
+pub use written::Written;

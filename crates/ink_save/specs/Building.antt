@@ -1,0 +1,20 @@
+-- What is made of what a save spells.
+use Rattle.std.specs.Prelude.{◌≡◌, Option, Some, None}
+use Rattle.ink_model.specs.Frames.{FrameOf, ThreadOf}
+use Rattle.ink_model.specs.Tree.{StoryTree}
+use Rattle.ink_model.specs.declared.place.Part.{Part}
+use Rattle.std.specs.Prelude.{List}
+use Rattle.ink_sound.specs.Save.Sound.{AnyPlace, FrameFits, ThreadFits}
+
+-- what is made stands for it in the story, and it fits; where nothing is made it does not
+abbrev pub Builds : {A B : Type 0} → (A → B) → (B → Type 0) → B → Option A → Type 0
+Builds in_story fits b None = fits b → ⊥
+Builds in_story fits b (Some a) = (in_story a ≡ b) × fits b
+
+-- a frame at a place of the story, or at none
+abbrev pub FrameBuilds : StoryTree → FrameOf (List Part) → Type 0
+FrameBuilds s f = FrameFits s f × AnyPlace s f.place
+
+-- a thread whose top frame is at one, or at none
+abbrev pub ThreadBuilds : StoryTree → ThreadOf (List Part) → Type 0
+ThreadBuilds s t = ThreadFits s t × AnyPlace s t.frame.place
