@@ -3,3 +3,4 @@ pub mod Making
 pub mod Standing
 pub mod Arrays
 pub mod Leading
+pub mod Gathering

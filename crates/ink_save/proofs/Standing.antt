@@ -125,28 +125,28 @@ each_after : {A : Type 0} (P : A → Type 0) (xs ys : List A) → AllByRecursion
 each_after P [] ys h k = k
 each_after P (x ∷ xs) ys h k = (h.0, each_after P xs ys h.1 k)
 
-each_reverse : {A : Type 0} (P : A → Type 0) (xs : List A) → AllByRecursion P xs → AllByRecursion P (reverse xs)
+pub each_reverse : {A : Type 0} (P : A → Type 0) (xs : List A) → AllByRecursion P xs → AllByRecursion P (reverse xs)
 each_reverse P [] h = tt
 each_reverse P (x ∷ xs) h = subst (λ ys. AllByRecursion P ys) (sym (reverse-append (x ∷ []) xs)) (each_after P (reverse xs) (x ∷ []) (each_reverse P xs h.1) (h.0, tt))
 
-each_reversed : {A : Type 0} (P : A → Type 0) (xs : List A) → AllByRecursion P (reverse xs) → AllByRecursion P xs
+pub each_reversed : {A : Type 0} (P : A → Type 0) (xs : List A) → AllByRecursion P (reverse xs) → AllByRecursion P xs
 each_reversed P xs h = subst (λ ys. AllByRecursion P ys) (reverse-reverse xs) (each_reverse P (reverse xs) h)
 
 -- ---- frames that stand
 
-both : (x y : Bool) → (x && y) ≡ true → (x ≡ true) × (y ≡ true)
+pub both : (x y : Bool) → (x && y) ≡ true → (x ≡ true) × (y ≡ true)
 both true y h = (refl, h)
 both false y h = absurd cc
 
-some_mapped : {A B : Type 0} (f : A → B) (o : Option A) → is_some (option_map f o) ≡ is_some o
+pub some_mapped : {A B : Type 0} (f : A → B) (o : Option A) → is_some (option_map f o) ≡ is_some o
 some_mapped f None = refl
 some_mapped f (Some a) = refl
 
-some_place : (s : StoryTree) (o : Option (List Part)) → AnyPlace s o → is_some o ≡ true → SomePlace s o
+pub some_place : (s : StoryTree) (o : Option (List Part)) → AnyPlace s o → is_some o ≡ true → SomePlace s o
 some_place s None h e = absurd cc
 some_place s (Some p) h e = h
 
-any_place : (s : StoryTree) (o : Option (List Part)) → SomePlace s o → AnyPlace s o × (is_some o ≡ true)
+pub any_place : (s : StoryTree) (o : Option (List Part)) → SomePlace s o → AnyPlace s o × (is_some o ≡ true)
 any_place s None h = absurd h
 any_place s (Some p) h = (h, refl)
 
@@ -193,13 +193,13 @@ based_mapped m k (f ∷ fs) = ap (λ b. is_call k && b) (based_mapped m f.kind f
 
 -- ---- threads
 
-within : (n m : ℕ) → nat_le n m ≡ true → n ≤ m
+pub within : (n m : ℕ) → nat_le n m ≡ true → n ≤ m
 within n m h = grind (arith, nat_tests)
 
-is_within : (n m : ℕ) → n ≤ m → nat_le n m ≡ true
+pub is_within : (n m : ℕ) → n ≤ m → nat_le n m ≡ true
 is_within n m h = grind (arith, nat_tests)
 
-long : {P Q : Type 0} (m : P → Q) (below : List P) (top : P) → length (below ++ top ∷ []) ≡ length (reverse (map m below)) + 1
+pub long : {P Q : Type 0} (m : P → Q) (below : List P) (top : P) → length (below ++ top ∷ []) ≡ length (reverse (map m below)) + 1
 long m below top = length-append below (top ∷ []) ∙ ap (λ n. n + 1) (sym (length-reverse (map m below) ∙ length-map below m))
 
 module _ (s : StoryTree) (frame : FrameOf Spot) (below : List (FrameOf Spot)) (previous : Option Spot) where
