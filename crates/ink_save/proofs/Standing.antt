@@ -19,7 +19,7 @@ use Rattle.ink_stack.specs.Saving.{base_first, is_call, thread_from, thread_with
 use Rattle.ink_tree.specs.Nodes.{place_of}
 use Rattle.ink_tree.specs.declared.spot.Spot.{Spot}
 
-same_list : {A : Type 0} → (xs : List A) → map (λ x. x) xs ≡ xs
+pub same_list : {A : Type 0} → (xs : List A) → map (λ x. x) xs ≡ xs
 same_list [] = refl
 same_list (x ∷ xs) = ap (λ ys. x ∷ ys) (same_list xs)
 

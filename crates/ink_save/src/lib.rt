@@ -18,6 +18,7 @@ mod saved;
 mod spelled;
 mod temps;
 mod thread;
+mod threading;
 mod value;
 mod writing;
 mod written;
