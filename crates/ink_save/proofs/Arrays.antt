@@ -1,7 +1,9 @@
 -- Arrays of what is written, and objects of rows.
-use Rattle.std.proofs.Common.{◌≡◌, ◌∙◌, sym, ap, refl, ℕ, Bool, true, false, ◌&&◌, List, [], ◌∷◌, ◌++◌, map, reverse, Ordering, Less, Equal, Greater, is_lt}
+use Rattle.std.proofs.Common.{◌≡◌, ◌∙◌, sym, ap, refl, ℕ, Bool, true, false, ◌&&◌, List, [], ◌∷◌, ◌++◌, map, reverse, ◌+◌, slice_get, take, Option, Some, None, inl, inr, Ordering, Less, Equal, Greater, is_lt}
 use Rattle.std.proofs.lemmas.Cmp.{nat_list_cmp_total}
 use Rattle.std.proofs.lemmas.List.{append_assoc, map-append, reverse-append, reverse-reverse}
+use Rattle.std.proofs.lemmas.List.{take_all, take_more}
+use Rattle.std.proofs.lemmas.Option.{get_or_from_slice_get, slice_get_cases, slice_get_within}
 use Rattle.std.specs.List.{AllByRecursion}
 use Rattle.std.specs.Ordering.{ordering_reverse}
 use Rattle.serde_json.specs.Data.{Data, array, item, member, no_members, put}
@@ -33,6 +35,25 @@ module _ {A : Type 0} (f : A → Data) where
       listed (below ++ top ∷ []) (made ++ last ∷ [])
       (map-append view made (last ∷ []) ∙ ap (λ ds. ds ++ view last ∷ []) e ∙ ap (λ d. map f below ++ d ∷ []) h ∙ sym (map-append f below (top ∷ [])))
       ∙ ap (list_data f) (sym (reverse-append (top ∷ []) (reverse below) ∙ ap (λ xs. xs ++ top ∷ []) (reverse-reverse below)))
+
+-- one row more
+pub row_more : {A : Type 0} → (f : A → Data) (xs : List A) (i : ℕ) (e : A) (made : List Value) (last : Value) → slice_get xs i ≡ Some e → view last ≡ f e
+    → map view made ≡ map f (take i xs) → map view (made ++ last ∷ []) ≡ map f (take (i + 1) xs)
+row_more f xs i e made last there is h =
+    map-append view made (last ∷ []) ∙ ap (λ ds. ds ++ view last ∷ []) h ∙ ap (λ d. map f (take i xs) ++ d ∷ []) is
+    ∙ sym (ap (map f) (take_more xs i e (slice_get_within xs i e there) ∙ ap (λ x. take i xs ++ x ∷ []) (get_or_from_slice_get xs i e e there))
+    ∙ map-append f (take i xs) (e ∷ []))
+
+-- past the last row
+pub row_last : {A : Type 0} → (f : A → Data) (xs : List A) (i : ℕ) (made : List Value) → slice_get xs i ≡ None
+    → map view made ≡ map f (take i xs) → map view made ≡ map f xs
+row_last f xs i made none h = elim (slice_get_cases xs i).1 [
+  | inl c ↦ absurd (differ (slice_get xs i) c.0 none c.2)
+  | inr c ↦ h ∙ ap (map f) (take_all i xs c.0)
+]
+  where
+    differ : {B : Type 0} (o : Option B) (b : B) → o ≡ None → o ≡ Some b → ⊥
+    differ o b e k = cc
 
 maps_join : {A B C : Type 0} → (g : B → C) (f : A → B) (xs : List A) → map (λ x. g (f x)) xs ≡ map g (map f xs)
 maps_join g f [] = refl

@@ -4,3 +4,4 @@ pub mod Standing
 pub mod Arrays
 pub mod Leading
 pub mod Gathering
+pub mod Limits

@@ -4,10 +4,12 @@
 mod building;
 mod choice;
 mod choices;
+mod collecting;
 mod fitting;
 mod frame;
 mod frames;
 mod framing;
+mod globals;
 mod listed;
 mod members;
 mod offering;
@@ -25,7 +27,9 @@ mod written;
 
 pub use building::Built;
 pub use choice::SavedChoice;
+pub use collecting::{build_choices, build_globals, build_stack};
 pub use frame::SavedFrame;
+pub use globals::write_globals;
 pub use listed::Listed;
 pub use saved::{Saved, read_saved};
 pub use spelled::Spelled;
