@@ -2,4 +2,5 @@
 pub mod Spelling
 pub mod Sound
 pub mod Reads
+pub mod ReadValue
 pub mod Unspelled

@@ -1,0 +1,211 @@
+-- What an effect that fits makes of a sound configuration is sound.
+use Rattle.std.proofs.Common.{◌≡◌, ap, refl, arith, ℕ, suc, lit≤, List, [], ◌∷◌, length, Bool, true, false, ◌||◌, nat_eq, if◌then◌else◌, Option, Some, None}
+use Rattle.std.proofs.lemmas.Bool.{cond_both}
+use Rattle.std.specs.List.{AllByRecursion as Each}
+use Rattle.ink_model.specs.Configuration.{ChoiceOf, Configuration, ended, with_choices, with_safe}
+use Rattle.ink_model.specs.Effect.{Effect, Fields, Moves, Stores, Offers, Lands, Calls, Returns, Forks, Done, Ends, Asks, Fails, context_of, fields_of, with_fields, with_mode, with_staleness, with_thread}
+use Rattle.ink_model.specs.Flow.{Written, Reached, Reaches, Halts, Breaks, is_last, moved_on}
+use Rattle.ink_model.specs.Frames.{FrameOf, ThreadOf, ThreadsOf, base_threads, is_function, place_in}
+use Rattle.ink_model.specs.Move.{end_all, landed_in, may_enter, move, place_to, reached_in, with_flow, written_in}
+use Rattle.ink_model.specs.Output.{is_line}
+use Rattle.ink_model.specs.Place.{next_place}
+use Rattle.ink_model.specs.Threads.{stale, stale_run, staled}
+use Rattle.ink_model.specs.Tree.{StoryTree}
+use Rattle.ink_model.specs.Visits.{around, entering}
+use Rattle.ink_model.specs.declared.fault.Fault.TheVariants.{StopInString}
+use Rattle.ink_model.specs.declared.frame.FrameKind.{FrameKind}
+use Rattle.ink_model.specs.declared.place.Part.{Part}
+use Rattle.ink_sound.specs.Kept.{ContextFits, EffectFits, FieldsFit, OutcomeFits, ReachedFits, Runs, WrittenFits}
+use Rattle.ink_sound.specs.Save.Sound.{BaseFirst, ChoicesFit, FrameFits, FrameStands, SomePlace, Sound, ThreadFits, ThreadStands, ThreadsFit}
+use Rattle.ink_sound.proofs.Counts.{all_visited_fits}
+use Rattle.ink_sound.proofs.Flows.{ThreadsStand, called_fits, done_fits, forked_fits, moved_fits, reach_stands, returned_fits, stand_of, top_fits, any_of}
+
+module _ (s : StoryTree) where
+  -- ---- freshness and mode
+
+  stale_stands : (d : ℕ) (f : FrameOf (List Part)) → FrameFits s f → FrameFits s (stale d f)
+  stale_stands d f h = cond_both (nat_eq f.depth d) _ _ (FrameFits s) (λ _. h) (λ _. h)
+
+  stale_placed : (d : ℕ) (f : FrameOf (List Part)) → SomePlace s f.place → SomePlace s (stale d f).place
+  stale_placed d f h = by (nat_eq f.depth d)
+    where
+      by : (b : Bool) → SomePlace s (if b then record f { fresh = false } else f).place
+      by true = h
+      by false = h
+
+  -- frames below of which some are no longer fresh
+  record RunFits (k : FrameKind) (old new : List (FrameOf (List Part))) : Type 0 where
+    each : Each (FrameStands s) new
+    base : BaseFirst k new
+    as_many : length new ≡ length old
+
+  kind_kept : (d : ℕ) (f : FrameOf (List Part)) (fs : List (FrameOf (List Part))) → BaseFirst f.kind fs → BaseFirst (stale d f).kind fs
+  kind_kept d f fs h = by (nat_eq f.depth d)
+    where
+      by : (b : Bool) → BaseFirst (if b then record f { fresh = false } else f).kind fs
+      by true = h
+      by false = h
+
+  run_fits : (d : ℕ) (k : FrameKind) (fs : List (FrameOf (List Part))) → Each (FrameStands s) fs → BaseFirst k fs → RunFits k fs (stale_run d fs)
+  run_fits d k [] h b = record { each = tt; base = b; as_many = refl }
+  run_fits d k (f ∷ fs) h b = by (is_function f.kind) (run_fits d f.kind fs h.1 b.1)
+    where
+      by : (o : Bool) → RunFits f.kind fs (stale_run d fs) → RunFits k (f ∷ fs) (if o then stale d f ∷ stale_run d fs else f ∷ fs)
+      by true on = record {
+        each = ((stale_stands d f h.0.0, stale_placed d f h.0.1), on.each);
+        base = (b.0, kind_kept d f (stale_run d fs) on.base);
+        as_many = ap suc on.as_many;
+      }
+      by false on = record { each = h; base = b; as_many = refl }
+
+  staled_fits : (d : ℕ) (t : ThreadOf (List Part)) → ThreadStands s t → ThreadStands s (staled d t)
+  staled_fits d t h =
+      let r = run_fits d t.frame.kind t.below h.thread.below h.thread.base in
+      record {
+        thread = record {
+          frame = stale_stands d t.frame h.thread.frame;
+          below = r.each;
+          base = kind_kept d t.frame (stale_run d t.below) r.base;
+          few = omega (arith, r.as_many, h.thread.few);
+          previous = h.thread.previous;
+        };
+        place = stale_placed d t.frame h.place;
+      }
+
+  -- ---- fields
+
+  pub threads_of : (c : Configuration) → Runs s c → ThreadsStand s c.flow.threads
+  threads_of c h = stand_of s c.flow.threads h.0.flow.threads h.1
+
+  -- the same with other threads at a place
+  with_top : (c : Configuration) (t : ThreadOf (List Part)) → Runs s c → ThreadStands s t → Runs s (with_thread t c)
+  with_top c t h k = (
+    record {
+      flow = record { threads = top_fits s t c.flow.threads.below k h.0.flow.threads.below h.0.flow.threads.few; stack = h.0.flow.stack; choices = h.0.flow.choices };
+      shared = h.0.shared;
+      page = h.0.page;
+    },
+    k.place,
+  )
+
+  mode_runs : (b : Bool) (c : Configuration) → Runs s c → Runs s (with_mode b c)
+  mode_runs b c h = with_top c _ h (record { thread = record { frame = t.frame; below = t.below; base = t.base; few = t.few; previous = t.previous }; place = h.1 })
+    where
+      t : ThreadFits s c.flow.threads.thread
+      t = h.0.flow.threads.thread
+
+  staleness_runs : (o : Option ℕ) (c : Configuration) → Runs s c → Runs s (with_staleness o c)
+  staleness_runs None c h = h
+  staleness_runs (Some d) c h = with_top c _ h (staled_fits d c.flow.threads.thread (record { thread = h.0.flow.threads.thread; place = h.1 }))
+
+  pub fields_run : (f : Fields) (c : Configuration) → FieldsFit s f → Runs s c → Runs s (with_fields f c)
+  fields_run f c h k = by (with_staleness f.wrote (with_mode f.evaluating c)) (staleness_runs f.wrote (with_mode f.evaluating c) (mode_runs f.evaluating c k))
+    where
+      by : (d : Configuration) → Runs s d → Runs s (record {
+        flow = record { threads = d.flow.threads; stack = f.stack; choices = d.flow.choices; safe = d.flow.safe };
+        shared = record { globals = f.globals; counts = d.shared.counts; turn = d.shared.turn };
+        page = f.page;
+      })
+      by d x = (
+        record {
+          flow = record { threads = x.0.flow.threads; stack = h.stack; choices = x.0.flow.choices };
+          shared = record { globals = h.globals; counts = x.0.shared.counts; turn = x.0.shared.turn };
+          page = h.page;
+        },
+        x.1,
+      )
+
+  pub fields_fit : (c : Configuration) → Sound s c → FieldsFit s (fields_of c)
+  fields_fit c h = record { stack = h.flow.stack; globals = h.shared.globals; page = h.page }
+
+  pub context_fits : (c : Configuration) → Runs s c → ContextFits s (context_of c)
+  context_fits c h = record { thread = record { thread = h.0.flow.threads.thread; place = h.1 }; choices = h.0.flow.choices; counts = h.0.shared.counts; turn = h.0.shared.turn }
+
+  pub written_fits : (c : Configuration) → Sound s c → WrittenFits s (written_in c)
+  written_fits c h = record { stack = h.flow.stack; page = h.page }
+
+  -- ---- where flow went
+
+  flow_sound : (ts : ThreadsOf (List Part)) (w : Written) (c : Configuration) → Sound s c → ThreadsFit s ts → WrittenFits s w → Sound s (with_flow ts w c)
+  flow_sound ts w c h k g = record { flow = record { threads = k; stack = g.stack; choices = h.flow.choices }; shared = h.shared; page = g.page }
+
+  pub reached_fits : (c : Configuration) (r : Reached (List Part)) → Sound s c → ReachedFits s r → OutcomeFits s (reached_in c r)
+  reached_fits c (Reaches ts w) h k = (flow_sound ts w c h k.0 k.2, k.1)
+  reached_fits c (Halts ts w) h k = flow_sound ts w c h k.0 k.1
+  reached_fits c (Breaks f) h k = tt
+
+  pub entering_runs : (ps : List (List Part)) (c : Configuration) → Sound s c → Sound s (entering s ps c)
+  entering_runs ps c h = record {
+    flow = h.flow;
+    shared = record { globals = h.shared.globals; counts = all_visited_fits s c.shared.turn ps c.shared.counts h.shared.turn h.shared.counts; turn = h.shared.turn };
+    page = h.page;
+  }
+
+  landed_fits : (enters : Bool) (c : Configuration) (r : Reached (List Part)) → Sound s c → ReachedFits s r → OutcomeFits s (landed_in s enters c r)
+  landed_fits true c (Reaches ts w) h k = (entering_runs (around s ts) (with_flow ts w c) (flow_sound ts w c h k.0 k.2), k.1)
+  landed_fits true c (Halts ts w) h k = reached_fits c (Halts ts w) h k
+  landed_fits true c (Breaks f) h k = tt
+  landed_fits false c r h k = reached_fits c r h k
+
+  -- ---- effects
+
+  ended_fits : (c : Configuration) → Sound s c → ThreadsFit s (base_threads None)
+  ended_fits c h = record {
+    thread = record { frame = record { rise = refl; each = tt; depth = lit≤ tt }; below = tt; base = refl; few = lit≤ tt; previous = tt };
+    below = tt;
+    flow = tt;
+    few = lit≤ tt;
+  }
+
+  pub ended_sound : (c : Configuration) → Sound s c → Sound s (ended c)
+  ended_sound c h = record {
+    flow = record { threads = ended_fits c h; stack = h.flow.stack; choices = record { each = tt; few = lit≤ tt } };
+    shared = h.shared;
+    page = h.page;
+  }
+
+  end_fits : (c : Configuration) → Sound s c → OutcomeFits s (end_all c)
+  end_fits c h = by (is_line c.page.sections)
+    where
+      by : (b : Bool) → OutcomeFits s (reached_in (ended c) (if b then Halts (base_threads None) (written_in c) else Breaks StopInString))
+      by true = flow_sound (base_threads None) (written_in c) (ended c) (ended_sound c h) (ended_fits c h) (written_fits c h)
+      by false = tt
+
+  safe_sound : (b : Bool) (c : Configuration) → Sound s c → Sound s (with_safe b c)
+  safe_sound b c h = record { flow = record { threads = h.flow.threads; stack = h.flow.stack; choices = h.flow.choices }; shared = h.shared; page = h.page }
+
+  choices_run : (choices : List (ChoiceOf (List Part))) (c : Configuration) → ChoicesFit s choices → Runs s c → Runs s (with_choices choices c)
+  choices_run choices c k h = (record { flow = record { threads = h.0.flow.threads; stack = h.0.flow.stack; choices = k }; shared = h.0.shared; page = h.0.page }, h.1)
+
+  -- flow moves on in a configuration that runs
+  moves : (c : Configuration) → Runs s c → OutcomeFits s (reached_in c (moved_on (next_place s) c.flow.threads (written_in c)))
+  moves c h = reached_fits c _ h.0 (moved_fits s c.flow.threads (written_in c) (threads_of c h) (written_fits c h.0))
+
+  pub move_fits : (e : Effect) (c : Configuration) → EffectFits s e → Runs s c → OutcomeFits s (move s e c)
+  move_fits (Moves f) c k h = moves (with_fields f c) (fields_run f c k h)
+  move_fits (Stores t f) c k h = moves (with_fields f (with_thread t c)) (fields_run f (with_thread t c) k.1 (with_top c t h k.0))
+  move_fits (Offers choices f) c k h = moves (with_fields f (with_choices choices c)) (fields_run f (with_choices choices c) k.1 (choices_run choices c k.0 h))
+  move_fits (Lands to f) c k h =
+      let d : Configuration = with_fields f c in
+      let r : Runs s d = fields_run f c k.1 h in
+      landed_fits to.enters d _ r.0 (reach_stands s to.place d.flow.threads (written_in d) k.0 r.0.flow.threads.thread (any_of s (place_in d.flow.threads) r.1) r.0.flow.threads.below r.0.flow.threads.few (written_fits d r.0))
+  move_fits (Calls kind to f) c k h =
+      let d : Configuration = with_fields f c in
+      let r : Runs s d = fields_run f c k.2 h in
+      landed_fits to.enters d _ r.0 (called_fits s kind to.place d.flow.threads (written_in d) k.0 k.1 (threads_of d r) (written_fits d r.0))
+  move_fits (Returns kind to f) c k h =
+      let d : Configuration = with_fields f c in
+      let r : Runs s d = fields_run f c k.1 h in
+      landed_fits (may_enter to) d _ r.0 (returned_fits s kind (place_to to) d.flow.threads (written_in d) k.0 (threads_of d r) (written_fits d r.0))
+  move_fits (Forks f) c k h =
+      let d : Configuration = with_fields f c in
+      let r : Runs s d = fields_run f c k h in
+      reached_fits d _ r.0 (forked_fits s d.flow.threads (written_in d) (threads_of d r) (written_fits d r.0))
+  move_fits (Done f) c k h =
+      let d : Configuration = with_fields f c in
+      let r : Runs s d = fields_run f c k h in
+      reached_fits (with_safe (d.flow.safe || is_last d.flow.threads) d) _ (safe_sound (d.flow.safe || is_last d.flow.threads) d r.0)
+      (done_fits s d.flow.threads (written_in d) (threads_of d r) (written_fits d r.0))
+  move_fits (Ends f) c k h = end_fits (with_fields f c) (fields_run f c k h).0
+  move_fits (Asks name arguments f) c k h = (k, h)
+  move_fits (Fails fault) c k h = tt

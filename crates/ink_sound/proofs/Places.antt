@@ -1,0 +1,257 @@
+-- Places of a story: where flow enters, goes on, lands, and where paths lead.
+use Rattle.std.proofs.Common.{◌≡◌, ◌∙◌, ap, sym, refl, subst, arith, ℕ, zero, suc, ◌+◌, ◌<◌, List, [], ◌∷◌, ◌++◌, reverse, Bool, true, false, ◌&&◌, ◌||◌, nat_lt, nat_le, nat_eq, cond, if◌then◌else◌, Option, Some, None, is_some, option_and_then}
+use Rattle.std.proofs.lemmas.Bool.{cond_both}
+use Rattle.std.proofs.lemmas.Bool.Decides.{nat_tests}
+use Rattle.std.proofs.lemmas.List.{append-nil, reverse-append, reverse-reverse}
+use Rattle.std.specs.Option.{option_map}
+use Rattle.ink_model.specs.Acceptance.{lands}
+use Rattle.ink_model.specs.Choosing.{jump_place}
+use Rattle.ink_model.specs.Effect.{Landing}
+use Rattle.ink_model.specs.Path.{above, absolute_target, by_name, ends_at, ends_in_index, is_container, is_place, is_up, landing, listed_index, read_path, stepped, stepped_last, target, walked}
+use Rattle.ink_model.specs.Place.{entered, first_content, first_content_at, first_content_of, is_named, knot, landed, named_index, next_place, next_upwards, start_place}
+use Rattle.ink_model.specs.Step.Diverts.{landing_by}
+use Rattle.ink_model.specs.Tree.{StoryTree, leaf, container, Trees, no_trees, tree, Keyed, at, by_key, count, down, nth, width}
+use Rattle.ink_model.specs.declared.place.Part.{Part}
+use Rattle.ink_model.specs.declared.place.Part.TheVariants.{Index, Name}
+use Rattle.ink_model.specs.declared.place.Path.{Path}
+use Rattle.ink_model.specs.declared.value.Value.{Value}
+use Rattle.ink_model.specs.declared.value.Value.TheVariants as value
+use Rattle.ink_sound.specs.Kept.{Finds}
+use Rattle.ink_sound.specs.Save.Sound.{PlaceFits}
+
+-- content stands there
+abbrev pub Stands : StoryTree → List Part → Type 0
+Stands s p = is_some (at s p) ≡ true
+
+-- ---- a way on from a place
+
+onward : (p q : List Part) → ((u : StoryTree) → at u (p ++ q) ≡ option_and_then (λ t. at t q) (at u p))
+    → (o : Option StoryTree) → option_and_then (λ u. at u (p ++ q)) o ≡ option_and_then (λ t. at t q) (option_and_then (λ u. at u p) o)
+onward p q h None = refl
+onward p q h (Some u) = h u
+
+pub at_append : (p q : List Part) (s : StoryTree) → at s (p ++ q) ≡ option_and_then (λ t. at t q) (at s p)
+at_append [] q s = refl
+at_append (x ∷ p) q s = onward p q (at_append p q) (down x s)
+
+first_stood : (q : List Part) (o : Option StoryTree) → is_some (option_and_then (λ t. at t q) o) ≡ true → is_some o ≡ true
+first_stood q None h = h
+first_stood q (Some t) h = refl
+
+-- what holds content that stands stands too
+pub stands_before : (s : StoryTree) (p q : List Part) → Stands s (p ++ q) → Stands s p
+stands_before s p q h = first_stood q (at s p) (sym (ap is_some (at_append p q s)) ∙ h)
+
+-- ---- by index
+
+nth_stands : (i : ℕ) (ts : Trees) → i < count ts → is_some (option_and_then (λ u. Some u) (nth i ts)) ≡ true
+nth_stands i no_trees h = absurd (omega arith)
+nth_stands zero (tree t ts) h = refl
+nth_stands (suc i) (tree t ts) h = nth_stands i ts (omega arith)
+
+in_stands : (i : ℕ) (o : Option StoryTree) → i < width o → is_some (option_and_then (λ t. at t (Index i ∷ [])) o) ≡ true
+in_stands i None h = absurd (omega arith)
+in_stands i (Some (leaf l)) h = absurd (omega arith)
+in_stands i (Some (container name flags content named)) h = nth_stands i content h
+
+pub index_stands : (s : StoryTree) (p : List Part) (i : ℕ) → i < width (at s p) → Stands s (p ++ Index i ∷ [])
+index_stands s p i h = ap is_some (at_append p (Index i ∷ []) s) ∙ in_stands i (at s p) h
+
+first_or : (b : Bool) (i n k : ℕ) (rest : Option ℕ) → (rest ≡ Some k → k < suc i + n) → cond b (Some i) rest ≡ Some k → k < i + suc n
+first_or true i n k rest h e = let same : i ≡ k = cc in omega arith
+first_or false i n k rest h e = let below = h e in omega arith
+
+named_within : (name : List ℕ) (i : ℕ) (ts : Trees) (k : ℕ) → named_index name i ts ≡ Some k → k < i + count ts
+named_within name i no_trees k e = absurd cc
+named_within name i (tree (leaf l) ts) k e = omega (arith, named_within name (i + 1) ts k e)
+named_within name i (tree (container own flags content named) ts) k e =
+    first_or (is_named name own) i (count ts) k (named_index name (i + 1) ts) (λ f. omega (arith, named_within name (i + 1) ts k f)) e
+
+listed_within : (name : List ℕ) (o : Option StoryTree) (k : ℕ) → listed_index name o ≡ Some k → k < width o
+listed_within name None k e = absurd cc
+listed_within name (Some (leaf l)) k e = absurd cc
+listed_within name (Some (container own flags content named)) k e = omega (arith, named_within name 0 content k e)
+
+-- ---- places
+
+pub stands_fits : (s : StoryTree) (p : List Part) → Stands s p → PlaceFits s p
+unfolding is_place
+stands_fits s p h = ap (λ b. b || ends_at s (reverse p)) h
+
+both_more : (b : Bool) (i n : ℕ) → (b || nat_eq i n) ≡ nat_le i n → (b || nat_eq (suc i) (suc n)) ≡ nat_le (suc i) (suc n)
+both_more true i n h = grind (arith, nat_tests, h)
+both_more false i n h = grind (arith, nat_tests, h)
+
+or_end : (ts : Trees) (i : ℕ) → (is_some (option_and_then (λ u. Some u) (nth i ts)) || nat_eq i (count ts)) ≡ nat_le i (count ts)
+or_end no_trees zero = refl
+or_end no_trees (suc i) = grind (arith, nat_tests)
+or_end (tree t ts) zero = grind (arith, nat_tests)
+or_end (tree t ts) (suc i) = both_more (is_some (option_and_then (λ u. Some u) (nth i ts))) i (count ts) (or_end ts i)
+
+reached : (o : Option StoryTree) (i : ℕ) → (is_some (option_and_then (λ u. at u (Index i ∷ [])) o) || (is_container o && nat_eq i (width o))) ≡ (is_container o && nat_le i (width o))
+reached None i = refl
+reached (Some (leaf l)) i = refl
+reached (Some (container name flags content named)) i = or_end content i
+
+-- an index up to the container's width, which is its end
+pub reach_fits : (s : StoryTree) (p : List Part) (i : ℕ) → (is_container (at s p) && nat_le i (width (at s p))) ≡ true → PlaceFits s (p ++ Index i ∷ [])
+unfolding is_place
+reach_fits s p i h =
+    (λ j. is_some (at_append p (Index i ∷ []) s j) || ends_at s (reverse-append p (Index i ∷ []) j))
+    ∙ ap (λ o. is_some (option_and_then (λ u. at u (Index i ∷ [])) (at s p)) || (is_container o && nat_eq i (width o))) (ap (at s) (reverse-reverse p))
+    ∙ reached (at s p) i ∙ h
+
+-- ---- on the way of flow
+
+abbrev mutual
+  first_stands : (t : StoryTree) → is_some (at t (first_content t)) ≡ true
+  first_stands (leaf l) = refl
+  first_stands (container name flags content named) = first_of_stands name flags content named
+
+  first_of_stands : (name : Option (List ℕ)) (flags : ℕ) (ts : Trees) (named : Keyed) → is_some (at (container name flags ts named) (first_content_of ts)) ≡ true
+  first_of_stands name flags no_trees named = refl
+  first_of_stands name flags (tree t ts) named = first_stands t
+
+pub entered_fits : (s : StoryTree) (p : List Part) → PlaceFits s p → PlaceFits s (entered s p)
+unfolding entered
+entered_fits s p h = by (at s p) refl
+  where
+    by : (o : Option StoryTree) → at s p ≡ o → PlaceFits s (p ++ first_content_at o)
+    by None e = subst (PlaceFits s) (sym (append-nil p)) h
+    by (Some t) e = stands_fits s (p ++ first_content t)
+        (ap is_some (at_append p (first_content t) s) ∙ ap (λ o. is_some (option_and_then (λ u. at u (first_content t)) o)) e ∙ first_stands t)
+
+upwards_fits : (s : StoryTree) (up : List Part) → Finds (PlaceFits s) (next_upwards s up)
+upwards_fits s [] = tt
+upwards_fits s (Name n ∷ up) = tt
+upwards_fits s (Index i ∷ up) = by (nat_lt (i + 1) (width (at s (reverse up)))) refl (upwards_fits s up)
+  where
+    by : (b : Bool) → nat_lt (i + 1) (width (at s (reverse up))) ≡ b → Finds (PlaceFits s) (next_upwards s up)
+        → Finds (PlaceFits s) (if b then Some (reverse (Index (i + 1) ∷ up)) else next_upwards s up)
+    by true e h = subst (PlaceFits s) (sym (reverse-append (Index (i + 1) ∷ []) up))
+        (stands_fits s (reverse up ++ Index (i + 1) ∷ []) (index_stands s (reverse up) (i + 1) (grind (arith, nat_tests, e))))
+    by false e h = h
+
+pub next_fits : (s : StoryTree) (p : List Part) → Finds (PlaceFits s) (next_place s p)
+unfolding next_place
+next_fits s p = upwards_fits s (reverse p)
+
+pub start_fits : (s : StoryTree) → PlaceFits s (start_place s)
+start_fits s = cond_both (nat_lt 0 (width (Some s))) _ _ (PlaceFits s) (λ e. stands_fits s (Index 0 ∷ []) (index_stands s [] 0 (grind (arith, nat_tests, e)))) (λ _. stands_fits s [] refl)
+
+-- ---- where paths lead
+
+above_stands : (s : StoryTree) (r : List Part) → Stands s (reverse r) → Finds (Stands s) (above r)
+above_stands s [] h = tt
+above_stands s (x ∷ up) h = stands_before s (reverse up) (x ∷ []) (subst (Stands s) (reverse-append (x ∷ []) up) h)
+
+pub up_stands : (s : StoryTree) (p : List Part) → Stands s p → Finds (Stands s) (above (reverse p))
+up_stands s p h = above_stands s (reverse p) (subst (Stands s) (sym (reverse-reverse p)) h)
+
+name_stands : (s : StoryTree) (p : List Part) (name : List ℕ) → Finds (Stands s) (by_name s p name)
+name_stands s p name = by (is_some (at s (p ++ Name name ∷ []))) refl
+  where
+    listed : (o : Option ℕ) → listed_index name (at s p) ≡ o → Finds (Stands s) (option_map (λ i. p ++ Index i ∷ []) o)
+    listed None e = tt
+    listed (Some i) e = index_stands s p i (listed_within name (at s p) i e)
+
+    by : (b : Bool) → is_some (at s (p ++ Name name ∷ [])) ≡ b
+        → Finds (Stands s) (if b then Some (p ++ Name name ∷ []) else option_map (λ i. p ++ Index i ∷ []) (listed_index name (at s p)))
+    by true e = e
+    by false e = listed (listed_index name (at s p)) refl
+
+step_stands : (s : StoryTree) (p : List Part) (c : Part) → Stands s p → Finds (Stands s) (stepped s p c)
+step_stands s p (Index i) h = by (nat_lt i (width (at s p))) refl
+  where
+    by : (b : Bool) → nat_lt i (width (at s p)) ≡ b → Finds (Stands s) (if b then Some (p ++ Index i ∷ []) else None)
+    by true e = index_stands s p i (grind (arith, nat_tests, e))
+    by false e = tt
+step_stands s p (Name name) h = cond_both (is_up name) _ _ (Finds (Stands s)) (λ _. up_stands s p h) (λ _. name_stands s p name)
+
+found_fits : (s : StoryTree) (o : Option (List Part)) → Finds (Stands s) o → Finds (PlaceFits s) o
+found_fits s None h = tt
+found_fits s (Some p) h = stands_fits s p h
+
+last_fits : (s : StoryTree) (p : List Part) (c : Part) → Stands s p → Finds (PlaceFits s) (stepped_last s p c)
+last_fits s p (Index i) h = by (is_container (at s p) && nat_le i (width (at s p))) refl
+  where
+    by : (b : Bool) → (is_container (at s p) && nat_le i (width (at s p))) ≡ b → Finds (PlaceFits s) (if b then Some (p ++ Index i ∷ []) else None)
+    by true e = reach_fits s p i e
+    by false e = tt
+last_fits s p (Name name) h = found_fits s (stepped s p (Name name)) (step_stands s p (Name name) h)
+
+on_finds : {A : Type 0} (P : A → Type 0) (Q : List Part → Type 0) (o : Option A) (so : A → Option (List Part)) → Finds P o → ((a : A) → P a → Finds Q (so a)) → Finds Q (option_and_then so o)
+on_finds P Q None so h k = tt
+on_finds P Q (Some a) so h k = k a h
+
+walked_fits : (s : StoryTree) (cs p : List Part) → Stands s p → Finds (PlaceFits s) (walked s p cs)
+walked_fits s [] p h = stands_fits s p h
+walked_fits s (c ∷ []) p h = last_fits s p c h
+walked_fits s (c ∷ d ∷ cs) p h = on_finds (Stands s) (PlaceFits s) (stepped s p c) (λ q. walked s q (d ∷ cs)) (step_stands s p c h) (λ q k. walked_fits s (d ∷ cs) q k)
+
+-- from content that stands
+pub target_fits : (s : StoryTree) (from : List Part) (path : Path) → Stands s from → Finds (PlaceFits s) (target s from path)
+unfolding target
+target_fits s from path h = walked_fits s path.parts (if path.relative then from else []) (by path.relative)
+  where
+    by : (b : Bool) → Stands s (if b then from else [])
+    by true = h
+    by false = refl
+
+pub landed_fits : (s : StoryTree) (p : List Part) → PlaceFits s p → PlaceFits s (landed s p)
+unfolding landed
+landed_fits s p h = cond_both (nat_lt 0 (width (at s p))) _ _ (PlaceFits s) (λ e. stands_fits s (p ++ Index 0 ∷ []) (index_stands s p 0 (grind (arith, nat_tests, e)))) (λ _. h)
+
+landing_fits : (s : StoryTree) (path : Path) (p : List Part) → PlaceFits s p → PlaceFits s (landing s path p)
+landing_fits s path p h = cond_both (ends_in_index path.parts) _ _ (PlaceFits s) (λ _. h) (λ _. landed_fits s p h)
+
+map_finds : {A : Type 0} (P : A → Type 0) (Q : List Part → Type 0) (o : Option A) (so : A → List Part) → Finds P o → ((a : A) → P a → Q (so a)) → Finds Q (option_map so o)
+map_finds P Q None so h k = tt
+map_finds P Q (Some a) so h k = k a h
+
+-- where a written path lands
+pub lands_fits : (s : StoryTree) (p : List Part) (text : List ℕ) → Stands s p → Finds (PlaceFits s) (lands s p text)
+lands_fits s p text h = by (read_path text)
+  where
+    by : (o : Option Path) → Finds (PlaceFits s) (option_and_then (λ path. option_map (landing s path) (target s p path)) o)
+    by None = tt
+    by (Some path) = map_finds (PlaceFits s) (PlaceFits s) (target s p path) (landing s path) (target_fits s p path h) (λ q k. landing_fits s path q k)
+
+-- where a target that was read leads
+pub led_fits : (s : StoryTree) (v : Value) → Finds (λ (l : Landing). PlaceFits s l.place) (landing_by s v)
+led_fits s (value.Target path) = by (target s [] path) (target_fits s [] path refl)
+  where
+    by : (o : Option (List Part)) → Finds (PlaceFits s) o → Finds (λ (l : Landing). PlaceFits s l.place) (option_map (λ q. record { place = q; enters = ends_in_index path.parts }) o)
+    by None h = tt
+    by (Some q) h = h
+led_fits s v = tt
+
+-- where a host's path lands
+pub jump_fits : (s : StoryTree) (text : List ℕ) → Finds (PlaceFits s) (jump_place s text)
+jump_fits s text = by (read_path text)
+  where
+    at_root : (path : Path) (b : Bool) → Finds (PlaceFits s) (if b then None else target s [] path)
+    at_root path true = tt
+    at_root path false = target_fits s [] path refl
+
+    by : (o : Option Path) → Finds (PlaceFits s) (option_and_then (λ path. option_map (landing s path) (absolute_target s path)) o)
+    by None = tt
+    by (Some path) = map_finds (PlaceFits s) (PlaceFits s) (absolute_target s path) (landing s path) (at_root path path.relative) (λ q k. landing_fits s path q k)
+
+-- ---- knots
+
+pub knot_fits : (s : StoryTree) (name : List ℕ) → Finds (PlaceFits s) (knot name s)
+unfolding knot
+knot_fits (leaf l) name = tt
+knot_fits (container own flags content named) name = by (by_key name named) refl
+  where
+    s : StoryTree
+    s = container own flags content named
+
+    listed : (o : Option ℕ) → named_index name 0 content ≡ o → Finds (PlaceFits s) (option_map (λ i. Index i ∷ []) o)
+    listed None e = tt
+    listed (Some i) e = stands_fits s (Index i ∷ []) (nth_stands i content (omega (arith, named_within name 0 content i e)))
+
+    by : (o : Option StoryTree) → by_key name named ≡ o → Finds (PlaceFits s) (if is_some o then Some (Name name ∷ []) else option_map (λ i. Index i ∷ []) (named_index name 0 content))
+    by None e = listed (named_index name 0 content) refl
+    by (Some t) e = stands_fits s (Name name ∷ []) (ap (λ o. is_some (option_and_then (λ u. at u []) o)) e)

@@ -1,0 +1,169 @@
+-- Rows that rise, names that stand once, and facts of each row, when a value is put.
+use Rattle.std.proofs.Common.{◌≡◌, ◌∙◌, ap, sym, refl, rules, ℕ, List, [], ◌∷◌, Bool, true, false, true≢false, not, ◌&&◌, bytes_eq, if◌then◌else◌, Option, Some, None, is_some}
+use Rattle.std.proofs.lemmas.Bool.{cond_both}
+use Rattle.std.proofs.lemmas.Cmp.{nat_cmp_total, nat_list_cmp_total, lists_total}
+use Rattle.std.proofs.lemmas.Slice.Eq.{bytes_eq-Decides}
+use Rattle.std.specs.Cmp.{IsTotalOrder}
+use Rattle.std.specs.List.{AllByRecursion as Each}
+use Rattle.std.specs.Ordering.{is_lt, match_ordering, ordering_reverse}
+use Rattle.std.specs.declared.cmp.Ordering.{Ordering}
+use Rattle.std.specs.declared.cmp.Ordering.TheVariants.{Less, Equal, Greater}
+use Rattle.ink_model.specs.Rows.{is_before, part_order, place_order, row, rows_rise, with_row}
+use Rattle.ink_model.specs.Store.{Values, store, stored}
+use Rattle.ink_model.specs.declared.place.Part.{Part}
+use Rattle.ink_model.specs.declared.place.Part.TheVariants.{Index, Name}
+use Rattle.ink_model.specs.declared.value.Value.{Value}
+use Rattle.ink_sound.specs.Kept.{Finds}
+use Rattle.ink_sound.specs.Save.Sound.{names_once}
+
+-- ---- tests
+
+pub both : (a b : Bool) → a ≡ true → b ≡ true → (a && b) ≡ true
+both true b h k = k
+both false b h k = h
+
+pub one : (a b : Bool) → (a && b) ≡ true → a ≡ true
+one true b h = refl
+one false b h = h
+
+pub two : (a b : Bool) → (a && b) ≡ true → b ≡ true
+two true b h = h
+two false b h = absurd (true≢false (sym h))
+
+pub less_of : (o : Ordering) → is_lt o ≡ true → o ≡ Less
+less_of Less h = refl
+less_of Equal h = absurd (true≢false (sym h))
+less_of Greater h = absurd (true≢false (sym h))
+
+-- ---- rows that rise by their key
+
+module _ {K V : Type 0} (compare : K → K → Ordering) (total : IsTotalOrder compare) where
+  earlier : (k q : K) (rs : List (K × V)) → compare k q ≡ Less → is_before compare q rs ≡ true → is_before compare k rs ≡ true
+  earlier k q [] e h = refl
+  earlier k q (r ∷ rs) e h =
+      both (is_lt (compare k r.0)) (is_before compare k rs) (ap is_lt (total.trans k q r.0 e (less_of (compare q r.0) (one (is_lt (compare q r.0)) (is_before compare q rs) h))))
+      (earlier k q rs e (two (is_lt (compare q r.0)) (is_before compare q rs) h))
+
+  alike : (k q : K) (rs : List (K × V)) → compare k q ≡ Equal → is_before compare q rs ≡ true → is_before compare k rs ≡ true
+  alike k q [] e h = refl
+  alike k q (r ∷ rs) e h =
+      both (is_lt (compare k r.0)) (is_before compare k rs) (ap is_lt (total.congr k q r.0 e) ∙ one (is_lt (compare q r.0)) (is_before compare q rs) h)
+      (alike k q rs e (two (is_lt (compare q r.0)) (is_before compare q rs) h))
+
+  before_put : (j k : K) (v : V) (rs : List (K × V)) → compare j k ≡ Less → is_before compare j rs ≡ true → is_before compare j (with_row compare k v rs) ≡ true
+  before_put j k v [] e h = both (is_lt (compare j k)) true (ap is_lt e) refl
+  before_put j k v (r ∷ rs) e h = by (compare k r.0) (before_put j k v rs e (two (is_lt (compare j r.0)) (is_before compare j rs) h))
+    where
+      by : (o : Ordering) → is_before compare j (with_row compare k v rs) ≡ true → is_before compare j (match_ordering o ((k, v) ∷ r ∷ rs) ((k, v) ∷ rs) (r ∷ with_row compare k v rs)) ≡ true
+      by Less on = both (is_lt (compare j k)) (is_before compare j (r ∷ rs)) (ap is_lt e) h
+      by Equal on = both (is_lt (compare j k)) (is_before compare j rs) (ap is_lt e) (two (is_lt (compare j r.0)) (is_before compare j rs) h)
+      by Greater on = both (is_lt (compare j r.0)) (is_before compare j (with_row compare k v rs)) (one (is_lt (compare j r.0)) (is_before compare j rs) h) on
+
+  pub rise_put : (k : K) (v : V) (rs : List (K × V)) → rows_rise compare rs ≡ true → rows_rise compare (with_row compare k v rs) ≡ true
+  rise_put k v [] h = refl
+  rise_put k v (r ∷ rs) h = by (compare k r.0) refl (rise_put k v rs after)
+    where
+      first : is_before compare r.0 rs ≡ true
+      first = one (is_before compare r.0 rs) (rows_rise compare rs) h
+
+      after : rows_rise compare rs ≡ true
+      after = two (is_before compare r.0 rs) (rows_rise compare rs) h
+
+      by : (o : Ordering) → compare k r.0 ≡ o → rows_rise compare (with_row compare k v rs) ≡ true → rows_rise compare (match_ordering o ((k, v) ∷ r ∷ rs) ((k, v) ∷ rs) (r ∷ with_row compare k v rs)) ≡ true
+      by Less e on = both (is_before compare k (r ∷ rs)) (rows_rise compare (r ∷ rs)) (both (is_lt (compare k r.0)) (is_before compare k rs) (ap is_lt e) (earlier k r.0 rs e first)) h
+      by Equal e on = both (is_before compare k rs) (rows_rise compare rs) (alike k r.0 rs e first) after
+      by Greater e on = both (is_before compare r.0 (with_row compare k v rs)) (rows_rise compare (with_row compare k v rs))
+          (before_put r.0 k v rs (total.antisymm r.0 k ∙ ap ordering_reverse e) first) on
+
+module _ {K V : Type 0} (compare : K → K → Ordering) (P : K × V → Type 0) where
+  pub each_put : (k : K) (v : V) (rs : List (K × V)) → P (k, v) → Each P rs → Each P (with_row compare k v rs)
+  each_put k v [] p h = (p, tt)
+  each_put k v (r ∷ rs) p h = by (compare k r.0) (each_put k v rs p h.1)
+    where
+      by : (o : Ordering) → Each P (with_row compare k v rs) → Each P (match_ordering o ((k, v) ∷ r ∷ rs) ((k, v) ∷ rs) (r ∷ with_row compare k v rs))
+      by Less on = (p, h)
+      by Equal on = (p, h.1)
+      by Greater on = (h.0, on)
+
+module _ {K V : Type 0} (compare : K → K → Ordering) (P : V → Type 0) where
+  pub row_finds : (k : K) (rs : List (K × V)) → Each (λ r. P r.1) rs → Finds P (row compare k rs)
+  row_finds k [] h = tt
+  row_finds k (r ∷ rs) h = by (compare k r.0) (row_finds k rs h.1)
+    where
+      by : (o : Ordering) → Finds P (row compare k rs) → Finds P (match_ordering o None (Some r.1) (row compare k rs))
+      by Less on = tt
+      by Equal on = h.0
+      by Greater on = on
+
+-- ---- the order of places
+
+part_antisymm : (x y : Part) → part_order x y ≡ ordering_reverse (part_order y x)
+part_antisymm (Index i) (Index j) = nat_cmp_total.antisymm i j
+part_antisymm (Index i) (Name n) = refl
+part_antisymm (Name m) (Index j) = refl
+part_antisymm (Name m) (Name n) = nat_list_cmp_total.antisymm m n
+
+part_trans : (x y z : Part) → part_order x y ≡ Less → part_order y z ≡ Less → part_order x z ≡ Less
+part_trans (Index i) (Index j) (Index k) h g = nat_cmp_total.trans i j k h g
+part_trans (Index i) (Index j) (Name n) h g = refl
+part_trans (Index i) (Name m) (Index k) h g = absurd cc
+part_trans (Index i) (Name m) (Name n) h g = refl
+part_trans (Name l) (Index j) z h g = absurd cc
+part_trans (Name l) (Name m) (Index k) h g = absurd cc
+part_trans (Name l) (Name m) (Name n) h g = nat_list_cmp_total.trans l m n h g
+
+part_congr : (x y z : Part) → part_order x y ≡ Equal → part_order x z ≡ part_order y z
+part_congr (Index i) (Index j) (Index k) h = nat_cmp_total.congr i j k h
+part_congr (Index i) (Index j) (Name n) h = refl
+part_congr (Index i) (Name m) z h = absurd cc
+part_congr (Name l) (Index j) z h = absurd cc
+part_congr (Name l) (Name m) (Index k) h = refl
+part_congr (Name l) (Name m) (Name n) h = nat_list_cmp_total.congr l m n h
+
+pub place_total : IsTotalOrder place_order
+place_total = lists_total (record { antisymm = part_antisymm; trans = part_trans; congr = part_congr })
+
+-- ---- names that stand once
+
+turned : (a b : List ℕ) → bytes_eq a b ≡ false → bytes_eq b a ≡ false
+turned a b e = search (rules, bytes_eq-Decides, e)
+
+stored_other : (k name : List ℕ) (v : Value) (vs : Values) → bytes_eq k name ≡ false → is_some (stored k (store name v vs)) ≡ is_some (stored k vs)
+stored_other k name v [] e = rw e refl
+stored_other k name v (w ∷ vs) e = by (bytes_eq name w.0) (stored_other k name v vs e)
+  where
+    same : (b : Bool) (o : Option Value) → is_some (if b then Some v else o) ≡ is_some (if b then Some w.1 else o)
+    same true o = refl
+    same false o = refl
+
+    under : (b : Bool) (o p : Option Value) → is_some o ≡ is_some p → is_some (if b then Some w.1 else o) ≡ is_some (if b then Some w.1 else p)
+    under true o p h = refl
+    under false o p h = h
+
+    by : (b : Bool) → is_some (stored k (store name v vs)) ≡ is_some (stored k vs)
+        → is_some (stored k (if b then (w.0, v) ∷ vs else w ∷ store name v vs)) ≡ is_some (if bytes_eq k w.0 then Some w.1 else stored k vs)
+    by true on = same (bytes_eq k w.0) (stored k vs)
+    by false on = under (bytes_eq k w.0) (stored k (store name v vs)) (stored k vs) on
+
+pub once_put : (name : List ℕ) (v : Value) (vs : Values) → names_once vs ≡ true → names_once (store name v vs) ≡ true
+once_put name v [] h = refl
+once_put name v (w ∷ vs) h = by (bytes_eq name w.0) refl (once_put name v vs after)
+  where
+    first : not (is_some (stored w.0 vs)) ≡ true
+    first = one (not (is_some (stored w.0 vs))) (names_once vs) h
+
+    after : names_once vs ≡ true
+    after = two (not (is_some (stored w.0 vs))) (names_once vs) h
+
+    by : (b : Bool) → bytes_eq name w.0 ≡ b → names_once (store name v vs) ≡ true → names_once (if b then (w.0, v) ∷ vs else w ∷ store name v vs) ≡ true
+    by true e on = h
+    by false e on = both (not (is_some (stored w.0 (store name v vs)))) (names_once (store name v vs)) (ap not (stored_other w.0 name v vs (turned name w.0 e)) ∙ first) on
+
+module _ (P : Value → Type 0) where
+  pub each_stored : (name : List ℕ) (v : Value) (vs : Values) → P v → Each (λ r. P r.1) vs → Each (λ r. P r.1) (store name v vs)
+  each_stored name v [] p h = (p, tt)
+  each_stored name v (w ∷ vs) p h = cond_both (bytes_eq name w.0) _ _ (Each (λ r. P r.1)) (λ _. (p, h.1)) (λ _. (h.0, each_stored name v vs p h.1))
+
+  pub stored_finds : (name : List ℕ) (vs : Values) → Each (λ r. P r.1) vs → Finds P (stored name vs)
+  stored_finds name [] h = tt
+  stored_finds name (w ∷ vs) h = cond_both (bytes_eq name w.0) _ _ (Finds P) (λ _. h.0) (λ _. stored_finds name vs h.1)

@@ -1,0 +1,209 @@
+-- Every state of a session is sound and at rest.
+use Rattle.std.proofs.Common.{◌≡◌, ap, sym, refl, subst, ℕ, List, [], ◌∷◌, inl, inr, Bool, true, false, Option, Some, None, is_some, option_map, Result, Ok, Err, MatchBool}
+use Rattle.ink_model.specs.Answer.{Reply, Refuses}
+use Rattle.ink_model.specs.Told.{told}
+use Rattle.ink_model.specs.declared.fault.Fault.{Fault}
+use Rattle.ink_model.specs.declared.fault.Fault.TheVariants.{OutOfMemory}
+use Rattle.ink_model.specs.declared.fault.Refusal.TheVariants as refusal
+use Rattle.ink_model.specs.Changed.{Keeps}
+use Rattle.ink_model.specs.Choosing.{chosen, jump_place, jumped, open_choice}
+use Rattle.ink_model.specs.Command.{command_of}
+use Rattle.ink_model.specs.Configuration.{ChoiceOf, Configuration, can_go_on, settled, unnumbered_choice, with_globals}
+use Rattle.ink_model.specs.Host.{Bindings, value_given}
+use Rattle.ink_model.specs.Opening.{Unopened, opened, opening}
+use Rattle.ink_model.specs.Run.{Made, Moment, At, Stopped, Faulted, Waits, RunEnd, Kept, Broke, answers_of, end_of, through}
+use Rattle.ink_model.specs.Session.{Does, EndsAs, FailsToRestart, GetsFrom, RestartsAs, RunsThrough, Serves, Session, SetsFrom, SetsIn, TellsDone, TellsOrKeeps, ThroughFrom, VisitsBy, VisitsFrom, condition_told, settable}
+use Rattle.ink_model.specs.State.{State, Condition, Ready, Broken}
+use Rattle.ink_model.specs.Store.{Values, store, stored}
+use Rattle.ink_model.specs.Tree.{StoryTree}
+use Rattle.ink_model.specs.Unread.{LineFails}
+use Rattle.ink_model.specs.Turns.{ChoosesBy, ChoosesFrom, JumpsBy, JumpsFrom, LandsFor}
+use Rattle.ink_model.specs.Visits.{entering_around, visits_by}
+use Rattle.ink_model.specs.declared.command.Command.{Command}
+use Rattle.ink_model.specs.declared.command.Command.TheVariants as command
+use Rattle.ink_model.specs.declared.host.Change.{Change}
+use Rattle.ink_model.specs.declared.host.Event.{Event}
+use Rattle.ink_model.specs.declared.host.Given.{Given}
+use Rattle.ink_model.specs.declared.host.Given.TheVariants as given
+use Rattle.ink_model.specs.declared.place.Part.{Part}
+use Rattle.ink_sound.specs.Kept.{ConditionFits, Finds, MomentFits, StateFits, StoryFits}
+use Rattle.ink_sound.specs.Save.Reads.{Rests}
+use Rattle.ink_sound.specs.Save.Sound.{ChoiceFits, PlaceFits, Sound, ValueFits}
+use Rattle.ink_sound.proofs.Between.{Opens, choices_rest, chosen_rests, globals_rest, globals_sound, jumped_rests, opening_fits, settled_rests, settled_sound}
+use Rattle.ink_sound.proofs.Places.{jump_fits}
+use Rattle.ink_sound.proofs.Steps.{chosen_sound, jumped_sound, open_finds, through_fits}
+use Rattle.ink_sound.proofs.Variables.{stored_fits}
+
+module _ (s : StoryTree) where
+  -- ---- what is left
+
+  along : (old new : State) → new ≡ old → StateFits s old → StateFits s new
+  along old new e h = subst (StateFits s) (sym e) h
+
+  kept : (refused : Reply) (old new : State) (reply : Reply) → Keeps refused old reply new → StateFits s old → StateFits s new
+  kept refused old new reply h k = along old new h.1 k
+
+  told_fits : (all : Bool) (done : Condition) → ConditionFits s done → ConditionFits s (condition_told all done)
+  told_fits true done h = h
+  told_fits false done h = tt
+
+  done_fits : (cs : List Change) (done : Condition) (answers : List Event → Reply) (before es : List Event) (old : State) (reply : Reply) (new : State)
+      → TellsDone cs done answers before es old reply new → ConditionFits s done → StateFits s new
+  done_fits cs done answers before es old reply new h k = subst (StateFits s) (sym h.leaves) (told_fits h.all done k)
+
+  tells_fits : (cs : List Change) (done : Condition) (es : List Event) (old : State) (reply : Reply) (new : State)
+      → TellsOrKeeps cs done es old reply new → ConditionFits s done → StateFits s old → StateFits s new
+  tells_fits cs done es old reply new (inl h) k o = done_fits cs done _ [] es old reply new h k
+  tells_fits cs done es old reply new (inr h) k o = along old new h.2.1 o
+
+  -- ---- choosing and jumping
+
+  lands_fits : (c : Configuration) (old : State) (reply : Reply) (new : State) → LandsFor s c old reply new → ConditionFits s (Ready (entering_around s c)) → StateFits s old → StateFits s new
+  lands_fits c old reply new (inl h) k o = subst (StateFits s) (sym h.1) k
+  lands_fits c old reply new (inr h) k o = along old new h.1.1 o
+
+  choose_fits : (n : ℕ) (k : Condition) (old : State) (reply : Reply) (new : State) → ChoosesFrom s n k old reply new → ConditionFits s k → StateFits s old → StateFits s new
+  choose_fits n (Broken f globals) old reply new h k o = kept _ old new reply h o
+  choose_fits n (Ready c) old reply new h k o = by (open_choice n c)
+      (open_finds (ChoiceFits s) n c k.0.flow.choices.each) (open_finds (λ choice. unnumbered_choice choice ≡ choice) n c (choices_rest c k.1)) h
+    where
+      by : (choice : Option (ChoiceOf (List Part))) → Finds (ChoiceFits s) choice → Finds (λ choice. unnumbered_choice choice ≡ choice) choice → ChoosesBy s choice c old reply new → StateFits s new
+      by None x y g = kept _ old new reply g o
+      by (Some choice) x y g = lands_fits (chosen choice c) old reply new g (chosen_sound s choice c x k.0, chosen_rests s choice c y k.1) o
+
+  jump_fits_from : (path : List ℕ) (k : Condition) (old : State) (reply : Reply) (new : State) → JumpsFrom s path k old reply new → ConditionFits s k → StateFits s old → StateFits s new
+  jump_fits_from path (Broken f globals) old reply new h k o = kept _ old new reply h o
+  jump_fits_from path (Ready c) old reply new h k o = by (jump_place s path) (jump_fits s path) h
+    where
+      by : (q : Option (List Part)) → Finds (PlaceFits s) q → JumpsBy s q c old reply new → StateFits s new
+      by None x g = kept _ old new reply g o
+      by (Some q) x g = lands_fits (jumped q c) old reply new g (jumped_sound s q c x k.0, jumped_rests s q c k.1) o
+
+  -- ---- setting
+
+  settable_fits : (g : Given) → settable g ≡ true → ValueFits s (value_given g)
+  settable_fits (given.Int z) e = e
+  settable_fits (given.Bool b) e = tt
+  settable_fits (given.Text t) e = e
+  settable_fits given.Void e = tt
+
+  sets_fits : (h : Bindings) (name : List ℕ) (g : Given) (c : Configuration) (es : List Event) (old : State) (reply : Reply) (new : State)
+      → SetsIn h name g c es old reply new → Sound s c → Rests c → StateFits s old → StateFits s new
+  sets_fits h name g c es old reply new does sound rests o = by (settable g) refl (is_some (stored name c.shared.globals)) does
+    where
+      by : (b : Bool) → settable g ≡ b → (d : Bool)
+          → MatchBool b (MatchBool d (TellsOrKeeps (told h.watches c.shared.globals ((name, value_given g) ∷ [])) (Ready (with_globals (store name (value_given g) c.shared.globals) c)) es old reply new)
+          ((es ≡ []) × Keeps (Refuses refusal.NoSuchVariable) old reply new)) ((es ≡ []) × Keeps (Refuses refusal.BadValue) old reply new)
+          → StateFits s new
+      by true e true x = tells_fits _ _ es old reply new x (
+        globals_sound s (store name (value_given g) c.shared.globals) c (stored_fits s name (value_given g) c.shared.globals (settable_fits g e) sound.shared.globals) sound,
+        globals_rest (store name (value_given g) c.shared.globals) c rests,
+      ) o
+      by true e false x = kept _ old new reply x.1 o
+      by false e d x = kept _ old new reply x.1 o
+
+  set_fits : (h : Bindings) (name : List ℕ) (value : Option Given) (k : Condition) (es : List Event) (old : State) (reply : Reply) (new : State)
+      → SetsFrom h name value k es old reply new → ConditionFits s k → StateFits s old → StateFits s new
+  set_fits h name value (Broken f globals) es old reply new does k o = kept _ old new reply does.1 o
+  set_fits h name None (Ready c) es old reply new does k o = kept _ old new reply does.1 o
+  set_fits h name (Some g) (Ready c) es old reply new does k o = sets_fits h name g c es old reply new does k.0 k.1 o
+
+  -- ---- questions
+
+  get_fits : (v : Option _) (old : State) (reply : Reply) (new : State) → GetsFrom v old reply new → StateFits s old → StateFits s new
+  get_fits None old reply new h o = kept _ old new reply h o
+  get_fits (Some v) old reply new (inl h) o = kept _ old new reply h o
+  get_fits (Some v) old reply new (inr h) o = kept _ old new reply h.1 o
+
+  visits_fit : (path : List ℕ) (k : Condition) (old : State) (reply : Reply) (new : State) → VisitsFrom s path k old reply new → StateFits s old → StateFits s new
+  visits_fit path (Broken f globals) old reply new h o = kept _ old new reply h o
+  visits_fit path (Ready c) old reply new h o = by (visits_by s path c) h
+    where
+      by : (z : Option _) → VisitsBy z old reply new → StateFits s new
+      by None x = kept _ old new reply x o
+      by (Some z) x = kept _ old new reply x o
+
+  module _ (story : StoryFits s) (h : Bindings) where
+    -- ---- running
+
+    -- what is kept at the end of a run
+    abbrev EndFits : RunEnd → Type 0
+    EndFits (Kept c) = Sound s c
+    EndFits (Broke f globals) = Unit {0}
+
+    abbrev ended : RunEnd → List Made → Option (RunEnd × List Made)
+    ended end made = Some (end, made)
+
+    same_end : (end other : RunEnd) (calls made : List Made) → ended end calls ≡ ended other made → end ≡ other
+    same_end end other calls made e = let ends : Some end ≡ Some other = ap (option_map (λ (r : RunEnd × List Made). r.0)) e in cc
+
+    end_fits : (m : Moment) (end : RunEnd) (made : List Made) → end_of m ≡ Some (end, made) → MomentFits s m → EndFits end
+    end_fits (Stopped c [] calls) end made e h = subst EndFits (same_end (Kept c) end calls made e) h
+    end_fits (Faulted f c [] calls) end made e h = subst EndFits (same_end (Broke f c.shared.globals) end calls made e) tt
+    end_fits (Stopped c (a ∷ left) calls) end made e h = absurd cc
+    end_fits (Faulted f c (a ∷ left) calls) end made e h = absurd cc
+    end_fits (At c left calls) end made e h = absurd cc
+    end_fits (Waits name calls) end made e h = absurd cc
+
+    ends_fit : (start : Values) (end : RunEnd) (made : List Made) (es : List Event) (old : State) (reply : Reply) (new : State) → EndsAs h start end made es old reply new → EndFits end → StateFits s new
+    ends_fit start (Kept c) made es old reply new (inl x) k = done_fits _ (Ready (settled c)) _ _ es old reply new x (settled_sound s c k, settled_rests c)
+    ends_fit start (Kept c) made es old reply new (inr x) k = subst (StateFits s) (sym x.1.2) tt
+    ends_fit start (Broke f globals) made es old reply new x k = subst (StateFits s) (sym x.2) tt
+
+    runs_fit : (c : Configuration) (made : List Made) (es : List Event) (old : State) (reply : Reply) (new : State) → RunsThrough s h c made es old reply new → Sound s c → StateFits s new
+    runs_fit c made es old reply new (inl x) k =
+        ends_fit c.shared.globals x.0 made es old reply new x.2 (end_fits (through s h.functions c (answers_of made)) x.0 made x.1 (through_fits s story h.functions c (answers_of made) k))
+    runs_fit c made es old reply new (inr x) k = subst (StateFits s) (sym x.2.2) tt
+
+    through_fits_from : (es : List Event) (k : Condition) (old : State) (reply : Reply) (new : State) → ThroughFrom s h es k old reply new → ConditionFits s k → StateFits s old → StateFits s new
+    through_fits_from es (Broken f globals) old reply new does k o = kept _ old new reply does.1 o
+    through_fits_from es (Ready c) old reply new does k o = by (can_go_on c) does
+      where
+        by : (b : Bool) → MatchBool b ((made : List Made) × RunsThrough s h c made es old reply new) ((es ≡ []) × Keeps (Refuses refusal.CannotContinue) old reply new) → StateFits s new
+        by true x = runs_fit c x.0 es old reply new x.1 k.0
+        by false x = kept _ old new reply x.1 o
+
+    fails_fit : (f : Fault) (globals : Values) (es : List Event) (old : State) (reply : Reply) (new : State) → FailsToRestart f globals es old reply new → StateFits s old → StateFits s new
+    fails_fit OutOfMemory globals es old reply new x o = along old new x.1.1 o
+    fails_fit f globals es old reply new x o = subst (StateFits s) (sym x.2) tt
+
+    restarts_fit : (r : Result Configuration Unopened) (es : List Event) (old : State) (reply : Reply) (new : State) → RestartsAs h r es old reply new → Opens s r → StateFits s old → StateFits s new
+    restarts_fit (Ok c) es old reply new does k o = tells_fits _ (Ready c) es old reply new does k o
+    restarts_fit (Err e) es old reply new does k o = fails_fit e.fault e.globals es old reply new does o
+
+    -- ---- commands and sessions
+
+    pub does_fit : (es : List Event) (c : Option Command) (old : State) (reply : Reply) (new : State) → Does s h es c old reply new → StateFits s old → StateFits s new
+    does_fit es None old reply new does o = kept _ old new reply does.1 o
+    does_fit es (Some command.Through) old reply new does o = through_fits_from es old.condition old reply new does o o
+    does_fit es (Some (command.Set name value)) old reply new does o = set_fits h name value old.condition es old reply new does o o
+    does_fit es (Some (command.Get name)) old reply new does o = get_fits _ old reply new does.1 o
+    does_fit es (Some (command.Visits path)) old reply new does o = visits_fit path old.condition old reply new does.1 o
+    does_fit es (Some (command.Choose number)) old reply new does o = choose_fits number old.condition old reply new does.1 o o
+    does_fit es (Some (command.Jump path)) old reply new does o = jump_fits_from path old.condition old reply new does.1 o o
+    does_fit es (Some command.Restart) old reply new (inl does) o = restarts_fit (opening s) es old reply new does (opening_fits s story) o
+    does_fit es (Some command.Restart) old reply new (inr does) o = along old new does.2.1 o
+
+    line_fails : (c : Option Command) (old : State) (reply : Reply) (new : State) → LineFails c old reply new → new ≡ old
+    line_fails c old reply new (inl x) = x.1.1
+    line_fails (Some (command.Visits path)) old reply new (inr x) = x.1.1
+    line_fails (Some (command.Jump path)) old reply new (inr x) = x.1.1
+    line_fails c old reply new (inr x) = absurd x
+
+    pub serves_fit : (es : List Event) (line : List ℕ) (old : State) (reply : Reply) (new : State) → Serves s h es line old reply new → StateFits s old → StateFits s new
+    unfolding Serves
+    serves_fit es line old reply new (inl does) o = does_fit es (command_of line) old reply new does o
+    serves_fit es line old reply new (inr fails) o = along old new (line_fails (command_of line) old reply new fails.1) o
+
+    -- a session leads from sound states to sound states
+    pub session_fits : (es : List Event) (lines : List (List ℕ)) (old : State) (written : List ℕ) (new : State) → Session s h es lines old written new → StateFits s old → StateFits s new
+    session_fits es [] old written new x o = along old new x.2 o
+    session_fits es (line ∷ lines) old written new x o = session_fits x.4 lines x.1 x.2 new x.8 (serves_fit x.3 line old x.0 x.1 x.6 o)
+
+module _ (s : StoryTree) (story : StoryFits s) (c : Configuration) (opens : opening s ≡ Ok c) where
+  pub opened_fits : StateFits s (opened c)
+  opened_fits = subst (Opens s) opens (opening_fits s story)
+
+  -- every state of a session
+  pub session_states : (h : Bindings) (es : List Event) (lines : List (List ℕ)) (written : List ℕ) (new : State) → Session s h es lines (opened c) written new → StateFits s new
+  session_states h es lines written new x = session_fits s story h es lines (opened c) written new x opened_fits

@@ -1,0 +1,206 @@
+-- A step keeps a configuration sound, and so do an answer and a run.
+use Rattle.std.proofs.Common.{◌≡◌, refl, subst, ℕ, zero, suc, lit≤, List, [], ◌∷◌, slice_get, Bool, true, false, if◌then◌else◌, Option, Some, None, option_map}
+use Rattle.std.proofs.lemmas.Bool.{cond_both}
+use Rattle.std.specs.List.{AllByRecursion as Each}
+use Rattle.ink_model.specs.Choices.{behind, can_take, only_invisible, taken, taken_of, visible}
+use Rattle.ink_model.specs.Choosing.{chosen, default_choice, following, jumped, open_choice, stopped_by, taken_up}
+use Rattle.ink_model.specs.Configuration.{ChoiceOf, Configuration, begun, can_go_on, current_place, ended, next_turn, put_at}
+use Rattle.ink_model.specs.Effect.{Fields, context_of, fields_of}
+use Rattle.ink_model.specs.Entered.{passed_places}
+use Rattle.ink_model.specs.Frames.{ThreadOf}
+use Rattle.ink_model.specs.Host.{Bound}
+use Rattle.ink_model.specs.Move.{Outcome, Next, Stop, Wants, Faults, move}
+use Rattle.ink_model.specs.Place.{entered}
+use Rattle.ink_model.specs.Run.{Made, Moment, At, Stopped, Faulted, Waits, answered, came, cut_off, moment, moment_after, next, run, through}
+use Rattle.ink_model.specs.Step.{effect, gone_in, perform, step, step_at}
+use Rattle.ink_model.specs.Step.Host.{answering}
+use Rattle.ink_model.specs.Tree.{StoryTree, at}
+use Rattle.ink_model.specs.Visits.{around, entering_around, entering_at}
+use Rattle.ink_model.specs.declared.host.Given.{Given}
+use Rattle.ink_model.specs.declared.limits.TheConstants.{MAX_STEPS}
+use Rattle.ink_model.specs.declared.place.Part.{Part}
+use Rattle.ink_sound.specs.Kept.{FieldsFit, Finds, MomentFits, OutcomeFits, Runs, StoryFits}
+use Rattle.ink_sound.specs.Save.Sound.{ChoiceFits, FlowStands, PlaceFits, Sound, ThreadFits, ThreadStands}
+use Rattle.ink_sound.proofs.Counts.{one_more_most}
+use Rattle.ink_sound.proofs.Effects.{effect_fits}
+use Rattle.ink_sound.proofs.Flows.{top_fits}
+use Rattle.ink_sound.proofs.Externals.{answering_fits}
+use Rattle.ink_sound.proofs.Moves.{context_fits, ended_sound, entering_runs, fields_fit, move_fits}
+use Rattle.ink_sound.proofs.Places.{entered_fits}
+
+-- ---- choices that are taken
+
+module _ {X : Type 0} (P : X → Type 0) where
+  pub get_finds : (xs : List X) (n : ℕ) → Each P xs → Finds P (slice_get xs n)
+  get_finds [] n h = tt
+  get_finds (x ∷ xs) zero h = h.0
+  get_finds (x ∷ xs) (suc n) h = get_finds xs n h.1
+
+module _ (P : ChoiceOf (List Part) → Type 0) where
+  behind_finds : (c : ChoiceOf (List Part)) (o : Option (ChoiceOf (List Part) × List (ChoiceOf (List Part)))) → Finds (λ r. P r.0) o → Finds (λ r. P r.0) (option_map (behind c) o)
+  behind_finds c None h = tt
+  behind_finds c (Some r) h = h
+
+  taken_finds : (test : ChoiceOf (List Part) → Bool) (cs : List (ChoiceOf (List Part))) (n : ℕ) → Each P cs → Finds (λ r. P r.0) (taken_of test n cs)
+  taken_finds test [] zero h = tt
+  taken_finds test [] (suc n) h = tt
+  taken_finds test (c ∷ cs) zero h = by (test c) (behind_finds c (taken_of test zero cs) (taken_finds test cs zero h.1))
+    where
+      by : (b : Bool) → Finds (λ r. P r.0) (option_map (behind c) (taken_of test zero cs)) → Finds (λ r. P r.0) (if b then Some (c, cs) else option_map (behind c) (taken_of test zero cs))
+      by true on = h.0
+      by false on = on
+  taken_finds test (c ∷ cs) (suc n) h = behind_finds c (taken_of test (if test c then n else suc n) cs) (taken_finds test cs (if test c then n else suc n) h.1)
+
+  pub default_finds : (cs : List (ChoiceOf (List Part))) → Each P cs → Finds P (default_choice cs)
+  default_finds cs h = by (only_invisible cs) (taken 0 cs) (taken_finds (can_take cs) cs 0 h)
+    where
+      first : (o : Option (ChoiceOf (List Part) × List (ChoiceOf (List Part)))) → Finds (λ r. P r.0) o → Finds P (option_map (λ r. r.0) o)
+      first None k = tt
+      first (Some r) k = k
+
+      by : (b : Bool) (o : Option (ChoiceOf (List Part) × List (ChoiceOf (List Part)))) → Finds (λ r. P r.0) o → Finds P (if b then option_map (λ r. r.0) o else None)
+      by true o k = first o k
+      by false o k = tt
+
+  pub visible_each : (cs : List (ChoiceOf (List Part))) → Each P cs → Each P (visible cs)
+  visible_each [] h = tt
+  visible_each (c ∷ cs) h = cond_both c.hidden _ _ (Each P) (λ _. visible_each cs h.1) (λ _. (h.0, visible_each cs h.1))
+
+  pub open_finds : (n : ℕ) (c : Configuration) → Each P c.flow.choices → Finds P (open_choice n c)
+  open_finds n c h = cond_both (can_go_on c) _ _ (Finds P) (λ _. tt) (λ _. get_finds P (visible c.flow.choices) n (visible_each c.flow.choices h))
+
+module _ (s : StoryTree) where
+  -- ---- flow is put at a place
+
+  placed : (p : List Part) (t : ThreadOf (List Part)) → PlaceFits s p → ThreadFits s t → ThreadStands s (record t { frame = record t.frame { place = Some p } })
+  placed p t h k = record { thread = record { frame = k.frame; below = k.below; base = k.base; few = k.few; previous = k.previous }; place = h }
+
+  pub taken_runs : (choice : ChoiceOf (List Part)) (c : Configuration) → ChoiceFits s choice → Sound s c → Runs s (taken_up choice c)
+  taken_runs choice c h k = (
+    record {
+      flow = record {
+        threads = top_fits s _ [] (placed choice.target choice.thread h.target h.thread.thread) tt (lit≤ tt);
+        stack = k.flow.stack;
+        choices = record { each = tt; few = lit≤ tt };
+      };
+      shared = k.shared;
+      page = k.page;
+    },
+    h.target,
+  )
+
+  pub enters_around : (c : Configuration) → Runs s c → Runs s (entering_around s c)
+  enters_around c h = (entering_runs s (around s c.flow.threads) c h.0, h.1)
+
+  following_fits : (o : Outcome) → OutcomeFits s o → OutcomeFits s (following s o)
+  following_fits (Stop c) h = by (default_choice c.flow.choices) (default_finds (ChoiceFits s) c.flow.choices h.flow.choices.each)
+    where
+      by : (o : Option (ChoiceOf (List Part))) → Finds (ChoiceFits s) o → OutcomeFits s (stopped_by s o c)
+      by None k = h
+      by (Some choice) k = enters_around (taken_up choice c) (taken_runs choice c k h)
+  following_fits (Next c) h = h
+  following_fits (Wants name arguments f c) h = h
+  following_fits (Faults f) h = h
+
+  -- ---- steps
+
+  gone_in_runs : (p : List Part) (c : Configuration) → current_place c ≡ Some p → Sound s c → Runs s (gone_in s p c)
+  gone_in_runs p c is h = by (entering_at s p c) (entering_runs s (passed_places s p) c h) is
+    where
+      here : PlaceFits s (entered s p)
+      here = entered_fits s p (subst (λ o. FlowStands s o c.flow.threads.below) is h.flow.threads.flow)
+
+      by : (d : Configuration) → Sound s d → current_place d ≡ Some p → Runs s (put_at (Some (entered s p)) d)
+      by d k at_place = (
+        record {
+          flow = record {
+            threads = record {
+              thread = (placed (entered s p) d.flow.threads.thread here k.flow.threads.thread).thread;
+              below = k.flow.threads.below;
+              flow = here;
+              few = k.flow.threads.few;
+            };
+            stack = k.flow.stack;
+            choices = k.flow.choices;
+          };
+          shared = k.shared;
+          page = k.page;
+        },
+        here,
+      )
+
+  module _ (story : StoryFits s) (b : Bound) where
+    perform_fits : (p : List Part) (c : Configuration) → Runs s c → OutcomeFits s (perform s b p c)
+    perform_fits p c h = move_fits s (effect s b p (at s p) (context_of c) (fields_of c)) c
+        (effect_fits s b p (context_of c) (context_fits s c h) (fields_of c) (fields_fit s c h.0) story (at s p) refl) h
+
+    -- each step of a sound configuration leads to a sound one
+    pub step_fits : (c : Configuration) → Sound s c → OutcomeFits s (step s b c)
+    unfolding step
+    step_fits c h = by (current_place c) refl
+      where
+        by : (o : Option (List Part)) → current_place c ≡ o → OutcomeFits s (step_at s b o c)
+        by None is = h
+        by (Some p) is = following_fits (perform s b (entered s p) (gone_in s p c)) (perform_fits (entered s p) (gone_in s p c) (gone_in_runs p c is h))
+
+    -- ---- answers and runs
+
+    pub answered_fits : (f : Fields) (c : Configuration) (gave : Option Given) → FieldsFit s f → Runs s c → OutcomeFits s (answered s f c gave)
+    answered_fits f c gave h k = following_fits (move s (answering gave f) c) (move_fits s (answering gave f) c (answering_fits s gave f h) k)
+
+    after_fits : (c : Configuration) (o : Outcome) (left : List (Option Given)) (made : List Made) → Sound s c → OutcomeFits s o → MomentFits s (moment_after c o left made)
+    after_fits c (Next d) left made h k = k.0
+    after_fits c (Stop d) left made h k = k
+    after_fits c (Faults f) left made h k = h
+    after_fits c (Wants name arguments f d) left made h k = tt
+
+    came_fits : (c : Configuration) (o : Outcome) (left : List (Option Given)) (made : List Made) → Sound s c → OutcomeFits s o → MomentFits s (came s c o left made)
+    came_fits c (Wants name arguments f d) [] made h k = tt
+    came_fits c (Wants name arguments f d) (a ∷ left) made h k = after_fits c (answered s f d a) left _ h (answered_fits f d a k.0 k.1)
+    came_fits c (Next d) left made h k = k.0
+    came_fits c (Stop d) left made h k = k
+    came_fits c (Faults f) left made h k = h
+
+    next_fits : (m : Moment) → MomentFits s m → MomentFits s (next s b m)
+    next_fits (At c left made) h = came_fits c (step s b c) left made h (step_fits c h)
+    next_fits (Stopped c left made) h = h
+    next_fits (Faulted f c left made) h = h
+    next_fits (Waits name made) h = tt
+
+    pub run_fits : (n : ℕ) (m : Moment) → MomentFits s m → MomentFits s (run s b n m)
+    unfolding run
+    run_fits zero m h = h
+    run_fits (suc n) m h = next_fits (run s b n m) (run_fits n m h)
+
+    pub begun_sound : (c : Configuration) → Sound s c → Sound s (begun c)
+    begun_sound c h = record { flow = record { threads = h.flow.threads; stack = h.flow.stack; choices = h.flow.choices }; shared = h.shared; page = h.page }
+
+    cut_fits : (m : Moment) → MomentFits s m → MomentFits s (cut_off m)
+    cut_fits (At c left made) h = h
+    cut_fits (Stopped c left made) h = h
+    cut_fits (Faulted f c left made) h = h
+    cut_fits (Waits name made) h = tt
+
+    pub through_fits : (c : Configuration) (answers : List (Option Given)) → Sound s c → MomentFits s (through s b c answers)
+    through_fits c answers h = cut_fits (moment s b (begun c) answers MAX_STEPS) (run_fits MAX_STEPS (At (begun c) answers []) (begun_sound c h))
+
+  -- ---- choosing and jumping
+
+  next_sound : (c : Configuration) → Sound s c → Sound s (next_turn c)
+  next_sound c h = record { flow = h.flow; shared = record { globals = h.shared.globals; counts = h.shared.counts; turn = one_more_most s c.shared.turn h.shared.turn }; page = h.page }
+
+  pub chosen_sound : (choice : ChoiceOf (List Part)) (c : Configuration) → ChoiceFits s choice → Sound s c → Sound s (entering_around s (chosen choice c))
+  chosen_sound choice c h k = (enters_around (chosen choice c) (taken_runs choice (next_turn c) h (next_sound c k))).0
+
+  pub jumped_sound : (q : List Part) (c : Configuration) → PlaceFits s q → Sound s c → Sound s (entering_around s (jumped q c))
+  jumped_sound q c h k = entering_runs s (around s (jumped q c).flow.threads) (jumped q c) (record {
+    flow = record { threads = top_fits s _ [] (placed q e.flow.threads.thread h r.flow.threads.thread) tt (lit≤ tt); stack = r.flow.stack; choices = r.flow.choices };
+    shared = r.shared;
+    page = r.page;
+  })
+    where
+      e : Configuration
+      e = next_turn (ended c)
+
+      r : Sound s e
+      r = next_sound (ended c) (ended_sound s c k)

@@ -1,0 +1,347 @@
+-- A JSON value that is read as a configuration is its spelling.
+use Rattle.std.proofs.Common.{◌≡◌, ◌∙◌, ◌⊎◌, inl, inr, ap, sym, refl, subst, arith, ℕ, ◌^◌, ℤ, pos, negsuc, List, [], ◌∷◌, map, reverse, codes, Bool, true, false, bytes_eq, nat_lt, ◌==◌, if◌then◌else◌, Option, Some, None, option_and_then}
+use Rattle.std.proofs.lemmas.Bool.Decides.{nat_tests}
+use Rattle.std.proofs.lemmas.List.{reverse-reverse}
+use Rattle.std.proofs.lemmas.Slice.Eq.{bytes_eq-Decides}
+use Rattle.std.specs.Option.{option_map, option_or}
+use Rattle.serde_json.specs.Data.{Num, unsigned, negative, float, Data, null, boolean, number, string, array, object, Items, no_items, item, Members, no_members, member}
+use Rattle.serde_json.specs.Find.{of_integer}
+use Rattle.ink_model.specs.Configuration.{ChoiceOf, Configuration}
+use Rattle.ink_model.specs.Events.{items_of}
+use Rattle.ink_model.specs.Frames.{FrameOf, ThreadOf, ThreadsOf}
+use Rattle.ink_model.specs.Leaves.{is_small}
+use Rattle.ink_model.specs.Path.{path_text, read_path}
+use Rattle.ink_model.specs.ValueJson.{value_data}
+use Rattle.ink_model.specs.declared.frame.FrameKind.TheVariants.{Base, Function, Tunnel}
+use Rattle.ink_model.specs.declared.place.Part.{Part}
+use Rattle.ink_model.specs.declared.place.Part.TheVariants.{Index, Name}
+use Rattle.ink_model.specs.declared.value.Value.{Value}
+use Rattle.ink_model.specs.declared.value.Value.TheVariants as value
+use Rattle.ink_sound.specs.Save.Spelling.{choice_data, count_data, frame_data, global_data, kind_data, list_data, part_data, place_data, place_or_null, row_data, spelling, temps_members, thread_data, threads_data}
+use Rattle.ink_sound.specs.Save.Unspelled.{all_of, any_place_of, choice_of, closed, count_of, format_of, frame_of, from_threads, from_turn, int_of, integer_of, kind_of, list_of, number_integer, pair_of, part_of, path_if, path_in, place_of, pointer_in, rows_of, small, tag_in, take, target_in, temps_of, text_of, thread_in, thread_with, threads_with, truth_of, unspelled, value_of}
+
+-- ---- what was found
+
+bind_some : {A B : Type 0} (o : Option A) (f : A → Option B) (y : B) → option_and_then f o ≡ Some y → (x : A) × (o ≡ Some x) × (f x ≡ Some y)
+bind_some None f y e = absurd cc
+bind_some (Some x) f y e = (x, refl, e)
+
+map_some : {A B : Type 0} (o : Option A) (f : A → B) (y : B) → option_map f o ≡ Some y → (x : A) × (o ≡ Some x) × (f x ≡ y)
+map_some None f y e = absurd cc
+map_some (Some x) f y e = (x, refl, cc)
+
+or_some : {A : Type 0} (o p : Option A) (y : A) → option_or o p ≡ Some y → (o ≡ Some y) ⊎ (p ≡ Some y)
+or_some None p y e = inr e
+or_some (Some x) p y e = inl e
+
+if_some : {A : Type 0} (b : Bool) (x y : A) → (if b then Some x else None) ≡ Some y → (b ≡ true) × (x ≡ y)
+if_some true x y e = (refl, cc)
+if_some false x y e = absurd cc
+
+-- what f reads is spelled by g
+abbrev Reading : {A : Type 0} → (Data → Option A) → (A → Data) → Type 0
+Reading {A} f g = (d : Data) (x : A) → f d ≡ Some x → d ≡ g x
+
+-- the first member, and what comes of it and the others
+record Took {A B : Type 0} (g : A → Data) (k : List ℕ) (so : A → Members → Option B) (ms : Members) (y : B) : Type 0 where
+  x : A
+  rest : Members
+  is : ms ≡ member k (g x) rest
+  on : so x rest ≡ Some y
+
+took : {A B : Type 0} (f : Data → Option A) (g : A → Data) (k : List ℕ) (so : A → Members → Option B) (ms : Members) (y : B) → Reading f g → take k f so ms ≡ Some y → Took g k so ms y
+took f g k so no_members y h e = absurd cc
+took {A} {B} f g k so (member l d ms) y h e = by (bytes_eq k l) refl e
+  where
+    by : (b : Bool) → bytes_eq k l ≡ b → option_and_then (λ (p : Data × Members). option_and_then (λ x. so x p.1) (f p.0)) (if b then Some (d, ms) else None) ≡ Some y → Took g k so (member l d ms) y
+    by false is e = absurd cc
+    by true is e =
+        let found = bind_some (f d) (λ x. so x ms) y e in
+        let reads : d ≡ g found.0 = h d found.0 found.1 in
+        let keys : l ≡ k = sym ((bytes_eq-Decides k l).0 is) in
+        record { x = found.0; rest = ms; is = (λ i. member (keys i) (reads i) ms); on = found.2 }
+
+closed_some : {B : Type 0} (y z : B) (ms : Members) → closed y ms ≡ Some z → (ms ≡ no_members) × (y ≡ z)
+closed_some y z no_members e = (refl, cc)
+closed_some y z (member k d ms) e = absurd cc
+
+onto : (k : List ℕ) (d : Data) (ms rest more : Members) → ms ≡ member k d rest → rest ≡ more → ms ≡ member k d more
+onto k d ms rest more e f = e ∙ ap (λ r. member k d r) f
+
+-- ---- plain values
+
+count_reading : Reading count_of count_data
+count_reading (number (unsigned n)) x e = let same : n ≡ x = cc in ap count_data same
+count_reading d x e = absurd cc
+
+truth_reading : Reading truth_of boolean
+truth_reading (boolean b) x e = let same : b ≡ x = cc in ap boolean same
+truth_reading d x e = absurd cc
+
+text_reading : Reading text_of string
+text_reading (string t) x e = let same : t ≡ x = cc in ap string same
+text_reading d x e = absurd cc
+
+format_reading : Reading format_of (λ u. count_data 1)
+format_reading (number (unsigned n)) x e = let one : n ≡ 1 = grind (arith, nat_tests, (if_some (n == 1) tt x e).0) in ap count_data one
+format_reading d x e = absurd cc
+
+integer_reading : (n : Num) (z : ℤ) → integer_of n ≡ Some z → n ≡ of_integer z
+integer_reading (unsigned n) z e = let same : pos n ≡ z = cc in ap of_integer same
+integer_reading (negative (negsuc n)) z e = let same : negsuc n ≡ z = cc in ap of_integer same
+integer_reading n z e = absurd cc
+
+small_reading : (n : Num) (z : ℤ) → number_integer n ≡ Some z → n ≡ of_integer z
+small_reading n z e =
+    let found = bind_some (integer_of n) small z e in
+    integer_reading n found.0 found.1 ∙ ap of_integer (if_some (is_small found.0) found.0 z found.2).1
+
+int_reading : Reading int_of (λ z. number (of_integer z))
+int_reading (number n) z e = ap number (small_reading n z e)
+int_reading d z e = absurd cc
+
+-- ---- lists
+
+all_reading : {A : Type 0} (f : Data → Option A) (g : A → Data) → Reading f g → (ds : Items) (xs : List A) → all_of f ds ≡ Some xs → ds ≡ items_of (map g xs)
+all_reading f g h no_items xs e = let same : [] ≡ xs = cc in ap (λ ys. items_of (map g ys)) same
+all_reading f g h (item d ds) xs e =
+    let first = bind_some (f d) (λ x. option_map (λ ys. x ∷ ys) (all_of f ds)) xs e in
+    let rest = map_some (all_of f ds) (λ ys. first.0 ∷ ys) xs first.2 in
+    (λ i. item (h d first.0 first.1 i) (all_reading f g h ds rest.0 rest.1 i)) ∙ ap (λ ys. items_of (map g ys)) rest.2
+
+list_reading : {A : Type 0} (f : Data → Option A) (g : A → Data) → Reading f g → Reading (list_of f) (list_data g)
+list_reading f g h (array ds) xs e = ap array (all_reading f g h ds xs e)
+list_reading f g h null xs e = absurd cc
+list_reading f g h (boolean b) xs e = absurd cc
+list_reading f g h (number n) xs e = absurd cc
+list_reading f g h (string t) xs e = absurd cc
+list_reading f g h (object ms) xs e = absurd cc
+
+pair_reading : {A B : Type 0} (f : Data → Option A) (g : Data → Option B) (m : A → Data) (n : B → Data) → Reading f m → Reading g n
+    → Reading (pair_of f g) (λ r. array (items_of (m r.0 ∷ n r.1 ∷ [])))
+pair_reading f g m n h k (array (item d (item e no_items))) r is =
+    let first = bind_some (f d) (λ x. option_map (λ y. (x, y)) (g e)) r is in
+    let second = map_some (g e) (λ y. (first.0, y)) r first.2 in
+    (λ i. array (item (h d first.0 first.1 i) (item (k e second.0 second.1 i) no_items))) ∙ ap (λ q. array (items_of (m q.0 ∷ n q.1 ∷ []))) second.2
+pair_reading f g m n h k d r is = absurd cc
+
+-- ---- values and places
+
+path_reading : Reading path_in (λ p. string (path_text p))
+path_reading (string t) p e =
+    let found = bind_some (read_path t) (path_if t) p e in
+    let same = if_some (bytes_eq (path_text found.0) t) found.0 p found.2 in
+    ap string (sym ((bytes_eq-Decides (path_text found.0) t).0 same.0) ∙ ap path_text same.1)
+path_reading d p e = absurd cc
+
+target_reads : (ms : Members) (v : Value) → target_in ms ≡ Some v → object ms ≡ value_data v
+target_reads ms v e =
+    let t = took path_in (λ p. string (path_text p)) (codes "->") _ ms v path_reading e in
+    let c = closed_some (value.Target t.x) v t.rest t.on in
+    ap object (onto (codes "->") (string (path_text t.x)) ms t.rest no_members t.is c.0) ∙ ap value_data c.1
+
+pointer_reads : (ms : Members) (v : Value) → pointer_in ms ≡ Some v → object ms ≡ value_data v
+pointer_reads ms v e =
+    let t = took int_of (λ z. number (of_integer z)) (codes "ci") _ ms v int_reading e in
+    let u = took text_of string (codes "var") _ t.rest v text_reading t.on in
+    let c = closed_some (value.Pointer t.x u.x) v u.rest u.on in
+    ap object (onto (codes "ci") (number (of_integer t.x)) ms t.rest _ t.is (onto (codes "var") (string u.x) t.rest u.rest no_members u.is c.0)) ∙ ap value_data c.1
+
+tag_reads : (ms : Members) (v : Value) → tag_in ms ≡ Some v → object ms ≡ value_data v
+tag_reads ms v e =
+    let t = took text_of string (codes "tag") _ ms v text_reading e in
+    let c = closed_some (value.Tag t.x) v t.rest t.on in
+    ap object (onto (codes "tag") (string t.x) ms t.rest no_members t.is c.0) ∙ ap value_data c.1
+
+value_reading : Reading value_of value_data
+value_reading null v e = let same : value.Void ≡ v = cc in ap value_data same
+value_reading (boolean b) v e = let same : value.Bool b ≡ v = cc in ap value_data same
+value_reading (number n) v e =
+    let found = map_some (number_integer n) (λ z. value.Int z) v e in
+    ap number (small_reading n found.0 found.1) ∙ ap value_data found.2
+value_reading (string t) v e = let same : value.Text t ≡ v = cc in ap value_data same
+value_reading (array ds) v e = absurd cc
+value_reading (object ms) v e =
+    elim (or_some (target_in ms) (option_or (pointer_in ms) (tag_in ms)) v e) [
+      | inl h ↦ target_reads ms v h
+      | inr h ↦ elim (or_some (pointer_in ms) (tag_in ms) v h) [ inl k ↦ pointer_reads ms v k | inr k ↦ tag_reads ms v k ]
+    ]
+
+part_reading : Reading part_of part_data
+part_reading (number (unsigned n)) p e = ap part_data (if_some (nat_lt n (2 ^ 32)) (Index n) p e).1
+part_reading (number (negative z)) p e = absurd cc
+part_reading (number (float x)) p e = absurd cc
+part_reading (string t) p e = let same : Name t ≡ p = cc in ap part_data same
+part_reading d p e = absurd cc
+
+place_reading : Reading place_of place_data
+place_reading = list_reading part_of part_data part_reading
+
+any_place_reading : Reading any_place_of place_or_null
+any_place_reading null p e = let same : None ≡ p = cc in ap place_or_null same
+any_place_reading (array ds) p e =
+    let found = map_some (all_of part_of ds) (λ q. Some q) p e in
+    ap array (all_reading part_of part_data part_reading ds found.0 found.1) ∙ ap place_or_null found.2
+any_place_reading d p e = absurd cc
+
+-- ---- frames
+
+kind_reading : Reading kind_of kind_data
+kind_reading (string t) k e = by (bytes_eq t (codes "base")) (bytes_eq t (codes "function")) (bytes_eq t (codes "tunnel")) refl refl refl e
+  where
+    by : (a b c : Bool) → bytes_eq t (codes "base") ≡ a → bytes_eq t (codes "function") ≡ b → bytes_eq t (codes "tunnel") ≡ c
+        → (if a then Some Base else (if b then Some Function else (if c then Some Tunnel else None))) ≡ Some k → string t ≡ kind_data k
+    by true b c x y z f = let same : Base ≡ k = cc in ap string ((bytes_eq-Decides t (codes "base")).0 x) ∙ ap kind_data same
+    by false true c x y z f = let same : Function ≡ k = cc in ap string ((bytes_eq-Decides t (codes "function")).0 y) ∙ ap kind_data same
+    by false false true x y z f = let same : Tunnel ≡ k = cc in ap string ((bytes_eq-Decides t (codes "tunnel")).0 z) ∙ ap kind_data same
+    by false false false x y z f = absurd cc
+kind_reading d k e = absurd cc
+
+rows_reading : (ms : Members) (rs : List (List ℕ × Value)) → rows_of ms ≡ Some rs → ms ≡ temps_members rs
+rows_reading no_members rs e = let same : [] ≡ rs = cc in ap temps_members same
+rows_reading (member k d ms) rs e =
+    let first = bind_some (value_of d) (λ v. option_map (λ qs. (k, v) ∷ qs) (rows_of ms)) rs e in
+    let rest = map_some (rows_of ms) (λ qs. (k, first.0) ∷ qs) rs first.2 in
+    (λ i. member k (value_reading d first.0 first.1 i) (rows_reading ms rest.0 rest.1 i)) ∙ ap temps_members rest.2
+
+temps_reading : Reading temps_of (λ rs. object (temps_members rs))
+temps_reading (object ms) rs e = ap object (rows_reading ms rs e)
+temps_reading d rs e = absurd cc
+
+frame_reading : Reading frame_of frame_data
+frame_reading (object ms) f e =
+    let a = took count_of count_data (codes "depth") _ ms f count_reading e in
+    let b = took truth_of boolean (codes "eval") _ a.rest f truth_reading a.on in
+    let c = took truth_of boolean (codes "fresh") _ b.rest f truth_reading b.on in
+    let k = took kind_of kind_data (codes "kind") _ c.rest f kind_reading c.on in
+    let p = took any_place_of place_or_null (codes "place") _ k.rest f any_place_reading k.on in
+    let t = took temps_of (λ rs. object (temps_members rs)) (codes "temps") _ p.rest f temps_reading p.on in
+    let z = closed_some _ f t.rest t.on in
+    ap object (onto (codes "depth") (count_data a.x) ms a.rest _ a.is
+    (onto (codes "eval") (boolean b.x) a.rest b.rest _ b.is
+    (onto (codes "fresh") (boolean c.x) b.rest c.rest _ c.is
+    (onto (codes "kind") (kind_data k.x) c.rest k.rest _ k.is
+    (onto (codes "place") (place_or_null p.x) k.rest p.rest _ p.is
+    (onto (codes "temps") (object (temps_members t.x)) p.rest t.rest no_members t.is z.0))))))
+    ∙ ap frame_data z.1
+frame_reading d f e = absurd cc
+
+-- ---- threads
+
+with_reads : (gs : List (FrameOf (List Part))) (p : Option (List Part)) (t : ThreadOf (List Part)) → thread_with gs p ≡ Some t → (gs ≡ t.frame ∷ t.below) × (p ≡ t.previous)
+with_reads [] p t e = absurd cc
+with_reads (f ∷ fs) p t e =
+    let same : record { frame = f; below = fs; previous = p } ≡ t = cc in
+    subst (λ w. (f ∷ fs ≡ w.frame ∷ w.below) × (p ≡ w.previous)) same (refl, refl)
+
+turned : {A : Type 0} (xs ys : List A) → reverse xs ≡ ys → xs ≡ reverse ys
+turned xs ys e = sym (reverse-reverse xs) ∙ ap reverse e
+
+thread_reading : Reading thread_in thread_data
+thread_reading (object ms) t e =
+    let a = took (list_of frame_of) (list_data frame_data) (codes "frames") _ ms t (list_reading frame_of frame_data frame_reading) e in
+    let b = took any_place_of place_or_null (codes "previous") _ a.rest t any_place_reading a.on in
+    let found = bind_some (thread_with (reverse a.x) b.x) (λ u. closed u b.rest) t b.on in
+    let z = closed_some found.0 t b.rest found.2 in
+    let w = with_reads (reverse a.x) b.x found.0 found.1 in
+    let all : a.x ≡ reverse (found.0.frame ∷ found.0.below) = turned a.x (found.0.frame ∷ found.0.below) w.0 in
+    ap object (onto (codes "frames") (list_data frame_data a.x) ms a.rest _ a.is (onto (codes "previous") (place_or_null b.x) a.rest b.rest no_members b.is z.0))
+    ∙ (λ i. object (member (codes "frames") (list_data frame_data (all i)) (member (codes "previous") (place_or_null (w.1 i)) no_members)))
+    ∙ ap thread_data z.1
+thread_reading d t e = absurd cc
+
+-- ---- choices
+
+choice_reading : Reading choice_of choice_data
+choice_reading (object ms) x e =
+    let a = took truth_of boolean (codes "hidden") _ ms x truth_reading e in
+    let b = took (list_of text_of) (list_data string) (codes "tags") _ a.rest x (list_reading text_of string text_reading) a.on in
+    let c = took place_of place_data (codes "target") _ b.rest x place_reading b.on in
+    let t = took text_of string (codes "text") _ c.rest x text_reading c.on in
+    let u = took thread_in thread_data (codes "thread") _ t.rest x thread_reading t.on in
+    let z = closed_some _ x u.rest u.on in
+    ap object (onto (codes "hidden") (boolean a.x) ms a.rest _ a.is
+    (onto (codes "tags") (list_data string b.x) a.rest b.rest _ b.is
+    (onto (codes "target") (place_data c.x) b.rest c.rest _ c.is
+    (onto (codes "text") (string t.x) c.rest t.rest _ t.is
+    (onto (codes "thread") (thread_data u.x) t.rest u.rest no_members u.is z.0)))))
+    ∙ ap choice_data z.1
+choice_reading d x e = absurd cc
+
+-- ---- configurations
+
+with_threads_reads : (us : List (ThreadOf (List Part))) (ts : ThreadsOf (List Part)) → threads_with us ≡ Some ts → us ≡ ts.thread ∷ ts.below
+with_threads_reads [] ts e = absurd cc
+with_threads_reads (u ∷ us) ts e =
+    let same : record { thread = u; below = us } ≡ ts = cc in
+    subst (λ q. u ∷ us ≡ q.thread ∷ q.below) same refl
+
+rows_of_counts : Reading (list_of (pair_of place_of count_of)) (list_data row_data)
+rows_of_counts = list_reading (pair_of place_of count_of) row_data (pair_reading place_of count_of place_data count_data place_reading count_reading)
+
+-- what the last members spell, and what was read before them
+record TurnRead (choices : List (ChoiceOf (List Part))) (globals : List (List ℕ × Value)) (safe : Bool) (stack : List Value) (threads : List (ThreadOf (List Part))) (ms : Members) (x : Configuration) : Type 0 where
+  is : ms ≡ member (codes "turn") (count_data x.shared.turn) (member (codes "turns") (list_data row_data x.shared.counts.turns)
+      (member (codes "visits") (list_data row_data x.shared.counts.visits) no_members))
+  choices_are : choices ≡ x.flow.choices
+  globals_are : globals ≡ x.shared.globals
+  safe_is : safe ≡ x.flow.safe
+  stack_is : stack ≡ x.flow.stack
+  threads_are : reverse threads ≡ x.flow.threads.thread ∷ x.flow.threads.below
+
+turn_read : (choices : List (ChoiceOf (List Part))) (globals : List (List ℕ × Value)) (safe : Bool) (stack : List Value) (threads : List (ThreadOf (List Part))) (ms : Members) (x : Configuration)
+    → from_turn choices globals safe stack threads ms ≡ Some x → TurnRead choices globals safe stack threads ms x
+turn_read choices globals safe stack threads ms x e =
+    let n = took count_of count_data (codes "turn") _ ms x count_reading e in
+    let m = took (list_of (pair_of place_of count_of)) (list_data row_data) (codes "turns") _ n.rest x rows_of_counts n.on in
+    let v = took (list_of (pair_of place_of count_of)) (list_data row_data) (codes "visits") _ m.rest x rows_of_counts m.on in
+    let found = bind_some (threads_with (reverse threads)) _ x v.on in
+    let z = closed_some _ x v.rest found.2 in
+    subst (TurnRead choices globals safe stack threads ms) z.1 (record {
+      is = onto (codes "turn") (count_data n.x) ms n.rest _ n.is (onto (codes "turns") (list_data row_data m.x) n.rest m.rest _ m.is
+          (onto (codes "visits") (list_data row_data v.x) m.rest v.rest no_members v.is z.0));
+      choices_are = refl;
+      globals_are = refl;
+      safe_is = refl;
+      stack_is = refl;
+      threads_are = with_threads_reads (reverse threads) found.0 found.1;
+    })
+
+record ThreadsRead (choices : List (ChoiceOf (List Part))) (globals : List (List ℕ × Value)) (safe : Bool) (stack : List Value) (ms : Members) (x : Configuration) : Type 0 where
+  is : ms ≡ member (codes "threads") (threads_data x.flow.threads)
+      (member (codes "turn") (count_data x.shared.turn) (member (codes "turns") (list_data row_data x.shared.counts.turns)
+      (member (codes "visits") (list_data row_data x.shared.counts.visits) no_members)))
+  choices_are : choices ≡ x.flow.choices
+  globals_are : globals ≡ x.shared.globals
+  safe_is : safe ≡ x.flow.safe
+  stack_is : stack ≡ x.flow.stack
+
+threads_read : (choices : List (ChoiceOf (List Part))) (globals : List (List ℕ × Value)) (safe : Bool) (stack : List Value) (ms : Members) (x : Configuration)
+    → from_threads choices globals safe stack ms ≡ Some x → ThreadsRead choices globals safe stack ms x
+threads_read choices globals safe stack ms x e =
+    let t = took (list_of thread_in) (list_data thread_data) (codes "threads") _ ms x (list_reading thread_in thread_data thread_reading) e in
+    let r = turn_read choices globals safe stack t.x t.rest x t.on in
+    let all : t.x ≡ reverse (x.flow.threads.thread ∷ x.flow.threads.below) = turned t.x (x.flow.threads.thread ∷ x.flow.threads.below) r.threads_are in
+    record {
+      is = t.is ∙ (λ i. member (codes "threads") (list_data thread_data (all i)) (r.is i));
+      choices_are = r.choices_are;
+      globals_are = r.globals_are;
+      safe_is = r.safe_is;
+      stack_is = r.stack_is;
+    }
+
+pub unspelled_reads : (j : Data) (x : Configuration) → unspelled j ≡ Some x → j ≡ spelling x
+unspelled_reads (object ms) x e =
+    let a = took (list_of choice_of) (list_data choice_data) (codes "choices") _ ms x (list_reading choice_of choice_data choice_reading) e in
+    let b = took format_of (λ u. count_data 1) (codes "format") _ a.rest x format_reading a.on in
+    let g = took (list_of (pair_of text_of value_of)) (list_data global_data) (codes "globals") _ b.rest x
+    (list_reading (pair_of text_of value_of) global_data (pair_reading text_of value_of string value_data text_reading value_reading)) b.on in
+    let f = took truth_of boolean (codes "safe") _ g.rest x truth_reading g.on in
+    let s = took (list_of value_of) (list_data value_data) (codes "stack") _ f.rest x (list_reading value_of value_data value_reading) f.on in
+    let r = threads_read a.x g.x f.x s.x s.rest x s.on in
+    ap object (a.is ∙ (λ i. member (codes "choices") (list_data choice_data (r.choices_are i))
+    ((b.is ∙ (λ i. member (codes "format") (count_data 1)
+    ((g.is ∙ (λ i. member (codes "globals") (list_data global_data (r.globals_are i))
+    ((f.is ∙ (λ i. member (codes "safe") (boolean (r.safe_is i))
+    ((s.is ∙ (λ i. member (codes "stack") (list_data value_data (r.stack_is i)) (r.is i))) i))) i))) i))) i)))
+unspelled_reads d x e = absurd cc

@@ -1,0 +1,70 @@
+-- Values that fit, on a stack and as they are made.
+use Rattle.std.proofs.Common.{◌≡◌, ap, refl, arith, suc, List, [], ◌∷◌, ◌++◌, length, length-append, nat_lt, Option, Some, None, Result, Ok, Err}
+use Rattle.std.proofs.lemmas.Bool.{cond_both}
+use Rattle.std.proofs.lemmas.Bool.Decides.{nat_tests}
+use Rattle.std.specs.List.{AllByRecursion as Each}
+use Rattle.std.specs.Option.{option_map}
+use Rattle.ink_model.specs.Effect.{Effect, Fields, Moves, or_else, or_fault, popping, pushing}
+use Rattle.ink_model.specs.Stack.{popped, pushed}
+use Rattle.ink_model.specs.Tree.{StoryTree}
+use Rattle.ink_model.specs.declared.fault.Fault.{Fault}
+use Rattle.ink_model.specs.declared.fault.Fault.TheVariants.{StackEmpty}
+use Rattle.ink_model.specs.declared.limits.TheConstants.{MAX_STACK}
+use Rattle.ink_model.specs.declared.value.Value.{Value}
+use Rattle.ink_sound.specs.Kept.{EffectFits, FieldsFit, Finds, Gives}
+use Rattle.ink_sound.specs.Save.Sound.{StackFits, ValueFits}
+
+-- ---- lists
+
+module _ {X : Type 0} (P : X → Type 0) where
+  pub each_append : (xs ys : List X) → Each P xs → Each P ys → Each P (xs ++ ys)
+  each_append [] ys h k = k
+  each_append (x ∷ xs) ys h k = (h.0, each_append xs ys h.1 k)
+
+  pub each_one : (xs : List X) (x : X) → Each P xs → P x → Each P (xs ++ x ∷ [])
+  each_one xs x h k = each_append xs (x ∷ []) h (k, tt)
+
+-- ---- results
+
+pub or_fault_fits : {A : Type 0} (s : StoryTree) (P : A → Type 0) (r : Result A Fault) (so : A → Effect)
+    → Gives P r → ((a : A) → P a → EffectFits s (so a)) → EffectFits s (or_fault r so)
+or_fault_fits s P (Ok a) so h k = k a h
+or_fault_fits s P (Err f) so h k = tt
+
+pub or_else_fits : {A : Type 0} (s : StoryTree) (P : A → Type 0) (f : Fault) (o : Option A) (so : A → Effect)
+    → Finds P o → ((a : A) → P a → EffectFits s (so a)) → EffectFits s (or_else f o so)
+or_else_fits s P f (Some a) so h k = k a h
+or_else_fits s P f None so h k = tt
+
+-- ---- the stack
+
+pub pushed_fits : (s : StoryTree) (v : Value) (vs : List Value) → ValueFits s v → StackFits s vs → Gives (StackFits s) (pushed v vs)
+pushed_fits s v vs h k = cond_both (nat_lt (length vs) MAX_STACK) _ _ (Gives (StackFits s))
+    (λ e. record { each = each_one (ValueFits s) vs v k.each h; few = rw (length-append vs (v ∷ [])) (grind (arith, nat_tests, e)) }) (λ _. tt)
+
+-- what was taken off a stack, and what is left
+pub record TakenFits (s : StoryTree) (vs : List Value) (r : Value × List Value) : Type 0 where
+  pub value : ValueFits s r.0
+  pub left : Each (ValueFits s) r.1
+  pub less : suc (length r.1) ≡ length vs
+
+pub popped_fits : (s : StoryTree) (vs : List Value) → Each (ValueFits s) vs → Finds (TakenFits s vs) (popped vs)
+popped_fits s [] h = tt
+popped_fits s (v ∷ []) h = record { value = h.0; left = tt; less = refl }
+popped_fits s (v ∷ w ∷ vs) h = below (popped (w ∷ vs)) (popped_fits s (w ∷ vs) h.1)
+  where
+    below : (o : Option (Value × List Value)) → Finds (TakenFits s (w ∷ vs)) o → Finds (TakenFits s (v ∷ w ∷ vs)) (option_map (λ r. (r.0, v ∷ r.1)) o)
+    below None k = tt
+    below (Some r) k = record { value = k.value; left = (h.0, k.left); less = ap suc k.less }
+
+pub popping_fits : (s : StoryTree) (f : Fields) (so : Value → Fields → Effect) → FieldsFit s f
+    → ((v : Value) (left : Fields) → ValueFits s v → FieldsFit s left → EffectFits s (so v left)) → EffectFits s (popping f so)
+popping_fits s f so h k =
+    or_else_fits s (TakenFits s f.stack) StackEmpty (popped f.stack) (λ r. so r.0 (record f { stack = r.1 })) (popped_fits s f.stack h.stack.each)
+    (λ r t. k r.0 (record f { stack = r.1 }) t.value
+    (record { stack = record { each = t.left; few = omega (arith, t.less, h.stack.few) }; globals = h.globals; page = h.page }))
+
+pub pushing_fits : (s : StoryTree) (v : Value) (f : Fields) → ValueFits s v → FieldsFit s f → EffectFits s (pushing v f)
+pushing_fits s v f h k =
+    or_fault_fits s (StackFits s) (pushed v f.stack) (λ vs. Moves (record f { stack = vs })) (pushed_fits s v f.stack h k.stack)
+    (λ vs t. record { stack = t; globals = k.globals; page = k.page })

@@ -1,0 +1,86 @@
+-- The laws: a story that is opened is sound, each step and each command keeps that, and a spelling is read as what it spells.
+use Rattle.std.specs.Prelude.{◌≡◌, ℕ, ◌≤◌, List, [], false, Ok, Option, Some}
+use Rattle.ink_model.specs.Acceptance.{accepted_story, bad_places}
+use Rattle.ink_model.specs.Answer.{Reply}
+use Rattle.ink_model.specs.Configuration.{Configuration, settled}
+use Rattle.ink_model.specs.Grammar.{IsSpelled}
+use Rattle.ink_model.specs.Host.{Bindings, Bound}
+use Rattle.ink_model.specs.Opening.{opened, opening}
+use Rattle.ink_model.specs.Run.{moment}
+use Rattle.ink_model.specs.Session.{Does, Session}
+use Rattle.ink_model.specs.State.{Ready, State}
+use Rattle.ink_model.specs.Step.{step}
+use Rattle.ink_model.specs.Tree.{StoryTree}
+use Rattle.ink_model.specs.declared.command.Command.{Command}
+use Rattle.ink_model.specs.declared.host.Event.{Event}
+use Rattle.ink_model.specs.declared.host.Given.{Given}
+use Rattle.ink_sound.specs.Kept.{MomentFits, OutcomeFits, StateFits, StoryFits}
+use Rattle.ink_sound.specs.Save.Reads.{Reads, Rests}
+use Rattle.ink_sound.specs.Save.Sound.{Sound}
+use Rattle.ink_sound.specs.Save.Spelling.{spelling}
+use Rattle.ink_sound.specs.Save.Unspelled.{unspelled}
+use Rattle.serde_json.specs.Data.{Data, depth}
+use Rattle.serde_json.specs.Written.{has_float}
+
+-- ---- stories
+
+-- an accepted story has what is asked of it
+abbrev pub AcceptedFit : Type 0
+AcceptedFit = (bytes : List ℕ) (s : StoryTree) → accepted_story bytes ≡ Ok s → StoryFits s
+
+-- what the type of an accepted story says of it is enough
+abbrev pub SpelledFit : Type 0
+SpelledFit = (s : StoryTree) → IsSpelled s → bad_places s ≡ [] → StoryFits s
+
+-- ---- steps, commands and sessions
+
+-- a step of a sound configuration leads to a sound one
+abbrev pub StepsFit : Type 0
+StepsFit = (s : StoryTree) → StoryFits s → (b : Bound) (c : Configuration) → Sound s c → OutcomeFits s (step s b c)
+
+-- each moment of a run from a sound configuration is sound
+abbrev pub MomentsFit : Type 0
+MomentsFit = (s : StoryTree) → StoryFits s → (b : Bound) (c : Configuration) → Sound s c
+    → (answers : List (Option Given)) (n : ℕ) → MomentFits s (moment s b c answers n)
+
+-- what is settled is as sound as before, and at rest
+abbrev pub SettlingFits : Type 0
+SettlingFits = (s : StoryTree) (c : Configuration) → Sound s c → Sound s (settled c) × Rests (settled c)
+
+-- a story is opened in a sound state
+abbrev pub OpeningsFit : Type 0
+OpeningsFit = (s : StoryTree) → StoryFits s → (c : Configuration) → opening s ≡ Ok c → StateFits s (opened c)
+
+-- each command leads from sound states to sound states
+abbrev pub CommandsFit : Type 0
+CommandsFit = (s : StoryTree) → StoryFits s → (h : Bindings) (es : List Event) (command : Option Command) (old : State) (reply : Reply) (new : State)
+    → Does s h es command old reply new → StateFits s old → StateFits s new
+
+-- a session of an accepted story leads from its opening to sound states
+abbrev pub SessionsFit : Type 0
+SessionsFit = (bytes : List ℕ) (s : StoryTree) → accepted_story bytes ≡ Ok s → (c : Configuration) → opening s ≡ Ok c
+    → (h : Bindings) (es : List Event) (lines : List (List ℕ)) (written : List ℕ) (new : State) → Session s h es lines (opened c) written new → StateFits s new
+
+-- ---- spelling and reading
+
+-- a JSON value reads as one configuration at most
+abbrev pub OneSpelling : Type 0
+OneSpelling = (s : StoryTree) → StoryFits s → (j : Data) (c d : Configuration) → Reads s j c → Reads s j d → c ≡ d
+
+-- a JSON value spells a configuration in this layout, and that is sound, exactly where it reads as that one
+abbrev pub ReadsExactly : Type 0
+ReadsExactly = (s : StoryTree) → StoryFits s → (j : Data) (c : Configuration) → (Reads s j c → unspelled j ≡ Some c) × (unspelled j ≡ Some c → Sound s c → Reads s j c)
+
+-- a spelling nests at most so deep, so that its text is read back
+abbrev pub SpellsFlat : Type 0
+SpellsFlat = (c : Configuration) → depth (spelling c) ≤ 8
+
+-- a spelling has no float, so that its compact text is known
+abbrev pub SpellsPlain : Type 0
+SpellsPlain = (c : Configuration) → has_float (spelling c) ≡ false
+
+-- what a session comes to is read from its spelling
+abbrev pub SessionsReload : Type 0
+SessionsReload = (bytes : List ℕ) (s : StoryTree) → accepted_story bytes ≡ Ok s → (c : Configuration) → opening s ≡ Ok c
+    → (h : Bindings) (es : List Event) (lines : List (List ℕ)) (written : List ℕ) (new : State) → Session s h es lines (opened c) written new
+    → (d : Configuration) → new.condition ≡ Ready d → Reads s (spelling d) d × (unspelled (spelling d) ≡ Some d)

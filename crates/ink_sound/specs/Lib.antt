@@ -1,0 +1,4 @@
+pub mod Save
+pub mod Kept
+pub mod Laws
+pub mod SaveExamples

@@ -1,0 +1,70 @@
+//! What holds of every configuration that a session comes to, and as which one a saved game reads (docs/SAVES.md): laws of the
+//! definitions alone, each the contract of a function that does nothing.
+#![tactic(auto)]
+
+ghost use Rattle.ink_sound.specs.Laws.{AcceptedFit, CommandsFit, MomentsFit, OneSpelling, OpeningsFit, ReadsExactly, SessionsFit, SessionsReload, SettlingFits, SpelledFit, SpellsFlat, SpellsPlain, StepsFit};
+
+/// An accepted story has what the laws ask of one.
+pub fn accepted_stories_fit()
+    ensures { AcceptedFit }
+{}
+
+/// What the type of an accepted story says of it is enough for that.
+pub fn spelled_stories_fit()
+    ensures { SpelledFit }
+{}
+
+/// A step of a sound configuration leads to a sound one.
+pub fn steps_keep_sound()
+    ensures { StepsFit }
+{}
+
+/// Each moment of a run from a sound configuration is sound.
+pub fn runs_keep_sound()
+    ensures { MomentsFit }
+{}
+
+/// A configuration that a command leaves, settled, is as sound as before, and at rest.
+pub fn settling_keeps_sound()
+    ensures { SettlingFits }
+{}
+
+/// A story is opened in a sound state, at rest.
+pub fn openings_are_sound()
+    ensures { OpeningsFit }
+{}
+
+/// Each command leads from sound states at rest to such states.
+pub fn commands_keep_sound()
+    ensures { CommandsFit }
+{}
+
+/// Every state of a session is sound, and at rest.
+pub fn sessions_are_sound()
+    ensures { SessionsFit }
+{}
+
+/// What a session comes to is read from its spelling.
+pub fn sessions_reload()
+    ensures { SessionsReload }
+{}
+
+/// A JSON value reads as one configuration at most.
+pub fn one_configuration_a_spelling()
+    ensures { OneSpelling }
+{}
+
+/// A JSON value is read as a sound configuration exactly where it is that one's spelling, at rest.
+pub fn reading_is_exact()
+    ensures { ReadsExactly }
+{}
+
+/// A spelling nests at most eight deep.
+pub fn spellings_are_flat()
+    ensures { SpellsFlat }
+{}
+
+/// A spelling has no float.
+pub fn spellings_have_no_float()
+    ensures { SpellsPlain }
+{}
