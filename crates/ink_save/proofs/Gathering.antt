@@ -1,5 +1,5 @@
 -- What threads are made of.
-use Rattle.std.proofs.Common.{◌≡◌, ◌∙◌, sym, ap, refl, subst, ℕ, ◌+◌, ◌≤◌, length, List, [], ◌∷◌, ◌++◌, map, reverse, Bool, true, false, ◌&&◌, nat_le, if◌then◌else◌, Option, Some, None, is_some, option_map}
+use Rattle.std.proofs.Common.{◌≡◌, ◌∙◌, sym, ap, refl, subst, ◌≤◌, length, List, [], ◌∷◌, ◌++◌, map, reverse, Bool, true, false, nat_le, if◌then◌else◌, Option, Some, None, option_map}
 use Rattle.std.proofs.lemmas.List.{reverse-append}
 use Rattle.std.specs.List.{AllByRecursion, list_all}
 use Rattle.ink_model.specs.Frames.{ThreadOf, ThreadsOf, map_thread, map_threads}

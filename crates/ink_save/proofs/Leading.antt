@@ -1,5 +1,5 @@
 -- Where targets lead.
-use Rattle.std.proofs.Common.{◌≡◌, ◌∙◌, sym, ap, refl, Bool, true, false, ◌&&◌, List, [], Option, Some, None, is_some, option_map, IsTrue, if◌then◌else◌}
+use Rattle.std.proofs.Common.{◌≡◌, ◌∙◌, sym, ap, refl, Bool, false, List, [], Option, Some, None, is_some, option_map, IsTrue, if◌then◌else◌}
 use Rattle.ink_model.specs.Path.{path_text, read_path, target, walked}
 use Rattle.ink_model.specs.Tree.{StoryTree}
 use Rattle.ink_model.specs.declared.place.Part.{Part}

@@ -1,6 +1,6 @@
 -- A list of what is made, element by element.
 use Rattle.std.proofs.Common.{◌≡◌, ◌∙◌, sym, ap, refl, ℕ, ◌+◌, ◌<◌, ◌≤◌, length, List, [], ◌∷◌, ◌++◌, drop, get_or, map, subst, Option, Some, None}
-use Rattle.std.proofs.lemmas.List.{drop_more, drop_all, append-nil, append_assoc, map-append}
+use Rattle.std.proofs.lemmas.List.{drop_more, drop_all, append-nil}
 use Rattle.std.specs.List.{AllByRecursion}
 use Rattle.ink_save.specs.Building.{Builds}
 

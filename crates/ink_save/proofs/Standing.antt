@@ -1,8 +1,8 @@
 -- What frames and threads are made of.
-use Rattle.std.proofs.Common.{◌≡◌, ◌∙◌, sym, ap, refl, subst, ℕ, ◌+◌, ◌≤◌, length, List, [], ◌∷◌, ◌++◌, map, reverse, Bool, true, false, not, ◌&&◌, nat_le, if◌then◌else◌, Option, Some, None, is_some, option_map, IsTrue, arith}
+use Rattle.std.proofs.Common.{◌≡◌, ◌∙◌, sym, ap, refl, subst, ℕ, ◌+◌, ◌≤◌, length, List, [], ◌∷◌, ◌++◌, map, reverse, Bool, true, false, not, ◌&&◌, nat_le, if◌then◌else◌, Option, Some, None, is_some, option_map, arith}
 use Rattle.std.proofs.lemmas.Bool.{and_from}
 use Rattle.std.proofs.lemmas.Bool.Decides.{nat_tests}
-use Rattle.std.proofs.lemmas.List.{length-reverse, length-append, length-map, map-append, reverse-append, reverse-reverse}
+use Rattle.std.proofs.lemmas.List.{length-reverse, length-append, length-map, reverse-append, reverse-reverse}
 use Rattle.std.specs.List.{AllByRecursion, list_all}
 use Rattle.ink_model.specs.Frames.{FrameOf, ThreadOf, map_frame, map_thread}
 use Rattle.ink_model.specs.Rows.{name_order, rows_rise}
@@ -13,7 +13,7 @@ use Rattle.ink_model.specs.declared.frame.FrameKind.TheVariants.{Base, Function,
 use Rattle.ink_model.specs.declared.limits.TheConstants.{MAX_FRAMES, MAX_SECTIONS}
 use Rattle.ink_model.specs.declared.place.Part.{Part}
 use Rattle.ink_save.specs.Building.{Builds, FrameBuilds, ThreadBuilds}
-use Rattle.ink_sound.specs.Save.Sound.{AnyPlace, BaseFirst, FrameFits, FrameStands, RowFits, SomePlace, ThreadFits}
+use Rattle.ink_sound.specs.Save.Sound.{AnyPlace, BaseFirst, FrameStands, RowFits, SomePlace}
 use Rattle.ink_stack.proofs.Reversing.{map-reverse}
 use Rattle.ink_stack.specs.Saving.{base_first, is_call, thread_from, thread_with}
 use Rattle.ink_tree.specs.Nodes.{place_of}
@@ -42,9 +42,10 @@ frame_built s kind at rows evaluating fresh opened place temps few here each mad
   where
     by : (b : Bool) → rows_rise name_order rows ≡ b → temps ≡ rows
         → Builds (map_frame (place_of s)) (FrameBuilds s) (frame_with kind at rows evaluating fresh opened) (if b then Some (frame_with kind place temps evaluating fresh opened) else None)
-    by true e same =
-        (ap (λ p. frame_with kind p temps evaluating fresh opened) here.0 ∙ ap (λ vs. frame_with kind at vs evaluating fresh opened) same,
-        (record { rise = e; each = each.1; depth = few }, here.1))
+    by true e same = (
+      ap (λ p. frame_with kind p temps evaluating fresh opened) here.0 ∙ ap (λ vs. frame_with kind at vs evaluating fresh opened) same,
+      (record { rise = e; each = each.1; depth = few }, here.1),
+    )
     by false e same = λ f. absurd (true_is (sym f.0.rise ∙ e))
       where
         true_is : true ≡ false → ⊥
@@ -217,14 +218,16 @@ module _ (s : StoryTree) (frame : FrameOf Spot) (below : List (FrameOf Spot)) (p
   thread_fits : FrameBuilds s whole.frame → AllByRecursion (FrameBuilds s) (map (map_frame (place_of s)) below) → list_all standing below ≡ true → AnyPlace s whole.previous
       → fine ≡ true → ThreadBuilds s whole
   thread_fits f b all v e =
-      let p = both (base_first (below ++ frame ∷ [])) (nat_le (length (below ++ frame ∷ [])) MAX_FRAMES) e in
-      (record {
-        frame = f.0;
-        below = each_reverse (FrameStands s) (map (map_frame (place_of s)) below) (all_stand s below b all);
-        base = based_to frame.kind whole.below (sym base_here ∙ p.0);
-        few = subst (λ n. n ≤ MAX_FRAMES) (long (map_frame (place_of s)) below frame) (within (length (below ++ frame ∷ [])) MAX_FRAMES p.1);
-        previous = v;
-      }, f.1)
+      let p = both (base_first (below ++ frame ∷ [])) (nat_le (length (below ++ frame ∷ [])) MAX_FRAMES) e in (
+        record {
+          frame = f.0;
+          below = each_reverse (FrameStands s) (map (map_frame (place_of s)) below) (all_stand s below b all);
+          base = based_to frame.kind whole.below (sym base_here ∙ p.0);
+          few = subst (λ n. n ≤ MAX_FRAMES) (long (map_frame (place_of s)) below frame) (within (length (below ++ frame ∷ [])) MAX_FRAMES p.1);
+          previous = v;
+        },
+        f.1,
+      )
 
   thread_is_fine : ThreadBuilds s whole → fine ≡ true
   thread_is_fine t =
@@ -235,9 +238,10 @@ module _ (s : StoryTree) (frame : FrameOf Spot) (below : List (FrameOf Spot)) (p
   thread_made : FrameBuilds s whole.frame → AllByRecursion (FrameBuilds s) (map (map_frame (place_of s)) below) → list_all standing below ≡ true → AnyPlace s whole.previous
       → (e : Bool) → fine ≡ e → Builds (map_thread (place_of s)) (ThreadBuilds s) whole (if e then thread_with (reverse (below ++ frame ∷ [])) previous else None)
   thread_made f b all v true e =
-      subst (λ fs. Builds (map_thread (place_of s)) (ThreadBuilds s) whole (thread_with fs previous)) (sym (reverse-append below (frame ∷ [])))
-      (ap (λ fs. record { frame = map_frame (place_of s) frame; below = fs; previous = option_map (place_of s) previous }) (map-reverse (map_frame (place_of s)) below),
-      thread_fits f b all v e)
+      subst (λ fs. Builds (map_thread (place_of s)) (ThreadBuilds s) whole (thread_with fs previous)) (sym (reverse-append below (frame ∷ []))) (
+        ap (λ fs. record { frame = map_frame (place_of s) frame; below = fs; previous = option_map (place_of s) previous }) (map-reverse (map_frame (place_of s)) below),
+        thread_fits f b all v e,
+      )
   thread_made f b all v false e = λ t. absurd (other (sym (thread_is_fine t) ∙ e))
     where
       other : true ≡ false → ⊥

@@ -74,11 +74,7 @@ impl Written for Thread<Spot> {
 }
 
 // The frames of a thread, the bottom one first. The one error is a refused request for memory.
-fn write_frames(
-    alloc: Global,
-    tree: &Tree,
-    thread: &Thread<Spot>,
-) -> Result<Json, AllocError>
+fn write_frames(alloc: Global, tree: &Tree, thread: &Thread<Spot>) -> Result<Json, AllocError>
     ensures { let p = place_of (story_tree tree.now) in
         IfOk result (λ json. view json ≡ list_data frame_data (reverse (map_frame p thread.now.frame ∷ map (map_frame p) thread.now.below))) }
 {

@@ -4,8 +4,8 @@ ghost use Rattle.std.specs.Prelude.{◌≡◌, IfOk, map};
 ghost use Rattle.serde_json.specs.View.{view};
 ghost use Rattle.ink_sound.specs.Save.Spelling.{global_data, list_data};
 
-use crate::written::Written;
 use crate::writing::write_text;
+use crate::written::Written;
 use ink_model::Value;
 use ink_tree::Tree;
 use ink_vars::Globals;
@@ -36,12 +36,7 @@ fn write_rows(alloc: Global, tree: &Tree, globals: &Globals) -> Result<Vec<Json>
 }
 
 // A global: its name and its value. The one error is a refused request for memory.
-fn write_global(
-    alloc: Global,
-    tree: &Tree,
-    name: &str,
-    value: &Value,
-) -> Result<Json, AllocError>
+fn write_global(alloc: Global, tree: &Tree, name: &str, value: &Value) -> Result<Json, AllocError>
     ensures { IfOk result (λ json. view json ≡ global_data (name.now, value.now)) }
 {
     let mut pair = Vec::new(alloc);

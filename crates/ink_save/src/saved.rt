@@ -36,9 +36,9 @@ impl Model for Saved {
     ghost Value = { Configuration };
 
     ghost view = { λ c. record {
-        flow = record { threads = c.threads; stack = c.stack; choices = c.choices; safe = c.safe };
-        shared = record { globals = c.globals; counts = record { visits = c.visits; turns = c.turns }; turn = c.turn };
-        page = empty_page
+      flow = record { threads = c.threads; stack = c.stack; choices = c.choices; safe = c.safe };
+      shared = record { globals = c.globals; counts = record { visits = c.visits; turns = c.turns }; turn = c.turn };
+      page = empty_page;
     } };
 }
 

@@ -82,9 +82,7 @@ impl Written for Value {
             Value::Bool(truth) => Ok(Json::Bool(*truth)),
             Value::Text(text) => write_text(alloc, text.as_str()),
             Value::Target(path) => write_target(alloc, path.get()),
-            Value::Pointer(frame, name) => {
-                json!(in alloc; {"ci": *frame, "var": name.as_str()})
-            }
+            Value::Pointer(frame, name) => { json!(in alloc; {"ci": *frame, "var": name.as_str()}) }
             Value::Void => Ok(Json::Null),
             Value::Tag(text) => json!(in alloc; {"tag": text.as_str()}),
         }

@@ -56,11 +56,7 @@ fn with_last(made: Vec<Json>, last: Json) -> Result<Json, AllocError>
 }
 
 // The JSON values of these. The one error is a refused request for memory.
-fn write_all<T: Written>(
-    alloc: Global,
-    tree: &Tree,
-    items: &[T],
-) -> Result<Vec<Json>, AllocError>
+fn write_all<T: Written>(alloc: Global, tree: &Tree, items: &[T]) -> Result<Vec<Json>, AllocError>
     ensures { IfOk result (λ made. map view made.items ≡ map (T.spelling (story_tree tree.now)) items.now) }
 {
     let mut made = Vec::new(alloc);

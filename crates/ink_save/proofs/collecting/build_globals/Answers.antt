@@ -1,4 +1,4 @@
-use Rattle.std.proofs.Common.{◌≡◌, ◌∙◌, ◌+◌, ap, drop, get_or, is_some, subst, sym}
+use Rattle.std.proofs.Common.{◌∙◌, ◌+◌, ap, drop, get_or, is_some, subst, sym}
 use Rattle.ink_model.specs.Store.{store, stored}
 use Rattle.ink_model.specs.declared.value.Value.{Value}
 use Rattle.ink_save.proofs.Limits.{Collects, collects_all, collects_more, name_refused, value_refused}

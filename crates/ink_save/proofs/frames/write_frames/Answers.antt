@@ -11,5 +11,5 @@ returns c =
     let p = place_of (story_tree c.args.tree.now) in
     let t = c.args.thread.now in
     let same : list_data (λ f. frame_data (map_frame p f)) (reverse (c.top.result.now ∷ reverse c.below.result.now))
-        ≡ list_data (λ f. frame_data (map_frame p f)) (reverse (t.frame ∷ t.below)) = rw (c.top.ensures, c.below.ensures) refl in
+    ≡ list_data (λ f. frame_data (map_frame p f)) (reverse (t.frame ∷ t.below)) = rw (c.top.ensures, c.below.ensures) refl in
     subst (λ q. IfOk c.write_pile.result (λ json. view json ≡ q)) (same ∙ list_mapped frame_data (map_frame p) (t.frame ∷ t.below)) c.write_pile.ensures

@@ -1,4 +1,4 @@
-use Rattle.std.proofs.Common.{◌≡◌, ◌∙◌, ap, map, refl, subst, sym}
+use Rattle.std.proofs.Common.{◌∙◌, ap, map, refl, subst, sym}
 use Rattle.std.specs.List.{AllByRecursion, list_all}
 use Rattle.std.specs.declared.alloc.Global.{Global}
 use Rattle.std.specs.declared.vec.Vec.{Vec}
@@ -6,7 +6,6 @@ use Rattle.ink_model.specs.Frames.{FrameOf, map_frame, map_thread}
 use Rattle.ink_save.specs.Building.{Builds, FrameBuilds, ThreadBuilds}
 use Rattle.ink_save.proofs.Making.{built, never}
 use Rattle.ink_save.proofs.Standing.{below_refused, standing, standing_refused, thread_built}
-use Rattle.ink_sound.specs.Save.Sound.{AnyPlace}
 use Rattle.ink_stack.specs.Saving.{thread_from}
 use Rattle.ink_tree.specs.Nodes.{place_of, story_tree}
 use Rattle.ink_tree.specs.declared.spot.Spot.{Spot}
