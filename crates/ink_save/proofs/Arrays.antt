@@ -62,6 +62,9 @@ maps_join g f (x ∷ xs) = ap (λ ys. g (f x) ∷ ys) (maps_join g f xs)
 pub list_mapped : {A B : Type 0} → (g : B → Data) (m : A → B) (xs : List A) → list_data (λ x. g (m x)) (reverse xs) ≡ list_data g (reverse (map m xs))
 list_mapped g m xs = ap (λ ds. array (events.items_of ds)) (maps_join g m (reverse xs) ∙ ap (map g) (map-reverse m xs))
 
+pub list_over : {A B : Type 0} → (g : B → Data) (m : A → B) (xs : List A) → list_data (λ x. g (m x)) xs ≡ list_data g (map m xs)
+list_over g m xs = ap (λ ds. array (events.items_of ds)) (maps_join g m xs)
+
 -- ---- objects
 
 both : (x y : Bool) → (x && y) ≡ true → (x ≡ true) × (y ≡ true)

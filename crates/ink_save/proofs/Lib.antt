@@ -5,3 +5,4 @@ pub mod Arrays
 pub mod Leading
 pub mod Gathering
 pub mod Limits
+pub mod Numbering
