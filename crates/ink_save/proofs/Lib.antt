@@ -6,3 +6,5 @@ pub mod Leading
 pub mod Gathering
 pub mod Limits
 pub mod Numbering
+pub mod Reading
+pub mod Whole

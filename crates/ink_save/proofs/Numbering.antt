@@ -18,7 +18,7 @@ use Rattle.ink_model.specs.Tree.{StoryTree, at}
 use Rattle.ink_model.specs.declared.limits.TheConstants.{MAX_COUNT}
 use Rattle.ink_model.specs.declared.place.Part.{Part}
 use Rattle.ink_save.specs.Counted.{place_at, row_at, rows_at, slot_row}
-use Rattle.ink_save.specs.Slots.{rows_below, rows_in}
+use Rattle.ink_step.specs.Words.{rows_below, rows_in}
 use Rattle.ink_save.proofs.Standing.{both}
 use Rattle.ink_tree.specs.Nodes.{NumbersInOrder, place_of}
 use Rattle.ink_tree.specs.declared.spot.Spot.{Spot}

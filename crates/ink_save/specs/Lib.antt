@@ -1,4 +1,4 @@
 pub mod Words
 pub mod Building
-pub mod Slots
+pub mod Loads
 pub mod Counted

@@ -1,13 +1,14 @@
 -- Words for what readers read.
-use Rattle.std.specs.Prelude.{◌≡◌, ℕ, List, [], ◌∷◌, Option, Some, None, option_and_then}
+use Rattle.std.specs.Prelude.{◌≡◌, ℕ, List, [], ◌∷◌, Bool, codes, Option, Some, None, option_and_then}
 use Rattle.std.specs.Option.{option_map, option_or}
-use Rattle.serde_json.specs.Data.{Data, Items, no_items, item, Members, put}
+use Rattle.serde_json.specs.Data.{Data, boolean, object, Items, no_items, item, Members, no_members, member, put}
 use Rattle.ink_model.specs.Store.{Values}
 use Rattle.ink_model.specs.ValueJson.{value_data}
 use Rattle.ink_model.specs.Path.{path_text, read_path}
 use Rattle.ink_model.specs.declared.place.Path.{Path}
 use Rattle.ink_model.specs.declared.value.Value.{Value}
 use Rattle.ink_model.specs.declared.value.Value.TheVariants as value
+use Rattle.ink_model.specs.Save.Spelling.{count_data}
 use Rattle.ink_model.specs.Save.Unspelled.{path_if, pointer_in, tag_in, target_in}
 
 -- the value that members spell
@@ -47,3 +48,16 @@ pair_by f g two = option_and_then (λ (p : Data × Data). option_and_then (λ x.
 abbrev pub put_all : Members → Values → Members
 put_all ms [] = ms
 put_all ms (r ∷ rs) = put_all (put r.0 (value_data r.1) ms) rs
+
+-- the object that has these members
+abbrev pub written_members : Data → Data → Bool → Data → Data → ℕ → Data → Data → Data
+written_members choices globals safe stack threads turn turns visits = object
+    (member (codes "choices") choices
+    (member (codes "format") (count_data 1)
+    (member (codes "globals") globals
+    (member (codes "safe") (boolean safe)
+    (member (codes "stack") stack
+    (member (codes "threads") threads
+    (member (codes "turn") (count_data turn)
+    (member (codes "turns") turns
+    (member (codes "visits") visits no_members)))))))))

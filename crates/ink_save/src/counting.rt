@@ -8,7 +8,7 @@ ghost use Rattle.ink_model.specs.Tree.{at};
 ghost use Rattle.ink_model.specs.declared.limits.TheConstants.{MAX_COUNT};
 ghost use Rattle.ink_save.specs.Building.{Builds};
 ghost use Rattle.ink_save.specs.Counted.{flag_of, least_of, place_at, row_at};
-ghost use Rattle.ink_save.specs.Slots.{counts_in, rows_in};
+ghost use Rattle.ink_step.specs.Words.{counts_in, rows_in};
 ghost use Rattle.ink_tree.specs.Nodes.{Finds, NumbersInOrder, story_tree};
 ghost use Rattle.ink_vars.specs.Slots.{AreCounts, rows_from};
 

@@ -5,7 +5,7 @@ ghost use Rattle.serde_json.specs.View.{view};
 ghost use Rattle.ink_model.specs.Places.{places};
 ghost use Rattle.ink_model.specs.Save.Spelling.{list_data, place_data, row_data};
 ghost use Rattle.ink_save.specs.Counted.{place_at, rows_at};
-ghost use Rattle.ink_save.specs.Slots.{rows_below, rows_in};
+ghost use Rattle.ink_step.specs.Words.{rows_below, rows_in};
 ghost use Rattle.ink_tree.specs.Nodes.{story_tree};
 ghost use Rattle.ink_vars.specs.Slots.{rows_from};
 
