@@ -52,7 +52,7 @@ pub machine_built : (s : StoryTree) (c : Configuration) (flow : Flow) (shared : 
     → config_of s m ≡ record { flow = flow_of s flow; shared = shared_of s shared; page = page } → (config_of s m ≡ c) × Sound s c
 machine_built s c flow shared page m same empty f h is = (
   is ∙ ap (λ x. record { flow = x; shared = shared_of s shared; page = page }) f.0
-  ∙ ap (λ x. record { flow = c.flow; shared = x; page = page }) h.0
-  ∙ ap (λ x. record { flow = c.flow; shared = c.shared; page = x }) same,
+      ∙ ap (λ x. record { flow = c.flow; shared = x; page = page }) h.0
+      ∙ ap (λ x. record { flow = c.flow; shared = c.shared; page = x }) same,
   record { flow = f.1; shared = h.1; page = subst PageFits (sym empty) (record { few = omega arith }) },
 )

@@ -1,7 +1,6 @@
 -- What is counted.
-use Rattle.std.specs.Prelude.{◌≡◌, ℕ, ◌<◌, List, [], ◌∷◌, Bool, Option, Some, None, length}
+use Rattle.std.specs.Prelude.{ℕ, List, [], ◌∷◌, Bool, Option, Some, None}
 use Rattle.ink_model.specs.Flags.{counts_visits, notes_turns}
-use Rattle.ink_model.specs.Places.{places}
 use Rattle.ink_model.specs.Rows.{map_keys}
 use Rattle.ink_model.specs.Tree.{StoryTree}
 use Rattle.ink_model.specs.declared.place.Part.{Part}

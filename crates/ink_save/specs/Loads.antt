@@ -1,5 +1,5 @@
 -- What a JSON value is read as.
-use Rattle.std.specs.Prelude.{◌≡◌, ⊤, Result, Ok, Err, Option, Some, None}
+use Rattle.std.specs.Prelude.{⊤, Result, Ok, Err, Option, Some, None}
 use Rattle.serde_json.specs.Data.{Data}
 use Rattle.ink_model.specs.Configuration.{Configuration}
 use Rattle.ink_model.specs.Save.Reads.{Reads}

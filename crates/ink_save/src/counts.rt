@@ -39,11 +39,7 @@ fn own_slots<'a>(tree: &Tree, slots: &'a [Option<u32>]) -> &'a [Option<u32>]
 }
 
 // The JSON values of counts. The one error is a refused request for memory.
-fn write_slots(
-    alloc: Global,
-    tree: &Tree,
-    slots: &[Option<u32>],
-) -> Result<Vec<Json>, AllocError>
+fn write_slots(alloc: Global, tree: &Tree, slots: &[Option<u32>]) -> Result<Vec<Json>, AllocError>
     ensures { IfOk result (λ made. map view made.items ≡ map row_data (rows_at (story_tree tree.now) (rows_from 0 slots.now))) }
 {
     let mut made = Vec::new(alloc);

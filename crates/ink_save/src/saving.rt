@@ -33,12 +33,7 @@ pub fn write(alloc: Global, story: &Story, machine: &Machine) -> Result<Json, Al
 }
 
 // What a machine has as a JSON value. The one error is a refused request for memory.
-fn write_parts(
-    alloc: Global,
-    tree: &Tree,
-    flow: &Flow,
-    shared: &Shared,
-) -> Result<Json, AllocError>
+fn write_parts(alloc: Global, tree: &Tree, flow: &Flow, shared: &Shared) -> Result<Json, AllocError>
     ensures { let s = nodes.story_tree tree.now in
         IfOk result (λ json. view json ≡ spelling (record { flow = flow_of s flow.now; shared = shared_of s shared.now; page = empty_page })) }
 {

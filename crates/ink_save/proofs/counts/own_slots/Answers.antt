@@ -1,4 +1,4 @@
-use Rattle.std.proofs.Common.{◌≡◌, ◌≤◌, ◌∙◌, ap, arith, length, sym, take}
+use Rattle.std.proofs.Common.{◌≤◌, ◌∙◌, ap, arith, length, sym, take}
 use Rattle.ink_model.specs.Places.{places}
 use Rattle.ink_save.proofs.Numbering.{all_below, first_below}
 use Rattle.ink_tree.specs.Nodes.{story_tree}

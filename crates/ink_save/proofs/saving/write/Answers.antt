@@ -3,7 +3,7 @@ use Rattle.serde_json.specs.View.{view}
 use Rattle.ink_check.specs.Words.{story_tree}
 use Rattle.ink_model.specs.Output.{empty_page}
 use Rattle.ink_model.specs.Save.Spelling.{spelling}
-use Rattle.ink_step.specs.Words.{config_of, flow_of, shared_of}
+use Rattle.ink_step.specs.Words.{flow_of, shared_of}
 use Rattle.ink_save.proofs.saving.write.Goals as goal
 
 pub returns : goal.returns

@@ -2,7 +2,6 @@ use Rattle.std.proofs.Common.{◌≡◌, ◌∙◌, ℕ, List, IfOk, ap, subst}
 use Rattle.serde_json.specs.Data.{Data}
 use Rattle.serde_json.specs.View.{view}
 use Rattle.ink_model.specs.Save.Spelling.{list_data, row_data}
-use Rattle.ink_save.specs.Words.{written_members}
 use Rattle.ink_step.specs.Words.{rows_in}
 use Rattle.ink_tree.specs.Nodes.{story_tree}
 use Rattle.ink_save.proofs.Whole.{members_as}
