@@ -51,10 +51,6 @@ abbrev pub reply_of_visits : Result ℤ Refusal → Reply
 reply_of_visits (Ok visits) = Counts visits
 reply_of_visits (Err r) = Refuses r
 
-abbrev pub reply_of_saved : Result Data Refusal → Reply
-reply_of_saved (Ok saved) = Saves saved
-reply_of_saved (Err r) = Refuses r
-
 -- of a choice that is taken, and of a jump
 abbrev pub reply_of_landing : Result (Unit {0}) Refusal → Reply
 reply_of_landing (Ok u) = Acts []
