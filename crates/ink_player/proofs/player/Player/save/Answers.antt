@@ -15,4 +15,6 @@ returns-in-None-clause-does g c =
     rw (sym c.self.view_is) (saves-free (config_of (story_of p) p.machine) p.broken (desk_of p).next c.saved.result c.in-None.is c.saved.ensures)
 
 pub returns-in-None-clause-plain : goal.returns-in-None-clause-plain
-returns-in-None-clause-plain g c = plain-save _ c.saved.result c.saved.ensures
+returns-in-None-clause-plain g c =
+    let p : PlayerView g.row.P.Denot g.row.F.Denot g.row.O.Denot = record { story = c.self.inside.story; desk = c.self.inside.desk; machine = c.self.inside.machine; broken = c.self.inside.broken } in
+    plain-save (config_of (story_of p) p.machine) c.saved.result c.saved.ensures
