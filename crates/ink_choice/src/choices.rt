@@ -14,7 +14,7 @@ use std::marker::Model;
 /// Choices, the invisible ones among them, in the order in which they were made: 1,000 at the most. A contract sees the list.
 #[derive(Drop)]
 pub struct Choices<P> {
-    items: Vec<Choice<P>>,
+    pub(crate) items: Vec<Choice<P>>,
 }
 
 impl<P> Model for Choices<P> {

@@ -5,6 +5,7 @@ mod choice;
 mod choices;
 mod making;
 mod operands;
+mod saving;
 mod texts;
 
 pub use choice::Choice;

@@ -19,13 +19,14 @@ use Rattle.ink_model.specs.declared.passage.Passage.{Passage}
 use Rattle.ink_model.specs.declared.value.Value.{Value}
 use Rattle.ink_model.specs.declared.passage.Shown.{Shown}
 
--- what a command answers: a passage, what happened, a value, a count of visits, a refusal, or a fault with what happened before
--- it
+-- what a command answers: a passage, what happened, a value, a count of visits, a save, a refusal, or a fault with what happened
+-- before it
 pub data Reply : Type 0 where
   Tells : (passage : Passage) → Reply
   Acts : (events : List Event) → Reply
   Shows : (value : Value) → Reply
   Counts : (visits : ℤ) → Reply
+  Saves : (saved : Data) → Reply
   Refuses : (refusal : Refusal) → Reply
   Breaks : (fault : Fault) → (events : List Event) → Reply
 
@@ -91,6 +92,7 @@ refusal_name refusal.NotAChoice = codes "NotAChoice"
 refusal_name refusal.NoSuchVariable = codes "NoSuchVariable"
 refusal_name refusal.NoSuchPath = codes "NoSuchPath"
 refusal_name refusal.BadValue = codes "BadValue"
+refusal_name refusal.BadSave = codes "BadSave"
 refusal_name refusal.BadCommand = codes "BadCommand"
 refusal_name (refusal.Broken f) = codes "Broken"
 refusal_name refusal.OutOfMemory = codes "OutOfMemory"
@@ -125,6 +127,7 @@ reply_data (Tells passage) = passage_data passage
 reply_data (Acts events) = object (member (codes "events") (events_data events) no_members)
 reply_data (Shows v) = object (member (codes "value") (value_data v) no_members)
 reply_data (Counts visits) = object (member (codes "visits") (number (of_integer visits)) no_members)
+reply_data (Saves saved) = object (member (codes "saved") saved no_members)
 reply_data (Refuses r) = refusal_data r
 reply_data (Breaks f events) =
     object (member (codes "events") (events_data events) (member (codes "fault") (string (fault_name f)) no_members))

@@ -3,10 +3,11 @@ use Rattle.std.specs.Prelude.{ℕ, List, [], ◌∷◌, Bool, true, false, ◌==
 use Rattle.std.specs.List.{list_all}
 use Rattle.std.specs.Option.{option_or}
 use Rattle.std.specs.Str.{is_utf8}
+use Rattle.serde_json.specs.Data.{Data}
+use Rattle.serde_json.specs.Read.{read}
 use Rattle.ink_model.specs.ValueJson.{given_of}
 use Rattle.ink_model.specs.Bytes.{is_digit, is_filled, number_from, onto, at_space, after}
-use Rattle.ink_model.specs.declared.command.Command.{Command}
-use Rattle.ink_model.specs.declared.command.Command.TheVariants as command
+use Rattle.ink_model.specs.declared.host.Given.{Given}
 
 -- the lines of an input: each ends at a newline, or at the input's end; an empty last line is none
 abbrev pub lines_of : List ℕ → List (List ℕ)
@@ -15,35 +16,57 @@ lines_of (c ∷ cs) = if c == 10 then [] ∷ lines_of cs else onto c (lines_of c
 
 -- ---- commands
 
+-- Set has no value where its JSON is none or of another kind; Load has the value of its JSON, or none where it is no JSON. Choose
+-- has the place of a choice among those that are shown, from 0.
+pub data Command : Type 0 where
+  Through : Command
+  Set : (name : List ℕ) → (value : Option Given) → Command
+  Get : (name : List ℕ) → Command
+  Visits : (path : List ℕ) → Command
+  Choose : (number : ℕ) → Command
+  Jump : (path : List ℕ) → Command
+  Save : Command
+  Load : (saved : Option Data) → Command
+  Restart : Command
+
 abbrev pub plain_command : List ℕ → Option Command
-plain_command line = if bytes_eq line (codes "through") then Some command.Through
-    else (if bytes_eq line (codes "restart") then Some command.Restart else None)
+plain_command line = if bytes_eq line (codes "through") then Some Through
+    else (if bytes_eq line (codes "save") then Some Save else (if bytes_eq line (codes "restart") then Some Restart else None))
 
 -- a name that is not empty and has no space
 abbrev pub get_command : List ℕ → Option Command
-get_command name = if is_filled name && is_none (at_space name) then Some (command.Get name) else None
+get_command name = if is_filled name && is_none (at_space name) then Some (Get name) else None
 
 -- a name that ends at the next space, and the rest, which is not empty
 abbrev pub set_command : List ℕ × List ℕ → Option Command
-set_command r = if is_filled r.0 && is_filled r.1 then Some (command.Set r.0 (given_of r.1)) else None
+set_command r = if is_filled r.0 && is_filled r.1 then Some (Set r.0 (given_of r.1)) else None
 
 -- a path, which is not empty
 abbrev pub visits_command : List ℕ → Option Command
-visits_command path = if is_filled path then Some (command.Visits path) else None
+visits_command path = if is_filled path then Some (Visits path) else None
 
 abbrev pub jump_command : List ℕ → Option Command
-jump_command path = if is_filled path then Some (command.Jump path) else None
+jump_command path = if is_filled path then Some (Jump path) else None
 
 -- a choice's number, of 1 to 9 digits
 abbrev pub choose_command : List ℕ → Option Command
 choose_command number =
-    if is_filled number && (list_all is_digit number && nat_le (length number) 9) then Some (command.Choose (number_from 0 number)) else None
+    if is_filled number && (list_all is_digit number && nat_le (length number) 9) then Some (Choose (number_from 0 number)) else None
+
+-- the JSON value that a text spells, if it spells one
+unfoldable pub json_of : List ℕ → Option Data
+json_of text = read text
+
+-- JSON, which is not empty
+abbrev pub load_command : List ℕ → Option Command
+load_command text = if is_filled text then Some (Load (json_of text)) else None
 
 abbrev pub command_word : List ℕ → Option Command
 command_word line = option_or (plain_command line) (option_or (option_and_then get_command (after (codes "get ") line))
     (option_or (option_and_then set_command (option_and_then at_space (after (codes "set ") line)))
     (option_or (option_and_then visits_command (after (codes "visits ") line))
-    (option_or (option_and_then choose_command (after (codes "choose ") line)) (option_and_then jump_command (after (codes "jump ") line))))))
+    (option_or (option_and_then choose_command (after (codes "choose ") line)) (option_or (option_and_then jump_command (after (codes "jump ") line))
+    (option_and_then load_command (after (codes "load ") line)))))))
 
 -- the command of a line; a line that is no text, or no command, has none
 unfoldable pub command_of : List ℕ → Option Command
@@ -51,5 +74,6 @@ command_of line = if is_utf8 line then command_word line else None
 
 -- Memory is asked for reading a line only where it may have JSON to be parsed: names, paths and numbers stand in the line.
 abbrev pub line_asks : Option Command → Bool
-line_asks (Some (command.Set name value)) = true
+line_asks (Some (Set name value)) = true
+line_asks (Some (Load saved)) = true
 line_asks k = false

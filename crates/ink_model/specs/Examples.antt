@@ -18,7 +18,7 @@ use Rattle.ink_model.specs.Configuration.{Configuration, with_globals, start, fr
 use Rattle.ink_model.specs.Effect.{with_mode, with_page, with_stack}
 use Rattle.ink_model.specs.Step.{Bound, Faults, step, nothing_bound, Next, Stop, Comes}
 use Rattle.ink_model.specs.Run.{Kept, Made, Moment, moment, next, run, through, cut_off, answered, At, Stopped}
-use Rattle.ink_model.specs.Command.{lines_of, command_of}
+use Rattle.ink_model.specs.Command.{Through, lines_of, command_of}
 use Rattle.ink_model.specs.Answer.{answer, Tells, Acts, Shows, Refuses, Breaks}
 use Rattle.ink_model.specs.Bytes.{fits_text}
 use Rattle.ink_model.specs.declared.limits.TheConstants.{MAX_STACK}
@@ -41,7 +41,6 @@ use Rattle.ink_model.specs.declared.value.Value.TheVariants as value
 use Rattle.ink_model.specs.declared.version.InkVersion.TheVariants.{V21}
 use Rattle.ink_model.specs.declared.content.Control.{Control}
 use Rattle.ink_model.specs.declared.content.Control.TheVariants as control
-use Rattle.ink_model.specs.declared.command.Command.TheVariants.{Through}
 use Rattle.ink_model.specs.declared.content.Leaf.TheVariants as leaves
 use Rattle.ink_model.specs.declared.content.Control.TheVariants.{Done, End}
 use Rattle.ink_model.specs.declared.fault.Cause.TheVariants.{NotJson, Version, Shape, Unsupported, Limit}

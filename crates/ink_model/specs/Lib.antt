@@ -82,6 +82,7 @@ pub mod HostExamples
 pub mod ToldExamples
 pub mod JumpExamples
 pub mod TurnExamples
+pub mod LoadExamples
 pub mod NameExamples
 pub mod LimitExamples
 pub mod Examples

@@ -95,6 +95,9 @@ refusal_no_such_path = refl
 refusal_bad_value : refusal_name refusal.BadValue ≡ codes "BadValue"
 refusal_bad_value = refl
 
+refusal_bad_save : refusal_name refusal.BadSave ≡ codes "BadSave"
+refusal_bad_save = refl
+
 refusal_bad_command : refusal_name refusal.BadCommand ≡ codes "BadCommand"
 refusal_bad_command = refl
 

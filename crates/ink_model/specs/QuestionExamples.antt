@@ -18,7 +18,7 @@ use Rattle.ink_model.specs.Opening.{opened}
 use Rattle.ink_model.specs.Session.{Visits}
 use Rattle.ink_model.specs.State.{State, Broken}
 use Rattle.ink_model.specs.Tree.{StoryTree, leaf}
-use Rattle.ink_model.specs.declared.command.Command.TheVariants as command
+use Rattle.ink_model.specs.Command as command
 use Rattle.ink_model.specs.declared.content.Control.{Control}
 use Rattle.ink_model.specs.declared.content.Control.TheVariants as control
 use Rattle.ink_model.specs.declared.content.Leaf.TheVariants as leaves

@@ -11,17 +11,19 @@ use Rattle.ink_model.specs.Passage.{passage, passage_asks}
 use Rattle.ink_model.specs.Run.{Made, RunEnd, Kept, Broke, EndsThrough}
 use Rattle.ink_model.specs.Memory.{FallsShort, OpensShort, holds_memory}
 pub use Rattle.ink_model.specs.Changed.{FailsAllocation, Keeps}
-use Rattle.ink_model.specs.Command.{command_of}
-use Rattle.ink_model.specs.Answer.{Reply, Tells, Acts, Shows, Counts, Refuses, Breaks, answer}
+use Rattle.ink_model.specs.Command as command
+use Rattle.ink_model.specs.Command.{Command, command_of}
+use Rattle.ink_model.specs.Answer.{Reply, Tells, Acts, Shows, Counts, Saves, Refuses, Breaks, answer}
 use Rattle.ink_model.specs.State.{State, Condition, Ready, Broken, globals_of}
 use Rattle.ink_model.specs.Store.{Values, stored, store}
 use Rattle.ink_model.specs.Told.{ToldAs, told}
 use Rattle.ink_model.specs.Opening.{opening, Unopened}
+use Rattle.ink_model.specs.Save.Reads.{Reads}
+use Rattle.ink_model.specs.Save.Spelling.{spelling}
 use Rattle.ink_model.specs.Turns.{Choose, Jump}
 use Rattle.ink_model.specs.Unread.{LineFails}
 use Rattle.ink_model.specs.Visits.{visits_by}
-use Rattle.ink_model.specs.declared.command.Command.{Command}
-use Rattle.ink_model.specs.declared.command.Command.TheVariants as command
+use Rattle.serde_json.specs.Data.{Data}
 use Rattle.ink_model.specs.declared.fault.Fault.{Fault}
 use Rattle.ink_model.specs.declared.fault.Fault.TheVariants.{OutOfMemory}
 use Rattle.ink_model.specs.declared.fault.Refusal.TheVariants as refusal
@@ -160,6 +162,32 @@ VisitsFrom s path (Ready c) old reply new = VisitsBy (visits_by s path c) old re
 abbrev pub Visits : StoryTree → List ℕ → State → Reply → State → Type 0
 Visits s path old reply new = VisitsFrom s path old.condition old reply new
 
+-- `save`: the value that the configuration is spelled as, for which memory is asked for
+abbrev pub SavesFrom : Condition → State → Reply → State → Type 0
+SavesFrom (Broken f globals) old reply new = Keeps (Refuses (refusal.Broken f)) old reply new
+SavesFrom (Ready c) old reply new = Keeps (Saves (spelling c)) old reply new ⊎ FailsAllocation old reply new
+
+abbrev pub Save : State → Reply → State → Type 0
+Save old reply new = SavesFrom old.condition old reply new
+
+-- A value that reads as a configuration is loaded: that one is there then, and told is what has another value than `get` read
+-- before.
+pub record Loads (s : StoryTree) (h : Bindings) (j : Data) (es : List Event) (old : State) (reply : Reply) (new : State) : Type 0 where
+  pub loaded : Configuration
+  pub reads : Reads s j loaded
+  pub tells : TellsOrKeeps (told h.watches (globals_of old.condition) loaded.shared.globals) (Ready loaded) es old reply new
+
+-- `load`, also of a broken player: a value that reads as no configuration is refused, and any value may find no memory
+abbrev pub LoadsBy : StoryTree → Bindings → Data → List Event → State → Reply → State → Type 0
+LoadsBy s h j es old reply new = Loads s h j es old reply new
+    ⊎ (((c : Configuration) → Reads s j c → ⊥) × (es ≡ []) × Keeps (Refuses refusal.BadSave) old reply new)
+    ⊎ ((es ≡ []) × FailsAllocation old reply new)
+
+-- what is no JSON is refused alike
+abbrev pub Load : StoryTree → Bindings → List Event → Option Data → State → Reply → State → Type 0
+Load s h es None old reply new = (es ≡ []) × Keeps (Refuses refusal.BadSave) old reply new
+Load s h es (Some j) old reply new = LoadsBy s h j es old reply new
+
 -- one command, with its events
 abbrev pub Does : StoryTree → Bindings → List Event → Option Command → State → Reply → State → Type 0
 Does s h es None old reply new = (es ≡ []) × Keeps (Refuses refusal.BadCommand) old reply new
@@ -169,6 +197,8 @@ Does s h es (Some (command.Get name)) old reply new = (es ≡ []) × Get name ol
 Does s h es (Some (command.Visits path)) old reply new = (es ≡ []) × Visits s path old reply new
 Does s h es (Some (command.Choose number)) old reply new = (es ≡ []) × Choose s number old reply new
 Does s h es (Some (command.Jump path)) old reply new = (es ≡ []) × Jump s path old reply new
+Does s h es (Some command.Save) old reply new = (es ≡ []) × Save old reply new
+Does s h es (Some (command.Load saved)) old reply new = Load s h es saved old reply new
 Does s h es (Some command.Restart) old reply new = Restart s h es old reply new
 
 -- one line: its events, its reply, and the state after it

@@ -21,7 +21,7 @@ use Rattle.ink_model.specs.State.{State, Broken, Ready}
 use Rattle.ink_model.specs.Host.{no_objects}
 use Rattle.ink_model.specs.Tree.{StoryTree}
 use Rattle.ink_model.specs.Turns.{Choose, Jump, ShowsChoices}
-use Rattle.ink_model.specs.declared.command.Command.TheVariants as command
+use Rattle.ink_model.specs.Command as command
 use Rattle.ink_model.specs.declared.content.Control.TheVariants as control
 use Rattle.ink_model.specs.declared.fault.Fault.TheVariants as fault
 use Rattle.ink_model.specs.declared.fault.Refusal.TheVariants as refusal

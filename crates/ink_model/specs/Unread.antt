@@ -2,11 +2,10 @@
 use Rattle.std.specs.Prelude.{◌≡◌, ◌⊎◌, ℕ, List, true, IsSome, Option, Some}
 use Rattle.ink_model.specs.Answer.{Reply}
 use Rattle.ink_model.specs.Changed.{FailsAllocation}
-use Rattle.ink_model.specs.Command.{line_asks}
+use Rattle.ink_model.specs.Command as command
+use Rattle.ink_model.specs.Command.{Command, line_asks}
 use Rattle.ink_model.specs.Path.{read_path}
 use Rattle.ink_model.specs.State.{State, Condition, Ready, Broken}
-use Rattle.ink_model.specs.declared.command.Command.{Command}
-use Rattle.ink_model.specs.declared.command.Command.TheVariants as command
 
 -- memory is asked for a path, and a broken player reads none
 abbrev pub ReadsPath : List ℕ → Condition → Type 0

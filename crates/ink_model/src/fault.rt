@@ -84,6 +84,8 @@ pub enum Refusal {
     NoSuchPath,
     #[error("BadValue")]
     BadValue,
+    #[error("BadSave")]
+    BadSave,
     #[error("BadCommand")]
     BadCommand,
     #[error("Broken")]
@@ -159,6 +161,7 @@ impl Refusal {
             Refusal::NoSuchVariable => "NoSuchVariable",
             Refusal::NoSuchPath => "NoSuchPath",
             Refusal::BadValue => "BadValue",
+            Refusal::BadSave => "BadSave",
             Refusal::BadCommand => "BadCommand",
             Refusal::Broken(_) => "Broken",
             Refusal::OutOfMemory => "OutOfMemory",

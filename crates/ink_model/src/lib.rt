@@ -2,7 +2,6 @@
 #![tactic(auto)]
 
 pub mod choice_flags;
-mod command;
 mod content;
 mod fault;
 pub mod flags;
@@ -20,7 +19,6 @@ mod text;
 mod value;
 mod version;
 
-pub use command::Command;
 pub use content::{Container, Content, Control, Destination, Leaf};
 pub use fault::{Cause, Failure, Fault, Halt, ReadRefusal, Refusal};
 pub use frame::FrameKind;

@@ -4,3 +4,4 @@ pub mod Playings
 pub mod Paths
 pub mod Tellings
 pub mod Restarts
+mod Saves

@@ -4,3 +4,4 @@ pub mod Serving
 pub mod Playing
 pub mod Paths
 pub mod Visits
+pub mod Saving

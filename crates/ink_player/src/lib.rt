@@ -5,6 +5,7 @@ mod end;
 mod path;
 mod player;
 mod playing;
+mod saving;
 mod session;
 mod telling;
 mod visits;

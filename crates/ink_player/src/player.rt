@@ -7,16 +7,20 @@ ghost use Rattle.ink_model.specs.Answer.{Acts, Breaks, Tells, reply_of, reply_of
 ghost use Rattle.ink_model.specs.Configuration.{Configuration, with_globals};
 ghost use Rattle.ink_model.specs.Host as host;
 ghost use Rattle.ink_model.specs.Opening.{opening, opened};
-ghost use Rattle.ink_model.specs.Session.{Through, Set, Get, Restart, TellsOrKeeps, reply_told, settable};
+ghost use Rattle.ink_model.specs.Session.{Through, Set, Get, Load, Restart, Save, TellsOrKeeps, reply_told, settable};
 ghost use Rattle.ink_model.specs.State.{Ready, is_running, fault_in, globals_of};
 ghost use Rattle.ink_model.specs.Store.{store, stored};
 ghost use Rattle.ink_model.specs.Told.{told};
 ghost use Rattle.ink_model.specs.Turns.{Choose, ShowsChoices};
 ghost use Rattle.ink_model.specs.declared.host.Event.{Event as Happening};
+ghost use Rattle.ink_protocol.specs.Plain.{IsPlain};
+ghost use Rattle.ink_protocol.specs.Replies.{reply_of_json};
 ghost use Rattle.ink_player.specs.Words.{DealtOnce, anew, bindings, desk_of, fault_told, state_of, story_of, told_from};
 ghost use Rattle.ink_step.specs.Words.{config_of};
+ghost use Rattle.serde_json.specs.View.{view};
 
 use crate::path::landing_by;
+use crate::saving::{loaded, saved};
 use crate::telling::{tell, tell_between, tell_one};
 use crate::visits::visits_by;
 use ink_check::Story;
@@ -25,6 +29,7 @@ use ink_model::{
     Event, Fault, Given, Halt, MAX_TEXT, Passage, Refusal, Seq, Shown, Value, value_given,
 };
 use ink_step::{Machine, Unopened};
+use serde_json::Value as Json;
 use std::alloc::{AllocError, Global};
 use std::marker::Model;
 
@@ -254,6 +259,34 @@ impl<P: PureFn, F: TurnFn, O: Watcher> Player<P, F, O> {
         }
     }
 
+    /// Where the story stands, as a JSON value, which has no float (docs/SAVES.md). Refused with `Broken` after a fault, and with
+    /// `OutOfMemory` where memory was refused.
+    pub fn save(&self) -> Result<Json, Refusal>
+        ensures does { Save (state_of self.now) (reply_of_json result) (state_of self.now) }
+        ensures plain { IfOk result IsPlain }
+    {
+        match self.broken {
+            Some(cause) => Err(Refusal::Broken(cause)),
+            None => saved(self.alloc, &self.story, &self.machine),
+        }
+    }
+
+    /// Goes on where a save of the story stands (docs/SAVES.md); a broken player too. Watchers are told of each global that has
+    /// another value than before, or was not there (docs/HOST.md, "Telling"). Refused with `BadSave` where the value spells nothing
+    /// that fits the story, and with `OutOfMemory` where memory was refused; nothing has changed then. Where a watcher finds no
+    /// memory the save is loaded, all others are told, and the player is broken by the fault `OutOfMemory`.
+    pub fn load(&mut self, json: &Json) -> Result<Seq<Event>, Halt>
+        ensures does { (es : List Happening) × Load (story_of self.old) (bindings P.meaning (desk_of self.old)) es (Some (view json.now)) (state_of self.old) (reply_of_events result) (state_of self.new)
+            × DealtOnce F.log O.state (told_from (desk_of self.old) (state_of self.old) (globals_of (state_of self.new).condition)) (desk_of self.old) es (desk_of self.new) }
+        ensures rest { Resting (rests O.state) (desk_of self.old).watchers → Resting (rests O.state) (desk_of self.new).watchers }
+        ensures story { story_of self.new ≡ story_of self.old }
+    {
+        match loaded(self.alloc, &self.story, json) {
+            Ok(found) => self.begin_anew(found),
+            Err(refusal) => Err(Halt::Refused(refusal)),
+        }
+    }
+
     /// Begins anew, as the story was opened; a broken player too. Watchers are told of each global that has another value than
     /// before, or was not there (docs/HOST.md, "Telling"). Refused with `OutOfMemory` alone, where the declarations run to a step
     /// that asks for memory, or memory for telling was refused; nothing has changed then. A fault of the declarations breaks the
@@ -277,7 +310,7 @@ impl<P: PureFn, F: TurnFn, O: Watcher> Player<P, F, O> {
         }
     }
 
-    /// Begins anew with a machine that was opened, once the watchers are told of what has another value in it.
+    /// Begins anew with a machine that was opened or loaded, once the watchers are told of what has another value in it.
     fn begin_anew(&mut self, machine: Machine) -> Result<Seq<Event>, Halt>
         ensures does { let s = story_of self.old in let was = config_of s self.old.machine in let c = config_of s machine in let h = bindings P.meaning (desk_of self.old) in
             (es : List Happening) × TellsOrKeeps (told h.watches was.shared.globals c.shared.globals) (Ready c) es (state_of self.old) (reply_of_events result) (state_of self.new)

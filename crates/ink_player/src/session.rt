@@ -4,24 +4,26 @@ ghost use Rattle.std.specs.Prelude.{◌≡◌, ℕ, List, [], ◌⊎◌, option_
 ghost use Rattle.ink_host.specs.Desk.{Resting};
 ghost use Rattle.ink_host.specs.Telling.{rests};
 ghost use Rattle.ink_model.specs.Answer.{Refuses};
-ghost use Rattle.ink_model.specs.Session.{Does, Serves, Set};
+ghost use Rattle.ink_model.specs.Session.{Does, Load, Save, Serves, Set};
 ghost use Rattle.ink_model.specs.Host.{Bindings};
 ghost use Rattle.ink_model.specs.declared.host.Event.{Event};
 ghost use Rattle.ink_protocol.specs.Commands.{command_by};
-ghost use Rattle.ink_protocol.specs.Replies.{reply_by};
+ghost use Rattle.ink_protocol.specs.Replies.{reply_by, reply_of_json};
 ghost use Rattle.ink_player.specs.Words.{Dealt, bindings, desk_of, state_of, story_of};
 ghost use Rattle.ink_protocol.specs.Ends.{Reports, reads_fail, writes_fail};
 ghost use Rattle.ink_player.specs.Serving.{Answers, Runs, ServesNext};
 ghost use Rattle.ink_model.specs.Unread.{PathFails};
 ghost use Rattle.ink_model.specs.declared.limits.TheConstants.{MAX_INPUT};
+ghost use Rattle.serde_json.specs.View.{view};
 
 use crate::player::Player;
 use ink_host::{PureFn, TurnFn, Watcher};
 use ink_model::{Given, MAX_INPUT, MAX_LINE, Refusal};
 use ink_protocol::{
-    Ahead, Lent, Line, LineCommand, Outcome, RunFault, Sink, Source, answer_text, fixed_answer,
-    next_line, read_command, write_answer,
+    Ahead, Lent, Line, LineCommand, Outcome, PlainJson, RunFault, Sink, Source, answer_text,
+    fixed_answer, next_line, read_command, write_answer,
 };
+use serde_json::Value as Json;
 use std::alloc::{AllocError, Global};
 use std::io::{Read, Write};
 use std::mem;
@@ -224,6 +226,8 @@ fn perform<P: PureFn, F: TurnFn, O: Watcher>(
         Some(LineCommand::Visits { path }) => Outcome::Visits(player.visits(path)),
         Some(LineCommand::Choose { number }) => Outcome::Landing(player.choose(number)),
         Some(LineCommand::Jump { path }) => Outcome::Landing(player.jump(path)),
+        Some(LineCommand::Save) => Outcome::Saved(save(player)),
+        Some(LineCommand::Load { saved }) => load(player, saved),
         Some(LineCommand::Restart) => Outcome::Events(player.restart()),
         None => Outcome::Refused(Refusal::BadCommand),
     }
@@ -254,4 +258,30 @@ fn no_value<P: PureFn, F: TurnFn, O: Watcher>(player: &Player<P, F, O>) -> Refus
         Some(fault) => Refusal::Broken(fault),
         None => Refusal::BadValue,
     }
+}
+
+// What a player is saved as.
+fn save<P: PureFn, F: TurnFn, O: Watcher>(player: &Player<P, F, O>) -> Result<PlainJson, Refusal>
+    ensures { Save (state_of player.now) (reply_of_json result) (state_of player.now) }
+{
+    match player.save() {
+        Ok(json) => Ok(PlainJson::new(json)),
+        Err(refusal) => Err(refusal),
+    }
+}
+
+// Loads a save, or refuses where the line has no JSON.
+fn load<P: PureFn, F: TurnFn, O: Watcher>(
+    player: &mut Player<P, F, O>,
+    saved: Option<Json>,
+) -> Outcome
+    ensures does { (es : List Event) × Load (story_of player.old) (bindings P.meaning (desk_of player.old)) es (option_map view saved) (state_of player.old) (reply_by result) (state_of player.new)
+        × Dealt F.log O.state (desk_of player.old) es (desk_of player.new) }
+    ensures rest { Resting (rests O.state) (desk_of player.old).watchers → Resting (rests O.state) (desk_of player.new).watchers }
+    ensures story { story_of player.new ≡ story_of player.old }
+{
+    let Some(json) = saved else {
+        return Outcome::Refused(Refusal::BadSave);
+    };
+    Outcome::Events(player.load(&json))
 }

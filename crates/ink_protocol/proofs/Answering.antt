@@ -12,7 +12,7 @@ use Rattle.serde_json.specs.Find.{of_integer}
 use Rattle.serde_json.specs.Written.{compact_text, items_outline}
 use Rattle.serde_json.proofs.OnLiterals.{serde_json_on_literals}
 use Rattle.serde_json.proofs.Texts.{print-outline}
-use Rattle.ink_model.specs.Answer.{Reply, Acts, Counts, Shows, reply_data, answer, items_of}
+use Rattle.ink_model.specs.Answer.{Reply, Acts, Counts, Saves, Shows, reply_data, answer, items_of}
 use Rattle.ink_model.specs.declared.value.Value.TheVariants as value
 use Rattle.ink_protocol.specs.Answers.{Added, data_tokens}
 
@@ -90,3 +90,8 @@ pub visits_answer : (z : ℤ) → answer (Counts z) ≡ codes "{\"visits\":" ++ 
 unfolding answer serde_json_on_literals
 visits_answer (pos n) = ap (λ t. codes "{\"visits\":" ++ t) (append_assoc (signed_decimal (pos n)) (125 ∷ []) (10 ∷ []))
 visits_answer (negsuc n) = ap (λ t. codes "{\"visits\":" ++ t) (append_assoc (signed_decimal (negsuc n)) (125 ∷ []) (10 ∷ []))
+
+-- the answer that has a save
+pub saved_answer : (d : Data) → answer (Saves d) ≡ codes "{\"saved\":" ++ (compact_text d ++ codes "}\n")
+unfolding answer serde_json_on_literals
+saved_answer d = ap (λ t. codes "{\"saved\":" ++ t) (append_assoc (compact_text d) (125 ∷ []) (10 ∷ []))

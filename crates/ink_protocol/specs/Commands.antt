@@ -1,10 +1,12 @@
 -- Commands as lines spell them.
-use Rattle.ink_model.specs.declared.command.Command.{Command}
-use Rattle.ink_model.specs.declared.command.Command.TheVariants as command
+use Rattle.std.specs.Option.{option_map}
+use Rattle.serde_json.specs.View.{view}
+use Rattle.ink_model.specs.Command as command
+use Rattle.ink_model.specs.Command.{Command}
 use Rattle.ink_protocol.specs.declared.command.LineCommand.{LineCommand}
 use Rattle.ink_protocol.specs.declared.command.LineCommand.TheVariants as line
 
--- the command, with its name, its path or its number
+-- the command, with its name, its path, its number or its JSON
 abbrev pub command_by : LineCommand → Command
 command_by line.Through = command.Through
 command_by (line.Set name value) = command.Set name.now value
@@ -12,4 +14,6 @@ command_by (line.Get name) = command.Get name.now
 command_by (line.Visits path) = command.Visits path.now
 command_by (line.Choose number) = command.Choose number
 command_by (line.Jump path) = command.Jump path.now
+command_by line.Save = command.Save
+command_by (line.Load saved) = command.Load (option_map view saved)
 command_by line.Restart = command.Restart

@@ -1,5 +1,6 @@
 pub mod Answers
 pub mod Replies
+pub mod Plain
 pub mod Ends
 pub mod NameExamples
 pub mod Buffered

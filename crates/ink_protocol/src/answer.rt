@@ -1,19 +1,21 @@
 //! Answers as they are written (docs/PROTOCOL.md, "Answers").
 
 ghost use Rattle.std.specs.Fmt.{signed_decimal};
-ghost use Rattle.std.specs.Prelude.{◌≡◌, [], ◌∷◌, ◌++◌, OnOk, IfOk, IfNone, IfSome, true, map, codes, pos};
+ghost use Rattle.std.specs.Prelude.{◌≡◌, [], ◌∷◌, ◌++◌, OnOk, IfOk, IfNone, IfSome, true, false, map, codes, pos};
 ghost use Rattle.json.specs.Print.{IsPrintable};
 ghost use Rattle.json.specs.Reads.{token_of};
 ghost use Rattle.json.specs.Token as tokens;
 ghost use Rattle.serde_json.specs.Data.{Data, array, string, number};
 ghost use Rattle.serde_json.specs.Find.{of_integer};
-ghost use Rattle.ink_model.specs.Answer.{answer, answer_asks, refusal_data, reply_data, reply_of_events, reply_of_halt, Acts, Breaks, Counts, Shows, items_of, passage_data, shown_data};
+ghost use Rattle.ink_model.specs.Answer.{answer, answer_asks, refusal_data, reply_data, reply_of_events, reply_of_halt, Acts, Breaks, Counts, Saves, Shows, items_of, passage_data, shown_data};
 ghost use Rattle.ink_model.specs.Events.{call_data, event_data};
 ghost use Rattle.ink_model.specs.Host.{value_given};
 ghost use Rattle.ink_model.specs.ValueJson.{value_data};
 ghost use Rattle.ink_protocol.specs.Answers.{Added, data_tokens, outcome_tokens, values_text};
-ghost use Rattle.ink_protocol.specs.Replies.{reply_by};
+ghost use Rattle.ink_protocol.specs.Replies.{is_saved, reply_by, reply_of_json};
+ghost use Rattle.serde_json.specs.View.{view};
 
+use crate::plain::PlainJson;
 use ink_model::{
     Event, Fault, Given, Halt, Passage, Path, Refusal, Seq, Shared, Shown, Text, Value,
 };
@@ -29,6 +31,7 @@ pub enum Outcome {
     Value(Result<Value, Refusal>),
     Visits(Result<i32, Refusal>),
     Landing(Result<(), Refusal>),
+    Saved(Result<PlainJson, Refusal>),
     Refused(Refusal),
 }
 
@@ -81,7 +84,7 @@ pub fn answer_text(alloc: Global, buffer: Vec<u8>, outcome: Outcome) -> Result<V
     empty.clear();
     match told_number(&outcome) {
         Some((front, number)) => number_text(empty, front, number),
-        None => written_text(alloc, empty, outcome),
+        None => replied_text(alloc, empty, outcome),
     }
 }
 
@@ -109,8 +112,47 @@ fn number_text(empty: Vec<u8>, front: &str, number: i32) -> Result<Vec<u8>, Allo
     Ok(text)
 }
 
-fn written_text(alloc: Global, empty: Vec<u8>, outcome: Outcome) -> Result<Vec<u8>, AllocError>
+fn replied_text(alloc: Global, empty: Vec<u8>, outcome: Outcome) -> Result<Vec<u8>, AllocError>
     requires { empty.items ≡ [] }
+    ensures { IfOk result (λ text. text.items ≡ answer (reply_by outcome)) }
+{
+    match outcome {
+        Outcome::Saved(saved) => save_text(alloc, empty, saved),
+        told => written_text(alloc, empty, told),
+    }
+}
+
+fn save_text(
+    alloc: Global,
+    empty: Vec<u8>,
+    saved: Result<PlainJson, Refusal>,
+) -> Result<Vec<u8>, AllocError>
+    requires { empty.items ≡ [] }
+    ensures { IfOk result (λ text. text.items ≡ answer (reply_of_json saved)) }
+{
+    match saved {
+        Ok(json) => saved_text(alloc, empty, &json),
+        Err(refusal) => written_text(alloc, empty, Outcome::Refused(refusal)),
+    }
+}
+
+// The answer that has a save.
+fn saved_text(alloc: Global, empty: Vec<u8>, json: &PlainJson) -> Result<Vec<u8>, AllocError>
+    requires { empty.items ≡ [] }
+    ensures { IfOk result (λ text. text.items ≡ answer (Saves (view json.now))) }
+{
+    let inner = json.text(alloc)?;
+    let mut line = empty;
+    line.extend_from_slice(b"{\"saved\":")?;
+    line.extend_from_slice(inner.as_slice())?;
+    line.extend_from_slice(b"}\n")?;
+    Ok(line)
+}
+
+// The answer of what is no save.
+fn written_text(alloc: Global, empty: Vec<u8>, outcome: Outcome) -> Result<Vec<u8>, AllocError>
+    requires empty { empty.items ≡ [] }
+    requires told { is_saved outcome ≡ false }
     ensures { IfOk result (λ text. text.items ≡ answer (reply_by outcome)) }
 {
     let mut out = Writer::new(empty);
@@ -131,6 +173,7 @@ pub fn print_values(alloc: Global, values: &[Value]) -> Result<Vec<u8>, AllocErr
 }
 
 fn write_reply(alloc: Global, out: &mut Writer, outcome: Outcome) -> Result<(), AllocError>
+    requires { is_saved outcome ≡ false }
     ensures { OnOk result (Added out.old out.new (data_tokens (reply_data (reply_by outcome)))) }
 {
     match outcome {
@@ -143,7 +186,9 @@ fn write_reply(alloc: Global, out: &mut Writer, outcome: Outcome) -> Result<(), 
         Outcome::Value(Err(refusal))
         | Outcome::Visits(Err(refusal))
         | Outcome::Landing(Err(refusal))
+        | Outcome::Saved(Err(refusal))
         | Outcome::Refused(refusal) => write_refusal(out, refusal),
+        Outcome::Saved(Ok(_)) => unreachable!(),
     }
 }
 

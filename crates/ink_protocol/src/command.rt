@@ -2,19 +2,21 @@
 
 ghost use Rattle.std.specs.Prelude.{◌≡◌, ◌≤◌, ◌<◌, length, true, IfOk, OnErr, option_map, option_and_then};
 ghost use Rattle.std.specs.List.{list_all};
-ghost use Rattle.ink_model.specs.Command.{choose_command as choose_of, command_of, command_word, get_command as get_of, jump_command as jump_of, line_asks, set_command as set_of, visits_command as visits_of};
+ghost use Rattle.ink_model.specs.Command.{choose_command as choose_of, command_of, command_word, get_command as get_of, jump_command as jump_of, line_asks, load_command as load_of, set_command as set_of, visits_command as visits_of};
 ghost use Rattle.ink_model.specs.Bytes.{after as after_word, at_space as parts_at_space, is_digit as digit, number_from};
 ghost use Rattle.ink_protocol.specs.Commands.{command_by};
 
 use crate::given::given_of;
+use crate::parse::parsed;
 use ink_model::Given;
+use serde_json::Value;
 use std::alloc::{AllocError, Global};
 
 // The most digits of a choice's number.
 const MAX_DIGITS: usize = 9;
 
 /// A command of a line, with the name or the path where it stands in the line. The value of `Set` is none where the line has
-/// JSON of another kind than a value has, or no JSON.
+/// JSON of another kind than a value has, or no JSON; that of `Load` is none where it has no JSON.
 #[derive(Drop)]
 pub enum LineCommand<'a> {
     Through,
@@ -23,11 +25,13 @@ pub enum LineCommand<'a> {
     Visits { path: &'a str },
     Choose { number: u32 },
     Jump { path: &'a str },
+    Save,
+    Load { saved: Option<Value> },
     Restart,
 }
 
 /// The command of a line, without its newline (docs/PROTOCOL.md, "Command lines"). A line that is no text, or no
-/// command, has none. The one error is a refused request for memory, which only a `set` makes, for its JSON.
+/// command, has none. The one error is a refused request for memory, which only `set` and `load` make, for their JSON.
 pub fn read_command(alloc: Global, line: &[u8]) -> Result<Option<LineCommand<'_>>, AllocError>
     ensures command { IfOk result (λ command. option_map command_by command ≡ command_of line.now) }
     ensures memory { OnErr result (line_asks (command_of line.now) ≡ true) }
@@ -45,6 +49,9 @@ fn command_in(alloc: Global, text: &str) -> Result<Option<LineCommand<'_>>, Allo
     if text == "through" {
         return Ok(Some(LineCommand::Through));
     }
+    if text == "save" {
+        return Ok(Some(LineCommand::Save));
+    }
     if text == "restart" {
         return Ok(Some(LineCommand::Restart));
     }
@@ -60,8 +67,11 @@ fn command_in(alloc: Global, text: &str) -> Result<Option<LineCommand<'_>>, Allo
     if let Some(number) = after("choose ", text) {
         return Ok(choose_command(number));
     }
-    match after("jump ", text) {
-        Some(path) => Ok(jump_command(path)),
+    if let Some(path) = after("jump ", text) {
+        return Ok(jump_command(path));
+    }
+    match after("load ", text) {
+        Some(json) => load_command(alloc, json),
         None => Ok(None),
     }
 }
@@ -163,4 +173,15 @@ fn set_command<'a>(
     }
     let value = given_of(alloc, text)?;
     Ok(Some(LineCommand::Set { name, value }))
+}
+
+fn load_command(alloc: Global, text: &str) -> Result<Option<LineCommand<'static>>, AllocError>
+    ensures command { IfOk result (λ command. option_map command_by command ≡ load_of text.now) }
+    ensures memory { OnErr result (line_asks (load_of text.now) ≡ true) }
+{
+    if text.is_empty() {
+        return Ok(None);
+    }
+    let saved = parsed(alloc, text)?;
+    Ok(Some(LineCommand::Load { saved }))
 }

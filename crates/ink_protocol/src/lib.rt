@@ -8,6 +8,8 @@ mod given;
 mod input;
 mod lines;
 mod output;
+mod parse;
+mod plain;
 mod watched;
 
 pub use answer::{Outcome, answer_text, fixed_answer, print_values};
@@ -16,4 +18,5 @@ pub use fault::RunFault;
 pub use input::{Ahead, ReadFailed, Source};
 pub use lines::{Line, next_line};
 pub use output::{Sink, WriteFailed, write_answer};
+pub use plain::PlainJson;
 pub use watched::{Lent, Watched};

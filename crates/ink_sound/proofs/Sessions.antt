@@ -7,25 +7,25 @@ use Rattle.ink_model.specs.declared.fault.Fault.TheVariants.{OutOfMemory}
 use Rattle.ink_model.specs.declared.fault.Refusal.TheVariants as refusal
 use Rattle.ink_model.specs.Changed.{Keeps}
 use Rattle.ink_model.specs.Choosing.{chosen, jump_place, jumped, open_choice}
-use Rattle.ink_model.specs.Command.{command_of}
+use Rattle.ink_model.specs.Command as command
+use Rattle.ink_model.specs.Command.{Command, command_of}
 use Rattle.ink_model.specs.Configuration.{ChoiceOf, Configuration, can_go_on, settled, unnumbered_choice, with_globals}
 use Rattle.ink_model.specs.Host.{Bindings, value_given}
 use Rattle.ink_model.specs.Opening.{Unopened, opened, opening}
 use Rattle.ink_model.specs.Run.{Made, Moment, At, Stopped, Faulted, Waits, RunEnd, Kept, Broke, answers_of, end_of, through}
-use Rattle.ink_model.specs.Session.{Does, EndsAs, FailsToRestart, GetsFrom, RestartsAs, RunsThrough, Serves, Session, SetsFrom, SetsIn, TellsDone, TellsOrKeeps, ThroughFrom, VisitsBy, VisitsFrom, condition_told, settable}
+use Rattle.ink_model.specs.Session.{Does, EndsAs, FailsToRestart, GetsFrom, Load, LoadsBy, RestartsAs, RunsThrough, SavesFrom, Serves, Session, SetsFrom, SetsIn, TellsDone, TellsOrKeeps, ThroughFrom, VisitsBy, VisitsFrom, condition_told, settable}
 use Rattle.ink_model.specs.State.{State, Condition, Ready, Broken}
 use Rattle.ink_model.specs.Store.{Values, store, stored}
 use Rattle.ink_model.specs.Tree.{StoryTree}
 use Rattle.ink_model.specs.Unread.{LineFails}
 use Rattle.ink_model.specs.Turns.{ChoosesBy, ChoosesFrom, JumpsBy, JumpsFrom, LandsFor}
 use Rattle.ink_model.specs.Visits.{entering_around, visits_by}
-use Rattle.ink_model.specs.declared.command.Command.{Command}
-use Rattle.ink_model.specs.declared.command.Command.TheVariants as command
 use Rattle.ink_model.specs.declared.host.Change.{Change}
 use Rattle.ink_model.specs.declared.host.Event.{Event}
 use Rattle.ink_model.specs.declared.host.Given.{Given}
 use Rattle.ink_model.specs.declared.host.Given.TheVariants as given
 use Rattle.ink_model.specs.declared.place.Part.{Part}
+use Rattle.serde_json.specs.Data.{Data}
 use Rattle.ink_sound.specs.Kept.{ConditionFits, Finds, MomentFits, StateFits, StoryFits}
 use Rattle.ink_model.specs.Save.Reads.{Rests}
 use Rattle.ink_model.specs.Save.Sound.{ChoiceFits, PlaceFits, Sound, ValueFits}
@@ -123,6 +123,22 @@ module _ (s : StoryTree) where
       by None x = kept _ old new reply x o
       by (Some z) x = kept _ old new reply x o
 
+  -- ---- saving and loading
+
+  saves_fit : (k : Condition) (old : State) (reply : Reply) (new : State) → SavesFrom k old reply new → StateFits s old → StateFits s new
+  saves_fit (Broken f globals) old reply new h o = kept _ old new reply h o
+  saves_fit (Ready c) old reply new (inl h) o = kept _ old new reply h o
+  saves_fit (Ready c) old reply new (inr h) o = kept _ old new reply h o
+
+  loads_fit : (h : Bindings) (j : Data) (es : List Event) (old : State) (reply : Reply) (new : State) → LoadsBy s h j es old reply new → StateFits s old → StateFits s new
+  loads_fit h j es old reply new (inl x) o = tells_fits _ (Ready x.loaded) es old reply new x.tells (x.reads.sound, x.reads.rests) o
+  loads_fit h j es old reply new (inr (inl x)) o = kept _ old new reply x.2 o
+  loads_fit h j es old reply new (inr (inr x)) o = kept _ old new reply x.1 o
+
+  load_fits : (h : Bindings) (es : List Event) (saved : Option Data) (old : State) (reply : Reply) (new : State) → Load s h es saved old reply new → StateFits s old → StateFits s new
+  load_fits h es None old reply new x o = kept _ old new reply x.1 o
+  load_fits h es (Some j) old reply new x o = loads_fit h j es old reply new x o
+
   module _ (story : StoryFits s) (h : Bindings) where
     -- ---- running
 
@@ -181,6 +197,8 @@ module _ (s : StoryTree) where
     does_fit es (Some (command.Visits path)) old reply new does o = visits_fit path old.condition old reply new does.1 o
     does_fit es (Some (command.Choose number)) old reply new does o = choose_fits number old.condition old reply new does.1 o o
     does_fit es (Some (command.Jump path)) old reply new does o = jump_fits_from path old.condition old reply new does.1 o o
+    does_fit es (Some command.Save) old reply new does o = saves_fit old.condition old reply new does.1 o
+    does_fit es (Some (command.Load saved)) old reply new does o = load_fits h es saved old reply new does o
     does_fit es (Some command.Restart) old reply new (inl does) o = restarts_fit (opening s) es old reply new does (opening_fits s story) o
     does_fit es (Some command.Restart) old reply new (inr does) o = along old new does.2.1 o
 

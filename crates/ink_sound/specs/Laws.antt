@@ -11,7 +11,7 @@ use Rattle.ink_model.specs.Session.{Does, Session}
 use Rattle.ink_model.specs.State.{Ready, State}
 use Rattle.ink_model.specs.Step.{step}
 use Rattle.ink_model.specs.Tree.{StoryTree}
-use Rattle.ink_model.specs.declared.command.Command.{Command}
+use Rattle.ink_model.specs.Command.{Command}
 use Rattle.ink_model.specs.declared.host.Event.{Event}
 use Rattle.ink_model.specs.declared.host.Given.{Given}
 use Rattle.ink_sound.specs.Kept.{MomentFits, StateFits, SteppedFits, StoryFits}

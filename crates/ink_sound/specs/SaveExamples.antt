@@ -1,6 +1,6 @@
 -- Small worked examples of saves, each proved by computation (docs/SAVES.md).
 use Rattle.std.specs.Prelude.{◌≡◌, ℕ, pos, negsuc, List, [], ◌∷◌, refl, codes, true, false, Float, Some, None, option_and_then}
-use Rattle.std.proofs.Common.{lit≤}
+use Rattle.std.proofs.Common.{inl, lit≤}
 use Rattle.std.specs.Fmt.{digits}
 use Rattle.serde_json.proofs.OnLiterals.{serde_json_on_literals}
 use Rattle.serde_json.specs.Data.{Data, null, boolean, number, string, array, object, no_items, item, Members, no_members, member, unsigned, negative, float}
@@ -11,17 +11,21 @@ use Rattle.ink_model.specs.CallStories.{does, now, says, stack_in, story}
 use Rattle.ink_model.specs.Configuration.{ChoiceOf, Configuration, fresh_at, settled, start}
 use Rattle.ink_model.specs.Entered.{entered_places, passed_places}
 use Rattle.ink_model.specs.Frames.{FrameOf, ThreadOf, base_frame}
-use Rattle.ink_model.specs.Host.{nothing_bound}
+use Rattle.ink_model.specs.Answer.{Acts}
+use Rattle.ink_model.specs.Host.{no_objects, nothing_bound}
 use Rattle.ink_model.specs.Output.{empty_page}
 use Rattle.ink_model.specs.Path.{is_place, read_path}
 use Rattle.ink_model.specs.Place.{entered, next_place}
 use Rattle.ink_model.specs.Rows.{place_order, rows_rise}
 use Rattle.ink_model.specs.Run.{moment, run}
+use Rattle.ink_model.specs.Session.{Load}
+use Rattle.ink_model.specs.State.{Broken, Ready}
 use Rattle.ink_model.specs.Step.{step}
 use Rattle.ink_model.specs.Tree.{StoryTree, leaf}
 use Rattle.ink_model.specs.ValueJson.{value_data}
 use Rattle.ink_model.specs.declared.content.Control.TheVariants as control
 use Rattle.ink_model.specs.declared.content.Leaf.TheVariants as leaves
+use Rattle.ink_model.specs.declared.fault.Fault.TheVariants as fault
 use Rattle.ink_model.specs.declared.frame.FrameKind.TheVariants.{Base, Function}
 use Rattle.ink_model.specs.declared.place.Part.{Part}
 use Rattle.ink_model.specs.declared.place.Part.TheVariants.{Index, Name}
@@ -93,6 +97,22 @@ it_is_sound = record {
 
 it_reads : Reads (story (says (codes "a") ∷ says (codes "b") ∷ []) [] []) (spelling in_the_middle) in_the_middle
 it_reads = record { spells = refl; sound = it_is_sound; rests = it_rests }
+
+-- a broken player loads it, and goes on with its stamps
+it_is_loaded : Load (story (says (codes "a") ∷ says (codes "b") ∷ []) [] []) no_objects [] (Some (spelling in_the_middle))
+    (record { condition = Broken fault.Divide []; stamp = 4 }) (Acts []) (record { condition = Ready in_the_middle; stamp = 4 })
+it_is_loaded = inl (record {
+  loaded = in_the_middle;
+  reads = it_reads;
+  tells = inl (record {
+    all = true;
+    saw = [];
+    telling = record { answers = []; one_each = refl; events = refl; all_told = refl };
+    events = refl;
+    replies = refl;
+    leaves = refl;
+  });
+})
 
 -- as a story is opened there is no previous place
 as_it_is_opened : unspelled (spelling (start (story (does control.Nop ∷ []) [] []) [])) ≡ Some (start (story (does control.Nop ∷ []) [] []) [])

@@ -1,7 +1,7 @@
 -- The base stays the bottom frame alone, and threads stay within their limit.
 use Rattle.std.proofs.Common.{◌≡◌, ◌≢◌, ◌∙◌, ◌<◌, ◌≤◌, ◌+◌, ◌-◌, ℕ, List, [], ◌∷◌, ◌++◌, true, false, Result, Ok, Err, OnOk, OnErr, ap, arith, get_or, if◌then◌else◌, length, map, nat_eq, nat_lt, refl, reverse, set, subst, sym}
 use Rattle.std.proofs.lemmas.Bool.Decides.{nat_tests}
-use Rattle.std.proofs.lemmas.List.{length-reverse, reverse-append, set-get_or}
+use Rattle.std.proofs.lemmas.List.{reverse-append, set-get_or}
 use Rattle.ink_model.specs.Bases.{BaseFirst}
 use Rattle.ink_model.specs.Frames.{FrameOf, ThreadOf, ThreadsOf, is_function, unnumbered_frame}
 use Rattle.ink_model.specs.Threads.{changed, doubled, stale, stale_run, thread_count, top_result, with_row_in}

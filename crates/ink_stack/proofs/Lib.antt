@@ -6,3 +6,5 @@ pub mod Rows
 pub mod Rises
 pub mod Numbers
 pub mod Bases
+pub mod Rising
+pub mod BaseTests

@@ -12,7 +12,7 @@ both : (x y : Bool) → (x && y) ≡ true → (x ≡ true) × (y ≡ true)
 both true y h = (refl, h)
 both false y h = absurd cc
 
-is_less : (o : Ordering) → is_lt o ≡ true → o ≡ Less
+pub is_less : (o : Ordering) → is_lt o ≡ true → o ≡ Less
 is_less Less h = refl
 is_less Equal h = absurd cc
 is_less Greater h = absurd cc
@@ -27,7 +27,7 @@ after : (k l : List ℕ) → name_order k l ≡ Greater → name_order l k ≡ L
 after k l e = nat_list_cmp_total.antisymm l k ∙ ap ordering_reverse e
 
 -- what comes before a name comes before those after it
-before_more : (k l : List ℕ) (rs : Values) → name_order k l ≡ Less → is_before name_order l rs ≡ true → is_before name_order k rs ≡ true
+pub before_more : (k l : List ℕ) (rs : Values) → name_order k l ≡ Less → is_before name_order l rs ≡ true → is_before name_order k rs ≡ true
 before_more k l [] e h = refl
 before_more k l (r ∷ rs) e h =
     let p = both (is_lt (name_order l r.0)) (is_before name_order l rs) h in

@@ -3,3 +3,4 @@ pub mod Words
 pub mod Calls
 pub mod Quiet
 pub mod Rows
+pub mod Saving

@@ -32,14 +32,14 @@ impl CallKind {
 /// A frame: what it was pushed for, where it is, its temporaries, whether it evaluates, whether it is a fresh function, how
 /// many sections were open at its push, and the number of its mark on this line.
 #[derive(Drop)]
-pub(crate) struct Frame<P> {
-    kind: FrameKind,
-    evaluating: bool,
-    fresh: bool,
-    depth: usize,
-    place: Option<P>,
-    enter: Option<u64>,
-    temps: Temps,
+pub struct Frame<P> {
+    pub(crate) kind: FrameKind,
+    pub(crate) evaluating: bool,
+    pub(crate) fresh: bool,
+    pub(crate) depth: usize,
+    pub(crate) place: Option<P>,
+    pub(crate) enter: Option<u64>,
+    pub(crate) temps: Temps,
 }
 
 impl<P> Model for Frame<P> {
@@ -84,19 +84,22 @@ impl<P: Copy> Frame<P> {
         })
     }
 
-    pub(crate) fn kind(&self) -> FrameKind
+    /// What it was pushed for.
+    pub fn kind(&self) -> FrameKind
         ensures { result ≡ self.now.kind }
     {
         self.kind
     }
 
-    pub(crate) fn place(&self) -> Option<P>
+    /// Where it is; none where flow has stopped.
+    pub fn place(&self) -> Option<P>
         ensures { result ≡ self.now.place }
     {
         self.place
     }
 
-    pub(crate) fn is_evaluating(&self) -> bool
+    /// Whether it is in evaluation mode.
+    pub fn is_evaluating(&self) -> bool
         ensures { result ≡ self.now.evaluating }
     {
         self.evaluating
@@ -108,7 +111,8 @@ impl<P: Copy> Frame<P> {
         self.enter
     }
 
-    pub(crate) fn depth(&self) -> usize
+    /// How many string and tag sections were open at its push.
+    pub fn depth(&self) -> usize
         ensures { result ≡ self.now.depth }
     {
         self.depth
@@ -123,7 +127,8 @@ impl<P: Copy> Frame<P> {
         }
     }
 
-    pub(crate) fn is_fresh(&self) -> bool
+    /// Whether it is fresh.
+    pub fn is_fresh(&self) -> bool
         ensures { result ≡ self.now.fresh }
     {
         self.fresh

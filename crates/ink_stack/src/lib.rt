@@ -2,10 +2,11 @@
 #![tactic(auto)]
 
 mod frame;
+mod saving;
 mod temps;
 mod thread;
 mod threads;
 
-pub use frame::CallKind;
+pub use frame::{CallKind, Frame};
 pub use thread::Thread;
 pub use threads::Threads;

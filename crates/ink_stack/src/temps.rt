@@ -12,8 +12,8 @@ use std::marker::Model;
 /// Values by name, in the order of the names. The copies of a frame share the names. A contract sees the rows.
 #[derive(Drop)]
 pub(crate) struct Temps {
-    rows: Vec<(Shared<Text>, Value)>,
-    alloc: Global,
+    pub(crate) rows: Vec<(Shared<Text>, Value)>,
+    pub(crate) alloc: Global,
 }
 
 impl Model for Temps {

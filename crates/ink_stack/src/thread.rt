@@ -22,11 +22,11 @@ use std::mem;
 /// them.
 #[derive(Drop)]
 pub struct Thread<P> {
-    frame: Frame<P>,
-    below: Vec<Frame<P>>,
-    previous: Option<P>,
-    quiet: bool,
-    alloc: Global,
+    pub(crate) frame: Frame<P>,
+    pub(crate) below: Vec<Frame<P>>,
+    pub(crate) previous: Option<P>,
+    pub(crate) quiet: bool,
+    pub(crate) alloc: Global,
 }
 
 impl<P> Model for Thread<P> {

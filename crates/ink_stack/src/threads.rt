@@ -18,9 +18,9 @@ use std::marker::Model;
 /// nearest first.
 #[derive(Drop)]
 pub struct Threads<P> {
-    thread: Thread<P>,
-    below: Vec<Thread<P>>,
-    alloc: Global,
+    pub(crate) thread: Thread<P>,
+    pub(crate) below: Vec<Thread<P>>,
+    pub(crate) alloc: Global,
 }
 
 impl<P> Model for Threads<P> {

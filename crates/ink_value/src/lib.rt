@@ -6,6 +6,7 @@ mod numbers;
 mod operate;
 mod printing;
 mod same;
+mod saving;
 mod stack;
 mod targets;
 mod texts;

@@ -16,7 +16,7 @@ use std::marker::Model;
 /// The values that are being evaluated. A contract sees them from the bottom up.
 #[derive(Drop)]
 pub struct EvalStack {
-    items: Vec<Value>,
+    pub(crate) items: Vec<Value>,
 }
 
 impl Model for EvalStack {

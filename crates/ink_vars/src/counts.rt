@@ -16,8 +16,8 @@ use std::marker::Model;
 /// contract sees two lists of rows, which rise by number.
 #[derive(Drop)]
 pub struct Counts {
-    visits: Vec<Option<u32>>,
-    turns: Vec<Option<u32>>,
+    pub(crate) visits: Vec<Option<u32>>,
+    pub(crate) turns: Vec<Option<u32>>,
 }
 
 impl Model for Counts {

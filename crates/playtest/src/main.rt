@@ -18,7 +18,7 @@ use std::alloc::Global;
 use std::process::ExitCode;
 
 /// The tables that are read where none are named.
-const TABLES: [&str; 19] = [
+const TABLES: [&str; 20] = [
     "boxes.txt",
     "players.txt",
     "players_large.txt",
@@ -37,6 +37,7 @@ const TABLES: [&str; 19] = [
     "sessions_large.txt",
     "sessions_limits.txt",
     "sessions_refused.txt",
+    "sessions_saves.txt",
     "sessions_variables.txt",
 ];
 

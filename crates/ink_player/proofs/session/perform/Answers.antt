@@ -49,5 +49,20 @@ returns-in-Some-Jump-clause-does g c = (
   dealt-kept g.F.TurnFn.log g.O.Watcher.state (desk_of c.args.player.now) (desk_of c.jump.new.self) c.jump.ensures.desk,
 )
 
+pub returns-in-Some-Save-clause-does : goal.returns-in-Some-Save-clause-does
+returns-in-Some-Save-clause-does g c = (
+  [],
+  command_does _ _ _ _ _ c.args.command (Some line.Save) (c.in-Some-Save.is ∙ ap (λ k. Some k) c.in-Some-Save.field-0-is) (inl (refl, c.save.ensures)),
+  dealt-none g.F.TurnFn.log g.O.Watcher.state (desk_of c.args.player.now),
+)
+
+pub returns-in-Some-Load-clause-does : goal.returns-in-Some-Load-clause-does
+returns-in-Some-Load-clause-does g c =
+    let does = c.load.ensures.does in (
+      does.0,
+      command_acts _ _ does.0 _ _ _ c.args.command (Some (line.Load c.in-Some-Load.saved)) (c.in-Some-Load.is ∙ ap (λ k. Some k) c.in-Some-Load.field-0-is) does.1,
+      does.2,
+    )
+
 pub returns-in-None-clause-does : goal.returns-in-None-clause-does
 returns-in-None-clause-does g c = ([], command_does _ _ _ _ _ c.args.command None c.in-None.is (inl (refl, (refl, refl))), dealt-none g.F.TurnFn.log g.O.Watcher.state (desk_of c.args.player.now))

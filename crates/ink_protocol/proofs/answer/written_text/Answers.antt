@@ -4,4 +4,4 @@ use Rattle.ink_protocol.proofs.answer.written_text.Goals as goal
 
 pub returns : goal.returns
 returns c =
-    answer_from_tokens _ _ _ _ _ (c.new-out.ensures.before ∙ c.requires) c.new-out.ensures.tokens c.in_ok-write_reply.ensures c.into_inner-text.ensures.items c.in_ok-push.ensures.items
+    answer_from_tokens _ _ _ _ _ (c.new-out.ensures.before ∙ c.requires.empty) c.new-out.ensures.tokens c.in_ok-write_reply.ensures c.into_inner-text.ensures.items c.in_ok-push.ensures.items

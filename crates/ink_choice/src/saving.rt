@@ -1,0 +1,29 @@
+//! Choices as a save lends and gives them.
+
+ghost use Rattle.std.specs.Prelude.{◌≡◌, Some, None, length, nat_le, option_map, if◌then◌else◌};
+ghost use Rattle.ink_model.specs.declared.limits.TheConstants.{MAX_CHOICES};
+
+use crate::choice::Choice;
+use crate::choices::Choices;
+use ink_model::MAX_CHOICES;
+
+impl<P: Copy> Choices<P> {
+    /// Takes choices, in the order in which they were made; none where there are more than 1,000. Takes no memory.
+    pub fn from_vec(items: Vec<Choice<P>>) -> Option<Choices<P>>
+        ensures { option_map (λ made. made.items) result
+            ≡ (if nat_le (length items.items) MAX_CHOICES then Some items.items else None) }
+    {
+        if items.len() <= MAX_CHOICES {
+            Some(Choices { items })
+        } else {
+            None
+        }
+    }
+
+    /// All choices, the invisible ones among them, in the order in which they were made.
+    pub fn as_slice(&self) -> &[Choice<P>]
+        ensures { result.now ≡ self.now.items }
+    {
+        self.items.as_slice()
+    }
+}

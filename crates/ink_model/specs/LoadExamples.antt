@@ -1,0 +1,94 @@
+-- Small worked examples of `save` and `load`, each proved by computation (docs/PROTOCOL.md, "Command lines").
+use Rattle.std.specs.Prelude.{◌≡◌, ℕ, pos, ◌++◌, List, [], ◌∷◌, refl, codes, true, false, Some, None}
+use Rattle.std.proofs.Common.{inl, inr}
+use Rattle.std.proofs.lemmas.Str.{is_utf8-from_IsUtf8}
+use Rattle.std.specs.Char.{encode_utf8}
+use Rattle.std.specs.Fmt.{digits}
+use Rattle.serde_json.proofs.OnLiterals.{serde_json_on_literals}
+use Rattle.serde_json.specs.Data.{Data, null, number, object, array, no_items, no_members, member, unsigned}
+use Rattle.ink_model.specs.Answer.{Refuses, Saves, answer}
+use Rattle.ink_model.specs.Command as command
+use Rattle.ink_model.specs.Command.{command_of, command_word, json_of, line_asks}
+use Rattle.ink_model.specs.Configuration.{Configuration, start, fresh_at}
+use Rattle.ink_model.specs.Examples.{declaring}
+use Rattle.ink_model.specs.Host.{no_objects}
+use Rattle.ink_model.specs.Opening.{opened}
+use Rattle.ink_model.specs.Place.{entered}
+use Rattle.ink_model.specs.Save.Reads.{Reads}
+use Rattle.ink_model.specs.Save.Spelling.{spelling}
+use Rattle.ink_model.specs.Session.{Load, Save, Session, Serves}
+use Rattle.ink_model.specs.State.{State, Ready, Broken}
+use Rattle.ink_model.specs.declared.fault.Fault.TheVariants as fault
+use Rattle.ink_model.specs.declared.fault.Refusal.TheVariants as refusal
+use Rattle.ink_model.specs.declared.value.Value.TheVariants as value
+
+-- ---- command lines
+
+save_line : command_of (codes "save") ≡ Some command.Save
+unfolding command_of encode_utf8
+save_line = rw (is_utf8-from_IsUtf8 (codes "save") (codes "save", (refl, refl))) refl
+
+abbrev load_line : command_of (codes "load {\"format\":1}") ≡ Some (command.Load (Some (object (member (codes "format") (number (unsigned 1)) no_members))))
+unfolding command_of encode_utf8 json_of serde_json_on_literals
+load_line = rw (is_utf8-from_IsUtf8 (codes "load {\"format\":1}") (codes "load {\"format\":1}", (refl, refl))) refl
+
+-- JSON that does not end is none
+abbrev cut_line : command_of (codes "load {\"format\":1") ≡ Some (command.Load None)
+unfolding command_of encode_utf8 json_of serde_json_on_literals
+cut_line = rw (is_utf8-from_IsUtf8 (codes "load {\"format\":1") (codes "load {\"format\":1", (refl, refl))) refl
+
+nothing_to_load : command_word (codes "load ") ≡ None
+nothing_to_load = refl
+
+save_with_more : command_word (codes "save it") ≡ None
+save_with_more = refl
+
+-- memory is asked for the JSON
+its_json_asks : (saved : _) → line_asks (Some (command.Load saved)) ≡ true
+its_json_asks saved = refl
+
+saving_asks_for_none : line_asks (Some command.Save) ≡ false
+saving_asks_for_none = refl
+
+-- ---- saving
+
+abbrev ready : State
+ready = opened (start declaring ((codes "x", value.Int (pos 7)) ∷ []))
+
+abbrev broken : State
+broken = record { condition = Broken fault.Divide ((codes "x", value.Void) ∷ []); stamp = 3 }
+
+a_save : Save ready (Saves (spelling (start declaring ((codes "x", value.Int (pos 7)) ∷ [])))) ready
+a_save = inl (refl, refl)
+
+its_answer : answer (Saves (spelling (start declaring ((codes "x", value.Int (pos 7)) ∷ [])))) ≡
+    codes "{\"saved\":{\"choices\":[],\"format\":1,\"globals\":[[\"x\",7]],\"safe\":false,\"stack\":[],\"threads\":[{\"frames\":[{\"depth\":0,\"eval\":false,\"fresh\":false,\"kind\":\"base\",\"place\":[0],\"temps\":{}}],\"previous\":null}],\"turn\":0,\"turns\":[],\"visits\":[]}}\n"
+unfolding answer start fresh_at entered serde_json_on_literals digits
+its_answer = refl
+
+a_broken_save : Save broken (Refuses (refusal.Broken fault.Divide)) broken
+a_broken_save = (refl, refl)
+
+a_save_without_memory : Save ready (Refuses refusal.OutOfMemory) ready
+a_save_without_memory = inr (refl, refl)
+
+-- ---- loading
+
+-- what is no JSON is refused, by a broken player too
+no_json : Load declaring no_objects [] None broken (Refuses refusal.BadSave) broken
+no_json = (refl, (refl, refl))
+
+no_spelling : (c : Configuration) → Reads declaring null c → ⊥
+no_spelling c h = let e = h.spells in absurd cc
+
+-- what spells no configuration is refused, and nothing changes
+no_save : Load declaring no_objects [] (Some null) ready (Refuses refusal.BadSave) ready
+no_save = inr (inl (no_spelling, refl, (refl, refl)))
+
+a_bad_save : answer (Refuses refusal.BadSave) ≡ codes "{\"refused\":\"BadSave\"}\n"
+unfolding answer serde_json_on_literals
+a_bad_save = refl
+
+a_session : Session declaring no_objects [] (codes "load {\"format\":1" ∷ []) ready (codes "{\"refused\":\"BadSave\"}\n") ready
+unfolding Serves
+a_session = (Refuses refusal.BadSave, ready, [], [], [], refl, rw cut_line (inl (refl, (refl, refl))), rw a_bad_save refl, (refl, refl, refl))

@@ -1,0 +1,28 @@
+use Rattle.std.proofs.Common.{[], sym}
+use Rattle.serde_json.specs.View.{view}
+use Rattle.ink_player.specs.Words.{PlayerView, bindings, desk_of, state_of, story_of}
+use Rattle.ink_step.specs.Words.{config_of, globals_of}
+use Rattle.ink_player.proofs.Saves.{load-read, load-refused}
+use Rattle.ink_player.proofs.Tellings.{globals-by, once-none}
+use Rattle.ink_player.proofs.player.Player.load.Goals as goal
+
+pub returns-in-Ok-clause-does : goal.returns-in-Ok-clause-does
+returns-in-Ok-clause-does g c =
+    let p : PlayerView g.row.P.Denot g.row.F.Denot g.row.O.Denot = record { story = c.self.inside.story; desk = c.self.inside.desk; machine = c.self.inside.machine; broken = c.self.inside.broken } in
+    let s = story_of p in
+    let does = rw (sym c.self.view_is) at c.begin_anew.ensures.does in
+    rw (sym c.self.view_is) (
+      does.0,
+      load-read s (bindings g.P.PureFn.meaning (desk_of p)) (view c.args.json.now) (state_of p) (config_of s c.in-Ok.found) (globals_of p.machine) does.0 _ _ c.in-Ok.ensures
+          (globals-by p.broken (config_of s p.machine)) does.1,
+      does.2,
+    )
+
+pub returns-in-Err-clause-does : goal.returns-in-Err-clause-does
+returns-in-Err-clause-does g c =
+    let p : PlayerView g.row.P.Denot g.row.F.Denot g.row.O.Denot = record { story = c.self.inside.story; desk = c.self.inside.desk; machine = c.self.inside.machine; broken = c.self.inside.broken } in
+    rw (sym c.self.view_is) (
+      [],
+      load-refused (story_of p) (bindings g.P.PureFn.meaning (desk_of p)) (view c.args.json.now) (state_of p) c.in-Err.refusal c.in-Err.ensures,
+      once-none g.F.TurnFn.log g.O.Watcher.state _ (desk_of p),
+    )

@@ -1,0 +1,27 @@
+-- What a machine is saved as, and what a save is loaded as (docs/SAVES.md).
+use Rattle.std.specs.Prelude.{◌≡◌, ◌⊎◌, Result, Ok, Err}
+use Rattle.serde_json.specs.Data.{Data}
+use Rattle.serde_json.specs.View.{view}
+use Rattle.serde_json.specs.declared.value.Value.{Value}
+use Rattle.ink_model.specs.Configuration.{Configuration}
+use Rattle.ink_model.specs.Save.Reads.{Reads}
+use Rattle.ink_model.specs.Save.Spelling.{spelling}
+use Rattle.ink_model.specs.Tree.{StoryTree}
+use Rattle.ink_model.specs.declared.fault.Refusal.{Refusal}
+use Rattle.ink_model.specs.declared.fault.Refusal.TheVariants as refusal
+use Rattle.ink_step.specs.Words.{config_of}
+use Rattle.ink_step.specs.declared.machine.Machine.{Machine}
+
+-- the value that a configuration is spelled as; or memory was refused
+abbrev pub IsSave : Configuration → Result Value Refusal → Type 0
+IsSave c (Ok json) = view json ≡ spelling c
+IsSave c (Err r) = r ≡ refusal.OutOfMemory
+
+-- why no machine was made of a value: it reads as no configuration, or memory was refused
+abbrev pub NotLoaded : StoryTree → Data → Refusal → Type 0
+NotLoaded s j r = ((r ≡ refusal.BadSave) × ((c : Configuration) → Reads s j c → ⊥)) ⊎ (r ≡ refusal.OutOfMemory)
+
+-- the machine as whose configuration a value reads; or why there is none
+abbrev pub FindsSave : StoryTree → Data → Result Machine Refusal → Type 0
+FindsSave s j (Ok m) = Reads s j (config_of s m)
+FindsSave s j (Err r) = NotLoaded s j r

@@ -1,0 +1,35 @@
+//! Machines and what they are saved as (docs/SAVES.md).
+
+ghost use Rattle.serde_json.specs.View.{view};
+ghost use Rattle.ink_check.specs.Words.{story_tree};
+ghost use Rattle.ink_player.specs.Saving.{FindsSave, IsSave};
+ghost use Rattle.ink_step.specs.Words.{config_of};
+
+use ink_check::Story;
+use ink_model::Refusal;
+use ink_save::{SaveRefusal, read, write};
+use ink_step::Machine;
+use serde_json::Value as Json;
+use std::alloc::Global;
+
+/// The JSON value that a machine's configuration is spelled as. Refused with `OutOfMemory` alone.
+pub(crate) fn saved(alloc: Global, story: &Story, machine: &Machine) -> Result<Json, Refusal>
+    ensures { let s = story_tree story.now in IsSave (config_of s machine.now) result }
+{
+    match write(alloc, story, machine) {
+        Ok(json) => Ok(json),
+        Err(_) => Err(Refusal::OutOfMemory),
+    }
+}
+
+/// The machine whose configuration a JSON value spells. Refused with `BadSave` where it spells none that fits the story, and with
+/// `OutOfMemory`.
+pub(crate) fn loaded(alloc: Global, story: &Story, json: &Json) -> Result<Machine, Refusal>
+    ensures { FindsSave (story_tree story.now) (view json.now) result }
+{
+    match read(alloc, story, json) {
+        Ok(machine) => Ok(machine),
+        Err(SaveRefusal::BadSave) => Err(Refusal::BadSave),
+        Err(SaveRefusal::OutOfMemory) => Err(Refusal::OutOfMemory),
+    }
+}

@@ -1,0 +1,10 @@
+pub mod Lists
+pub mod Making
+pub mod Standing
+pub mod Arrays
+pub mod Leading
+pub mod Gathering
+pub mod Limits
+pub mod Numbering
+pub mod Reading
+pub mod Whole

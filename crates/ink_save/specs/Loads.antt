@@ -1,0 +1,24 @@
+-- What a JSON value is read as.
+use Rattle.std.specs.Prelude.{⊤, Result, Ok, Err, Option, Some, None}
+use Rattle.serde_json.specs.Data.{Data}
+use Rattle.ink_model.specs.Configuration.{Configuration}
+use Rattle.ink_model.specs.Save.Reads.{Reads}
+use Rattle.ink_model.specs.Save.Sound.{Sound}
+use Rattle.ink_model.specs.Tree.{StoryTree}
+use Rattle.ink_save.specs.Building.{Builds}
+use Rattle.ink_save.specs.declared.loading.SaveRefusal.{SaveRefusal}
+use Rattle.ink_save.specs.declared.loading.SaveRefusal.TheVariants as refusal
+use Rattle.ink_step.specs.Words.{config_of}
+use Rattle.ink_step.specs.declared.machine.Machine.{Machine}
+
+-- a machine whose configuration it spells; or there is none, or memory was refused
+abbrev pub ReadsAs : StoryTree → Data → Result Machine SaveRefusal → Type 0
+ReadsAs s j (Ok m) = Reads s j (config_of s m)
+ReadsAs s j (Err refusal.BadSave) = (c : Configuration) → Reads s j c → ⊥
+ReadsAs s j (Err refusal.OutOfMemory) = Unit {0}
+
+-- the machine of what was spelled, if that is sound
+abbrev pub Finds : StoryTree → Option Configuration → Option Machine → Type 0
+Finds s None None = ⊤
+Finds s None (Some m) = ⊥
+Finds s (Some c) made = Builds (config_of s) (Sound s) c made

@@ -1,0 +1,208 @@
+//! Frames and threads as a save lends and gives them.
+
+ghost use Rattle.std.specs.Prelude.{◌≡◌, ◌≤◌, true, length, option_map, reverse, Some, None, if◌then◌else◌};
+ghost use Rattle.std.specs.List.{list_all};
+ghost use Rattle.ink_model.specs.Rows.{name_order, rows_rise};
+ghost use Rattle.ink_model.specs.declared.limits.TheConstants.{MAX_FRAMES, MAX_THREADS};
+ghost use Rattle.ink_stack.specs.Saving.{base_first, is_after, is_call, rise_after, thread_from, thread_with, threads_from, threads_with};
+
+use crate::frame::Frame;
+use crate::temps::Temps;
+use crate::thread::Thread;
+use crate::threads::Threads;
+use ink_model::{FrameKind, MAX_FRAMES, MAX_THREADS, Shared, Text, Value};
+use std::alloc::Global;
+use std::cmp::Ordering;
+
+impl<P: Copy> Frame<P> {
+    /// The frame that has these, and no number of a mark; none where the temporaries do not rise by name. Takes no memory.
+    pub fn of(
+        alloc: Global,
+        kind: FrameKind,
+        place: Option<P>,
+        temps: Vec<(Shared<Text>, Value)>,
+        evaluating: bool,
+        fresh: bool,
+        depth: usize,
+    ) -> Option<Frame<P>>
+        ensures { result ≡ (if rows_rise name_order temps.items
+            then Some (record { kind = kind; place = place; temps = temps.items; evaluating = evaluating; fresh = fresh; depth = depth; enter = None })
+            else None) }
+    {
+        let temps = Temps::of(alloc, temps)?;
+        Some(Frame {
+            kind,
+            evaluating,
+            fresh,
+            depth,
+            place,
+            enter: None,
+            temps,
+        })
+    }
+
+    /// The temporaries, in the order of their names.
+    pub fn temps(&self) -> &[(Shared<Text>, Value)]
+        ensures rows { result.now ≡ self.now.temps }
+        ensures rise { rows_rise name_order self.now.temps ≡ true }
+    {
+        self.temps.rows()
+    }
+}
+
+impl Temps {
+    /// Takes rows; none where they do not rise by name.
+    fn of(alloc: Global, rows: Vec<(Shared<Text>, Value)>) -> Option<Temps>
+        ensures { result ≡ (if rows_rise name_order rows.items then Some rows.items else None) }
+    {
+        if rise(rows.as_slice()) {
+            Some(Temps { rows, alloc })
+        } else {
+            None
+        }
+    }
+
+    /// The rows, which rise by name.
+    fn rows(&self) -> &[(Shared<Text>, Value)]
+        ensures rows { result.now ≡ self.now }
+        ensures rise { rows_rise name_order self.now ≡ true }
+    {
+        self.rows.as_slice()
+    }
+}
+
+impl<P: Copy> Thread<P> {
+    /// The thread of these frames, the bottom one first, and the place from which it last moved; none where there is no frame,
+    /// the bottom one alone is not the base, or there are more than 1,000. Takes no memory.
+    pub fn from_frames(
+        alloc: Global,
+        frames: Vec<Frame<P>>,
+        previous: Option<P>,
+    ) -> Option<Thread<P>>
+        ensures { result ≡ thread_from frames.items previous }
+    {
+        if base_first(frames.as_slice()) && frames.len() <= MAX_FRAMES {
+            Thread::with(alloc, frames, previous)
+        } else {
+            None
+        }
+    }
+
+    // The same of frames that are within their limit, of which the first alone is the base.
+    fn with(alloc: Global, frames: Vec<Frame<P>>, previous: Option<P>) -> Option<Thread<P>>
+        requires few { length frames.items ≤ MAX_FRAMES }
+        requires base { base_first frames.items ≡ true }
+        ensures { result ≡ thread_with (reverse frames.items) previous }
+    {
+        let mut below = frames;
+        let frame = below.pop()?;
+        Some(Thread {
+            frame,
+            below,
+            previous,
+            quiet: false,
+            alloc,
+        })
+    }
+
+    /// The top frame.
+    pub fn top(&self) -> &Frame<P>
+        ensures { result.now ≡ self.now.frame }
+    {
+        &self.frame
+    }
+
+    /// The frames below the top one, the bottom one first.
+    pub fn below(&self) -> &[Frame<P>]
+        ensures { reverse result.now ≡ self.now.below }
+    {
+        self.below.as_slice()
+    }
+}
+
+impl<P: Copy> Threads<P> {
+    /// These threads, the bottom one first; none where there is none, or there are more than 100. Takes no memory.
+    pub fn from_threads(alloc: Global, threads: Vec<Thread<P>>) -> Option<Threads<P>>
+        ensures { option_map (λ made. made.threads) result ≡ threads_from threads.items }
+    {
+        if threads.len() <= MAX_THREADS {
+            Threads::with(alloc, threads)
+        } else {
+            None
+        }
+    }
+
+    // The same of threads that are within their limit.
+    fn with(alloc: Global, threads: Vec<Thread<P>>) -> Option<Threads<P>>
+        requires { length threads.items ≤ MAX_THREADS }
+        ensures { option_map (λ made. made.threads) result ≡ threads_with (reverse threads.items) }
+    {
+        let mut below = threads;
+        let thread = below.pop()?;
+        Some(Threads {
+            thread,
+            below,
+            alloc,
+        })
+    }
+
+    /// The threads below the top one, the bottom one first.
+    pub fn below(&self) -> &[Thread<P>]
+        ensures { reverse result.now ≡ self.now.threads.below }
+    {
+        self.below.as_slice()
+    }
+}
+
+// Whether rows rise by name.
+fn rise(rows: &[(Shared<Text>, Value)]) -> bool
+    ensures { result ≡ rows_rise name_order rows.now }
+{
+    each_after(rows)
+}
+
+// Whether each row comes after the one before it.
+fn each_after(rows: &[(Shared<Text>, Value)]) -> bool
+    ensures { result ≡ rise_after None rows.now }
+{
+    let mut last: Option<&str> = None;
+    for row in rows {
+        let name = row.0.as_str();
+        if !is_after(last, name) {
+            return false;
+        }
+        last = Some(name);
+    }
+    true
+}
+
+fn is_after(last: Option<&str>, name: &str) -> bool
+    ensures { result ≡ is_after (option_map (λ n. n.now) last.entry) name.now }
+{
+    match last {
+        Some(last) => matches!(last.cmp(name), Ordering::Less),
+        None => true,
+    }
+}
+
+// Whether the first frame alone is the base.
+fn base_first<P: Copy>(frames: &[Frame<P>]) -> bool
+    ensures { result ≡ base_first frames.now }
+{
+    match frames.split_first() {
+        Some((bottom, calls)) => !is_call(bottom) && all_calls(calls),
+        None => false,
+    }
+}
+
+fn all_calls<P: Copy>(frames: &[Frame<P>]) -> bool
+    ensures { result ≡ list_all (λ f. is_call f.kind) frames.now }
+{
+    frames.iter().all(|frame| is_call(frame))
+}
+
+fn is_call<P: Copy>(frame: &Frame<P>) -> bool
+    ensures { result ≡ is_call frame.now.kind }
+{
+    !frame.is(FrameKind::Base)
+}

@@ -1,0 +1,28 @@
+//! The evaluation stack as a save lends and gives it.
+
+ghost use Rattle.std.specs.Prelude.{◌≡◌, Some, None, length, nat_le, option_map, if◌then◌else◌};
+ghost use Rattle.ink_model.specs.declared.limits.TheConstants.{MAX_STACK};
+
+use crate::stack::EvalStack;
+use ink_model::{MAX_STACK, Value};
+
+impl EvalStack {
+    /// Takes values, the bottom one first; none where there are more than 10,000. Takes no memory.
+    pub fn from_vec(items: Vec<Value>) -> Option<EvalStack>
+        ensures { option_map (λ made. made.items) result
+            ≡ (if nat_le (length items.items) MAX_STACK then Some items.items else None) }
+    {
+        if items.len() <= MAX_STACK {
+            Some(EvalStack { items })
+        } else {
+            None
+        }
+    }
+
+    /// All values, the bottom one first.
+    pub fn as_slice(&self) -> &[Value]
+        ensures { result.now ≡ self.now.items }
+    {
+        self.items.as_slice()
+    }
+}
