@@ -78,6 +78,9 @@ any_of : {A : Type 0} (xs : List A) → xs ≢ [] → has_any xs ≡ true
 any_of [] h = absurd (h refl)
 any_of (x ∷ xs) h = refl
 
+same_fault : {A : Type 0} (f g : Fault) → ◌≡◌ {A = Result A Fault} (Err f) (Err g) → f ≡ g
+same_fault f g e = cc
+
 first_two : (a b c : Bool) → a || b ≡ true → a || (b || c) ≡ true
 first_two true b c h = refl
 first_two false true c h = refl
@@ -132,10 +135,7 @@ module _ (s : StoryTree) (b : Bound) (old : Configuration) (made : List Made) (n
   pub passes_fault : (f : Fault) → Says (Err f) → Passes (Err f)
   passes_fault f (inl ran) = inl (by ran.0 ran.1 ran.2)
     where
-      same : (g : Fault) → ◌≡◌ {A = Result Said Fault} (Err f) (Err g) → f ≡ g
-      same g e = cc
-
       by : (end : RunEnd) → EndsThrough s b old made end → EndsWith said said_asks end new (Err f) → Ends (Err f)
       by (Kept stop) ends left = (Kept stop, ends, (left.0, asks_said stop left.1, left.2))
-      by (Broke g globals) ends left = (Broke g globals, ends, (ap Err (same g left.0), left.1))
-  passes_fault f (inr short) = inr (ap Err (let is : f ≡ OutOfMemory = (let e = short.0 in cc) in is), short.1)
+      by (Broke g globals) ends left = (Broke g globals, ends, (ap Err (same_fault f g left.0), left.1))
+  passes_fault f (inr short) = inr (ap Err (same_fault f OutOfMemory short.0), short.1)

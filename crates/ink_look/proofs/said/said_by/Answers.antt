@@ -1,7 +1,6 @@
-use Rattle.std.proofs.Common.{◌≡◌, ap}
+use Rattle.std.proofs.Common.{ap}
 use Rattle.ink_look.proofs.Saying.{asks_tags, asks_text, on_error, said_is}
 use Rattle.ink_look.proofs.said.said_by.Goals as goal
-use Rattle.ink_model.specs.Page.{Page}
 use Rattle.ink_step.specs.Words.{config_of}
 
 pub returns-clause-said : goal.returns-clause-said

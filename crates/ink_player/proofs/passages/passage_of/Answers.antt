@@ -1,4 +1,3 @@
-use Rattle.std.proofs.Common.{◌≡◌, ap}
 use Rattle.ink_player.proofs.Settling.{passage_is}
 use Rattle.ink_player.proofs.passages.passage_of.Goals as goal
 use Rattle.ink_step.specs.Words.{config_of}
