@@ -5,3 +5,4 @@ pub mod Paths
 pub mod Tellings
 pub mod Restarts
 mod Saves
+mod Settling

@@ -5,6 +5,7 @@ use Rattle.ink_host.specs.declared.objects.Called.{Called}
 use Rattle.ink_host.specs.Telling.{AreRounds, IsRound, Round, Stand, Watching, log_of, rests, round, rounds}
 use Rattle.ink_host.proofs.Laws.{bound-same, grew-grew, grew-none, watches-same}
 use Rattle.ink_host.proofs.TellingLoops.{stand-round}
+use Rattle.ink_look.specs.Ends.{EndsWith, RunsThrough}
 use Rattle.ink_model.specs.Answer.{Reply, Acts, Breaks, Counts, Refuses, Tells, reply_of_visits}
 use Rattle.ink_model.specs.Configuration.{Configuration, can_go_on, settled, with_globals}
 use Rattle.ink_model.specs.Events.{Made, calls}
@@ -31,7 +32,6 @@ use Rattle.ink_player.specs.Visits.{FindsVisits, TellsVisits}
 use Rattle.ink_player.specs.Words.{Dealt, DealtOnce, PlayerView, TellsOnce, TellsWatchers, bindings, condition_by, desk_of, fault_told, is_empty, state_of, story_of, told_from}
 use Rattle.ink_step.specs.declared.machine.Machine.{Machine}
 use Rattle.ink_step.specs.Words.{config_of}
-use Rattle.ink_step.specs.Runs.{EndsWith, RunsThrough}
 
 -- ---- what is told
 
@@ -273,7 +273,7 @@ module _ {P F O : Type 0} (turn_log : F → List Called) (state : O → Watching
         × DealtOnce turn_log state (told_from (desk_of p) (state_of p) (globals_of new.condition)) (desk_of p) es d
 
     abbrev Ran : Result Passage Fault → Type 0
-    Ran result = RunsThrough tree host.functions before made after result
+    Ran result = RunsThrough passage passage_asks tree host.functions before made after result
 
     -- its run came to its end with a configuration, which it hands out and leaves
     abbrev Stops : Passage → Type 0
@@ -282,14 +282,14 @@ module _ {P F O : Type 0} (turn_log : F → List Called) (state : O → Watching
     stops : (passed : Passage) → Ran (Ok passed) → Stops passed
     stops passed (inl ran) = by ran.0 ran.1 ran.2
       where
-        by : (end : run.RunEnd) → run.EndsThrough tree host.functions before made end → EndsWith end after (Ok passed) → Stops passed
+        by : (end : run.RunEnd) → run.EndsThrough tree host.functions before made end → EndsWith passage passage_asks end after (Ok passed) → Stops passed
         by (run.Kept stop) ends left = (stop, ends, left.0, left.1)
         by (run.Broke f globals) ends left = absurd (let never = left.0 in cc)
     stops passed (inr short) = absurd (let never = short.0 in cc)
 
     -- and watchers were told
     pub through-told : (passed : Passage) (all : Bool) (d2 d : DeskView P F O) (reply : Reply) (new : State)
-        → RunsThrough tree host.functions before made after (Ok passed)
+        → Ran (Ok passed)
         → (let cs = told (watches d1.watchers) before.shared.globals after.shared.globals in
         (saw : List Event) × (t : ToldAs d1.next cs all saw) × IsRound state d1.next cs cs t.answers d1.watchers d2.watchers × Grew turn_log (log_of state) d1 saw d2)
         → reply ≡ reply_told all (telling_of passed d2.events) d2.events → new ≡ at_stamp (condition_told all (Ready after)) d2.next → d ≡ record d2 { events = [] }
@@ -356,7 +356,7 @@ module _ {P F O : Type 0} (turn_log : F → List Called) (state : O → Watching
           same : (g : Fault) → ◌≡◌ {A = Result Passage Fault} (Err f) (Err g) → f ≡ g
           same g e = cc
 
-          by : (end : run.RunEnd) → run.EndsThrough tree host.functions before made end → EndsWith end after (Err f) → rules.RunsThrough tree host before made first (state_of p) reply new
+          by : (end : run.RunEnd) → run.EndsThrough tree host.functions before made end → EndsWith passage passage_asks end after (Err f) → rules.RunsThrough tree host before made first (state_of p) reply new
           by (run.Kept stop) ends left = inl (
             run.Kept stop,
             ends,

@@ -5,3 +5,4 @@ pub mod Playing
 pub mod Paths
 pub mod Visits
 pub mod Saving
+pub mod Passages

@@ -2,6 +2,7 @@
 #![tactic(auto)]
 
 mod end;
+mod passages;
 mod path;
 mod player;
 mod playing;

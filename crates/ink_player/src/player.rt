@@ -19,6 +19,7 @@ ghost use Rattle.ink_player.specs.Words.{DealtOnce, anew, bindings, desk_of, fau
 ghost use Rattle.ink_step.specs.Words.{config_of};
 ghost use Rattle.serde_json.specs.View.{view};
 
+use crate::passages::run_through;
 use crate::path::landing_by;
 use crate::saving::{loaded, saved};
 use crate::telling::{tell, tell_between, tell_one};
@@ -129,7 +130,12 @@ impl<P: PureFn, F: TurnFn, O: Watcher> Player<P, F, O> {
         if !self.machine.can_go_on() {
             return Err(Halt::Refused(Refusal::CannotContinue));
         }
-        let passage = match self.machine.through(&self.story, &mut self.desk) {
+        let passage = match run_through(
+            self.alloc,
+            &mut self.machine,
+            &self.story,
+            &mut self.desk,
+        ) {
             Ok(passage) => passage,
             Err(fault) => return Err(break_by(&mut self.desk, &mut self.broken, fault)),
         };

@@ -11,7 +11,6 @@ pub mod Moments
 pub mod Growing
 pub mod Runnings
 pub mod Telling
-pub mod Passages
 pub mod Openings
 pub mod Unnumbered
 pub mod Passing

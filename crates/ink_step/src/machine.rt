@@ -89,8 +89,9 @@ impl Machine {
         self.shared.globals.replace(name, value)
     }
 
-    /// As a running command begins: changes of globals are those from now on. Takes no memory.
-    pub(crate) fn begin(&mut self)
+    /// As a running command begins: the mark of a safe stop is cleared, and changes of globals are those from now on. Takes no
+    /// memory (docs/RUNNING.md, "Runs").
+    pub fn begin(&mut self)
         ensures begun { (s : StoryTree) → config_of s self.new ≡ begun (config_of s self.old) }
         ensures globals { globals_of self.new ≡ globals_of self.old }
         ensures start { start_of self.new ≡ globals_of self.old }
@@ -99,9 +100,10 @@ impl Machine {
         self.shared.globals.begin();
     }
 
-    /// As a running command ends: the text was taken.
+    /// As a running command ends, once its text was taken: no mark is left, and no frame has the number of an Enter. Takes no
+    /// memory (docs/RUNNING.md, "Runs").
     #[tactic(auto, unfolding(ink_model::specs::Configuration::settled))]
-    pub(crate) fn settle(&mut self)
+    pub fn settle(&mut self)
         ensures settled { (s : StoryTree) → config_of s self.new ≡ settled (config_of s self.old) }
         ensures globals { globals_of self.new ≡ globals_of self.old }
         ensures start { start_of self.new ≡ start_of self.old }
@@ -111,8 +113,8 @@ impl Machine {
         self.output.clear();
     }
 
-    /// Whether flow has stopped at a loose end.
-    pub(crate) fn is_loose(&self) -> bool
+    /// Whether flow has stopped at a loose end (docs/RUNNING.md, "Stops"). Takes no memory.
+    pub fn is_loose(&self) -> bool
         ensures { (s : StoryTree) → result ≡ is_loose (config_of s self.now) }
     {
         !self.can_go_on() && self.flow.choices.len() == 0 && !self.flow.safe

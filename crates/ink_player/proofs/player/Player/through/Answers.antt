@@ -24,57 +24,57 @@ returns-then-not-can_go_on-clause-does g c =
 pub returns-in_default-told-clause-does : goal.returns-in_default-told-clause-does
 returns-in_default-told-clause-does g c =
     let p : PlayerView g.row.P.Denot g.row.F.Denot g.row.O.Denot = record { story = c.self.inside.story; desk = c.self.inside.desk; machine = c.self.inside.machine; broken = c.self.inside.broken } in
-    let mid = c.through.new.desk in
+    let mid = c.run_through.new.desk in
     let runs = c.in-Ok.ensures.runs in
     let start = globals_of p.machine in
-    let now = globals_of c.through.new.self in
+    let now = globals_of c.run_through.new.machine in
     let some : told (watches p.desk.watchers) start now ≢ [] =
     subst (λ (ws : Rows _). told (watches ws) start now ≢ []) c.in-Ok.ensures.watchers
     (subst (λ (vs : Values). told (watches mid.watchers) vs now ≢ []) c.in-Ok.ensures.start c.in_default-told.ensures.memory) in
     let broken = c.break_by-in_default-told in
-    let q = with_parts p c.through.new.self broken.new.desk broken.new.broken in
-    rw (sym c.self.view_is) (through-untold g.F.TurnFn.log g.O.Watcher.state g.P.PureFn.meaning p c.through.new.self mid runs.0 c.in_default.is (none-left p.desk.events c.self.invariant)
+    let q = with_parts p c.run_through.new.machine broken.new.desk broken.new.broken in
+    rw (sym c.self.view_is) (through-untold g.F.TurnFn.log g.O.Watcher.state g.P.PureFn.meaning p c.run_through.new.machine mid runs.0 c.in_default.is (none-left p.desk.events c.self.invariant)
     (sym (c.can_go_on.ensures (story_of p)) ∙ c.if-not-can_go_on.false) runs.1 c.in-Ok.ensures.watchers c.in-Ok.passage q mid (reply_of_halt broken.result)
-    runs.2 some refl broken.ensures.reply (broken-as p c.through.new.self broken.new.desk mid broken.new.broken _ broken.ensures.desk broken.ensures.broken))
+    runs.2 some refl broken.ensures.reply (broken-as p c.run_through.new.machine broken.new.desk mid broken.new.broken _ broken.ensures.desk broken.ensures.broken))
 
 pub returns-in-Ok-tell-clause-does : goal.returns-in-Ok-tell-clause-does
 returns-in-Ok-tell-clause-does g c =
     let p : PlayerView g.row.P.Denot g.row.F.Denot g.row.O.Denot = record { story = c.self.inside.story; desk = c.self.inside.desk; machine = c.self.inside.machine; broken = c.self.inside.broken } in
-    let mid = c.through.new.desk in
+    let mid = c.run_through.new.desk in
     let runs = c.in-Ok.ensures.runs in
-    let q = with_parts p c.through.new.self c.end_run.new.desk c.end_run.new.broken in
-    let after = config_of (story_of p) c.through.new.self in
-    let tells = tells-all g.F.TurnFn.log g.O.Watcher.state {E = Unit {0}} (Ok c.in-Ok-tell.all) mid c.tell.new.desk (globals_of p.machine) (globals_of c.through.new.self) _
-    (c.as_slice.ensures ∙ c.in-Ok-told.ensures.told ∙ ap (λ vs. told (watches mid.watchers) vs (globals_of c.through.new.self)) c.in-Ok.ensures.start) c.in-Ok-tell.ensures.tells in
-    let leaves = told-state p c.through.new.self c.end_run.new.desk c.tell.new.desk c.end_run.new.broken p.broken c.in-Ok-tell.all after c.in_default.is
+    let q = with_parts p c.run_through.new.machine c.end_run.new.desk c.end_run.new.broken in
+    let after = config_of (story_of p) c.run_through.new.machine in
+    let tells = tells-all g.F.TurnFn.log g.O.Watcher.state {E = Unit {0}} (Ok c.in-Ok-tell.all) mid c.tell.new.desk (globals_of p.machine) (globals_of c.run_through.new.machine) _
+    (c.as_slice.ensures ∙ c.in-Ok-told.ensures.told ∙ ap (λ vs. told (watches mid.watchers) vs (globals_of c.run_through.new.machine)) c.in-Ok.ensures.start) c.in-Ok-tell.ensures.tells in
+    let leaves = told-state p c.run_through.new.machine c.end_run.new.desk c.tell.new.desk c.end_run.new.broken p.broken c.in-Ok-tell.all after c.in_default.is
     c.end_run.ensures.broken c.end_run.ensures.desk refl in
-    rw (sym c.self.view_is) (through-told g.F.TurnFn.log g.O.Watcher.state g.P.PureFn.meaning p c.through.new.self mid runs.0 c.in_default.is (none-left p.desk.events c.self.invariant)
+    rw (sym c.self.view_is) (through-told g.F.TurnFn.log g.O.Watcher.state g.P.PureFn.meaning p c.run_through.new.machine mid runs.0 c.in_default.is (none-left p.desk.events c.self.invariant)
     (sym (c.can_go_on.ensures (story_of p)) ∙ c.if-not-can_go_on.false) runs.1 c.in-Ok.ensures.watchers c.in-Ok.passage c.in-Ok-tell.all c.tell.new.desk (desk_of q) (reply_of c.end_run.result) (state_of q)
     runs.2 tells c.end_run.ensures.reply leaves c.end_run.ensures.desk)
 
 pub returns-in-Err-tell-clause-does : goal.returns-in-Err-tell-clause-does
 returns-in-Err-tell-clause-does g c =
     let p : PlayerView g.row.P.Denot g.row.F.Denot g.row.O.Denot = record { story = c.self.inside.story; desk = c.self.inside.desk; machine = c.self.inside.machine; broken = c.self.inside.broken } in
-    let mid = c.through.new.desk in
+    let mid = c.run_through.new.desk in
     let runs = c.in-Ok.ensures.runs in
     let start = globals_of p.machine in
-    let now = globals_of c.through.new.self in
+    let now = globals_of c.run_through.new.machine in
     let w = watches mid.watchers in
     let all = ap (λ (cs : List Change). filter (λ x. w x.name) cs) (c.as_slice.ensures ∙ c.in-Ok-told.ensures.told ∙ ap (λ vs. told w vs now) c.in-Ok.ensures.start) ∙ told-watched w start now in
     let some : told (watches p.desk.watchers) start now ≢ [] =
     subst (λ (ws : Rows _). told (watches ws) start now ≢ []) c.in-Ok.ensures.watchers (λ none. c.in-Err-tell.ensures.tells.0 (all ∙ none)) in
     let broken = c.break_by-in-Err-tell in
-    let q = with_parts p c.through.new.self broken.new.desk broken.new.broken in
-    rw (sym c.self.view_is) (through-untold g.F.TurnFn.log g.O.Watcher.state g.P.PureFn.meaning p c.through.new.self mid runs.0 c.in_default.is (none-left p.desk.events c.self.invariant)
+    let q = with_parts p c.run_through.new.machine broken.new.desk broken.new.broken in
+    rw (sym c.self.view_is) (through-untold g.F.TurnFn.log g.O.Watcher.state g.P.PureFn.meaning p c.run_through.new.machine mid runs.0 c.in_default.is (none-left p.desk.events c.self.invariant)
     (sym (c.can_go_on.ensures (story_of p)) ∙ c.if-not-can_go_on.false) runs.1 c.in-Ok.ensures.watchers c.in-Ok.passage q c.tell.new.desk (reply_of_halt broken.result)
-    runs.2 some c.in-Err-tell.ensures.tells.1 broken.ensures.reply (broken-as p c.through.new.self broken.new.desk c.tell.new.desk broken.new.broken _ broken.ensures.desk broken.ensures.broken))
+    runs.2 some c.in-Err-tell.ensures.tells.1 broken.ensures.reply (broken-as p c.run_through.new.machine broken.new.desk c.tell.new.desk broken.new.broken _ broken.ensures.desk broken.ensures.broken))
 
 pub returns-in-Err-clause-does : goal.returns-in-Err-clause-does
 returns-in-Err-clause-does g c =
     let p : PlayerView g.row.P.Denot g.row.F.Denot g.row.O.Denot = record { story = c.self.inside.story; desk = c.self.inside.desk; machine = c.self.inside.machine; broken = c.self.inside.broken } in
-    let mid = c.through.new.desk in
+    let mid = c.run_through.new.desk in
     let runs = c.in-Err.ensures.runs in
-    let q = with_parts p c.through.new.self c.break_by.new.desk c.break_by.new.broken in
-    rw (sym c.self.view_is) (through-fault g.F.TurnFn.log g.O.Watcher.state g.P.PureFn.meaning p c.through.new.self mid runs.0 c.in_default.is (none-left p.desk.events c.self.invariant)
+    let q = with_parts p c.run_through.new.machine c.break_by.new.desk c.break_by.new.broken in
+    rw (sym c.self.view_is) (through-fault g.F.TurnFn.log g.O.Watcher.state g.P.PureFn.meaning p c.run_through.new.machine mid runs.0 c.in_default.is (none-left p.desk.events c.self.invariant)
     (sym (c.can_go_on.ensures (story_of p)) ∙ c.if-not-can_go_on.false) runs.1 c.in-Err.ensures.watchers c.in-Err.fault q (reply_of_halt c.break_by.result)
-    runs.2 c.break_by.ensures.reply (broken-as p c.through.new.self c.break_by.new.desk mid c.break_by.new.broken _ c.break_by.ensures.desk c.break_by.ensures.broken))
+    runs.2 c.break_by.ensures.reply (broken-as p c.run_through.new.machine c.break_by.new.desk mid c.break_by.new.broken _ c.break_by.ensures.desk c.break_by.ensures.broken))

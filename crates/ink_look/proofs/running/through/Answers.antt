@@ -1,31 +1,32 @@
 use Rattle.std.proofs.Common.{◌≡◌, ◌∙◌, rules, subst, sym, Err}
 use Rattle.ink_check.specs.Words.{story_tree}
 use Rattle.ink_host.specs.Desk.{bound_by}
+use Rattle.ink_look.proofs.Comes.{comes_to, comes_to_fault, falls_after}
+use Rattle.ink_look.proofs.running.through.Goals as goal
+use Rattle.ink_look.specs.Ends.{RunsThrough}
+use Rattle.ink_look.specs.Words.{said, said_asks}
 use Rattle.ink_model.specs.declared.fault.Fault.TheVariants.{OutOfMemory}
-use Rattle.ink_step.specs.Runs.{RunsThrough}
 use Rattle.ink_step.specs.Words.{config_of}
-use Rattle.ink_step.proofs.Passages.{comes_to, comes_to_fault, falls_after}
-use Rattle.ink_step.proofs.machine.Machine.through.Goals as goal
 
 pub returns-in_err-run-clause-runs : goal.returns-in_err-run-clause-runs
 returns-in_err-run-clause-runs g c =
     let s = story_tree c.args.story.now in
     let b = bound_by g.P.PureFn.meaning c.args.desk.now.functions in
-    let old = config_of s c.args.self.now in
+    let old = config_of s c.args.machine.now in
     let new = config_of s c.run.new.self in
     let ran = c.in_err-run.ensures.runs in
     let is : c.from_residual.result ≡ Err c.in_err-run.field-0.0 = search rules in
-    (ran.0, ran.1, subst (RunsThrough s b old ran.0 new) (sym is) (comes_to_fault s b ran.0 old (config_of s c.begin.new.self) (c.begin.ensures.begun s) new _ ran.2))
+    (ran.0, ran.1, subst (RunsThrough said said_asks s b old ran.0 new) (sym is) (comes_to_fault s b ran.0 old (config_of s c.begin.new.self) (c.begin.ensures.begun s) new _ ran.2))
 
-pub returns-in_err-passage-clause-runs : goal.returns-in_err-passage-clause-runs
-returns-in_err-passage-clause-runs g c =
+pub returns-in_err-said-clause-runs : goal.returns-in_err-said-clause-runs
+returns-in_err-said-clause-runs g c =
     let s = story_tree c.args.story.now in
     let b = bound_by g.P.PureFn.meaning c.args.desk.now.functions in
-    let old = config_of s c.args.self.now in
+    let old = config_of s c.args.machine.now in
     let new = config_of s c.run.new.self in
     let ran = c.in_ok-run.ensures.runs in
-    let is : c.from_residual-in_err-passage.result ≡ Err OutOfMemory = search rules in
-    (ran.0, ran.1, subst (RunsThrough s b old ran.0 new) (sym is) (falls_after s b ran.0 old (config_of s c.begin.new.self) (c.begin.ensures.begun s) new ran.2 (c.in_err-passage.ensures.memory s)))
+    let is : c.from_residual-in_err-said.result ≡ Err OutOfMemory = search rules in
+    (ran.0, ran.1, subst (RunsThrough said said_asks s b old ran.0 new) (sym is) (falls_after s b ran.0 old (config_of s c.begin.new.self) (c.begin.ensures.begun s) new ran.2 (c.in_err-said.ensures.memory s)))
 
 pub returns-clause-runs : goal.returns-clause-runs
 returns-clause-runs g c =
@@ -34,16 +35,16 @@ returns-clause-runs g c =
     let ran = c.in_ok-run.ensures.runs in (
       ran.0,
       ran.1,
-      comes_to s b ran.0 (config_of s c.args.self.now) (config_of s c.begin.new.self) (c.begin.ensures.begun s) (config_of s c.run.new.self) (config_of s c.settle.new.self) _
-          ran.2 (c.in_ok-passage.ensures.passage s) (c.settle.ensures.settled s),
+      comes_to s b ran.0 (config_of s c.args.machine.now) (config_of s c.begin.new.self) (c.begin.ensures.begun s) (config_of s c.run.new.self) (config_of s c.settle.new.self) _
+          ran.2 (c.in_ok-said.ensures.said s) (c.settle.ensures.settled s),
     )
 
 -- changes are counted from the beginning
 pub returns-in_err-run-clause-start : goal.returns-in_err-run-clause-start
 returns-in_err-run-clause-start g c = c.in_err-run.ensures.start ∙ c.begin.ensures.start
 
-pub returns-in_err-passage-clause-start : goal.returns-in_err-passage-clause-start
-returns-in_err-passage-clause-start g c = c.in_ok-run.ensures.start ∙ c.begin.ensures.start
+pub returns-in_err-said-clause-start : goal.returns-in_err-said-clause-start
+returns-in_err-said-clause-start g c = c.in_ok-run.ensures.start ∙ c.begin.ensures.start
 
 pub returns-clause-start : goal.returns-clause-start
 returns-clause-start g c = c.settle.ensures.start ∙ c.in_ok-run.ensures.start ∙ c.begin.ensures.start

@@ -1,0 +1,29 @@
+//! What a running command says (docs/TEXT.md).
+
+ghost use Rattle.std.specs.Prelude.{◌≡◌, true, IfOk, OnErr};
+ghost use Rattle.ink_look.specs.Words.{said, said_asks};
+ghost use Rattle.ink_model.specs.Tree.{StoryTree};
+ghost use Rattle.ink_step.specs.Words.{config_of};
+
+use ink_model::{Seq, Shared, Text};
+use ink_step::Machine;
+use std::alloc::AllocError;
+
+/// A cleaned text, and its tags in order.
+#[derive(Drop)]
+pub struct Said {
+    pub text: Text,
+    pub tags: Seq<Shared<Text>>,
+}
+
+/// What a machine has said since it was settled last. The one error is a refused request for memory, which is made only where
+/// more than blanks is shown, or there are tags.
+pub(crate) fn said_by(machine: &Machine) -> Result<Said, AllocError>
+    ensures said { (s : StoryTree) → IfOk result (λ w. w ≡ said (config_of s machine.now)) }
+    ensures memory { (s : StoryTree) → OnErr result (said_asks (config_of s machine.now) ≡ true) }
+{
+    let parts = machine.parts();
+    let text = parts.output.text()?;
+    let tags = parts.output.tags()?;
+    Ok(Said { text, tags })
+}
