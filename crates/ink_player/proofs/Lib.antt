@@ -4,4 +4,5 @@ pub mod Playings
 pub mod Paths
 pub mod Tellings
 pub mod Restarts
+mod Standing
 mod Saves

@@ -1,0 +1,111 @@
+-- A player stands sound and at rest after each command: by the law of ink_sound that says so of commands, and of opening.
+use Rattle.std.proofs.Common.{◌≡◌, ◌∙◌, ap, refl, subst, sym, inl, inr, ℕ, List, [], ◌∷◌, ◌++◌, Bool, true, false, Option, None, Some, is_some, Result, Ok, Err, OnOk, OnErr}
+use Rattle.ink_model.specs.Answer.{Reply, Acts, Refuses, reply_of_landing}
+use Rattle.ink_model.specs.Choosing.{jump_place, jumped, open_choice}
+use Rattle.ink_model.specs.Command as command
+use Rattle.ink_model.specs.Command.{Command}
+use Rattle.ink_model.specs.Configuration.{ChoiceOf, Configuration, can_go_on, settled, with_globals}
+use Rattle.ink_model.specs.Events.{Made, calls, later}
+use Rattle.ink_model.specs.Host.{Bindings, Bound, value_given}
+use Rattle.ink_model.specs.Run as run
+use Rattle.ink_model.specs.Session.{Does, TellsDone, left_with, settable, telling}
+use Rattle.ink_model.specs.State.{State, Ready}
+use Rattle.ink_model.specs.Store.{Values, store, stored}
+use Rattle.ink_model.specs.Told.{ToldAs, told}
+use Rattle.ink_model.specs.Tree.{StoryTree}
+use Rattle.ink_model.specs.Turns.{ChoosesBy, JumpsBy}
+use Rattle.ink_model.specs.Visits.{entering_around}
+use Rattle.ink_model.specs.declared.fault.Fault.{Fault}
+use Rattle.ink_model.specs.declared.fault.Refusal.{Refusal}
+use Rattle.ink_model.specs.declared.host.Event.{Event}
+use Rattle.ink_model.specs.declared.host.Given.{Given}
+use Rattle.ink_model.specs.declared.passage.Passage.{Passage}
+use Rattle.ink_model.specs.declared.place.Part.{Part}
+use Rattle.ink_sound.specs.Kept.{ConditionFits, StateFits, StoryFits}
+use Rattle.ink_sound.proofs.Sessions.{does_fit}
+use Rattle.ink_step.specs.Runs.{EndsWith, RunsThrough}
+use Rattle.ink_step.specs.Steps.{Chooses}
+use Rattle.ink_player.specs.Words.{condition_by, fault_told}
+use Rattle.ink_player.proofs.Tellings.{at_stamp, nobody-told, sets, through-where}
+
+-- names bound as they are, and nobody watches
+abbrev unwatched : Bound → Bindings
+unwatched b = record { functions = b; watches = λ name. false }
+
+told_unwatched : (start now : Values) → told (λ name. false) start now ≡ []
+told_unwatched start [] = refl
+told_unwatched start (e ∷ now) = told_unwatched start now
+
+-- a choice is taken, as a command
+choice_taken : (s : StoryTree) (choice : Option (ChoiceOf (List Part))) (c d : Configuration) (r : Result (Unit {0}) Refusal) → Chooses s choice c d r
+    → ChoosesBy s choice c (at_stamp (Ready c) 0) (reply_of_landing r) (at_stamp (Ready d) 0)
+choice_taken s None c d (Ok u) h = absurd h
+choice_taken s None c d (Err r) h = (ap Refuses h.0, ap (λ x. at_stamp (Ready x) 0) h.1)
+choice_taken s (Some choice) c d (Ok u) h = inl (refl, ap (λ x. at_stamp (Ready x) 0) h)
+choice_taken s (Some choice) c d (Err r) h = inr (h.1, (ap Refuses h.0, ap (λ x. at_stamp (Ready x) 0) h.2))
+
+module _ (s : StoryTree) where
+  -- ---- by what broke it
+
+  pub broken-stands : (f : Fault) (b : Option Fault) (c : Configuration) → b ≡ Some f → ConditionFits s (condition_by b c)
+  broken-stands f b c e = subst (λ x. ConditionFits s (condition_by x c)) (sym e) tt
+
+  pub free-stands : (b : Option Fault) (c : Configuration) → b ≡ None → ConditionFits s (condition_by b c) → ConditionFits s (Ready c)
+  free-stands b c e h = subst (λ x. ConditionFits s (condition_by x c)) e h
+
+  -- watchers were told
+  pub told-stands : (all : Bool) (b old : Option Fault) (c : Configuration) → old ≡ None → b ≡ fault_told all old → ConditionFits s (Ready c) → ConditionFits s (condition_by b c)
+  told-stands all b old c free e h = subst (λ x. ConditionFits s (condition_by x c)) (sym (e ∙ ap (fault_told all) free)) (by all)
+    where
+      by : (all : Bool) → ConditionFits s (condition_by (fault_told all None) c)
+      by true = h
+      by false = tt
+
+  -- ---- commands
+
+  module _ (story : StoryFits s) (c : Configuration) (fits : ConditionFits s (Ready c)) where
+    -- one that tells nobody
+    does : (b : Bound) (es : List Event) (k : Command) (reply : Reply) (new : State) → Does s (unwatched b) es (Some k) (at_stamp (Ready c) 0) reply new → StateFits s new
+    does b es k reply new h = does_fit s story (unwatched b) es (Some k) (at_stamp (Ready c) 0) reply new h fits
+
+    pub choose-stands : (n : ℕ) (d : Configuration) (r : Result (Unit {0}) Refusal) → Chooses s (open_choice n c) c d r → ConditionFits s (Ready d)
+    choose-stands n d r h = does (λ name. None) [] (command.Choose n) (reply_of_landing r) (at_stamp (Ready d) 0) (refl, choice_taken s (open_choice n c) c d r h)
+
+    pub jump-stands : {E : Type 0} (path : List ℕ) (q : List Part) (d : Configuration) (r : Result (Unit {0}) E) → jump_place s path ≡ Some q
+        → OnOk r (d ≡ entering_around s (jumped q c)) → OnErr r (d ≡ c) → ConditionFits s (Ready d)
+    jump-stands path q d (Ok u) e h k = does (λ name. None) [] (command.Jump path) (Acts []) (at_stamp (Ready d) 0)
+        (refl, subst (λ o. JumpsBy s o c (at_stamp (Ready c) 0) (Acts []) (at_stamp (Ready d) 0)) (sym e) (inl (refl, ap (λ x. at_stamp (Ready x) 0) h)))
+    jump-stands path q d (Err x) e h k = subst (λ y. ConditionFits s (Ready y)) (sym k) fits
+
+    pub set-stands : (name : List ℕ) (g : Given) → settable g ≡ true → is_some (stored name c.shared.globals) ≡ true
+        → ConditionFits s (Ready (with_globals (store name (value_given g) c.shared.globals) c))
+    set-stands name g e k =
+        let new = with_globals (store name (value_given g) c.shared.globals) c in
+        let done : TellsDone [] (Ready new) Acts [] [] (at_stamp (Ready c) 0) (Acts []) (at_stamp (Ready new) 0) =
+        record { all = true; saw = []; telling = nobody-told 0; events = refl; replies = refl; leaves = refl } in
+        does (λ name. None) [] (command.Set name (Some g)) (Acts []) (at_stamp (Ready new) 0)
+            (sets (unwatched (λ name. None)) name c None 0 g [] (Acts []) (at_stamp (Ready new) 0) (value_given g) refl refl e k (inl done))
+
+    -- ---- a run
+
+    module _ (b : Bound) (made : List Made) (goes : can_go_on c ≡ true) where
+      abbrev made_now : List Event
+      made_now = calls 0 made ++ []
+
+      kept-stands : (stop : Configuration) → run.EndsThrough s b c made (run.Kept stop) → ConditionFits s (Ready (settled stop))
+      kept-stands stop ends =
+          let old = at_stamp (Ready c) 0 in
+          let new = left_with (Ready (settled stop)) made_now old in
+          let cs = told (λ name. false) c.shared.globals stop.shared.globals in
+          let done : TellsDone cs (Ready (settled stop)) (telling stop) (calls 0 made) made_now old (telling stop made_now) new =
+          record { all = true; saw = []; telling = subst (λ xs. ToldAs (later 0 (calls 0 made)) xs true []) (sym (told_unwatched c.shared.globals stop.shared.globals)) (nobody-told (later 0 (calls 0 made))); events = refl; replies = refl; leaves = refl } in
+          does b made_now command.Through (telling stop made_now) new
+              (through-where s (unwatched b) None c 0 made_now (telling stop made_now) new true refl goes (made, inl (run.Kept stop, ends, inl done)))
+
+      pub run-stands : (d : Configuration) (passed : Passage) → RunsThrough s b c made d (Ok passed) → ConditionFits s (Ready d)
+      run-stands d passed (inl ran) = by ran.0 ran.1 ran.2
+        where
+          by : (end : run.RunEnd) → run.EndsThrough s b c made end → EndsWith end d (Ok passed) → ConditionFits s (Ready d)
+          by (run.Kept stop) ends left = subst (λ x. ConditionFits s (Ready x)) (sym left.1) (kept-stands stop ends)
+          by (run.Broke f globals) ends left = absurd (let never = left.0 in cc)
+      run-stands d passed (inr short) = absurd (let never = short.0 in cc)
