@@ -6,7 +6,7 @@ use Rattle.ink_model.specs.Command as command
 use Rattle.ink_model.specs.Command.{Command}
 use Rattle.ink_model.specs.Configuration.{ChoiceOf, Configuration, can_go_on, settled, with_globals}
 use Rattle.ink_model.specs.Events.{Made, calls, later}
-use Rattle.ink_model.specs.Host.{Bindings, Bound, value_given}
+use Rattle.ink_model.specs.Host.{Bindings, Bound, nothing_bound, value_given}
 use Rattle.ink_model.specs.Run as run
 use Rattle.ink_model.specs.Session.{Does, TellsDone, left_with, settable, telling}
 use Rattle.ink_model.specs.State.{State, Ready}
@@ -16,6 +16,7 @@ use Rattle.ink_model.specs.Tree.{StoryTree}
 use Rattle.ink_model.specs.Turns.{ChoosesBy, JumpsBy}
 use Rattle.ink_model.specs.Visits.{entering_around}
 use Rattle.ink_model.specs.declared.fault.Fault.{Fault}
+use Rattle.ink_model.specs.declared.fault.Fault.TheVariants.{OutOfMemory}
 use Rattle.ink_model.specs.declared.fault.Refusal.{Refusal}
 use Rattle.ink_model.specs.declared.host.Event.{Event}
 use Rattle.ink_model.specs.declared.host.Given.{Given}
@@ -25,7 +26,9 @@ use Rattle.ink_sound.specs.Kept.{ConditionFits, StateFits, StoryFits}
 use Rattle.ink_sound.proofs.Sessions.{does_fit}
 use Rattle.ink_step.specs.Runs.{EndsWith, RunsThrough}
 use Rattle.ink_step.specs.Steps.{Chooses}
-use Rattle.ink_player.specs.Words.{condition_by, fault_told}
+use Rattle.ink_step.specs.Words.{config_of}
+use Rattle.ink_step.specs.declared.machine.Machine.{Machine}
+use Rattle.ink_player.specs.Words.{Stands, condition_by, fault_told, is_empty}
 use Rattle.ink_player.proofs.Tellings.{at_stamp, nobody-told, sets, through-where}
 
 -- names bound as they are, and nobody watches
@@ -44,36 +47,39 @@ choice_taken s None c d (Err r) h = (ap Refuses h.0, ap (λ x. at_stamp (Ready x
 choice_taken s (Some choice) c d (Ok u) h = inl (refl, ap (λ x. at_stamp (Ready x) 0) h)
 choice_taken s (Some choice) c d (Err r) h = inr (h.1, (ap Refuses h.0, ap (λ x. at_stamp (Ready x) 0) h.2))
 
-module _ (s : StoryTree) where
-  -- ---- by what broke it
+module _ (s : StoryTree) (story : StoryFits s) where
+  -- ---- what is left between calls
 
-  pub broken-stands : (f : Fault) (b : Option Fault) (c : Configuration) → b ≡ Some f → ConditionFits s (condition_by b c)
-  broken-stands f b c e = subst (λ x. ConditionFits s (condition_by x c)) (sym e) tt
+  -- a fault broke it
+  pub stands-broken : (m : Machine) (es : List Event) (b : Option Fault) (f : Fault) → is_empty es ≡ true → b ≡ Some f → Stands s es b m
+  stands-broken m es b f none e = record { taken = none; story = story; fits = subst (λ x. ConditionFits s (condition_by x (config_of s m))) (sym e) tt }
+
+  -- none did
+  pub stands-free : (m : Machine) (es : List Event) (b : Option Fault) → is_empty es ≡ true → b ≡ None → ConditionFits s (Ready (config_of s m)) → Stands s es b m
+  stands-free m es b none free fits = record { taken = none; story = story; fits = subst (λ x. ConditionFits s (condition_by x (config_of s m))) (sym free) fits }
+
+  -- watchers were told, all of them or not
+  pub stands-told : (m : Machine) (es : List Event) (all : Bool) (b old : Option Fault) → is_empty es ≡ true → old ≡ None → b ≡ fault_told all old
+      → ConditionFits s (Ready (config_of s m)) → Stands s es b m
+  stands-told m es true b old none free e fits = stands-free m es b none (e ∙ free) fits
+  stands-told m es false b old none free e fits = stands-broken m es b OutOfMemory none e
+
+  -- ---- commands, from where a player stands that is not broken
 
   pub free-stands : (b : Option Fault) (c : Configuration) → b ≡ None → ConditionFits s (condition_by b c) → ConditionFits s (Ready c)
   free-stands b c e h = subst (λ x. ConditionFits s (condition_by x c)) e h
 
-  -- watchers were told
-  pub told-stands : (all : Bool) (b old : Option Fault) (c : Configuration) → old ≡ None → b ≡ fault_told all old → ConditionFits s (Ready c) → ConditionFits s (condition_by b c)
-  told-stands all b old c free e h = subst (λ x. ConditionFits s (condition_by x c)) (sym (e ∙ ap (fault_told all) free)) (by all)
-    where
-      by : (all : Bool) → ConditionFits s (condition_by (fault_told all None) c)
-      by true = h
-      by false = tt
-
-  -- ---- commands
-
-  module _ (story : StoryFits s) (c : Configuration) (fits : ConditionFits s (Ready c)) where
+  module _ (c : Configuration) (fits : ConditionFits s (Ready c)) where
     -- one that tells nobody
     does : (b : Bound) (es : List Event) (k : Command) (reply : Reply) (new : State) → Does s (unwatched b) es (Some k) (at_stamp (Ready c) 0) reply new → StateFits s new
     does b es k reply new h = does_fit s story (unwatched b) es (Some k) (at_stamp (Ready c) 0) reply new h fits
 
     pub choose-stands : (n : ℕ) (d : Configuration) (r : Result (Unit {0}) Refusal) → Chooses s (open_choice n c) c d r → ConditionFits s (Ready d)
-    choose-stands n d r h = does (λ name. None) [] (command.Choose n) (reply_of_landing r) (at_stamp (Ready d) 0) (refl, choice_taken s (open_choice n c) c d r h)
+    choose-stands n d r h = does nothing_bound [] (command.Choose n) (reply_of_landing r) (at_stamp (Ready d) 0) (refl, choice_taken s (open_choice n c) c d r h)
 
     pub jump-stands : {E : Type 0} (path : List ℕ) (q : List Part) (d : Configuration) (r : Result (Unit {0}) E) → jump_place s path ≡ Some q
         → OnOk r (d ≡ entering_around s (jumped q c)) → OnErr r (d ≡ c) → ConditionFits s (Ready d)
-    jump-stands path q d (Ok u) e h k = does (λ name. None) [] (command.Jump path) (Acts []) (at_stamp (Ready d) 0)
+    jump-stands path q d (Ok u) e h k = does nothing_bound [] (command.Jump path) (Acts []) (at_stamp (Ready d) 0)
         (refl, subst (λ o. JumpsBy s o c (at_stamp (Ready c) 0) (Acts []) (at_stamp (Ready d) 0)) (sym e) (inl (refl, ap (λ x. at_stamp (Ready x) 0) h)))
     jump-stands path q d (Err x) e h k = subst (λ y. ConditionFits s (Ready y)) (sym k) fits
 
@@ -83,8 +89,8 @@ module _ (s : StoryTree) where
         let new = with_globals (store name (value_given g) c.shared.globals) c in
         let done : TellsDone [] (Ready new) Acts [] [] (at_stamp (Ready c) 0) (Acts []) (at_stamp (Ready new) 0) =
         record { all = true; saw = []; telling = nobody-told 0; events = refl; replies = refl; leaves = refl } in
-        does (λ name. None) [] (command.Set name (Some g)) (Acts []) (at_stamp (Ready new) 0)
-            (sets (unwatched (λ name. None)) name c None 0 g [] (Acts []) (at_stamp (Ready new) 0) (value_given g) refl refl e k (inl done))
+        does nothing_bound [] (command.Set name (Some g)) (Acts []) (at_stamp (Ready new) 0)
+            (sets (unwatched nothing_bound) name c None 0 g [] (Acts []) (at_stamp (Ready new) 0) (value_given g) refl refl e k (inl done))
 
     -- ---- a run
 

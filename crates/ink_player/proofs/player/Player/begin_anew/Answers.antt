@@ -28,4 +28,4 @@ returns-clause-does g c =
     ap (λ vs. told w vs (step.globals_of c.args.machine)) (sym (globals-by p.broken before))
     ∙ ap (told w (globals_of (state_of p).condition)) (sym (ap (λ s. globals_of s.condition) leaves ∙ globals-told c.in-Ok.all after)) in
     rw (sym c.self.view_is) (tells-done g.F.TurnFn.log g.O.Watcher.state _ (condition_by p.broken before) (Ready after) (desk_of p) c.tell_between.new.desk (desk_of q) c.in-Ok.all
-    (reply_of_events c.end_telling.result) (state_of q) (none-left p.desk.events c.self.invariant) c.in-Ok.ensures.tells c.end_telling.ensures.reply leaves c.end_telling.ensures.desk _ changes)
+    (reply_of_events c.end_telling.result) (state_of q) (none-left p.desk.events c.self.invariant.taken) c.in-Ok.ensures.tells c.end_telling.ensures.reply leaves c.end_telling.ensures.desk _ changes)

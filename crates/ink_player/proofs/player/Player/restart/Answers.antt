@@ -36,7 +36,7 @@ returns-in_default-clause-does g c =
     rw (sym c.self.view_is) (
       [],
       restart-broken (story_of p) (bindings g.P.PureFn.meaning (desk_of p)) (state_of p) c.in-Err.field-0.globals.rows fault (globals_of c.at_start.result) (reply_of_halt c.break_by.result) (state_of q)
-          c.in_default.not-OutOfMemory c.at_start.ensures.globals c.in-Err.ensures.err (c.break_by.ensures.reply ∙ ap (λ l. Breaks fault l) (none-left p.desk.events c.self.invariant))
+          c.in_default.not-OutOfMemory c.at_start.ensures.globals c.in-Err.ensures.err (c.break_by.ensures.reply ∙ ap (λ l. Breaks fault l) (none-left p.desk.events c.self.invariant.taken))
           (ap (λ x. state_of x) is),
       once-quiet g.F.TurnFn.log g.O.Watcher.state _ (desk_of p) (desk_of q) c.break_by.ensures.desk,
     )

@@ -28,4 +28,4 @@ returns-clause-does g c =
     let leaves = told-state p c.set-stored.new.self c.end_telling.new.desk c.tell_one.new.desk c.end_telling.new.broken p.broken c.in-Ok.all after free
     c.end_telling.ensures.broken c.end_telling.ensures.desk stored in
     rw (sym c.self.view_is) (tells-done g.F.TurnFn.log g.O.Watcher.state _ (condition_by p.broken before) (Ready after) (desk_of p) c.tell_one.new.desk (desk_of q) c.in-Ok.all
-    (reply_of_events c.end_telling.result) (state_of q) (none-left p.desk.events c.self.invariant) c.in-Ok.ensures.tells c.end_telling.ensures.reply leaves c.end_telling.ensures.desk _ refl)
+    (reply_of_events c.end_telling.result) (state_of q) (none-left p.desk.events c.self.invariant.taken) c.in-Ok.ensures.tells c.end_telling.ensures.reply leaves c.end_telling.ensures.desk _ refl)

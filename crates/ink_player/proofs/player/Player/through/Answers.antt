@@ -33,7 +33,7 @@ returns-in_default-told-clause-does g c =
     (subst (λ (vs : Values). told (watches mid.watchers) vs now ≢ []) c.in-Ok.ensures.start c.in_default-told.ensures.memory) in
     let broken = c.break_by-in_default-told in
     let q = with_parts p c.through.new.self broken.new.desk broken.new.broken in
-    rw (sym c.self.view_is) (through-untold g.F.TurnFn.log g.O.Watcher.state g.P.PureFn.meaning p c.through.new.self mid runs.0 c.in_default.is (none-left p.desk.events c.self.invariant)
+    rw (sym c.self.view_is) (through-untold g.F.TurnFn.log g.O.Watcher.state g.P.PureFn.meaning p c.through.new.self mid runs.0 c.in_default.is (none-left p.desk.events c.self.invariant.taken)
     (sym (c.can_go_on.ensures (story_of p)) ∙ c.if-not-can_go_on.false) runs.1 c.in-Ok.ensures.watchers c.in-Ok.passage q mid (reply_of_halt broken.result)
     runs.2 some refl broken.ensures.reply (broken-as p c.through.new.self broken.new.desk mid broken.new.broken _ broken.ensures.desk broken.ensures.broken))
 
@@ -48,7 +48,7 @@ returns-in-Ok-tell-clause-does g c =
     (c.as_slice.ensures ∙ c.in-Ok-told.ensures.told ∙ ap (λ vs. told (watches mid.watchers) vs (globals_of c.through.new.self)) c.in-Ok.ensures.start) c.in-Ok-tell.ensures.tells in
     let leaves = told-state p c.through.new.self c.end_run.new.desk c.tell.new.desk c.end_run.new.broken p.broken c.in-Ok-tell.all after c.in_default.is
     c.end_run.ensures.broken c.end_run.ensures.desk refl in
-    rw (sym c.self.view_is) (through-told g.F.TurnFn.log g.O.Watcher.state g.P.PureFn.meaning p c.through.new.self mid runs.0 c.in_default.is (none-left p.desk.events c.self.invariant)
+    rw (sym c.self.view_is) (through-told g.F.TurnFn.log g.O.Watcher.state g.P.PureFn.meaning p c.through.new.self mid runs.0 c.in_default.is (none-left p.desk.events c.self.invariant.taken)
     (sym (c.can_go_on.ensures (story_of p)) ∙ c.if-not-can_go_on.false) runs.1 c.in-Ok.ensures.watchers c.in-Ok.passage c.in-Ok-tell.all c.tell.new.desk (desk_of q) (reply_of c.end_run.result) (state_of q)
     runs.2 tells c.end_run.ensures.reply leaves c.end_run.ensures.desk)
 
@@ -65,7 +65,7 @@ returns-in-Err-tell-clause-does g c =
     subst (λ (ws : Rows _). told (watches ws) start now ≢ []) c.in-Ok.ensures.watchers (λ none. c.in-Err-tell.ensures.tells.0 (all ∙ none)) in
     let broken = c.break_by-in-Err-tell in
     let q = with_parts p c.through.new.self broken.new.desk broken.new.broken in
-    rw (sym c.self.view_is) (through-untold g.F.TurnFn.log g.O.Watcher.state g.P.PureFn.meaning p c.through.new.self mid runs.0 c.in_default.is (none-left p.desk.events c.self.invariant)
+    rw (sym c.self.view_is) (through-untold g.F.TurnFn.log g.O.Watcher.state g.P.PureFn.meaning p c.through.new.self mid runs.0 c.in_default.is (none-left p.desk.events c.self.invariant.taken)
     (sym (c.can_go_on.ensures (story_of p)) ∙ c.if-not-can_go_on.false) runs.1 c.in-Ok.ensures.watchers c.in-Ok.passage q c.tell.new.desk (reply_of_halt broken.result)
     runs.2 some c.in-Err-tell.ensures.tells.1 broken.ensures.reply (broken-as p c.through.new.self broken.new.desk c.tell.new.desk broken.new.broken _ broken.ensures.desk broken.ensures.broken))
 
@@ -75,6 +75,6 @@ returns-in-Err-clause-does g c =
     let mid = c.through.new.desk in
     let runs = c.in-Err.ensures.runs in
     let q = with_parts p c.through.new.self c.break_by.new.desk c.break_by.new.broken in
-    rw (sym c.self.view_is) (through-fault g.F.TurnFn.log g.O.Watcher.state g.P.PureFn.meaning p c.through.new.self mid runs.0 c.in_default.is (none-left p.desk.events c.self.invariant)
+    rw (sym c.self.view_is) (through-fault g.F.TurnFn.log g.O.Watcher.state g.P.PureFn.meaning p c.through.new.self mid runs.0 c.in_default.is (none-left p.desk.events c.self.invariant.taken)
     (sym (c.can_go_on.ensures (story_of p)) ∙ c.if-not-can_go_on.false) runs.1 c.in-Err.ensures.watchers c.in-Err.fault q (reply_of_halt c.break_by.result)
     runs.2 c.break_by.ensures.reply (broken-as p c.through.new.self c.break_by.new.desk mid c.break_by.new.broken _ c.break_by.ensures.desk c.break_by.ensures.broken))
