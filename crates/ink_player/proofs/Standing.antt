@@ -20,11 +20,9 @@ use Rattle.ink_model.specs.declared.fault.Fault.TheVariants.{OutOfMemory}
 use Rattle.ink_model.specs.declared.fault.Refusal.{Refusal}
 use Rattle.ink_model.specs.declared.host.Event.{Event}
 use Rattle.ink_model.specs.declared.host.Given.{Given}
-use Rattle.ink_model.specs.declared.passage.Passage.{Passage}
 use Rattle.ink_model.specs.declared.place.Part.{Part}
 use Rattle.ink_sound.specs.Kept.{ConditionFits, StateFits, StoryFits}
 use Rattle.ink_sound.proofs.Sessions.{does_fit}
-use Rattle.ink_step.specs.Runs.{EndsWith, RunsThrough}
 use Rattle.ink_step.specs.Steps.{Chooses}
 use Rattle.ink_step.specs.Words.{config_of}
 use Rattle.ink_step.specs.declared.machine.Machine.{Machine}
@@ -92,26 +90,20 @@ module _ (s : StoryTree) (story : StoryFits s) where
         does nothing_bound [] (command.Set name (Some g)) (Acts []) (at_stamp (Ready new) 0)
             (sets (unwatched nothing_bound) name c None 0 g [] (Acts []) (at_stamp (Ready new) 0) (value_given g) refl refl e k (inl done))
 
-    -- ---- a run
-
-    module _ (b : Bound) (made : List Made) (goes : can_go_on c ≡ true) where
-      abbrev made_now : List Event
-      made_now = calls 0 made ++ []
-
-      kept-stands : (stop : Configuration) → run.EndsThrough s b c made (run.Kept stop) → ConditionFits s (Ready (settled stop))
-      kept-stands stop ends =
-          let old = at_stamp (Ready c) 0 in
-          let new = left_with (Ready (settled stop)) made_now old in
-          let cs = told (λ name. false) c.shared.globals stop.shared.globals in
-          let done : TellsDone cs (Ready (settled stop)) (telling stop) (calls 0 made) made_now old (telling stop made_now) new =
-          record { all = true; saw = []; telling = subst (λ xs. ToldAs (later 0 (calls 0 made)) xs true []) (sym (told_unwatched c.shared.globals stop.shared.globals)) (nobody-told (later 0 (calls 0 made))); events = refl; replies = refl; leaves = refl } in
-          does b made_now command.Through (telling stop made_now) new
-              (through-where s (unwatched b) None c 0 made_now (telling stop made_now) new true refl goes (made, inl (run.Kept stop, ends, inl done)))
-
-      pub run-stands : (d : Configuration) (passed : Passage) → RunsThrough s b c made d (Ok passed) → ConditionFits s (Ready d)
-      run-stands d passed (inl ran) = by ran.0 ran.1 ran.2
-        where
-          by : (end : run.RunEnd) → run.EndsThrough s b c made end → EndsWith end d (Ok passed) → ConditionFits s (Ready d)
-          by (run.Kept stop) ends left = subst (λ x. ConditionFits s (Ready x)) (sym left.1) (kept-stands stop ends)
-          by (run.Broke f globals) ends left = absurd (let never = left.0 in cc)
-      run-stands d passed (inr short) = absurd (let never = short.0 in cc)
+    -- a run came to its end with a configuration, and left it settled
+    pub run-stands : (b : Bound) (made : List Made) (stop d : Configuration) → can_go_on c ≡ true → run.EndsThrough s b c made (run.Kept stop) → d ≡ settled stop → ConditionFits s (Ready d)
+    run-stands b made stop d goes ends is =
+        let es = calls 0 made ++ [] in
+        let old = at_stamp (Ready c) 0 in
+        let new = left_with (Ready (settled stop)) es old in
+        let cs = told (λ name. false) c.shared.globals stop.shared.globals in
+        let done : TellsDone cs (Ready (settled stop)) (telling stop) (calls 0 made) es old (telling stop es) new = record {
+          all = true;
+          saw = [];
+          telling = subst (λ xs. ToldAs (later 0 (calls 0 made)) xs true []) (sym (told_unwatched c.shared.globals stop.shared.globals)) (nobody-told (later 0 (calls 0 made)));
+          events = refl;
+          replies = refl;
+          leaves = refl;
+        } in
+        subst (λ x. ConditionFits s (Ready x)) (sym is) (does b es command.Through (telling stop es) new
+        (through-where s (unwatched b) None c 0 es (telling stop es) new true refl goes (made, inl (run.Kept stop, ends, inl done))))

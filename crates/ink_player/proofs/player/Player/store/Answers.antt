@@ -6,6 +6,7 @@ use Rattle.ink_model.specs.Store.{store}
 use Rattle.ink_player.specs.Words.{PlayerView, condition_by, desk_of, state_of, story_of}
 use Rattle.ink_step.specs.Words.{config_of}
 use Rattle.ink_player.proofs.Tellings.{none-left, on-ok, tells-done, tells-kept, told-state, with_parts}
+use Rattle.ink_player.proofs.Standing.{free-stands, set-stands, stands-told}
 use Rattle.ink_player.proofs.player.Player.store.Goals as goal
 
 pub returns-in_default-clause-does : goal.returns-in_default-clause-does
@@ -29,3 +30,17 @@ returns-clause-does g c =
     c.end_telling.ensures.broken c.end_telling.ensures.desk stored in
     rw (sym c.self.view_is) (tells-done g.F.TurnFn.log g.O.Watcher.state _ (condition_by p.broken before) (Ready after) (desk_of p) c.tell_one.new.desk (desk_of q) c.in-Ok.all
     (reply_of_events c.end_telling.result) (state_of q) (none-left p.desk.events c.self.invariant.taken) c.in-Ok.ensures.tells c.end_telling.ensures.reply leaves c.end_telling.ensures.desk _ refl)
+
+pub invariant_of-self : goal.invariant_of-self
+invariant_of-self g c =
+    let s = story_tree c.self.inside.story in
+    let kept = c.self.invariant in
+    let before = config_of s c.self.inside.machine in
+    let new = c.set-stored.new.self in
+    let given = c.requires.given in
+    let there = rw (sym c.self.view_is) at c.requires.there in
+    let free : c.self.inside.broken ≡ None = ap (λ x. x.broken) c.self.view_is ∙ c.requires.unbroken in
+    let stored : config_of s new ≡ with_globals (store c.args.name.now (value_given given.0) before.shared.globals) before =
+    on-ok c.set-stored.result _ (c.set-stored.ensures.found ∙ there) (c.set-stored.ensures.ok s) ∙ ap (λ v. with_globals (store c.args.name.now v before.shared.globals) before) given.2 in
+    stands-told s kept.story new c.end_telling.new.desk.events c.in-Ok.all c.end_telling.new.broken c.self.inside.broken (ap (λ d. is_empty d.events) c.end_telling.ensures.desk) free c.end_telling.ensures.broken
+    (subst (λ x. ConditionFits s (Ready x)) (sym stored) (set-stands s kept.story before (free-stands s kept.story c.self.inside.broken before free kept.fits) c.args.name.now given.0 given.1 there))

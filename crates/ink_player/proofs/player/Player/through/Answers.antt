@@ -7,6 +7,7 @@ use Rattle.ink_model.specs.declared.host.Change.{Change}
 use Rattle.ink_player.specs.Words.{PlayerView, desk_of, state_of, story_of}
 use Rattle.ink_step.specs.Words.{config_of, globals_of}
 use Rattle.ink_player.proofs.Tellings.{broken-as, none-left, once-none, tells-all, through-broken, through-fault, through-told, through-untold, through-where, told-state, told-watched, with_parts}
+use Rattle.ink_player.proofs.Standing.{free-stands, run-stands, stands-broken, stands-told}
 use Rattle.ink_player.proofs.player.Player.through.Goals as goal
 
 pub returns-in-Some-clause-does : goal.returns-in-Some-clause-does
@@ -78,3 +79,16 @@ returns-in-Err-clause-does g c =
     rw (sym c.self.view_is) (through-fault g.F.TurnFn.log g.O.Watcher.state g.P.PureFn.meaning p c.through.new.self mid runs.0 c.in_default.is (none-left p.desk.events c.self.invariant.taken)
     (sym (c.can_go_on.ensures (story_of p)) ∙ c.if-not-can_go_on.false) runs.1 c.in-Err.ensures.watchers c.in-Err.fault q (reply_of_halt c.break_by.result)
     runs.2 c.break_by.ensures.reply (broken-as p c.through.new.self c.break_by.new.desk mid c.break_by.new.broken _ c.break_by.ensures.desk c.break_by.ensures.broken))
+
+pub invariant_of-self-in-Ok-tell : goal.invariant_of-self-in-Ok-tell
+invariant_of-self-in-Ok-tell g c =
+    let p : PlayerView g.row.P.Denot g.row.F.Denot g.row.O.Denot = record { story = c.self.inside.story; desk = c.self.inside.desk; machine = c.self.inside.machine; broken = c.self.inside.broken } in
+    let s = story_of p in
+    let kept = c.self.invariant in
+    let runs = c.in-Ok.ensures.runs in
+    let goes = sym (c.can_go_on.ensures s) ∙ c.if-not-can_go_on.false in
+    let before = config_of s p.machine in
+    let stopped = stops g.F.TurnFn.log g.O.Watcher.state g.P.PureFn.meaning p c.through.new.self c.through.new.desk runs.0 c.in_default.is (none-left p.desk.events kept.taken) goes runs.1 c.in-Ok.ensures.watchers
+    c.in-Ok.passage runs.2 in
+    stands-told s kept.story c.through.new.self c.end_run.new.desk.events c.in-Ok-tell.all c.end_run.new.broken p.broken (ap (λ d. is_empty d.events) c.end_run.ensures.desk) c.in_default.is c.end_run.ensures.broken
+    (run-stands s kept.story before (free-stands s kept.story p.broken before c.in_default.is kept.fits) (bound_by g.P.PureFn.meaning p.desk.functions) runs.0 stopped.0 (config_of s c.through.new.self) goes stopped.1 stopped.3)
