@@ -45,6 +45,10 @@ choice_taken s None c d (Err r) h = (ap Refuses h.0, ap (λ x. at_stamp (Ready x
 choice_taken s (Some choice) c d (Ok u) h = inl (refl, ap (λ x. at_stamp (Ready x) 0) h)
 choice_taken s (Some choice) c d (Err r) h = inr (h.1, (ap Refuses h.0, ap (λ x. at_stamp (Ready x) 0) h.2))
 
+-- a machine stands in a story as in one that is the same
+pub stands-as : (s t : StoryTree) (m : Machine) → s ≡ t → ConditionFits s (Ready (config_of s m)) → ConditionFits t (Ready (config_of t m))
+stands-as s t m e h = subst (λ u. ConditionFits u (Ready (config_of u m))) e h
+
 module _ (s : StoryTree) (story : StoryFits s) where
   -- ---- what is left between calls
 

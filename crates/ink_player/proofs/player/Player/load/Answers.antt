@@ -1,8 +1,12 @@
-use Rattle.std.proofs.Common.{[], sym}
+use Rattle.std.proofs.Common.{[], IfOk, ap, subst, sym}
 use Rattle.serde_json.specs.View.{view}
+use Rattle.ink_check.specs.Words.{story_tree}
+use Rattle.ink_model.specs.Answer.{Refuses, reply_of_events}
+use Rattle.ink_player.specs.Saving.{ReadsAsState}
 use Rattle.ink_player.specs.Words.{PlayerView, bindings, desk_of, state_of, story_of}
 use Rattle.ink_step.specs.Words.{config_of, globals_of}
 use Rattle.ink_player.proofs.Saves.{load-read, load-reads, load-refused, load-stands}
+use Rattle.ink_player.proofs.Standing.{stands-as}
 use Rattle.ink_player.proofs.Tellings.{globals-by, once-none}
 use Rattle.ink_player.proofs.player.Player.load.Goals as goal
 
@@ -28,7 +32,9 @@ returns-in-Err-clause-does g c =
     )
 
 pub begin_anew-requires : goal.begin_anew-requires
-begin_anew-requires g c = rw (sym c.self.view_is) (c.in-Ok.ensures.sound, c.in-Ok.ensures.rests)
+begin_anew-requires g c = record {
+  fits = stands-as (story_tree c.self.inside.story) (story_of c.args.self.now) c.in-Ok.found (ap (λ q. story_of q) c.self.view_is) (c.in-Ok.ensures.sound, c.in-Ok.ensures.rests);
+}
 
 pub returns-in-Ok-clause-stands : goal.returns-in-Ok-clause-stands
 returns-in-Ok-clause-stands g c =

@@ -1,4 +1,4 @@
-use Rattle.std.proofs.Common.{ap, refl}
+use Rattle.std.proofs.Common.{ap}
 use Rattle.ink_check.specs.Words.{story_tree}
 use Rattle.ink_step.specs.Words.{config_of}
 use Rattle.ink_player.specs.Words.{is_empty}

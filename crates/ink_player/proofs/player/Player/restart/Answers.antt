@@ -6,7 +6,7 @@ use Rattle.ink_step.specs.Words.{config_of, globals_of}
 use Rattle.ink_player.proofs.Restarts.{restart-broken, restart-opened, restart-refused}
 use Rattle.ink_player.proofs.Tellings.{broken-as, globals-by, none-left, once-none, once-quiet, with_parts}
 use Rattle.ink_sound.proofs.Sessions.{opened_fits}
-use Rattle.ink_player.proofs.Standing.{stands-broken}
+use Rattle.ink_player.proofs.Standing.{stands-as, stands-broken}
 use Rattle.ink_player.proofs.player.Player.restart.Goals as goal
 
 pub returns-in-Ok-clause-does : goal.returns-in-Ok-clause-does
@@ -46,9 +46,10 @@ returns-in_default-clause-does g c =
 
 pub begin_anew-requires : goal.begin_anew-requires
 begin_anew-requires g c =
-    let s = story_tree c.self.inside.story in rw (sym c.self.view_is) (opened_fits s c.self.invariant.story (config_of s c.in-Ok.machine) c.in-Ok.ensures.ok)
+    let s = story_tree c.self.inside.story in
+    record { fits = stands-as s (story_of c.args.self.now) c.in-Ok.machine (ap (λ q. story_of q) c.self.view_is) (opened_fits s c.self.invariant.story (config_of s c.in-Ok.machine) c.in-Ok.ensures.ok) }
 
-pub invariant_of-self-in_default : goal.invariant_of-self-in_default
-invariant_of-self-in_default g c =
+pub invariant_of-self : goal.invariant_of-self
+invariant_of-self g c =
     let s = story_tree c.self.inside.story in
     stands-broken s c.self.invariant.story c.at_start.result c.break_by.new.desk.events c.break_by.new.broken c.in-Err.field-0.fault (ap (λ d. is_empty d.events) c.break_by.ensures.desk) c.break_by.ensures.broken

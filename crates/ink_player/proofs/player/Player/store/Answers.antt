@@ -1,9 +1,12 @@
-use Rattle.std.proofs.Common.{◌≡◌, ◌∙◌, None, ap, refl, sym}
+use Rattle.std.proofs.Common.{◌≡◌, ◌∙◌, None, ap, refl, subst, sym}
 use Rattle.ink_model.specs.Answer.{reply_of_events}
 use Rattle.ink_model.specs.Configuration.{with_globals}
 use Rattle.ink_model.specs.State.{Ready}
 use Rattle.ink_model.specs.Store.{store}
-use Rattle.ink_player.specs.Words.{PlayerView, condition_by, desk_of, state_of, story_of}
+use Rattle.ink_check.specs.Words.{story_tree}
+use Rattle.ink_model.specs.Host.{value_given}
+use Rattle.ink_sound.specs.Kept.{ConditionFits}
+use Rattle.ink_player.specs.Words.{PlayerView, is_empty, condition_by, desk_of, state_of, story_of}
 use Rattle.ink_step.specs.Words.{config_of}
 use Rattle.ink_player.proofs.Tellings.{none-left, on-ok, tells-done, tells-kept, told-state, with_parts}
 use Rattle.ink_player.proofs.Standing.{free-stands, set-stands, stands-told}
@@ -31,8 +34,8 @@ returns-clause-does g c =
     rw (sym c.self.view_is) (tells-done g.F.TurnFn.log g.O.Watcher.state _ (condition_by p.broken before) (Ready after) (desk_of p) c.tell_one.new.desk (desk_of q) c.in-Ok.all
     (reply_of_events c.end_telling.result) (state_of q) (none-left p.desk.events c.self.invariant.taken) c.in-Ok.ensures.tells c.end_telling.ensures.reply leaves c.end_telling.ensures.desk _ refl)
 
-pub invariant_of-self : goal.invariant_of-self
-invariant_of-self g c =
+pub invariant_of-self-2 : goal.invariant_of-self-2
+invariant_of-self-2 g c =
     let s = story_tree c.self.inside.story in
     let kept = c.self.invariant in
     let before = config_of s c.self.inside.machine in
