@@ -4,8 +4,7 @@ use Rattle.serde_json.specs.Data.{Data}
 use Rattle.serde_json.specs.View.{view}
 use Rattle.serde_json.specs.Written.{has_float}
 use Rattle.serde_json.specs.declared.value.Value.{Value}
-use Rattle.ink_model.specs.Answer.{Reply, Acts, Breaks, Refuses, Saves, reply_of_events}
-use Rattle.ink_model.specs.Changed.{FailsAllocation, Keeps}
+use Rattle.ink_model.specs.Answer.{Reply, Acts, Refuses, Saves, reply_of_events}
 use Rattle.ink_model.specs.Configuration.{Configuration}
 use Rattle.ink_model.specs.Host.{Bindings}
 use Rattle.ink_model.specs.Save.Reads.{Reads}

@@ -92,7 +92,7 @@ module _ (s : StoryTree) (story : StoryFits s) where
         let done : TellsDone [] (Ready new) Acts [] [] (at_stamp (Ready c) 0) (Acts []) (at_stamp (Ready new) 0) =
         record { all = true; saw = []; telling = nobody-told 0; events = refl; replies = refl; leaves = refl } in
         does nothing_bound [] (command.Set name (Some g)) (Acts []) (at_stamp (Ready new) 0)
-            (sets (unwatched nothing_bound) name c None 0 g [] (Acts []) (at_stamp (Ready new) 0) (value_given g) refl refl e k (inl done))
+        (sets (unwatched nothing_bound) name c None 0 g [] (Acts []) (at_stamp (Ready new) 0) (value_given g) refl refl e k (inl done))
 
     -- a run came to its end with a configuration, and left it settled
     pub run-stands : (b : Bound) (made : List Made) (stop d : Configuration) → can_go_on c ≡ true → run.EndsThrough s b c made (run.Kept stop) → d ≡ settled stop → ConditionFits s (Ready d)

@@ -7,7 +7,7 @@ use Rattle.ink_model.specs.declared.host.Change.{Change}
 use Rattle.ink_player.specs.Words.{PlayerView, desk_of, is_empty, state_of, story_of}
 use Rattle.ink_step.specs.Words.{config_of, globals_of}
 use Rattle.ink_player.proofs.Tellings.{broken-as, none-left, once-none, stops, tells-all, through-broken, through-fault, through-told, through-untold, through-where, told-state, told-watched, with_parts}
-use Rattle.ink_player.proofs.Standing.{free-stands, run-stands, stands-broken, stands-told}
+use Rattle.ink_player.proofs.Standing.{free-stands, run-stands, stands-told}
 use Rattle.ink_player.proofs.player.Player.through.Goals as goal
 
 pub returns-in-Some-clause-does : goal.returns-in-Some-clause-does
