@@ -4,5 +4,6 @@ pub mod Playings
 pub mod Paths
 pub mod Tellings
 pub mod Restarts
+mod Standing
 mod Saves
 mod Settling

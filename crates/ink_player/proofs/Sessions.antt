@@ -6,7 +6,6 @@ use Rattle.std.specs.Io.KnownBytes.{Appends, IsAtEnd}
 use Rattle.std.proofs.KnownBytes.{Appends-nil, Appends-trans, Consumes-trans}
 use Rattle.ink_model.specs.Answer.{Reply, Refuses, answer}
 use Rattle.ink_model.specs.Bytes.{has_newline, onto}
-use Rattle.ink_model.specs.Command as command
 use Rattle.ink_model.specs.Command.{Command, command_of, line_asks, lines_of}
 use Rattle.ink_model.specs.Session.{Does, Serves, Session}
 use Rattle.ink_model.specs.State.{State}

@@ -279,7 +279,7 @@ module _ {P F O : Type 0} (turn_log : F → List Called) (state : O → Watching
     abbrev Stops : Passage → Type 0
     Stops passed = (stop : Configuration) × run.EndsThrough tree host.functions before made (run.Kept stop) × (passed ≡ passage stop) × (after ≡ settled stop)
 
-    stops : (passed : Passage) → Ran (Ok passed) → Stops passed
+    pub stops : (passed : Passage) → Ran (Ok passed) → Stops passed
     stops passed (inl ran) = by ran.0 ran.1 ran.2
       where
         by : (end : run.RunEnd) → run.EndsThrough tree host.functions before made end → EndsWith passage passage_asks end after (Ok passed) → Stops passed

@@ -13,15 +13,18 @@ ghost use Rattle.ink_model.specs.Store.{store, stored};
 ghost use Rattle.ink_model.specs.Told.{told};
 ghost use Rattle.ink_model.specs.Turns.{Choose, ShowsChoices};
 ghost use Rattle.ink_model.specs.declared.host.Event.{Event as Happening};
+ghost use Rattle.ink_model.specs.declared.host.Given.{Given as Gift};
+ghost use Rattle.ink_sound.specs.Kept.{ConditionFits, StateFits};
 ghost use Rattle.ink_protocol.specs.Plain.{IsPlain};
 ghost use Rattle.ink_protocol.specs.Replies.{reply_of_json};
 ghost use Rattle.ink_player.specs.Words.{DealtOnce, anew, bindings, desk_of, fault_told, state_of, story_of, told_from};
 ghost use Rattle.ink_step.specs.Words.{config_of};
+ghost use Rattle.serde_json.specs.Data.{Data};
 ghost use Rattle.serde_json.specs.View.{view};
 
 use crate::passages::run_through;
 use crate::path::landing_by;
-use crate::saving::{loaded, saved};
+use crate::saving::{loaded, saved, story_fits};
 use crate::telling::{tell, tell_between, tell_one};
 use crate::visits::visits_by;
 use ink_check::Story;
@@ -34,7 +37,8 @@ use serde_json::Value as Json;
 use std::alloc::{AllocError, Global};
 use std::marker::Model;
 
-/// A story that runs: where it stands, and the desk of the host's objects. Between calls every event was taken.
+/// A story that runs: where it stands, and the desk of the host's objects. Between calls every event was taken, and where it stands
+/// is sound and at rest (docs/SAVES.md), unless a fault broke it.
 #[derive(Drop)]
 pub struct Player<P, F, O> {
     story: Story,
@@ -45,11 +49,11 @@ pub struct Player<P, F, O> {
 }
 
 impl<P, F, O> Model for Player<P, F, O> {
-    ghost use Rattle.std.specs.Prelude.{◌≡◌, true};
     ghost use Rattle.std.specs.Coded.{codes};
+    ghost use Rattle.ink_check.specs.Words.{story_tree};
     ghost use Rattle.ink_check.specs.contracts.story.Story as story_row;
     ghost use Rattle.ink_step.specs.contracts.machine.Machine as machine_row;
-    ghost use Rattle.ink_player.specs.Words.{PlayerView, is_empty};
+    ghost use Rattle.ink_player.specs.Words.{PlayerView, Stands};
 
     ghost Value = { PlayerView P F O };
 
@@ -57,7 +61,7 @@ impl<P, F, O> Model for Player<P, F, O> {
 
     ghost view = { λ p. record { story = p.story; desk = p.desk; machine = p.machine; broken = p.broken } };
 
-    ghost invariant = { λ p. is_empty p.desk.events ≡ true };
+    ghost invariant = { λ p. Stands (story_tree p.story) p.desk.events p.broken p.machine };
 }
 
 /// A story that could not be opened. Story and desk are handed back.
@@ -72,7 +76,9 @@ impl<P: PureFn, F: TurnFn, O: Watcher> Player<P, F, O> {
     ghost use Rattle.ink_check.specs.Words.{story_tree};
     ghost use Rattle.ink_model.specs.Store.{Values};
     ghost use Rattle.ink_step.specs.Steps.{FailsToOpen};
+    ghost use Rattle.ink_model.specs.Save.Reads.{Reads};
     ghost use Rattle.ink_player.specs.Paths.{JumpsTo};
+    ghost use Rattle.ink_player.specs.Saving.{LoadsAs, ReadsAsState};
     ghost use Rattle.ink_player.specs.Visits.{TellsVisits};
 
     /// Opens a story at its start, with the globals that it declares (docs/RUNNING.md, "Opening"). No object is
@@ -90,6 +96,7 @@ impl<P: PureFn, F: TurnFn, O: Watcher> Player<P, F, O> {
         ensures kept_story { IfErr result (λ e. e.story ≡ story) }
         ensures kept_desk { IfErr result (λ e. e.desk ≡ desk) }
     {
+        story_fits(&story);
         match Machine::open(alloc, &story) {
             Ok(machine) => {
                 let mut desk = desk;
@@ -174,6 +181,7 @@ impl<P: PureFn, F: TurnFn, O: Watcher> Player<P, F, O> {
     fn store(&mut self, name: &str, value: Value) -> Result<Seq<Event>, Halt>
         requires unbroken { self.old.broken ≡ None }
         requires there { let c = config_of (story_of self.old) self.old.machine in is_some (stored name.now c.shared.globals) ≡ true }
+        requires given { (g : Gift) × (settable g ≡ true) × (value ≡ host.value_given g) }
         ensures does { let c = config_of (story_of self.old) self.old.machine in let h = bindings P.meaning (desk_of self.old) in
             (es : List Happening) × TellsOrKeeps (told h.watches c.shared.globals ((name.now, value) ∷ [])) (Ready (with_globals (store name.now value c.shared.globals) c)) es (state_of self.old) (reply_of_events result) (state_of self.new)
             × DealtOnce F.log O.state (told h.watches c.shared.globals ((name.now, value) ∷ [])) (desk_of self.old) es (desk_of self.new) }
@@ -265,11 +273,14 @@ impl<P: PureFn, F: TurnFn, O: Watcher> Player<P, F, O> {
         }
     }
 
-    /// Where the story stands, as a JSON value, which has no float (docs/SAVES.md). Refused with `Broken` after a fault, and with
-    /// `OutOfMemory` where memory was refused.
+    /// Where the story stands, as a JSON value, which has no float (docs/SAVES.md): the one value that reads as that, for where a
+    /// player stands is sound and at rest. Refused with `Broken` after a fault, and with `OutOfMemory` where memory was refused.
     pub fn save(&self) -> Result<Json, Refusal>
         ensures does { Save (state_of self.now) (reply_of_json result) (state_of self.now) }
         ensures plain { IfOk result IsPlain }
+        ensures reads { IfOk result (λ json. ReadsAsState (story_of self.now) (view json) (state_of self.now)) }
+        ensures only { IfOk result (λ json. (j : Data) → ReadsAsState (story_of self.now) j (state_of self.now) → j ≡ view json) }
+        ensures sound { StateFits (story_of self.now) (state_of self.now) }
     {
         match self.broken {
             Some(cause) => Err(Refusal::Broken(cause)),
@@ -280,12 +291,15 @@ impl<P: PureFn, F: TurnFn, O: Watcher> Player<P, F, O> {
     /// Goes on where a save of the story stands (docs/SAVES.md); a broken player too. Watchers are told of each global that has
     /// another value than before, or was not there (docs/HOST.md, "Telling"). Refused with `BadSave` where the value spells nothing
     /// that fits the story, and with `OutOfMemory` where memory was refused; nothing has changed then. Where a watcher finds no
-    /// memory the save is loaded, all others are told, and the player is broken by the fault `OutOfMemory`.
+    /// memory the save is loaded, all others are told, and the player is broken by the fault `OutOfMemory`. What `save` gave for the
+    /// story is never refused with `BadSave`, and `save` gives it again where it was loaded.
     pub fn load(&mut self, json: &Json) -> Result<Seq<Event>, Halt>
         ensures does { (es : List Happening) × Load (story_of self.old) (bindings P.meaning (desk_of self.old)) es (Some (view json.now)) (state_of self.old) (reply_of_events result) (state_of self.new)
             × DealtOnce F.log O.state (told_from (desk_of self.old) (state_of self.old) (globals_of (state_of self.new).condition)) (desk_of self.old) es (desk_of self.new) }
         ensures rest { Resting (rests O.state) (desk_of self.old).watchers → Resting (rests O.state) (desk_of self.new).watchers }
         ensures story { story_of self.new ≡ story_of self.old }
+        ensures stands { IfOk result (λ events. ReadsAsState (story_of self.new) (view json.now) (state_of self.new)) }
+        ensures reads { (c : Configuration) → Reads (story_of self.old) (view json.now) c → LoadsAs c (reply_of_events result) (state_of self.new).condition }
     {
         match loaded(self.alloc, &self.story, json) {
             Ok(found) => self.begin_anew(found),
@@ -318,6 +332,7 @@ impl<P: PureFn, F: TurnFn, O: Watcher> Player<P, F, O> {
 
     /// Begins anew with a machine that was opened or loaded, once the watchers are told of what has another value in it.
     fn begin_anew(&mut self, machine: Machine) -> Result<Seq<Event>, Halt>
+        requires fits { let s = story_of self.old in ConditionFits s (Ready (config_of s machine)) }
         ensures does { let s = story_of self.old in let was = config_of s self.old.machine in let c = config_of s machine in let h = bindings P.meaning (desk_of self.old) in
             (es : List Happening) × TellsOrKeeps (told h.watches was.shared.globals c.shared.globals) (Ready c) es (state_of self.old) (reply_of_events result) (state_of self.new)
             × DealtOnce F.log O.state (told_from (desk_of self.old) (state_of self.old) (globals_of (state_of self.new).condition)) (desk_of self.old) es (desk_of self.new) }

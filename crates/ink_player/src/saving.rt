@@ -1,13 +1,15 @@
-//! Machines and what they are saved as (docs/SAVES.md).
+//! Machines and what they are saved as, and what a story has for that (docs/SAVES.md).
 
 ghost use Rattle.serde_json.specs.View.{view};
 ghost use Rattle.ink_check.specs.Words.{story_tree};
 ghost use Rattle.ink_player.specs.Saving.{FindsSave, IsSave};
+ghost use Rattle.ink_sound.specs.Kept.{StoryFits};
 ghost use Rattle.ink_step.specs.Words.{config_of};
 
 use ink_check::Story;
 use ink_model::Refusal;
 use ink_save::{SaveRefusal, read, write};
+use ink_sound::spelled_stories_fit;
 use ink_step::Machine;
 use serde_json::Value as Json;
 use std::alloc::Global;
@@ -32,4 +34,12 @@ pub(crate) fn loaded(alloc: Global, story: &Story, json: &Json) -> Result<Machin
         Err(SaveRefusal::BadSave) => Err(Refusal::BadSave),
         Err(SaveRefusal::OutOfMemory) => Err(Refusal::OutOfMemory),
     }
+}
+
+/// An accepted story has what the laws of saves ask of one. Does nothing.
+pub(crate) fn story_fits(story: &Story)
+    ensures { StoryFits (story_tree story.now) }
+{
+    let _tree = story.tree();
+    spelled_stories_fit();
 }

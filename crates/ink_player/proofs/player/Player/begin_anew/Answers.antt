@@ -3,10 +3,12 @@ use Rattle.ink_host.specs.Desk.{watches}
 use Rattle.ink_model.specs.Answer.{reply_of_events}
 use Rattle.ink_model.specs.State.{Ready, globals_of}
 use Rattle.ink_model.specs.Told.{told}
-use Rattle.ink_player.specs.Words.{PlayerView, condition_by, desk_of, state_of, story_of, told_from}
+use Rattle.ink_check.specs.Words.{story_tree}
+use Rattle.ink_player.specs.Words.{PlayerView, is_empty, condition_by, desk_of, state_of, story_of, told_from}
 use Rattle.ink_step.specs.Words.{config_of}
 use Rattle.ink_player.proofs.Tellings.{globals-by, globals-told, none-left, tells-done, tells-kept, told-state, with_parts}
 use Rattle.ink_step.specs.Words as step
+use Rattle.ink_player.proofs.Standing.{stands-as, stands-told}
 use Rattle.ink_player.proofs.player.Player.begin_anew.Goals as goal
 
 pub returns-in_default-clause-does : goal.returns-in_default-clause-does
@@ -28,4 +30,10 @@ returns-clause-does g c =
     ap (λ vs. told w vs (step.globals_of c.args.machine)) (sym (globals-by p.broken before))
     ∙ ap (told w (globals_of (state_of p).condition)) (sym (ap (λ s. globals_of s.condition) leaves ∙ globals-told c.in-Ok.all after)) in
     rw (sym c.self.view_is) (tells-done g.F.TurnFn.log g.O.Watcher.state _ (condition_by p.broken before) (Ready after) (desk_of p) c.tell_between.new.desk (desk_of q) c.in-Ok.all
-    (reply_of_events c.end_telling.result) (state_of q) (none-left p.desk.events c.self.invariant) c.in-Ok.ensures.tells c.end_telling.ensures.reply leaves c.end_telling.ensures.desk _ changes)
+    (reply_of_events c.end_telling.result) (state_of q) (none-left p.desk.events c.self.invariant.taken) c.in-Ok.ensures.tells c.end_telling.ensures.reply leaves c.end_telling.ensures.desk _ changes)
+
+pub invariant_of-self-2 : goal.invariant_of-self-2
+invariant_of-self-2 g c =
+    let s = story_tree c.self.inside.story in
+    stands-told s c.self.invariant.story c.args.machine c.end_telling.new.desk.events c.in-Ok.all c.end_telling.new.broken None (ap (λ d. is_empty d.events) c.end_telling.ensures.desk) refl c.end_telling.ensures.broken
+    (stands-as (story_of c.args.self.now) s c.args.machine (ap (λ q. story_of q) (sym c.self.view_is)) c.requires.fits)

@@ -1,8 +1,12 @@
-use Rattle.std.proofs.Common.{[], sym}
+use Rattle.std.proofs.Common.{[], IfOk, ap, subst, sym}
 use Rattle.serde_json.specs.View.{view}
+use Rattle.ink_check.specs.Words.{story_tree}
+use Rattle.ink_model.specs.Answer.{Refuses, reply_of_events}
+use Rattle.ink_player.specs.Saving.{ReadsAsState}
 use Rattle.ink_player.specs.Words.{PlayerView, bindings, desk_of, state_of, story_of}
 use Rattle.ink_step.specs.Words.{config_of, globals_of}
-use Rattle.ink_player.proofs.Saves.{load-read, load-refused}
+use Rattle.ink_player.proofs.Saves.{load-read, load-reads, load-refused, load-stands}
+use Rattle.ink_player.proofs.Standing.{stands-as}
 use Rattle.ink_player.proofs.Tellings.{globals-by, once-none}
 use Rattle.ink_player.proofs.player.Player.load.Goals as goal
 
@@ -26,3 +30,30 @@ returns-in-Err-clause-does g c =
       load-refused (story_of p) (bindings g.P.PureFn.meaning (desk_of p)) (view c.args.json.now) (state_of p) c.in-Err.refusal c.in-Err.ensures,
       once-none g.F.TurnFn.log g.O.Watcher.state _ (desk_of p),
     )
+
+pub begin_anew-requires : goal.begin_anew-requires
+begin_anew-requires g c = record {
+  fits = stands-as (story_tree c.self.inside.story) (story_of c.args.self.now) c.in-Ok.found (ap (λ q. story_of q) c.self.view_is) (c.in-Ok.ensures.sound, c.in-Ok.ensures.rests);
+}
+
+pub returns-in-Ok-clause-stands : goal.returns-in-Ok-clause-stands
+returns-in-Ok-clause-stands g c =
+    let p = c.args.self.now in
+    let does = returns-in-Ok-clause-does g c in
+    let new = state_of c.begin_anew.new.self in
+    subst (λ s. IfOk c.begin_anew.result (λ events. ReadsAsState s (view c.args.json.now) new)) (sym c.begin_anew.ensures.story)
+    (load-stands (story_of p) (bindings g.P.PureFn.meaning (desk_of p)) (view c.args.json.now) (state_of p) does.0 c.begin_anew.result new does.1)
+
+pub returns-in-Ok-clause-reads : goal.returns-in-Ok-clause-reads
+returns-in-Ok-clause-reads g c = λ x reads.
+    let p = c.args.self.now in
+    let does = returns-in-Ok-clause-does g c in
+    load-reads (story_of p) (bindings g.P.PureFn.meaning (desk_of p)) (view c.args.json.now) (state_of p) does.0 (reply_of_events c.begin_anew.result) (state_of c.begin_anew.new.self)
+    (rw (sym c.self.view_is) c.self.invariant.story) does.1 x reads
+
+pub returns-in-Err-clause-reads : goal.returns-in-Err-clause-reads
+returns-in-Err-clause-reads g c = λ x reads.
+    let p = c.args.self.now in
+    let does = returns-in-Err-clause-does g c in
+    load-reads (story_of p) (bindings g.P.PureFn.meaning (desk_of p)) (view c.args.json.now) (state_of p) does.0 (Refuses c.in-Err.refusal) (state_of p)
+    (rw (sym c.self.view_is) c.self.invariant.story) does.1 x reads

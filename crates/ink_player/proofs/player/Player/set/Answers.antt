@@ -63,3 +63,6 @@ returns-clause-does g c =
           (known ∙ c.if-not-contains.false) does.1,
       (does.2.0, subst (λ (cs : List Change). TellsOnce state cs (desk_of p).watchers (desk_of c.store.new.self).watchers) changes does.2.1),
     )
+
+pub store-requires-clause-given : goal.store-requires-clause-given
+store-requires-clause-given g c = (c.args.value, sym c.is_settable.ensures ∙ c.if-not-is_settable.false, c.value_given.ensures)

@@ -1,11 +1,15 @@
-use Rattle.std.proofs.Common.{◌≡◌, ◌∙◌, None, ap, refl, sym}
+use Rattle.std.proofs.Common.{◌≡◌, ◌∙◌, None, ap, refl, subst, sym}
 use Rattle.ink_model.specs.Answer.{reply_of_events}
 use Rattle.ink_model.specs.Configuration.{with_globals}
 use Rattle.ink_model.specs.State.{Ready}
 use Rattle.ink_model.specs.Store.{store}
-use Rattle.ink_player.specs.Words.{PlayerView, condition_by, desk_of, state_of, story_of}
+use Rattle.ink_check.specs.Words.{story_tree}
+use Rattle.ink_model.specs.Host.{value_given}
+use Rattle.ink_sound.specs.Kept.{ConditionFits}
+use Rattle.ink_player.specs.Words.{PlayerView, is_empty, condition_by, desk_of, state_of, story_of}
 use Rattle.ink_step.specs.Words.{config_of}
 use Rattle.ink_player.proofs.Tellings.{none-left, on-ok, tells-done, tells-kept, told-state, with_parts}
+use Rattle.ink_player.proofs.Standing.{free-stands, set-stands, stands-told}
 use Rattle.ink_player.proofs.player.Player.store.Goals as goal
 
 pub returns-in_default-clause-does : goal.returns-in_default-clause-does
@@ -28,4 +32,18 @@ returns-clause-does g c =
     let leaves = told-state p c.set-stored.new.self c.end_telling.new.desk c.tell_one.new.desk c.end_telling.new.broken p.broken c.in-Ok.all after free
     c.end_telling.ensures.broken c.end_telling.ensures.desk stored in
     rw (sym c.self.view_is) (tells-done g.F.TurnFn.log g.O.Watcher.state _ (condition_by p.broken before) (Ready after) (desk_of p) c.tell_one.new.desk (desk_of q) c.in-Ok.all
-    (reply_of_events c.end_telling.result) (state_of q) (none-left p.desk.events c.self.invariant) c.in-Ok.ensures.tells c.end_telling.ensures.reply leaves c.end_telling.ensures.desk _ refl)
+    (reply_of_events c.end_telling.result) (state_of q) (none-left p.desk.events c.self.invariant.taken) c.in-Ok.ensures.tells c.end_telling.ensures.reply leaves c.end_telling.ensures.desk _ refl)
+
+pub invariant_of-self-2 : goal.invariant_of-self-2
+invariant_of-self-2 g c =
+    let s = story_tree c.self.inside.story in
+    let kept = c.self.invariant in
+    let before = config_of s c.self.inside.machine in
+    let new = c.set-stored.new.self in
+    let given = c.requires.given in
+    let there = rw (sym c.self.view_is) at c.requires.there in
+    let free : c.self.inside.broken ≡ None = ap (λ x. x.broken) c.self.view_is ∙ c.requires.unbroken in
+    let stored : config_of s new ≡ with_globals (store c.args.name.now (value_given given.0) before.shared.globals) before =
+    on-ok c.set-stored.result _ (c.set-stored.ensures.found ∙ there) (c.set-stored.ensures.ok s) ∙ ap (λ v. with_globals (store c.args.name.now v before.shared.globals) before) given.2 in
+    stands-told s kept.story new c.end_telling.new.desk.events c.in-Ok.all c.end_telling.new.broken c.self.inside.broken (ap (λ d. is_empty d.events) c.end_telling.ensures.desk) free c.end_telling.ensures.broken
+    (subst (λ x. ConditionFits s (Ready x)) (sym stored) (set-stands s kept.story before (free-stands s kept.story c.self.inside.broken before free kept.fits) c.args.name.now given.0 given.1 there))

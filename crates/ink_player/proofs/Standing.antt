@@ -1,0 +1,113 @@
+-- A player stands sound and at rest after each command: by the law of ink_sound that says so of commands, and of opening.
+use Rattle.std.proofs.Common.{◌≡◌, ◌∙◌, ap, refl, subst, sym, inl, inr, ℕ, List, [], ◌∷◌, ◌++◌, Bool, true, false, Option, None, Some, is_some, Result, Ok, Err, OnOk, OnErr}
+use Rattle.ink_model.specs.Answer.{Reply, Acts, Refuses, reply_of_landing}
+use Rattle.ink_model.specs.Choosing.{jump_place, jumped, open_choice}
+use Rattle.ink_model.specs.Command as command
+use Rattle.ink_model.specs.Command.{Command}
+use Rattle.ink_model.specs.Configuration.{ChoiceOf, Configuration, can_go_on, settled, with_globals}
+use Rattle.ink_model.specs.Events.{Made, calls, later}
+use Rattle.ink_model.specs.Host.{Bindings, Bound, nothing_bound, value_given}
+use Rattle.ink_model.specs.Run as run
+use Rattle.ink_model.specs.Session.{Does, TellsDone, left_with, settable, telling}
+use Rattle.ink_model.specs.State.{State, Ready}
+use Rattle.ink_model.specs.Store.{Values, store, stored}
+use Rattle.ink_model.specs.Told.{ToldAs, told}
+use Rattle.ink_model.specs.Tree.{StoryTree}
+use Rattle.ink_model.specs.Turns.{ChoosesBy, JumpsBy}
+use Rattle.ink_model.specs.Visits.{entering_around}
+use Rattle.ink_model.specs.declared.fault.Fault.{Fault}
+use Rattle.ink_model.specs.declared.fault.Fault.TheVariants.{OutOfMemory}
+use Rattle.ink_model.specs.declared.fault.Refusal.{Refusal}
+use Rattle.ink_model.specs.declared.host.Event.{Event}
+use Rattle.ink_model.specs.declared.host.Given.{Given}
+use Rattle.ink_model.specs.declared.place.Part.{Part}
+use Rattle.ink_sound.specs.Kept.{ConditionFits, StateFits, StoryFits}
+use Rattle.ink_sound.proofs.Sessions.{does_fit}
+use Rattle.ink_step.specs.Steps.{Chooses}
+use Rattle.ink_step.specs.Words.{config_of}
+use Rattle.ink_step.specs.declared.machine.Machine.{Machine}
+use Rattle.ink_player.specs.Words.{Stands, condition_by, fault_told, is_empty}
+use Rattle.ink_player.proofs.Tellings.{at_stamp, nobody-told, sets, through-where}
+
+-- names bound as they are, and nobody watches
+abbrev unwatched : Bound → Bindings
+unwatched b = record { functions = b; watches = λ name. false }
+
+told_unwatched : (start now : Values) → told (λ name. false) start now ≡ []
+told_unwatched start [] = refl
+told_unwatched start (e ∷ now) = told_unwatched start now
+
+-- a choice is taken, as a command
+choice_taken : (s : StoryTree) (choice : Option (ChoiceOf (List Part))) (c d : Configuration) (r : Result (Unit {0}) Refusal) → Chooses s choice c d r
+    → ChoosesBy s choice c (at_stamp (Ready c) 0) (reply_of_landing r) (at_stamp (Ready d) 0)
+choice_taken s None c d (Ok u) h = absurd h
+choice_taken s None c d (Err r) h = (ap Refuses h.0, ap (λ x. at_stamp (Ready x) 0) h.1)
+choice_taken s (Some choice) c d (Ok u) h = inl (refl, ap (λ x. at_stamp (Ready x) 0) h)
+choice_taken s (Some choice) c d (Err r) h = inr (h.1, (ap Refuses h.0, ap (λ x. at_stamp (Ready x) 0) h.2))
+
+-- a machine stands in a story as in one that is the same
+pub stands-as : (s t : StoryTree) (m : Machine) → s ≡ t → ConditionFits s (Ready (config_of s m)) → ConditionFits t (Ready (config_of t m))
+stands-as s t m e h = subst (λ u. ConditionFits u (Ready (config_of u m))) e h
+
+module _ (s : StoryTree) (story : StoryFits s) where
+  -- ---- what is left between calls
+
+  -- a fault broke it
+  pub stands-broken : (m : Machine) (es : List Event) (b : Option Fault) (f : Fault) → is_empty es ≡ true → b ≡ Some f → Stands s es b m
+  stands-broken m es b f none e = record { taken = none; story = story; fits = subst (λ x. ConditionFits s (condition_by x (config_of s m))) (sym e) tt }
+
+  -- none did
+  pub stands-free : (m : Machine) (es : List Event) (b : Option Fault) → is_empty es ≡ true → b ≡ None → ConditionFits s (Ready (config_of s m)) → Stands s es b m
+  stands-free m es b none free fits = record { taken = none; story = story; fits = subst (λ x. ConditionFits s (condition_by x (config_of s m))) (sym free) fits }
+
+  -- watchers were told, all of them or not
+  pub stands-told : (m : Machine) (es : List Event) (all : Bool) (b old : Option Fault) → is_empty es ≡ true → old ≡ None → b ≡ fault_told all old
+      → ConditionFits s (Ready (config_of s m)) → Stands s es b m
+  stands-told m es true b old none free e fits = stands-free m es b none (e ∙ free) fits
+  stands-told m es false b old none free e fits = stands-broken m es b OutOfMemory none e
+
+  -- ---- commands, from where a player stands that is not broken
+
+  pub free-stands : (b : Option Fault) (c : Configuration) → b ≡ None → ConditionFits s (condition_by b c) → ConditionFits s (Ready c)
+  free-stands b c e h = subst (λ x. ConditionFits s (condition_by x c)) e h
+
+  module _ (c : Configuration) (fits : ConditionFits s (Ready c)) where
+    -- one that tells nobody
+    does : (b : Bound) (es : List Event) (k : Command) (reply : Reply) (new : State) → Does s (unwatched b) es (Some k) (at_stamp (Ready c) 0) reply new → StateFits s new
+    does b es k reply new h = does_fit s story (unwatched b) es (Some k) (at_stamp (Ready c) 0) reply new h fits
+
+    pub choose-stands : (n : ℕ) (d : Configuration) (r : Result (Unit {0}) Refusal) → Chooses s (open_choice n c) c d r → ConditionFits s (Ready d)
+    choose-stands n d r h = does nothing_bound [] (command.Choose n) (reply_of_landing r) (at_stamp (Ready d) 0) (refl, choice_taken s (open_choice n c) c d r h)
+
+    pub jump-stands : {E : Type 0} (path : List ℕ) (q : List Part) (d : Configuration) (r : Result (Unit {0}) E) → jump_place s path ≡ Some q
+        → OnOk r (d ≡ entering_around s (jumped q c)) → OnErr r (d ≡ c) → ConditionFits s (Ready d)
+    jump-stands path q d (Ok u) e h k = does nothing_bound [] (command.Jump path) (Acts []) (at_stamp (Ready d) 0)
+        (refl, subst (λ o. JumpsBy s o c (at_stamp (Ready c) 0) (Acts []) (at_stamp (Ready d) 0)) (sym e) (inl (refl, ap (λ x. at_stamp (Ready x) 0) h)))
+    jump-stands path q d (Err x) e h k = subst (λ y. ConditionFits s (Ready y)) (sym k) fits
+
+    pub set-stands : (name : List ℕ) (g : Given) → settable g ≡ true → is_some (stored name c.shared.globals) ≡ true
+        → ConditionFits s (Ready (with_globals (store name (value_given g) c.shared.globals) c))
+    set-stands name g e k =
+        let new = with_globals (store name (value_given g) c.shared.globals) c in
+        let done : TellsDone [] (Ready new) Acts [] [] (at_stamp (Ready c) 0) (Acts []) (at_stamp (Ready new) 0) =
+        record { all = true; saw = []; telling = nobody-told 0; events = refl; replies = refl; leaves = refl } in
+        does nothing_bound [] (command.Set name (Some g)) (Acts []) (at_stamp (Ready new) 0)
+        (sets (unwatched nothing_bound) name c None 0 g [] (Acts []) (at_stamp (Ready new) 0) (value_given g) refl refl e k (inl done))
+
+    -- a run came to its end with a configuration, and left it settled
+    pub run-stands : (b : Bound) (made : List Made) (stop d : Configuration) → can_go_on c ≡ true → run.EndsThrough s b c made (run.Kept stop) → d ≡ settled stop → ConditionFits s (Ready d)
+    run-stands b made stop d goes ends is =
+        let es = calls 0 made ++ [] in
+        let old = at_stamp (Ready c) 0 in
+        let new = left_with (Ready (settled stop)) es old in
+        let cs = told (λ name. false) c.shared.globals stop.shared.globals in
+        let done : TellsDone cs (Ready (settled stop)) (telling stop) (calls 0 made) es old (telling stop es) new = record {
+          all = true;
+          saw = [];
+          telling = subst (λ xs. ToldAs (later 0 (calls 0 made)) xs true []) (sym (told_unwatched c.shared.globals stop.shared.globals)) (nobody-told (later 0 (calls 0 made)));
+          events = refl;
+          replies = refl;
+          leaves = refl;
+        } in
+        subst (λ x. ConditionFits s (Ready x)) (sym is) (does b es command.Through (telling stop es) new
+        (through-where s (unwatched b) None c 0 es (telling stop es) new true refl goes (made, inl (run.Kept stop, ends, inl done))))
