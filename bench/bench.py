@@ -342,7 +342,7 @@ def waiting(count, frames):
 
 def saves(_program, worker):
     """Saves and loads, beside what the JSON library takes to print and to parse the same values."""
-    print("%-34s %9s %9s %9s %9s %9s %9s" % ("ms", "KiB", "saved", "printed", "times", "loaded", "parsed") + " %9s" % "times")
+    print("%-34s %9s %9s %9s %9s %9s %9s %9s" % ("ms", "KiB", "saved", "printed", "times", "loaded", "parsed", "times"))
     sizes = [("%d visited, %d globals" % (count, count // 10), counted(count)) for count in (1000, 10000, 100000)]
     sizes += [("%d choices of %d frames" % (count, frames), waiting(count, frames)) for count, frames in ((10, 10), (1000, 10), (10, 1000))]
     for name, (story, save) in sizes:
