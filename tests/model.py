@@ -5,9 +5,12 @@
     tests/model.py --stories N [--seed N]               prints that many random stories, one a line: small ones that are accepted
     tests/model.py --twins                              prints the stories that it reads as cases of a table of twins for inktest
 
-The model shares nothing with the program or its definitions. Prints the first runs that differ, and last how many do, with
-how many really played, and how many were left out since the model takes too long for them. The status is 0 only where none
-differs.
+The model shares nothing with the program or its definitions. Many sessions are saved, and loaded once something else was done:
+there the model goes on from the machine that it kept, so that what follows is what would have followed. Other saves are loaded
+with a change in them, which the model reads by the rules of docs/SAVES.md.
+
+Prints the first runs that differ, and last how many do, with how many really played, how many were left out since the model takes
+too long for them, and how many saves were loaded and refused. The status is 0 only where none differs.
 """
 import argparse
 import copy
