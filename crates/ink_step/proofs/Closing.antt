@@ -1,10 +1,10 @@
 -- Strings and tags that end where none is open, or where there is no room for their text.
-use Rattle.std.proofs.Common.{◌≡◌, inl, refl, subst, sym, ℕ, List, [], ◌∷◌, ◌++◌, length, nat_lt, Bool, true, false, not, ◌||◌, if◌then◌else◌, Option, Result, Ok, Err}
+use Rattle.std.proofs.Common.{◌≡◌, inl, refl, subst, sym, ℕ, List, [], ◌∷◌, ◌++◌, length, nat_lt, Bool, true, false, not, ◌||◌, if◌then◌else◌, Ok, Err}
 use Rattle.std.specs.List.{list_any}
 use Rattle.ink_model.specs.Asks.{has_room, has_tag_room}
 use Rattle.ink_model.specs.Bytes.{fits_text}
 use Rattle.ink_model.specs.Effect.{Fields, Moves, or_fault, pushing}
-use Rattle.ink_model.specs.Output.{closes_string, closes_string_of, closes_tag, closes_tag_of, is_string, kept_text, tagged}
+use Rattle.ink_model.specs.Output.{closes_string, closes_string_of, closes_tag, closes_tag_of, is_string, tagged}
 use Rattle.ink_model.specs.Page.{Page, Section, SectionKind, string_section, tag_section}
 use Rattle.ink_model.specs.Step.Host.{has_string}
 use Rattle.ink_model.specs.Step.Text.{closed_tag, end_string, in_string, in_tag, keeps_tag}

@@ -14,8 +14,9 @@ use std::alloc::{AllocError, Global};
 impl Machine {
     ghost use Rattle.ink_step.specs.Words.{globals_of, start_of};
 
-    /// The watched globals that have another value than when the last running command began, or were not there then, in order of
-    /// declaration. The one error is a refused request for memory, which is made only where there are such globals.
+    /// The watched globals that have another value than when the last running command began or the last global was set, whichever
+    /// came later, or were not there then, in order of declaration. The one error is a refused request for memory, which is made
+    /// only where there are such globals.
     pub fn told<P: PureFn, T: TurnFn, W: Watcher>(
         &self,
         desk: &Desk<P, T, W>,

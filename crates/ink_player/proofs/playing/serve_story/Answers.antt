@@ -1,4 +1,4 @@
-use Rattle.std.proofs.Common.{[], ◌∙◌, ap, refl, sym, inr, Ok, Err}
+use Rattle.std.proofs.Common.{[], ◌∙◌, ap, sym, inr, Ok, Err}
 use Rattle.ink_player.specs.Words.{anew, bindings, desk_of}
 use Rattle.ink_player.proofs.Playings.{left_alone, left_unopened, no_story, unopened, unopened_last, plays_last, plays_on, plays_short, opens_as}
 use Rattle.ink_player.proofs.Sessions.{runs_for}
