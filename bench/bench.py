@@ -1,9 +1,9 @@
 #!/usr/bin/env python3
 """Times reading, checking and running stories of 1, 4 and 16 MiB, long arithmetic, long passages, command lines, calls,
-visits, choices and objects of a host, and prints the times side by side.
+visits, choices, objects of a host and saves, and prints the times side by side.
 
     bench/bench.py [--program PROGRAM] [--worker WORKER] [reading] [arithmetic] [passages] [commands] [calls] [visits] [choices]
-                   [hosts]
+                   [hosts] [saves]
         ./inkplay, crates/inkbench and all of them, unless others are named
 
 Each time is the least of three runs, in milliseconds, with the program's start in it. The last column is the time at
@@ -11,6 +11,7 @@ Each time is the least of three runs, in milliseconds, with the program's start 
 within one run.
 """
 import argparse
+import json
 import os
 import subprocess
 import sys
@@ -303,7 +304,59 @@ def hosts(program, _worker):
         print("%-34s %9d %12.0f" % ("", count, took * 1e6 / 10000))
 
 
-BENCHES = {"reading": reading, "arithmetic": steps, "passages": passages, "commands": commands, "calls": calls, "visits": visits, "choices": choices, "hosts": hosts}
+def with_knots(count):
+    """A story with so many containers that are counted, half of them in the others, and their places in order."""
+    names = sorted("knot_%d" % number for number in range(count // 2))
+    story = {"inkVersion": 21, "root": ["done", dict.fromkeys(names, ["^a", ["^b", {"#f": 3}], {"#f": 3}])]}
+    places = [place for name in names for place in ([name], [name, 1])]
+    return story, places
+
+
+def frame(kind, place, temps):
+    return {"depth": 0, "eval": False, "fresh": False, "kind": kind, "place": place, "temps": temps}
+
+
+def save_of(**other):
+    start = {"choices": [], "format": 1, "globals": [], "safe": False, "stack": [], "threads": [{"frames": [frame("base", [0], {})], "previous": None}],
+             "turn": 0, "turns": [], "visits": []}
+    return dict(start, **other)
+
+
+def counted(count):
+    """A story, and a save with so many containers that were visited, and a tenth as many globals."""
+    story, places = with_knots(count)
+    values = (7, -123456, True, "a word or two", "^")
+    return story, save_of(globals=[["global_%d" % number, values[number % len(values)]] for number in range(count // 10)],
+                          turns=[[place, number % 1000] for number, place in enumerate(places)], visits=[[place, number % 50 + 1] for number, place in enumerate(places)])
+
+
+def waiting(count, frames):
+    """A story, and a save with so many choices, each with so many frames."""
+    story, places = with_knots(1000)
+    temps = {"hero": "Ada", "here": {"ci": 1, "var": "hero"}, "gold": 12}
+    def choice(number):
+        calls = [frame("tunnel" if level else "base", places[(number + level) % len(places)], temps) for level in range(frames)]
+        return {"hidden": False, "tags": [], "target": places[number % len(places)], "text": "Go to the crossing", "thread": {"frames": calls, "previous": places[0]}}
+    return story, save_of(choices=[choice(number) for number in range(count)])
+
+
+def saves(_program, worker):
+    """Saves and loads, beside what the JSON library takes to print and to parse the same values."""
+    print("%-34s %9s %9s %9s %9s %9s %9s %9s" % ("ms", "KiB", "saved", "printed", "times", "loaded", "parsed", "times"))
+    sizes = [("%d visited, %d globals" % (count, count // 10), counted(count)) for count in (1000, 10000, 100000)]
+    sizes += [("%d choices of %d frames" % (count, frames), waiting(count, frames)) for count, frames in ((10, 10), (1000, 10), (10, 1000))]
+    for name, (story, save) in sizes:
+        text = json.dumps(save, separators=(",", ":"), sort_keys=True)
+        lines = json.dumps(story, separators=(",", ":")) + "\n" + text
+        rounds = max(1, (20 * MIB) // len(text))
+        def took(what):
+            return (best_work(worker, [what, rounds], lines) - best_work(worker, [what, 0], lines)) / rounds
+        saved, printed, loaded, parsed = (took(what) for what in ("save", "print", "load", "parse"))
+        print("%-34s %9.0f %9.3f %9.3f %9.2f %9.3f %9.3f %9.2f" % (name, len(text) / 1024, saved, printed, saved / printed, loaded, parsed, loaded / parsed))
+
+
+BENCHES = {"reading": reading, "arithmetic": steps, "passages": passages, "commands": commands, "calls": calls, "visits": visits, "choices": choices, "hosts": hosts,
+           "saves": saves}
 
 
 def main():

@@ -45,6 +45,14 @@ def told(value, stamp):
     return '"events":[{"saw":"gold","stamp":%d,"value":%d}]' % (stamp, value)
 
 
+def load(*values, place=None):
+    """A line that loads a save with these globals, whose flow is at this place or has stopped."""
+    frame = {"depth": 0, "eval": False, "fresh": False, "kind": "base", "place": place, "temps": {}}
+    save = {"choices": [], "format": 1, "globals": values, "safe": False, "stack": [], "threads": [{"frames": [frame], "previous": None}],
+            "turn": 0, "turns": [], "visits": []}
+    return "load %s\n" % json.dumps(save)
+
+
 def refused(why):
     return "", "inkplay: story refused: %s\n" % why, 2
 
@@ -140,6 +148,16 @@ def run_objects(program, folder):
         yield "words %s, story first" % words, run(program, ROLLS + "\n" + text, words), wanted
     watched = PASSAGE.replace('"events":[]', told(11, 0)) + '{%s}\n{"events":[]}\n{%s}\n' % (told(7, 1), told(10, 2))
     yield "a watcher", run(program, GOLD + "\nthrough\nset gold 7\nset gold 7\nrestart\n", ["--watch", "gold"]), (watched, "", 0)
+    saved = load(("other", "a"), ("gold", 11))
+    watched = ('{%s}\n{"events":[{"saw":"other","stamp":1,"value":"a"},{"saw":"gold","stamp":2,"value":11}]}\n{"events":[]}\n{"refused":"BadSave"}\n{"events":[]}\n{%s}\n'
+               % (told(7, 0), told(11, 3)))
+    yield ("a watcher and loads", run(program, GOLD + "\nset gold 7\n" + saved + saved + load(("gold", 1), ("gold", 1)) + load(("more", 1)) + load(("more", 2), ("gold", 11)),
+                                      ["--watch", "gold", "--watch", "other"]), (watched, "", 0))
+    rolls = [rolled("4", "4 for Ada"), rolled("2", "2 for Ada").replace('"stamp":0', '"stamp":1'), fault[0].replace('"stamp":0', '"stamp":2'),
+             fault[0].replace('"stamp":0', '"stamp":3')]
+    start = load(place=[0])
+    yield ("calls go on after loads", run(program, (start + "through\n") * 4, [path, "--answer", "roll=[4,2]"] + table),
+           ("".join('{"events":[]}\n' + roll for roll in rolls), "", 0))
 
 
 def run_ends(program):

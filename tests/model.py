@@ -5,9 +5,12 @@
     tests/model.py --stories N [--seed N]               prints that many random stories, one a line: small ones that are accepted
     tests/model.py --twins                              prints the stories that it reads as cases of a table of twins for inktest
 
-The model shares nothing with the program or its definitions. Prints the first runs that differ, and last how many do, with
-how many really played, and how many were left out since the model takes too long for them. The status is 0 only where none
-differs.
+The model shares nothing with the program or its definitions. Many sessions are saved, and loaded once something else was done:
+there the model goes on from the machine that it kept, so that what follows is what would have followed. Other saves are loaded
+with a change in them, which the model reads by the rules of docs/SAVES.md.
+
+Prints the first runs that differ, and last how many do, with how many really played, how many were left out since the model takes
+too long for them, and how many saves were loaded and refused. The status is 0 only where none differs.
 """
 import argparse
 import copy
@@ -22,6 +25,9 @@ WHITE = " \t\n"
 SINGLE = ("_", "!", "FLOOR", "CEILING", "INT")
 OPERATORS = ("+", "-", "/", "*", "%", "==", ">", "<", ">=", "<=", "!=", "&&", "||", "MIN", "MAX", "?", "!?") + SINGLE
 LEAST = -2 ** 31
+MOST = 2 ** 31 - 1
+MOST_TEXT = 2 ** 20
+MOST_LINE = 2 ** 20
 
 
 class Fault(Exception):
@@ -403,6 +409,9 @@ class Choice:
     def __init__(self, text, tags, place, hidden, thread):
         self.text, self.tags, self.place, self.hidden, self.thread = text, tags, place, hidden, thread
 
+    def again(self):
+        return Choice(self.text, self.tags, self.place, self.hidden, self.thread.again())
+
     def shown(self):
         return {"tags": self.tags, "text": self.text}
 
@@ -423,6 +432,14 @@ class Machine:
         for thread in self.threads + [choice.thread for choice in self.choices]:
             for frame in thread:
                 frame.number = None
+
+    def again(self):
+        """Another one that stands where this one does."""
+        other = copy.copy(self)
+        other.globals, other.stack = dict(self.globals), list(self.stack)
+        other.threads, other.choices = [thread.again() for thread in self.threads], [choice.again() for choice in self.choices]
+        other.visits, other.turns = dict(self.visits), dict(self.turns)
+        return other
 
     @property
     def frames(self):
@@ -573,7 +590,7 @@ class Machine:
     def enter(self, place):
         flags = flags_at(self.root, place)
         if flags & 1:
-            self.visits[tuple(place)] = self.visits.get(tuple(place), 0) + 1
+            self.visits[tuple(place)] = min(self.visits.get(tuple(place), 0) + 1, MOST)
         if flags & 2:
             self.turns[tuple(place)] = self.turn_number
 
@@ -669,7 +686,7 @@ class Machine:
         if not is_wanted or (flags & 16 and self.visits_at(end)):
             return
         text = (start + only).strip(" \t")
-        if len(text.encode()) > 2 ** 20 or len(self.choices) >= 1000:
+        if len(text.encode()) > MOST_TEXT or len(self.choices) >= 1000:
             raise Fault("TooDeep")
         place = end if isinstance(path[1][-1], int) else landed(self.root, end)
         self.choices.append(Choice(text, start_tags + only_tags, place, bool(flags & 8), self.frames.again()))
@@ -683,7 +700,7 @@ class Machine:
         self.enter_around(choice.place)
 
     def next_turn(self):
-        self.turn_number = min(self.turn_number + 1, -LEAST - 1)
+        self.turn_number = min(self.turn_number + 1, MOST)
 
     def jump(self, place):
         self.threads, self.safe, self.choices = [Thread([Frame("base", place, 0)])], True, []
@@ -757,7 +774,7 @@ class Machine:
         answer = self.host.gives(name, self.arguments(content.get("exArgs", 0)))
         if answer is REFUSED:
             raise Fault("HostRefused")
-        if isinstance(answer, str) and len(answer.encode()) > 2 ** 20:
+        if isinstance(answer, str) and len(answer.encode()) > MOST_TEXT:
             raise Fault("TooDeep")
         self.push(answer)
         return False
@@ -884,22 +901,228 @@ def opened(root, host):
     return Machine(root, landed(root, []), declared, host)
 
 
+# ---- JSON
+
+def fraction(text):
+    number = float(text)
+    if number in (float("inf"), float("-inf")):
+        raise ValueError(text)
+    return number
+
+
+def whole(text):
+    """A whole number, where it has 64 bits; `-0` is a float."""
+    number = int(text)
+    return fraction(text) if text == "-0" or not -2 ** 63 <= number < 2 ** 64 else number
+
+
+def no_word(word):
+    raise ValueError(word)
+
+
+def of_json(text):
+    """What JSON spells. A text has whole characters alone."""
+    try:
+        value = json.loads(text, parse_int=whole, parse_float=fraction, parse_constant=no_word)
+        to_json(value).encode()
+        return value
+    except RecursionError:
+        raise ValueError("nested too deep")
+
+
+def to_json(value):
+    return json.dumps(value, separators=(",", ":"), sort_keys=True, ensure_ascii=False)
+
+
+# ---- saves, as they are spelled
+
+def spelled_frame(frame):
+    return {"depth": frame.depth, "eval": frame.evaluating, "fresh": frame.fresh, "kind": frame.kind, "place": frame.place,
+            "temps": {name: told(value) for name, value in frame.temporaries.items()}}
+
+
+def spelled_thread(thread):
+    return {"frames": [spelled_frame(frame) for frame in thread], "previous": thread.previous}
+
+
+def spelled_choice(choice):
+    return {"hidden": choice.hidden, "tags": choice.tags, "target": choice.place, "text": choice.text, "thread": spelled_thread(choice.thread)}
+
+
+def in_order(place):
+    """What places rise by: an index comes before a name."""
+    return [(0, part, "") if isinstance(part, int) else (1, 0, part) for part in place]
+
+
+def spelled_counts(counts):
+    return [[list(place), counts[place]] for place in sorted(counts, key=in_order)]
+
+
+def spelled(machine):
+    """What a machine is saved as."""
+    return {"choices": [spelled_choice(choice) for choice in machine.choices], "format": 1,
+            "globals": [[name, told(value)] for name, value in machine.globals.items()], "safe": machine.safe,
+            "stack": [told(value) for value in machine.stack], "threads": [spelled_thread(thread) for thread in machine.threads],
+            "turn": machine.turn_number, "turns": spelled_counts(machine.turns), "visits": spelled_counts(machine.visits)}
+
+
+# ---- saves, as they are read
+
+class BadSave(Exception):
+    pass
+
+
+def need(condition):
+    if not condition:
+        raise BadSave()
+
+
+def fields(value, *names):
+    """The members of an object that has these and no others."""
+    need(isinstance(value, dict) and set(value) == set(names))
+    return [value[name] for name in names]
+
+
+def boolean(value):
+    need(isinstance(value, bool))
+    return value
+
+
+def string(value):
+    need(isinstance(value, str))
+    return value
+
+
+def integer(value, least, most):
+    need(type(value) is int and least <= value <= most)
+    return value
+
+
+def array(value, most=None):
+    need(isinstance(value, list) and (most is None or len(value) <= most))
+    return value
+
+
+class Reader:
+    """Reads a save of a story."""
+
+    def __init__(self, root):
+        self.root = root
+
+    def place(self, value):
+        """A place of content, or of a container's end."""
+        for part in array(value):
+            if not isinstance(part, str):
+                integer(part, 0, MOST)
+        around = found(self.root, value[:-1])
+        need(found(self.root, value) is not None or (isinstance(around, list) and value[-1] == width(around)))
+        return value
+
+    def text(self, value):
+        need(len(string(value).encode()) <= MOST_TEXT)
+        return value
+
+    def target(self, text):
+        path = path_of(string(text))
+        need(path is not None and not path[0] and ".".join(map(str, path[1])) == text)
+        need(target(self.root, [], path) is not None)
+        return Target(path[1])
+
+    def value(self, value):
+        if isinstance(value, dict) and "->" in value:
+            return self.target(*fields(value, "->"))
+        if isinstance(value, dict) and "tag" in value:
+            return Tag(self.text(*fields(value, "tag")))
+        if isinstance(value, dict):
+            frame, name = fields(value, "ci", "var")
+            return Pointer((integer(frame, 0, MOST), string(name)))
+        if value is None or isinstance(value, bool):
+            return value
+        return self.text(value) if isinstance(value, str) else integer(value, LEAST, MOST)
+
+    def frame(self, value):
+        depth, evaluating, fresh, kind, place, temporaries = fields(value, "depth", "eval", "fresh", "kind", "place", "temps")
+        need(kind in ("base", "function", "tunnel") and isinstance(temporaries, dict))
+        frame = Frame(kind, place if place is None else self.place(place), integer(depth, 0, 1000))
+        frame.evaluating, frame.fresh = boolean(evaluating), boolean(fresh)
+        frame.temporaries = {name: self.value(held) for name, held in temporaries.items()}
+        return frame
+
+    def thread(self, value, may_have_stopped=False):
+        frames, previous = fields(value, "frames", "previous")
+        thread = Thread(self.frame(frame) for frame in array(frames, 1000))
+        need(thread and [frame.kind == "base" for frame in thread] == [True] + [False] * (len(thread) - 1))
+        need(all(frame.place is not None for frame in (thread[:-1] if may_have_stopped else thread)))
+        thread.previous = previous if previous is None else self.place(previous)
+        return thread
+
+    def choice(self, value):
+        hidden, tags, place, text, thread = fields(value, "hidden", "tags", "target", "text", "thread")
+        return Choice(self.text(text), [self.text(tag) for tag in array(tags)], self.place(place), boolean(hidden), self.thread(thread))
+
+    def names(self, value):
+        """The globals, in order; each name stands once."""
+        values = {}
+        for row in array(value):
+            need(len(array(row)) == 2 and string(row[0]) not in values)
+            values[row[0]] = self.value(row[1])
+        return values
+
+    def counts(self, value, flag, least):
+        counts, last = {}, None
+        for row in array(value):
+            need(len(array(row)) == 2)
+            place = self.place(row[0])
+            need((flags_at(self.root, place) or 0) & flag and (last is None or last < in_order(place)))
+            counts[tuple(place)], last = integer(row[1], least, MOST), in_order(place)
+        return counts
+
+    def machine(self, value, host):
+        choices, layout, values, safe, stack, threads, turn, turns, visits = fields(
+            value, "choices", "format", "globals", "safe", "stack", "threads", "turn", "turns", "visits")
+        integer(layout, 1, 1)
+        machine = Machine(self.root, [], self.names(values), host)
+        machine.threads = [self.thread(thread, len(threads) == 1) for thread in array(threads, 100)]
+        need(machine.threads)
+        machine.stack = [self.value(held) for held in array(stack, 10000)]
+        machine.choices = [self.choice(choice) for choice in array(choices, 1000)]
+        machine.visits, machine.turns = self.counts(visits, 1, 1), self.counts(turns, 2, 0)
+        machine.turn_number, machine.safe = integer(turn, 0, MOST), boolean(safe)
+        return machine
+
+
+def loaded(root, host, text):
+    """The machine that a text of JSON is a save of."""
+    try:
+        value = of_json(text)
+    except ValueError:
+        raise BadSave()
+    machine = Reader(root).machine(value, host)
+    if to_json(spelled(machine)) != to_json(value):
+        raise AssertionError("read as another save: %s" % text)
+    return machine
+
+
 # ---- sessions
 
 def given(text):
     """A pair that says whether JSON is a value, and which."""
     try:
-        value = json.loads(text)
+        value = of_json(text)
     except ValueError:
         return False, None
     if isinstance(value, (bool, str)):
         return True, value
-    return isinstance(value, int) and LEAST <= value < -LEAST, value
+    return isinstance(value, int) and LEAST <= value <= MOST, value
 
 
 class Player:
+    """Plays a story. What was saved is kept beside its text: a load goes on from that machine, not from one that was read, so that
+    what follows is what would have followed."""
+
     def __init__(self, root, host):
         self.root, self.host, self.machine, self.broken = root, host, opened(root, host), None
+        self.last_save, self.kept = to_json(spelled(self.machine)), {}
 
     def through(self):
         machine = self.machine
@@ -921,6 +1144,24 @@ class Player:
     def restart(self):
         before = self.machine.globals
         self.machine, self.broken = opened(self.root, self.host), None
+        self.host.tell(before, self.machine.globals)
+        return {"events": self.host.taken()}
+
+    def save(self):
+        if self.broken:
+            return {"fault": self.broken, "refused": "Broken"}
+        value = spelled(self.machine)
+        self.last_save = to_json(value)
+        self.kept[self.last_save] = self.machine.again()
+        return {"saved": value}
+
+    def load(self, text):
+        try:
+            machine = loaded(self.root, self.host, text)
+        except BadSave:
+            return {"refused": "BadSave"}
+        before = self.machine.globals
+        self.machine, self.broken = self.kept.get(text, machine).again(), None
         self.host.tell(before, self.machine.globals)
         return {"events": self.host.taken()}
 
@@ -971,7 +1212,7 @@ class Player:
         return {"visits": self.machine.visits_at(place)}
 
     def answer(self, line):
-        if line in ("through", "restart"):
+        if line in ("through", "restart", "save"):
             return getattr(self, line)()
         word, _, rest = line.partition(" ")
         if word == "get" and rest and " " not in rest:
@@ -982,6 +1223,8 @@ class Player:
             return self.choose(rest)
         if word == "jump" and rest:
             return self.jump(rest)
+        if word == "load" and rest:
+            return self.load(rest)
         name, _, text = rest.partition(" ")
         if word == "set" and name and text:
             return self.set(name, text)
@@ -996,7 +1239,11 @@ WAY, BACK = "?", "??"
 COMMANDS = ("through", "through", "restart", "get x", "get y", "get z", "set x 5", "set y true", 'set z "q r"', "set x null", "set w 1",
             "set x 1.5", "set  x 1", "bye", "set x  -3 ", "get  x", 'set y "a\\nb"', "set x",
             "visits f", "visits t", "visits h", "visits k", "visits 0", "visits 1", "visits 0.0", "visits 1.k", "visits .0", "visits x..y",
-            "choose 0", "choose 1", "choose 00", "choose 1234567890", "choose -1", "choose", "jump f", "jump .0", "jump c1", "jump 0", "jump x..y")
+            "choose 0", "choose 1", "choose 00", "choose 1234567890", "choose -1", "choose", "jump f", "jump .0", "jump c1", "jump 0", "jump x..y",
+            "save", "save x", "load", "load {}", "load x")
+
+# what is done between a save and its load
+MEANWHILE = ("through", "through", "restart", "set x 9", "set n 0", 'set y "later"', "choose 0", "choose 1", "jump c2", "jump h", "jump 0", "save")
 
 
 def random_text(chance):
@@ -1391,16 +1638,239 @@ def random_host(chance):
     return Host(scripts, tables, chance.sample("nwxyz", chance.randrange(5)))
 
 
-def expected(story, host, commands):
+# ---- saves with a change in them
+
+# stand for lines that load what was saved last, as it is and with a change
+LOAD, LOAD_CHANGED = "load", "load changed"
+
+# of each kind of value some others
+OTHERS = {int: (0, 1, 2, 3, -1, 999, 1000, 1001, LEAST, MOST, MOST + 1), bool: (True, False), type(None): (None,),
+          str: ("", "x", "f", "base", "function", "tunnel", "->", "c0.0", "0.00", ".0", "0", " a\n")}
+# a list becomes as long as one of its limits allows, or by one longer
+LENGTHS = (99, 100, 101, 999, 1000, 1001, 9999, 10000, 10001)
+
+
+def random_place(chance, root):
+    """A place of the story, or one that it has not."""
+    place = chance.choice(list(places(root)))
+    kind = chance.random()
+    if kind < 0.15 and isinstance(found(root, place), list):
+        return place + [width(found(root, place)) + (kind < 0.02)]
+    return place + ["k"] * (kind > 0.97)
+
+
+def random_stand(chance, root):
+    """A place of the story."""
+    place = chance.choice(list(places(root)))
+    return place + [width(found(root, place))] if isinstance(found(root, place), list) and chance.random() < 0.1 else place
+
+
+def random_spelled(chance, root):
+    """A value as a save spells it."""
+    place = random_stand(chance, root)
+    return chance.choice((chance.choice(OTHERS[int][:4]), chance.choice(("", "a", " b\n", "é")), True, False, None, {"tag": chance.choice(("", "t"))},
+                          {"ci": chance.choice((0, 1, 2, 7)), "var": chance.choice("pqxyz")}, {"->": ".".join(map(str, place))} if place else None))
+
+
+def random_row(chance, root, rows, flag, least):
+    """Rows of counts, of which one is new or another."""
+    counted = [place for place in places(root) if (flags_at(root, place) or 0) & flag]
+    if not counted:
+        return rows
+    place = chance.choice(counted)
+    rows = [row for row in rows if row[0] != place] + [[place, chance.choice((least, least + 1, 2, MOST - 1, MOST))]] * (chance.random() < 0.9)
+    return sorted(rows, key=lambda row: in_order(row[0]))
+
+
+def random_frame(chance, root):
+    return {"depth": chance.choice((0, 0, 0, 1, 1000)), "eval": chance.random() < 0.3, "fresh": chance.random() < 0.5,
+            "kind": chance.choice(("function", "tunnel")), "place": random_stand(chance, root), "temps": {}}
+
+
+def set_global(chance, root, save):
+    name, rows = chance.choice("nxyz"), save["globals"]
+    if chance.random() < 0.3:
+        chance.shuffle(rows)
+    save["globals"] = [row for row in rows if row[0] != name] + [[name, random_spelled(chance, root)]] * (chance.random() < 0.8)
+
+
+def push_frame(chance, root, thread):
+    """A frame is pushed, or popped."""
+    frames = thread["frames"]
+    if len(frames) > 1 and chance.random() < 0.4:
+        frames.pop()
+    else:
+        frames[-1]["place"] = frames[-1]["place"] or random_stand(chance, root)
+        frames.append(random_frame(chance, root))
+
+
+def add_choice(chance, root, save, thread):
+    """A choice is added, or one is dropped."""
+    choices = save["choices"]
+    if choices and chance.random() < 0.3:
+        choices.pop(chance.randrange(len(choices)))
+    thread = json.loads(json.dumps(thread))
+    thread["frames"][-1]["place"] = thread["frames"][-1]["place"] or random_stand(chance, root)
+    choice = {"hidden": chance.random() < 0.2, "tags": ["t"] * chance.randrange(3), "target": random_stand(chance, root), "text": "c", "thread": thread}
+    choices.insert(chance.randrange(len(choices) + 1), choice)
+
+
+def fitting(chance, root, save):
+    """A save with a change after which it is one still, mostly."""
+    save = json.loads(json.dumps(save))
+    thread = chance.choice(save["threads"] * 2 + [choice["thread"] for choice in save["choices"]])
+    frame = chance.choice(thread["frames"])
+    chance.choice((
+        lambda: frame.update(place=random_stand(chance, root)),
+        lambda: frame.update(place=random_stand(chance, root)),
+        lambda: frame.update({chance.choice(("eval", "fresh")): chance.random() < 0.5}),
+        lambda: frame.update(depth=chance.choice((0, 1, 1000))),
+        lambda: frame["temps"].update({chance.choice("pqxyz"): random_spelled(chance, root)}),
+        lambda: thread.update(previous=chance.choice((None, random_stand(chance, root)))),
+        lambda: push_frame(chance, root, thread),
+        lambda: push_frame(chance, root, thread),
+        lambda: save["threads"].append(json.loads(json.dumps(thread))),
+        lambda: add_choice(chance, root, save, thread),
+        lambda: save["stack"].insert(chance.randrange(len(save["stack"]) + 1), random_spelled(chance, root)),
+        lambda: set_global(chance, root, save),
+        lambda: set_global(chance, root, save),
+        lambda: save.update(turn=chance.choice((0, 1, 2, MOST - 1, MOST))),
+        lambda: save.update(safe=chance.random() < 0.5),
+        lambda: save.update(visits=random_row(chance, root, save["visits"], 1, 1)),
+        lambda: save.update(turns=random_row(chance, root, save["turns"], 2, 0)),
+    ))()
+    return save
+
+
+def nodes(value, way=()):
+    """The ways to all values in a value: indexes and keys."""
+    yield way
+    for key in range(len(value)) if isinstance(value, list) else value if isinstance(value, dict) else ():
+        yield from nodes(value[key], way + (key,))
+
+
+def is_part(way):
+    """Whether a way in a save leads to a part of a place."""
+    return any(key in ("place", "previous", "target") for key in way[:-1]) or (way[:1] in (("visits",), ("turns",)) and len(way) > 3)
+
+
+def at_way(value, way):
+    for key in way:
+        value = value[key]
+    return value
+
+
+def changed_list(chance, value):
+    """The same list with an element less or more, or in another order."""
+    at = chance.randrange(len(value)) if value else 0
+    kind = chance.random()
+    if kind < 0.3:
+        return value[:at] + value[at + 1:]
+    if kind < 0.6:
+        return value[:at + 1] + value[at:]
+    if kind < 0.97 or not value:
+        return value[::-1] if kind < 0.8 else chance.sample(value, len(value))
+    return value[:-1] + value[-1:] * (chance.choice(LENGTHS) - len(value) + 1)
+
+
+def changed_object(chance, value):
+    """The same object with a member less, or with another one."""
+    other = dict(value)
+    if value and chance.random() < 0.4:
+        del other[chance.choice(list(value))]
+    else:
+        other[chance.choice("pqxyz")] = chance.choice((0, "a", None, {"->": "f"}, {"tag": "t"}, {"ci": 1, "var": "p"}))
+    return other
+
+
+def changed_value(chance, root, save, value):
+    """Another value in the place of one in a save: mostly one of its kind."""
+    if chance.random() < 0.25:
+        same = [at_way(save, way) for way in nodes(save)]
+        return chance.choice([one for one in same if type(one) is type(value)] if chance.random() < 0.8 else same)
+    if value is None or (isinstance(value, list) and all(isinstance(part, (int, str)) for part in value) and chance.random() < 0.7):
+        return random_place(chance, root)
+    if isinstance(value, list):
+        return changed_list(chance, value)
+    if isinstance(value, dict):
+        return changed_object(chance, value)
+    if type(value) is int and chance.random() < 0.5:
+        return value + chance.choice((-1, 1))
+    others = OTHERS.get(type(value) if chance.random() < 0.9 else chance.choice(list(OTHERS)), ())
+    return chance.choice(others + (None, 1.5, -0.0) * (chance.random() < 0.1) or (0,))
+
+
+def with_another(value, way, other):
+    """A value with another one at the end of a way."""
+    if not way:
+        return other
+    copied = dict(value) if isinstance(value, dict) else list(value)
+    copied[way[0]] = with_another(value[way[0]], way[1:], other)
+    return copied
+
+
+def changed_text(chance, text):
+    """A text with a character less, doubled or changed, or cut."""
+    at = chance.randrange(len(text))
+    kind = chance.random()
+    if kind < 0.1:
+        return text[:at + 1]
+    middle = "" if kind < 0.4 else text[at] * 2 if kind < 0.6 else chance.choice('0123456789-.e[]{},:"\\ truefalsnu')
+    return text[:at] + middle + text[at + 1:]
+
+
+def changed(chance, root, text):
+    """A save with a change in it, as a text."""
+    if chance.random() < 0.2:
+        return changed_text(chance, text) or text
+    save = json.loads(text)
+    for _ in range(chance.choice((0, 1, 2, 3))):
+        save = fitting(chance, root, save)
+    for _ in range(0 if to_json(save) != text and chance.random() < 0.7 else chance.choice((1, 1, 1, 2))):
+        # a change in a part of the save, so that each part has its share
+        key = chance.choice(list(save)) if isinstance(save, dict) and save and chance.random() < 0.98 else None
+        ways = [way for way in nodes(save) if (key is None or way[:1] == (key,)) and (not is_part(way) or chance.random() < 0.1)]
+        way = chance.choice(ways or [()])
+        save = with_another(save, way, changed_value(chance, root, save, at_way(save, way)))
+    other = to_json(save)
+    if other == text:
+        return changed(chance, root, text)
+    return other if len(other.encode()) < MOST_LINE - len(LOAD) else text
+
+
+def with_saves(chance, commands):
+    """These commands, and among them saves, each loaded again once something else was done, and loads of saves with a change."""
+    for _ in range(chance.choice((0, 0, 1, 1, 2))):
+        at = chance.randrange(len(commands) + 1)
+        commands = commands[:at] + ["save"] + [chance.choice(MEANWHILE) for _ in range(chance.randrange(4))] + [LOAD] + commands[at:]
+    for _ in range(chance.choice((0, 0, 0, 1, 2, 5))):
+        at = chance.randrange(len(commands) + 1)
+        goes_on = chance.choice((["save"], ["through"], ["through", "choose 0", "through"], ["save", "through", "save"], ["get x"], []))
+        commands = commands[:at] + [LOAD_CHANGED] + goes_on + commands[at:]
+    return commands
+
+
+def line_of(chance, player, command):
+    """The line of a command."""
+    if command == LOAD:
+        return "load " + player.last_save
+    return "load " + changed(chance, player.root, player.last_save) if command == LOAD_CHANGED else command
+
+
+def expected(story, host, commands, chance):
+    """The lines of commands, and what they come to."""
     why = refusal(story["root"])
     if why:
-        return [], "inkplay: story refused: %s\n" % why, 2
+        return [], ([], "inkplay: story refused: %s\n" % why, 2)
     try:
         player = Player(story["root"], host)
     except Fault as fault:
-        return [], "inkplay: story fault: %s\n" % fault, 2
-    answers = [player.answer(line) for line in commands]
-    return [json.dumps(a, separators=(",", ":"), sort_keys=True, ensure_ascii=False) for a in answers], "", 0
+        return [], ([], "inkplay: story fault: %s\n" % fault, 2)
+    lines, answers = [], []
+    for command in commands:
+        lines.append(line_of(chance, player, command))
+        answers.append(to_json(player.answer(lines[-1])))
+    return lines, (answers, "", 0)
 
 
 def random_commands(chance, root):
@@ -1413,7 +1883,7 @@ def random_commands(chance, root):
     for _ in range(chance.choice((0, 1, 2, 4, 8)) + (6 if "c0" in own(root) else 0)):
         turns += ["choose %d" % chance.choice((0, 0, 0, 1, 2)), "through"]
     rest = asked + jumps + [chance.choice(COMMANDS) for _ in range(chance.randrange(1, 8))]
-    return first + turns + rest
+    return with_saves(chance, first + turns + rest)
 
 
 # bytes of the stories that are printed
@@ -1463,13 +1933,15 @@ def print_twins():
         print(twin_case(line) if line.startswith("{") else line)
 
 
+BAD_SAVE = '{"refused":"BadSave"}'
+
+
 def kind_of(wanted):
     """What a run shows: a refused story, one that cannot be opened, or whether something was played."""
     answers, error, _ = wanted
     if error:
         return "refused" if "refused" in error else "not opened"
-    played = ('"text":', '"fault":')
-    return "played" if any(part in answer for answer in answers for part in played) else "asked"
+    return "played" if any(answer.startswith('{"choices":') or '"fault":' in answer for answer in answers) else "asked"
 
 
 def main():
@@ -1485,29 +1957,34 @@ def main():
         return print_twins()
     if words.stories is not None:
         return print_stories(words.stories, words.seed)
+    sys.setrecursionlimit(20000)
     differ = 0
-    counts = dict.fromkeys(("played", "asked", "refused", "not opened", "left out"), 0)
+    counts = dict.fromkeys(("played", "asked", "refused", "not opened", "left out", "loads", "no loads"), 0)
     for number in range(words.runs):
         chance = random.Random("%d.%d" % (words.seed, number))
         story = random_story(chance)
         commands = random_commands(chance, story["root"])
         host = random_host(chance)
         options = host.words()
-        text = "\n".join([json.dumps(story, ensure_ascii=chance.random() < 0.5)] + commands) + "\n"
+        first = json.dumps(story, ensure_ascii=chance.random() < 0.5)
         try:
-            wanted = expected(story, host, commands)
+            lines, wanted = expected(story, host, commands, chance)
         except TooSlow:
             counts["left out"] += 1
             continue
+        text = "\n".join([first] + lines) + "\n"
         counts[kind_of(wanted)] += 1
+        counts["loads"] += sum(line.startswith("load ") and answer != BAD_SAVE for line, answer in zip(lines, wanted[0]))
+        counts["no loads"] += wanted[0].count(BAD_SAVE)
         done = subprocess.run([words.program] + options, input=text.encode(), stdout=subprocess.PIPE, stderr=subprocess.PIPE)
         told = (done.stdout.decode().splitlines(), done.stderr.decode(), done.returncode)
         if told != wanted:
             differ += 1
             if differ <= 3:
                 print("%s\n%s\nwanted %s\ntold   %s\n" % (options, text, wanted, told))
-    print("%d runs: %d played, %d only set and asked, %d stories refused, %d not opened, %d left out; %d differ"
-          % (words.runs, counts["played"], counts["asked"], counts["refused"], counts["not opened"], counts["left out"], differ))
+    print("%d runs: %d played, %d only set and asked, %d stories refused, %d not opened, %d left out; %d saves loaded, %d refused; %d differ"
+          % (words.runs, counts["played"], counts["asked"], counts["refused"], counts["not opened"], counts["left out"], counts["loads"],
+             counts["no loads"], differ))
     return 1 if differ else 0
 
 

@@ -119,6 +119,42 @@ STORIES = (
      ("jump k.1.1.0", "visits k", "visits k.1", "visits k.1.1", "through", "jump .k", "jump k.9", "get x", "jump k", "through", "visits k")),
 )
 
+# saves of a story: one with calls, one with threads, one with choices and temporaries, one with counts, and one with texts on the stack
+SAVED = json.dumps({"inkVersion": 21, "root": [["^a", "\n", ["^b", {"#n": "g", "#f": 3}], "done", {"#f": 1}], "done", {
+    "t": ["^t", "ev", {"VAR?": "p"}, "out", "void", "/ev", "->->", {"#f": 3, "in": ["^i", {"#f": 7}]}],
+    "f": ["^f", "ev", {"VAR?": "q"}, "/ev", "~ret", None], "s": ["out", "out", "/ev", "^.", "end", None],
+    "global decl": ["ev", 1, {"VAR=": "x"}, "/ev", "end", None]}]})
+
+
+def frame(kind, place, evaluating=False, **temps):
+    return {"depth": 0, "eval": evaluating, "fresh": False, "kind": kind, "place": place, "temps": temps}
+
+
+def thread(previous, *frames):
+    return {"frames": list(frames), "previous": previous}
+
+
+def load(**other):
+    """A line that loads a save of that story, with these in the place of what it has at its start."""
+    start = {"choices": [], "format": 1, "globals": [["x", 1]], "safe": False, "stack": [], "threads": [thread(None, frame("base", [0, 0]))],
+             "turn": 0, "turns": [], "visits": []}
+    return "load " + json.dumps(dict(start, **other), separators=(",", ":"), sort_keys=True)
+
+
+STAY = thread([0, 2], frame("base", [0, 2, 0], a="z", b={"ci": 1, "var": "a"}))
+SAVES = (
+    load(threads=[thread([0, 3], frame("base", [0, 1]), frame("tunnel", ["t", 0], p="word"), frame("function", ["f", 0], q={"ci": 2, "var": "p"}))]),
+    load(threads=[STAY, thread(["t", 1], frame("base", [0, 2]), frame("tunnel", ["t", 0]))], safe=True),
+    load(threads=[thread([0, 3], frame("base", None))], choices=[
+        {"hidden": False, "tags": ["one", "two"], "target": ["t", "in", 0], "text": "go", "thread": STAY},
+        {"hidden": True, "tags": [], "target": ["f", 0], "text": "", "thread": STAY}]),
+    load(turns=[[[0, 2], 3], [["t", "in"], 2]], visits=[[[0], 1], [[0, 2], 4], [["t"], 2147483647]], turn=7),
+    load(stack=["", "word", {"tag": "t"}, {"->": "t.in"}, "a", "b"], threads=[thread(None, frame("base", ["s", 0], True))],
+         globals=[["y", "text"], ["x", {"ci": 0, "var": "y"}], ["z", {"tag": "t"}]]),
+)
+STORIES += tuple((SAVED, (text, "save", "get x", "through", "save", "choose 0", "through", "save", text, "through", "visits t")) for text in SAVES)
+STORIES += ((SAVED, ("save", "load {}", "load [", "through", "save")),)
+
 # stories with objects: the words that bind them, the story and the commands
 GIVING = ["--answer", 'f=[1,"a",null]', "--table", 'g={"[1,\\"b\\"]":"c","[]":2}', "--watch", "x", "--watch", "y"]
 OBJECTS = (
@@ -128,10 +164,12 @@ OBJECTS = (
      ("through", "restart", "through", "restart", "through", "restart", "through")),
     (["--watch", "x", "--watch", "y"], '{"inkVersion":21,"root":["ev","str","^a","^b","/str",{"VAR=":"x","re":true},4,{"VAR=":"z"},{"^->":"k"},{"VAR=":"y"},"/ev","end",{"k":["^k",null],"global decl":["ev","^s",{"VAR=":"x"},"/ev","end",null]}]}',
      ("through", "get x", "get y", "set y 5", "restart", "get x")),
+    (["--watch", "x", "--watch", "y"], SAVED, ("through", SAVES[4], "get y", SAVES[3], "save", "through")),
 )
 
 BROKEN = b'{"fault":"OutOfMemory","refused":"Broken"}'
 BAD_COMMAND = b'{"refused":"BadCommand"}'
+BAD_SAVE = b'{"refused":"BadSave"}'
 
 
 def play(words, text, shim=None, refuse=0):
@@ -176,7 +214,7 @@ def is_fault(command, line, ample_line):
     """Whether an answer tells the want of memory while the story ran, or while its watchers were told: the events up to it are
     those of the answer with ample memory, of which some that a watcher was to see may be missing."""
     answer = parsed(line)
-    if command not in ("through", "restart") and not command.startswith("set ") or not answer or answer.get("fault") != "OutOfMemory" or "refused" in answer:
+    if command not in ("through", "restart") and not command.startswith(("set ", "load ")) or not answer or answer.get("fault") != "OutOfMemory" or "refused" in answer:
         return False
     calls, ample_calls = [[e for e in events_of(each) if "call" in e] for each in (line, ample_line)]
     seen, ample_seen = [[(e["saw"], e["value"]) for e in events_of(each) if "saw" in e] for each in (line, ample_line)]
@@ -192,7 +230,7 @@ def is_run(words, story, commands, ample_lines, lines):
             if is_fault(command, line, ample_lines[k]):
                 used = sum("call" in event for each in lines[:k + 1] for event in events_of(each))
                 rest = broken_from(words, story, before, command, after, used, stamp_after(lines[:k + 1]))
-            elif line == NO_MEMORY and command.split()[0] in ("set", "get", "restart", "visits", "choose", "jump"):
+            elif line == NO_MEMORY and command.split()[0] in ("set", "get", "restart", "visits", "choose", "jump", "save", "load"):
                 rest = [(line,) for line in answers(words, story, before + after)[k:]]
             else:
                 return False
@@ -215,19 +253,21 @@ def broken_from(words, story, before, command, after, used, stamp):
     rest = []
     for k, line in enumerate(after):
         word = line.split()[0]
-        if word == "restart":
+        if word == "restart" or word == "load" and answers(words, story, (line,))[0] != BAD_SAVE:
             return rest + restarted(words, story, before + (command,), after[:k], after[k:], used, stamp)
         if word == "get":
             rest.append((answers(words, story, before + (line,))[-1], answers(words, story, before + (command, line))[-1]))
+        elif word == "load":
+            rest.append((BAD_SAVE,))
         else:
-            rest.append((BROKEN,) if word in ("through", "set", "visits", "choose", "jump") else (BAD_COMMAND,))
+            rest.append((BROKEN,) if word in ("through", "set", "visits", "choose", "jump", "save") else (BAD_COMMAND,))
     return rest
 
 
 def restarted(words, story, before, broken, after, used, stamp):
-    """What is answered from a restart on. A player that has called and watches nothing is as one that has just been opened. Where
-    functions have given answers nothing is known of what they give next; and a watcher is told of what the command before has
-    left, so that of its answers all but the events is looked at."""
+    """What is answered from a restart or a load on. A player that has called and watches nothing is as one that has just been
+    opened. Where functions have given answers nothing is known of what they give next; and a watcher is told of what the command
+    before has left, so that of its answers all but the events is looked at."""
     fresh = answers(words, story, after)
     if has_functions(words):
         return [Any() if used or stamp else (line,) for line in fresh]

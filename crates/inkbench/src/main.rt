@@ -1,13 +1,17 @@
 //! Work to be timed: bench/bench.py runs this program and takes the time. `json` parses what standard input holds, `story`
 //! reads and checks it; `marks COUNT ROUNDS` writes so many marks and shows them, so many times, and `asked` asks after each
 //! mark whether the line ends; `strings` and `tags` open, write and close so many; `functions COUNT LINES` begins, writes and
-//! ends so many on each of so many lines. It exits with 0 where the work was done.
+//! ends so many on each of so many lines. Of a story and a save, a line of standard input each, `save ROUNDS` makes the text of
+//! what is saved so many times, and `load` what is loaded from the text; `print` and `parse` make the text of the save's JSON
+//! value, and the value from the text. It exits with 0 where the work was done.
 #![tactic(auto)]
 
-use ink_check::check;
+use ink_check::{Story, check};
 use ink_json::read_story;
 use ink_model::{Fault, Shared, Text, Value};
 use ink_out::Output;
+use ink_save::{read, write};
+use serde_json::Value as Json;
 use std::alloc::{AllocError, Global};
 use std::io::Read;
 use std::process::ExitCode;
@@ -28,6 +32,10 @@ fn main(rt: HostRuntime) -> ExitCode {
         "strings" => repeats(alloc, &words, Work::Strings),
         "tags" => repeats(alloc, &words, Work::Tags),
         "functions" => writes_functions(alloc, number(&words, 2), number(&words, 3)).is_ok(),
+        "save" => repeats_saves(alloc, &mut reader, Deed::Save, number(&words, 2)),
+        "load" => repeats_saves(alloc, &mut reader, Deed::Load, number(&words, 2)),
+        "print" => repeats_saves(alloc, &mut reader, Deed::Print, number(&words, 2)),
+        "parse" => repeats_saves(alloc, &mut reader, Deed::Parse, number(&words, 2)),
         _ => true,
     };
     if done {
@@ -60,7 +68,7 @@ fn parses<R: Read>(alloc: Global, reader: &mut R) -> bool {
         return false;
     }
     match str::from_utf8(&bytes) {
-        Ok(text) => serde_json::Value::from_str(alloc, text).is_ok(),
+        Ok(text) => Json::from_str(alloc, text).is_ok(),
         Err(_) => false,
     }
 }
@@ -71,9 +79,17 @@ fn accepts<R: Read>(alloc: Global, reader: &mut R) -> bool {
     if reader.read_to_end(&mut bytes).is_err() {
         return false;
     }
-    match read_story(alloc, &bytes) {
-        Ok(raw) => check(alloc, raw).is_ok(),
-        Err(_) => false,
+    story_of(alloc, &bytes).is_some()
+}
+
+/// The story that bytes are, with its paths checked.
+fn story_of(alloc: Global, bytes: &[u8]) -> Option<Story> {
+    match read_story(alloc, bytes) {
+        Ok(raw) => match check(alloc, raw) {
+            Ok(story) => Some(story),
+            Err(_) => None,
+        },
+        Err(_) => None,
     }
 }
 
@@ -167,4 +183,104 @@ fn writes_functions(alloc: Global, count: u32, lines: u32) -> Result<(), Fault> 
 
 fn shared(alloc: Global, text: &str) -> Result<Shared<Text>, AllocError> {
     Shared::new(alloc, Text::from_str(alloc, text)?)
+}
+
+// ---- saves
+
+/// What is done with a save.
+#[derive(Clone, Copy)]
+enum Deed {
+    Save,
+    Load,
+    Print,
+    Parse,
+}
+
+/// Does something so many times with a story and a save of it that the input has.
+fn repeats_saves<R: Read>(alloc: Global, reader: &mut R, deed: Deed, rounds: u32) -> bool {
+    let mut bytes = Vec::new(alloc);
+    if reader.read_to_end(&mut bytes).is_err() {
+        return false;
+    }
+    let Ok(text) = str::from_utf8(&bytes) else {
+        return false;
+    };
+    let Some((story, save)) = text.split_once('\n') else {
+        return false;
+    };
+    match story_of(alloc, story.as_bytes()) {
+        Some(story) => repeats_deed(alloc, &story, save, deed, rounds),
+        None => false,
+    }
+}
+
+fn repeats_deed(alloc: Global, story: &Story, save: &str, deed: Deed, rounds: u32) -> bool {
+    match deed {
+        Deed::Save => saves(alloc, story, save, rounds),
+        Deed::Load => loads(alloc, story, save, rounds),
+        Deed::Print => prints(alloc, save, rounds),
+        Deed::Parse => parses_often(alloc, save, rounds),
+    }
+}
+
+/// Makes a machine's save, and its text.
+fn saves(alloc: Global, story: &Story, save: &str, rounds: u32) -> bool {
+    let Ok(json) = Json::from_str(alloc, save) else {
+        return false;
+    };
+    let Ok(machine) = read(alloc, story, &json) else {
+        return false;
+    };
+    for _round in 0..rounds {
+        let Ok(json) = write(alloc, story, &machine) else {
+            return false;
+        };
+        if !is_printed(alloc, &json) {
+            return false;
+        }
+    }
+    true
+}
+
+/// Makes a JSON value of a text, and a machine of that.
+fn loads(alloc: Global, story: &Story, save: &str, rounds: u32) -> bool {
+    for _round in 0..rounds {
+        let Ok(json) = Json::from_str(alloc, save) else {
+            return false;
+        };
+        if read(alloc, story, &json).is_err() {
+            return false;
+        }
+    }
+    true
+}
+
+/// Makes the text of a JSON value.
+fn prints(alloc: Global, save: &str, rounds: u32) -> bool {
+    let Ok(json) = Json::from_str(alloc, save) else {
+        return false;
+    };
+    for _round in 0..rounds {
+        if !is_printed(alloc, &json) {
+            return false;
+        }
+    }
+    true
+}
+
+fn is_printed(alloc: Global, json: &Json) -> bool {
+    match json.to_vec(alloc) {
+        Ok(text) => !text.is_empty(),
+        Err(_) => false,
+    }
+}
+
+/// Makes a JSON value of a text.
+fn parses_often(alloc: Global, save: &str, rounds: u32) -> bool {
+    for _round in 0..rounds {
+        if Json::from_str(alloc, save).is_err() {
+            return false;
+        }
+    }
+    true
 }
