@@ -794,7 +794,7 @@ class Machine:
 
     def go_on(self):
         """Flow goes on behind where it is: ended functions give void to a caller that evaluates, ended threads are dropped."""
-        place = self.frame.place and after(self.root, self.frame.place)
+        place = None if self.frame.place is None else after(self.root, self.frame.place)
         if place is not None:
             self.land(place, False)
         elif self.frame.kind == "function":
