@@ -1,0 +1,10 @@
+pub mod Opens
+pub mod Moments
+pub mod Lines
+pub mod Looks
+pub mod Found
+pub mod Firm
+pub mod Calls
+pub mod Laying
+pub mod Enough
+pub mod Rows
