@@ -1,5 +1,5 @@
 -- Lines one after another are one run.
-use Rattle.std.proofs.Common.{◌≡◌, refl, sym, ap, ◌∙◌, subst, ℕ, zero, suc, List, [], ◌∷◌, ◌++◌, inl, inr, Option, Some, None}
+use Rattle.std.proofs.Common.{◌≡◌, refl, sym, ap, ◌∙◌, subst, ℕ, zero, suc, List, [], ◌∷◌, ◌++◌, append_assoc, append-nil, inl, inr, Option, Some, None}
 use Rattle.ink_model.specs.Configuration.{Configuration, begun, settled}
 use Rattle.ink_model.specs.Host.{Bound}
 use Rattle.ink_model.specs.Line.{EndsLine, Line, line_end}
@@ -9,14 +9,6 @@ use Rattle.ink_model.specs.Tree.{StoryTree}
 use Rattle.ink_model.specs.declared.host.Given.{Given}
 use Rattle.ink_model.specs.declared.limits.TheConstants.{MAX_STEPS}
 use Rattle.ink_line.specs.Rows.{IsAnswered, Lines, anew, extended, joined, laid}
-
-assoc : {A : Type 0} → (xs ys zs : List A) → (xs ++ ys) ++ zs ≡ xs ++ (ys ++ zs)
-assoc [] ys zs = refl
-assoc (x ∷ xs) ys zs = ap (λ l. x ∷ l) (assoc xs ys zs)
-
-no_more : {A : Type 0} → (xs : List A) → xs ++ [] ≡ xs
-no_more [] = refl
-no_more (x ∷ xs) = ap (λ l. x ∷ l) (no_more xs)
 
 answers_join : (xs ys : List Made) → answers_of (xs ++ ys) ≡ answers_of xs ++ answers_of ys
 answers_join [] ys = refl
@@ -37,7 +29,7 @@ module _ (s : StoryTree) (b : Bound) (before : List Made) (later : List (Option 
   came_same c (Wants name arguments f d) [] made h = absurd h
   came_same c (Wants name arguments f d) (a ∷ left) made h =
       let call = record { name = name; arguments = arguments; gave = a } ∷ [] in
-      ap (moment_after c (answered s f d a) (left ++ later)) (assoc before made call) ∙ after_same c (answered s f d a) left (made ++ call)
+      ap (moment_after c (answered s f d a) (left ++ later)) (append_assoc before made call) ∙ after_same c (answered s f d a) left (made ++ call)
 
   pub next_same : (x : Moment) → IsAnswered (next s b x) → next s b (extended before later x) ≡ extended before later (next s b x)
   next_same (At c left made) h = came_same c (step s b c) left made h
@@ -60,7 +52,7 @@ module _ (s : StoryTree) (b : Bound) (before : List Made) (later : List (Option 
   pub moment_same : (n : ℕ) (c : Configuration) (given : List (Option Given)) (x : Moment) → moment s b c given n ≡ x → IsAnswered x
       → run s b n (At c (given ++ later) before) ≡ extended before later x
   moment_same n c given x is h =
-      ap (λ made. run s b n (At c (given ++ later) made)) (sym (no_more before))
+      ap (λ made. run s b n (At c (given ++ later) made)) (sym (append-nil before))
       ∙ (run_same n (At c given []) (subst IsAnswered (sym is) h) ∙ ap (extended before later) is)
 
 -- ---- where a line is kept
@@ -122,13 +114,13 @@ module _ (s : StoryTree) (b : Bound) where
 
   laid_from : (c e : Configuration) (lines : List (List Made)) → Lines s b c lines e → (before : List Made)
       → (steps : List ℕ) × (laid s b steps (At (begun c) (answers_of (joined lines)) before) ≡ At (begun e) [] (before ++ joined lines))
-  laid_from c e [] h before = ([], ap (λ d. At (begun d) [] before) (sym h) ∙ ap (At (begun e) []) (sym (no_more before)))
+  laid_from c e [] h before = ([], ap (λ d. At (begun d) [] before) (sym h) ∙ ap (At (begun e) []) (sym (append-nil before)))
   laid_from c e (made ∷ rest) (d, kept, on) before =
       let (n, here) = line_stands c made d kept before (answers_of (joined rest)) in
       let (steps, there) = laid_from (settled d) e rest on (before ++ made) in (
         n ∷ steps,
         ap (λ left. laid s b steps (anew (run s b n (At (begun c) left before)))) (answers_join made (joined rest))
-            ∙ (ap (laid s b steps) here ∙ (there ∙ ap (At (begun e) []) (assoc before made (joined rest)))),
+            ∙ (ap (laid s b steps) here ∙ (there ∙ ap (At (begun e) []) (append_assoc before made (joined rest)))),
       )
 
   pub lines_are_laid : (c e : Configuration) (lines : List (List Made)) → Lines s b c lines e

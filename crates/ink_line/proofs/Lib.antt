@@ -8,3 +8,6 @@ pub mod Calls
 pub mod Laying
 pub mod Enough
 pub mod Rows
+pub mod Grows
+pub mod Adds
+pub mod Sessions

@@ -20,7 +20,7 @@ since_more m before i h = rw (lt-ltb i (length before) h) refl
 since_none : (m : Mark) (before : List Mark) (i : ℕ) → length before ≤ i → since (m ∷ before) i ≡ []
 since_none m before i h = rw (le-ltb i (length before) h) refl
 
-has_more-append : (ms ns : List Mark) → has_more (ms ++ ns) ≡ (has_more ms || has_more ns)
+pub has_more-append : (ms ns : List Mark) → has_more (ms ++ ns) ≡ (has_more ms || has_more ns)
 has_more-append [] ns = refl
 has_more-append (Text t ∷ ms) ns = refl
 has_more-append (Tag t ∷ ms) ns = refl

@@ -1,5 +1,5 @@
 -- A row of `continue` commands is a row of lines, and the calls among its events are theirs.
-use Rattle.std.proofs.Common.{◌≡◌, refl, sym, ap, ◌∙◌, subst, ℕ, zero, suc, List, [], ◌∷◌, ◌++◌, inl, inr, Bool, true, false, MatchBool}
+use Rattle.std.proofs.Common.{◌≡◌, refl, sym, ap, ◌∙◌, subst, ℕ, zero, suc, List, [], ◌∷◌, ◌++◌, append-nil, inl, inr, Bool, true, false, MatchBool}
 use Rattle.ink_model.specs.Answer.{Reply, Tells, Refuses, Breaks}
 use Rattle.ink_model.specs.Changed.{Keeps}
 use Rattle.ink_model.specs.Command as command
@@ -39,10 +39,6 @@ none_called n (c ∷ cs) [] = refl
 none_called n (c ∷ cs) (true ∷ answers) = none_called (after n) cs answers
 none_called n (c ∷ cs) (false ∷ answers) = none_called n cs answers
 
-no_more : (xs : List Made) → xs ++ [] ≡ xs
-no_more [] = refl
-no_more (x ∷ xs) = ap (λ l. x ∷ l) (no_more xs)
-
 -- ---- one command
 
 -- the line that a command told of: its calls, what it kept, and the state after it
@@ -73,7 +69,7 @@ module _ (s : StoryTree) (h : Bindings) (c : Configuration) (es : List Event) (l
         called_so = ap called (x.events ∙ ap (λ l. calls old.stamp made ++ l) x.telling.events)
             ∙ (called_joins (calls old.stamp made) (saws (later old.stamp (calls old.stamp made)) (told h.watches c.shared.globals d.shared.globals) x.telling.answers)
             ∙ (ap (λ l. l ++ called (saws (later old.stamp (calls old.stamp made)) (told h.watches c.shared.globals d.shared.globals) x.telling.answers)) (called_back old.stamp made)
-            ∙ (ap (λ l. made ++ l) (none_called (later old.stamp (calls old.stamp made)) (told h.watches c.shared.globals d.shared.globals) x.telling.answers) ∙ no_more made)));
+            ∙ (ap (λ l. made ++ l) (none_called (later old.stamp (calls old.stamp made)) (told h.watches c.shared.globals d.shared.globals) x.telling.answers) ∙ append-nil made)));
         ready = ap (λ (st : State). st.condition) leaves;
       }
       by false replies leaves = absurd (no_line line _ replies refl)

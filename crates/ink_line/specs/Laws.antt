@@ -1,10 +1,11 @@
 -- The laws of lines.
-use Rattle.std.specs.Prelude.{◌≡◌, ℕ, suc, ◌<◌, ◌≤◌, List, [], ◌++◌, true, false, Option, Some}
+use Rattle.std.specs.Prelude.{◌≡◌, ℕ, suc, ◌<◌, ◌≤◌, List, [], ◌++◌, length, true, false, Option, Some}
 use Rattle.std.proofs.Common.{inl, inr}
 use Rattle.ink_model.specs.Configuration.{Configuration, begun}
 use Rattle.ink_model.specs.Host.{Bindings, Bound}
-use Rattle.ink_model.specs.Line.{IsFirm, IsLineOf, Line, MakesFirm, calls_in, goes_on, newline_in, shows}
+use Rattle.ink_model.specs.Line.{IsFirm, IsLineOf, Line, MakesFirm, calls_in, goes_on, goes_past, newline_in, open_in, page_at, shows}
 use Rattle.ink_model.specs.Run.{Made, Moment, At, answers_of, moment, next}
+use Rattle.ink_model.specs.Shown.{more_from}
 use Rattle.ink_model.specs.State.{State, Ready}
 use Rattle.ink_model.specs.Tree.{StoryTree}
 use Rattle.ink_model.specs.declared.host.Event.{Event}
@@ -56,6 +57,12 @@ ShownIsFirm = (s : StoryTree) (b : Bound) (limit : ℕ) (m : ℕ → Moment) →
     → (p newline until : ℕ) → newline_in (m p) (m (suc p)) ≡ Some newline → p < until → until ≤ limit → goes_on (m until) ≡ true
     → ((k : ℕ) → p < k → k ≤ until → shows (m k) newline ≡ true) → ((k : ℕ) → p < k → k < until → calls_in s b (m k) ≡ false)
     → MakesFirm s b limit m until newline → IsFirm s b limit m p
+
+-- Where a newline is open before a step, a Text or Tag stands behind it after the step exactly where the step wrote one into the line.
+abbrev pub WrittenBehind : Type 0
+WrittenBehind = (s : StoryTree) (b : Bound) (c : Configuration) (left : List (Option Given)) (made : List Made) (newline : ℕ)
+    → open_in (At c left made) ≡ Some newline → let new = next s b (At c left made) in
+    goes_past new newline ≡ more_from (page_at new).line (length c.page.line)
 
 -- ---- looking for it
 

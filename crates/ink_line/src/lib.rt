@@ -2,7 +2,7 @@
 //! and the search for a line, which goes forward once.
 #![tactic(auto)]
 
-ghost use Rattle.ink_line.specs.Laws.{CallsAlone, ContinuesAreLaid, LinesAreLaid, OneLine, OnlyItsAnswers, OverIsTheLine, SearchesFind, SearchesKnow, ShownIsFirm};
+ghost use Rattle.ink_line.specs.Laws.{CallsAlone, ContinuesAreLaid, LinesAreLaid, OneLine, OnlyItsAnswers, OverIsTheLine, SearchesFind, SearchesKnow, ShownIsFirm, WrittenBehind};
 
 /// Lines one after another are one run, laid end to end: each call of it is made once.
 pub fn lines_are_one_run()
@@ -32,6 +32,11 @@ pub fn lines_are_determined()
 /// A newline that stays shown until a step makes it firm is firm, whatever stands behind it.
 pub fn shown_newlines_are_firm()
     ensures { ShownIsFirm }
+{}
+
+/// A Text or Tag that stands behind an open newline after a step was written in that step.
+pub fn what_stands_behind_was_written()
+    ensures { WrittenBehind }
 {}
 
 /// After each step of a search: no step so far has a firm newline, or one newline is open, or the line is known.
