@@ -25,15 +25,15 @@ module _ (s : StoryTree) (b : Bound) (limit : ℕ) (m : ℕ → Moment) (runs : 
   -- the first call makes it firm
   firm_from : (d k : ℕ) → d + k ≡ n → p < k → QuietTo k → IsFirm s b limit m p
   firm_from zero k e l quiet = at_call k l (omega (arith, e)) quiet (let same : n ≡ k = omega (arith, e) in subst (λ j. calls_in s b (m j) ≡ true) same calls)
-  firm_from (suc d) k e l quiet = by (calls_in s b (m k)) refl
+  firm_from (suc d) k e l quiet = by (calls_in s b (m k)) refl (firm_from d (suc k) (omega (arith, e)) (omega (arith, l)))
     where
-      by : (t : Bool) → calls_in s b (m k) ≡ t → IsFirm s b limit m p
-      by true t = at_call k l (omega (arith, e)) quiet t
-      by false t = firm_from d (suc k) (omega (arith, e)) (omega (arith, l)) (λ j x y. one_more j x (same_or_below j k y))
-        where
-          one_more : (j : ℕ) → p < j → (j < k) ⊎ (j ≡ k) → calls_in s b (m j) ≡ false
-          one_more j x (inl r) = quiet j x r
-          one_more j x (inr same) = subst (λ i. calls_in s b (m i) ≡ false) (sym same) t
+      one_more : calls_in s b (m k) ≡ false → (j : ℕ) → p < j → (j < k) ⊎ (j ≡ k) → calls_in s b (m j) ≡ false
+      one_more t j x (inl r) = quiet j x r
+      one_more t j x (inr same) = subst (λ i. calls_in s b (m i) ≡ false) (sym same) t
+
+      by : (t : Bool) → calls_in s b (m k) ≡ t → (QuietTo (suc k) → IsFirm s b limit m p) → IsFirm s b limit m p
+      by true t on = at_call k l (omega (arith, e)) quiet t
+      by false t on = on (λ j x y. one_more t j x (same_or_below j k y))
 
   pub firm_by_call : p < n → IsFirm s b limit m p
   firm_by_call l = let (d, e) = steps_to p n l in firm_from d (suc p) e (omega arith) (λ j x y. absurd (omega (arith, x, y)))

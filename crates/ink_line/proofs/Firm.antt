@@ -38,19 +38,18 @@ module _ (s : StoryTree) (b : Bound) (limit : ℕ) (m : ℕ → Moment) (runs : 
   -- the first step after which a Text or Tag stands behind it, else the last one
   firm_from : (d k : ℕ) → d + k ≡ until → p < k → OpenTo k → IsFirm s b limit m p
   firm_from zero k e l opens = firm_at k l (omega (arith, e)) opens (let same : until ≡ k = omega (arith, e) in subst (λ j. MakesFirm s b limit m j newline) same makes)
-  firm_from (suc d) k e l opens = by (goes_past (m (suc k)) newline) refl
+  firm_from (suc d) k e l opens = by (goes_past (m (suc k)) newline) refl (firm_from d (suc k) (omega (arith, e)) (omega (arith, l)))
     where
       here : shows (m (suc k)) newline ≡ true
       here = shown (suc k) (omega (arith, l)) (omega (arith, e))
 
-      by : (t : Bool) → goes_past (m (suc k)) newline ≡ t → IsFirm s b limit m p
-      by true t = firm_at k l (omega (arith, e)) opens (inr (inr (inr (here, t))))
-      by false t = firm_from d (suc k) (omega (arith, e)) (omega (arith, l))
-          (λ j x y. one_more j x (last_of j k y))
-        where
-          one_more : (j : ℕ) → p < j → (j ≤ k) ⊎ (j ≡ suc k) → open_in (m j) ≡ Some newline
-          one_more j x (inl r) = opens j x r
-          one_more j x (inr same) = subst (λ i. open_in (m i) ≡ Some newline) (sym same) (is_open (page_at (m (suc k))).line newline here t)
+      one_more : goes_past (m (suc k)) newline ≡ false → (j : ℕ) → p < j → (j ≤ k) ⊎ (j ≡ suc k) → open_in (m j) ≡ Some newline
+      one_more t j x (inl r) = opens j x r
+      one_more t j x (inr same) = subst (λ i. open_in (m i) ≡ Some newline) (sym same) (is_open (page_at (m (suc k))).line newline here t)
+
+      by : (t : Bool) → goes_past (m (suc k)) newline ≡ t → (OpenTo (suc k) → IsFirm s b limit m p) → IsFirm s b limit m p
+      by true t on = firm_at k l (omega (arith, e)) opens (inr (inr (inr (here, t))))
+      by false t on = on (λ j x y. one_more t j x (last_of j k y))
 
   pub shown_is_firm : IsFirm s b limit m p
   shown_is_firm = let (d, e) = steps_to p until later in

@@ -1,11 +1,13 @@
 -- Lines one after another are one run.
-use Rattle.std.proofs.Common.{◌≡◌, refl, sym, ap, ◌∙◌, subst, ℕ, zero, suc, List, [], ◌∷◌, ◌++◌, append_assoc, append-nil, inl, inr, Option, Some, None}
+use Rattle.std.proofs.Common.{◌≡◌, refl, sym, ap, ◌∙◌, subst, ℕ, zero, suc, List, [], ◌∷◌, ◌++◌, append_assoc, append-nil, inl, inr, Option, Some, None, option_map}
 use Rattle.ink_model.specs.Configuration.{Configuration, begun, settled}
 use Rattle.ink_model.specs.Host.{Bound}
 use Rattle.ink_model.specs.Line.{EndsLine, Line, line_end}
 use Rattle.ink_model.specs.Run.{Made, Moment, At, Stopped, Faulted, Waits, RunEnd, Kept, Broke, answered, answers_of, came, cut_off, moment, moment_after, next, run}
 use Rattle.ink_model.specs.Step.{Outcome, Next, Stop, Faults, Stepped, Comes, Wants, step}
+use Rattle.ink_model.specs.Store.{Values}
 use Rattle.ink_model.specs.Tree.{StoryTree}
+use Rattle.ink_model.specs.declared.fault.Fault.{Fault}
 use Rattle.ink_model.specs.declared.host.Given.{Given}
 use Rattle.ink_model.specs.declared.limits.TheConstants.{MAX_STEPS}
 use Rattle.ink_line.specs.Rows.{IsAnswered, Lines, anew, extended, joined, laid}
@@ -66,12 +68,20 @@ IsKept d made (At c left r) = At c left r ≡ At d [] made
 IsKept d made (Stopped c left r) = Stopped c left r ≡ Stopped d [] made
 IsKept d made m = ⊥
 
-pub kept_is : (m : Moment) (d : Configuration) (made : List Made) → line_end m ≡ kept_end d made → IsKept d made m
-kept_is (At c [] r) d made e = cc
+same_kept : (c d : Configuration) (r made : List Made) → kept_end c r ≡ kept_end d made → (c ≡ d) × (r ≡ made)
+same_kept c d r made e =
+    let ends : Some (Kept c) ≡ Some (Kept d) = ap (option_map (λ (x : RunEnd × List Made). x.0)) e in
+    let calls : Some r ≡ Some made = ap (option_map (λ (x : RunEnd × List Made). x.1)) e in (cc, cc)
+
+never_kept : (f : Fault) (globals : Values) (d : Configuration) (r made : List Made) → Some (Broke f globals, r) ≡ kept_end d made → ⊥
+never_kept f globals d r made e = let ends : Some (Broke f globals) ≡ Some (Kept d) = ap (option_map (λ (x : RunEnd × List Made). x.0)) e in cc
+
+kept_is : (m : Moment) (d : Configuration) (made : List Made) → line_end m ≡ kept_end d made → IsKept d made m
+kept_is (At c [] r) d made e = let (x, y) = same_kept c d r made e in ap (λ k. At k [] r) x ∙ ap (At d []) y
 kept_is (At c (a ∷ left) r) d made e = absurd cc
-kept_is (Stopped c [] r) d made e = cc
+kept_is (Stopped c [] r) d made e = let (x, y) = same_kept c d r made e in ap (λ k. Stopped k [] r) x ∙ ap (Stopped d []) y
 kept_is (Stopped c (a ∷ left) r) d made e = absurd cc
-kept_is (Faulted f c [] r) d made e = absurd cc
+kept_is (Faulted f c [] r) d made e = absurd (never_kept f c.shared.globals d r made e)
 kept_is (Faulted f c (a ∷ left) r) d made e = absurd cc
 kept_is (Waits name r) d made e = absurd cc
 

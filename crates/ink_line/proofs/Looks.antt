@@ -142,9 +142,9 @@ module _ (s : StoryTree) (b : Bound) (limit : ℕ) (m : ℕ → Moment) (runs : 
     back : MakesFirm s b limit m n h.newline → IsLineOf s b limit m kept
     back makes = inl (record { step = p; firm = record { until = n; within = omega (arith, room); opens = h; makes = makes }; first = first; ends = is })
 
-    before : (P : ℕ → Type 0) (k : ℕ) → (k < n) ⊎ (k ≡ n) → (k < n → P k) → P n → P k
-    before P k (inl l) f x = f l
-    before P k (inr same) f x = subst P (sym same) x
+    below : (P : ℕ → Type 0) (k : ℕ) → (k < n) ⊎ (k ≡ n) → (k < n → P k) → P n → P k
+    below P k (inl l) f x = f l
+    below P k (inr same) f x = subst P (sym same) x
 
     up_to : (P : ℕ → Type 0) (k : ℕ) → (k ≤ n) ⊎ (k ≡ suc n) → (k ≤ n → P k) → P (suc n) → P k
     up_to P k (inl l) f x = f l
@@ -161,7 +161,7 @@ module _ (s : StoryTree) (b : Bound) (limit : ℕ) (m : ℕ → Moment) (runs : 
         later = omega (arith, h.later);
         stays = λ k l r. up_to (λ j. open_in (m j) ≡ Some h.newline) k (last_or_within k n r) (h.stays k l)
             (ap open_in e ∙ is_open c.page.line h.newline shown past);
-        quiet = λ k l r. before (λ j. calls_in s b (m j) ≡ false) k (same_or_below k n r) (h.quiet k l) quiet;
+        quiet = λ k l r. below (λ j. calls_in s b (m j) ≡ false) k (same_or_below k n r) (h.quiet k l) quiet;
         going = ap goes_on e;
       },
       refl,

@@ -1,6 +1,7 @@
 -- Lines of small stories, each proved by computation (docs/RUNNING.md, "Lines"). What a search within so many steps comes to is the
 -- line within them (`SearchesFind`).
 use Rattle.std.specs.Prelude.{◌≡◌, ℕ, pos, List, [], ◌∷◌, ◌++◌, refl, codes, bytes_eq, false, if◌then◌else◌, Option, Some, None}
+use Rattle.std.specs.Fmt.{digits}
 use Rattle.ink_model.specs.CallStories.{calls, does, list, says, story}
 use Rattle.ink_model.specs.Clean.{clean}
 use Rattle.ink_model.specs.Configuration.{Configuration, begun, fresh_at, settled, start}
@@ -100,7 +101,7 @@ unfolding search run step start fresh_at entered next_place passed_places entere
 by_a_text = refl
 
 by_a_value : line 9 (a ∷ newline ∷ evaluated (number ∷ does control.Out ∷ [])) ≡ Cut a_line
-unfolding search run step start fresh_at entered next_place passed_places entered_places cut printed
+unfolding search run step start fresh_at entered next_place passed_places entered_places cut printed digits
 by_a_value = refl
 
 by_a_tag : line 9 (a ∷ newline ∷ tagged (b ∷ [])) ≡ Cut a_line
@@ -167,7 +168,7 @@ unfolding search run step start fresh_at read_path target landed entered next_pl
 by_the_end_of_a_function = refl
 
 -- unless something is made of it before
-by_a_tag_before_that_end : line_of 9 (calls (codes "f") ∷ b ∷ []) (a ∷ newline ∷ tagged (b ∷ [])) ≡ Cut (Enter 0 ∷ Text (codes "a") ∷ Newline ∷ [])
+by_a_tag_before_that_end : line_of 9 (calls (codes "f") ∷ b ∷ []) (a ∷ newline ∷ tagged (b ∷ []) ++ does control.Nop ∷ []) ≡ Cut (Enter 0 ∷ Text (codes "a") ∷ Newline ∷ [])
 unfolding search run step start fresh_at read_path target landed entered next_place passed_places entered_places cut clean
 by_a_tag_before_that_end = refl
 
@@ -268,11 +269,11 @@ left_and_made (Faulted f c left made) = (left, made)
 left_and_made (Waits name made) = ([], made)
 
 a_call_before : ended (line_with (seven ∷ []) 9 calling) ≡ Cut (Text (codes "7") ∷ Newline ∷ [])
-unfolding search run step start fresh_at entered next_place passed_places entered_places cut printed
+unfolding search run step start fresh_at entered next_place passed_places entered_places cut printed digits
 a_call_before = refl
 
 just_its_answers : left_and_made (line_with (seven ∷ seven ∷ []) 9 calling) ≡ (seven ∷ [], rolled ∷ [])
-unfolding search run step start fresh_at entered next_place passed_places entered_places cut printed
+unfolding search run step start fresh_at entered next_place passed_places entered_places cut printed digits
 just_its_answers = refl
 
 -- ---- one line after another
