@@ -1,9 +1,9 @@
 -- A step only adds marks to the line, so that what stands behind an open newline after a step was written in it.
-use Rattle.std.proofs.Common.{◌≡◌, ◌∙◌, refl, sym, ap, append_assoc, append-nil, ◌++◌, ◌||◌, ◌<◌, ◌≤◌, ℕ, zero, suc, Bool, false, drop, length, List, [], ◌∷◌, Option, Some, arith}
+use Rattle.std.proofs.Common.{◌≡◌, ◌∙◌, refl, sym, ap, append_assoc, append-nil, ◌++◌, ◌||◌, ◌<◌, ℕ, suc, false, drop, length, List, [], ◌∷◌, Option, Some, arith}
 use Rattle.std.proofs.lemmas.List.{drop-append-le, drop_at, drop_all}
 use Rattle.ink_model.specs.Configuration.{Configuration}
 use Rattle.ink_model.specs.Host.{Bound}
-use Rattle.ink_model.specs.Line.{goes_past, open_in, page_at}
+use Rattle.ink_model.specs.Line.{goes_past, page_at}
 use Rattle.ink_model.specs.Run.{Made, Moment, At, answered, came, moment_after, next}
 use Rattle.ink_model.specs.Shown.{has_more, more_from, open_newline}
 use Rattle.ink_model.specs.Step.{Outcome, Next, Stop, Faults, Stepped, Comes, Wants, step}

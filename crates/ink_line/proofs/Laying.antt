@@ -1,5 +1,5 @@
 -- Lines one after another are one run.
-use Rattle.std.proofs.Common.{◌≡◌, refl, sym, ap, ◌∙◌, subst, ℕ, zero, suc, List, [], ◌∷◌, ◌++◌, append_assoc, append-nil, inl, inr, Option, Some, None, option_map}
+use Rattle.std.proofs.Common.{◌≡◌, refl, sym, ap, ◌∙◌, subst, ℕ, zero, suc, List, [], ◌∷◌, ◌++◌, append_assoc, append-nil, inl, inr, Option, Some, option_map}
 use Rattle.ink_model.specs.Configuration.{Configuration, begun, settled}
 use Rattle.ink_model.specs.Host.{Bound}
 use Rattle.ink_model.specs.Line.{EndsLine, Line, line_end}

@@ -1,12 +1,12 @@
 -- Moments of a run: what has ended stays so, and what a step's newline is.
-use Rattle.std.proofs.Common.{◌≡◌, refl, sym, ap, ◌∙◌, subst, arith, ℕ, zero, suc, ◌+◌, ◌-◌, ◌<◌, ◌≤◌, nat_le, length, inl, inr, ◌⊎◌, Bool, true, false, true≢false, if◌then◌else◌, Option, Some, None}
+use Rattle.std.proofs.Common.{◌≡◌, refl, sym, ap, ◌∙◌, subst, arith, ℕ, zero, suc, ◌+◌, ◌-◌, ◌≤◌, nat_le, length, Bool, true, false, true≢false, if◌then◌else◌, Option, Some, None}
 use Rattle.std.proofs.lemmas.Bool.Decides.{nat_tests}
 use Rattle.ink_model.specs.Host.{Bound}
-use Rattle.ink_model.specs.Line.{at_least, calls_in, goes_on, goes_past, has_faulted, newline_in, open_in, page_at, shows}
+use Rattle.ink_model.specs.Line.{at_least, calls_in, goes_on, has_faulted, newline_in, open_in, page_at}
 use Rattle.ink_model.specs.Output.{is_line}
 use Rattle.ink_model.specs.Run.{Moment, At, Stopped, Faulted, Waits, cut_off, next}
 use Rattle.ink_model.specs.Tree.{StoryTree}
-use Rattle.ink_line.proofs.Opens.{is_open, open_is, shown_below}
+use Rattle.ink_line.proofs.Opens.{open_is, shown_below}
 
 pub both : {b : Bool} → b ≡ true → b ≡ false → ⊥
 both t f = true≢false (sym t ∙ f)

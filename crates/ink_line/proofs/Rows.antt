@@ -1,19 +1,16 @@
 -- A row of `continue` commands is a row of lines, and the calls among its events are theirs.
 use Rattle.std.proofs.Common.{◌≡◌, refl, sym, ap, ◌∙◌, subst, ℕ, zero, suc, List, [], ◌∷◌, ◌++◌, append-nil, inl, inr, Bool, true, false, MatchBool}
-use Rattle.ink_model.specs.Answer.{Reply, Tells, Refuses, Breaks}
+use Rattle.ink_model.specs.Answer.{Reply, Tells, Refuses}
 use Rattle.ink_model.specs.Changed.{Keeps}
-use Rattle.ink_model.specs.Command as command
 use Rattle.ink_model.specs.Configuration.{Configuration, begun, can_go_on, settled}
 use Rattle.ink_model.specs.Events.{after, calls, later}
 use Rattle.ink_model.specs.Host.{Bindings}
 use Rattle.ink_model.specs.Line.{EndsLine}
 use Rattle.ink_model.specs.Run.{Made, RunEnd, Kept, Broke, At, answers_of}
-use Rattle.ink_model.specs.Session.{BreaksBy, Continue, ContinueFrom, Does, EndsAs, RunsLine, TellsDone, condition_told, reply_told, telling}
+use Rattle.ink_model.specs.Session.{ContinueFrom, EndsAs, RunsLine, TellsDone, condition_told, reply_told, telling}
 use Rattle.ink_model.specs.State.{State, Condition, Ready, Broken}
-use Rattle.ink_model.specs.Store.{Values}
 use Rattle.ink_model.specs.Told.{saws, told}
 use Rattle.ink_model.specs.Tree.{StoryTree}
-use Rattle.ink_model.specs.declared.fault.Fault.{Fault}
 use Rattle.ink_model.specs.declared.fault.Refusal.TheVariants as refusal
 use Rattle.ink_model.specs.declared.host.Change.{Change}
 use Rattle.ink_model.specs.declared.host.Event.{Event}

@@ -2,7 +2,7 @@
 use Rattle.std.specs.Prelude.{◌≡◌, ℕ, zero, suc, Bool, true, false, Option, Some, None}
 use Rattle.ink_model.specs.Host.{Bound}
 use Rattle.ink_model.specs.Line.{IsLineOf, NoneBelow, StaysOpen, calls_in, goes_on, goes_past, newline_in, shows}
-use Rattle.ink_model.specs.Run.{Moment, At, Stopped, Faulted, Waits, cut_off, next}
+use Rattle.ink_model.specs.Run.{Moment, At, Stopped, cut_off, next}
 use Rattle.ink_model.specs.Tree.{StoryTree}
 
 -- no newline is open; or one is, by its index, and the moment after its step is kept; or the line is known
