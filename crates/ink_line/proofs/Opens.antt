@@ -1,6 +1,6 @@
 -- The newline that is open, which is shown with no Text or Tag behind it: there is one at most.
-use Rattle.std.proofs.Common.{◌≡◌, ℕ, suc, ◌<◌, ◌≤◌, Bool, true, false, not, nat_lt, if◌then◌else◌, ◌||◌, ◌&&◌, cond, eqb, List, [], ◌∷◌, ◌++◌, length, drop, reverse, Some, refl, sym, ap, ◌∙◌, arith, inl, inr}
-use Rattle.std.proofs.lemmas.Bool.{cases_lt, cases_Bool, lt-ltb, or_cases, or_left, or_right, eqb-true, eq-eqb, false≢true, le-ltb, both_ways}
+use Rattle.std.proofs.Common.{◌≡◌, ℕ, suc, ◌<◌, ◌≤◌, Bool, true, false, not, ◌||◌, ◌&&◌, cond, eqb, List, [], ◌∷◌, ◌++◌, length, drop, reverse, Some, refl, sym, ap, ◌∙◌, arith, inl, inr}
+use Rattle.std.proofs.lemmas.Bool.{cases_Bool, or_cases, or_left, or_right, eqb-true, eq-eqb, false≢true, both_ways}
 use Rattle.std.proofs.lemmas.List.{reverse-append, reverse-reverse, length-reverse, drop-append-le, drop_all}
 use Rattle.std.proofs.Math.Bool.{or-false}
 use Rattle.ink_model.specs.Shown.{clear, some, ends, newline_shown, newlines_before, is_among, is_shown, open_before, open_newline, has_more, more_from}
@@ -8,17 +8,6 @@ use Rattle.ink_model.specs.declared.mark.Mark.{Mark}
 use Rattle.ink_model.specs.declared.mark.Mark.TheVariants.{Text, Blank, Newline, Glue, Tag, Enter, Leave}
 
 -- ---- what stands behind an index
-
--- the marks behind it, the last first
-abbrev since : List Mark → ℕ → List Mark
-since [] i = []
-since (m ∷ before) i = if nat_lt i (length before) then m ∷ since before i else []
-
-since_more : (m : Mark) (before : List Mark) (i : ℕ) → i < length before → since (m ∷ before) i ≡ m ∷ since before i
-since_more m before i h = rw (lt-ltb i (length before) h) refl
-
-since_none : (m : Mark) (before : List Mark) (i : ℕ) → length before ≤ i → since (m ∷ before) i ≡ []
-since_none m before i h = rw (le-ltb i (length before) h) refl
 
 pub has_more-append : (ms ns : List Mark) → has_more (ms ++ ns) ≡ (has_more ms || has_more ns)
 has_more-append [] ns = refl
@@ -30,43 +19,26 @@ has_more-append (Glue ∷ ms) ns = has_more-append ms ns
 has_more-append (Enter n ∷ ms) ns = has_more-append ms ns
 has_more-append (Leave n ∷ ms) ns = has_more-append ms ns
 
-or-true : (b : Bool) → (b || true) ≡ true
-or-true true = refl
-or-true false = refl
+-- a Text or Tag stands behind it, among marks that are listed from the last on
+abbrev behind : List Mark → ℕ → Bool
+behind before i = has_more (drop (suc i) (reverse before))
 
--- in whatever order
-first_or_last : (m : Mark) (ms : List Mark) → (has_more ms || has_more (m ∷ [])) ≡ has_more (m ∷ ms)
-first_or_last (Text t) ms = or-true (has_more ms)
-first_or_last (Tag t) ms = or-true (has_more ms)
-first_or_last (Blank t) ms = or-false (has_more ms)
-first_or_last Newline ms = or-false (has_more ms)
-first_or_last Glue ms = or-false (has_more ms)
-first_or_last (Enter n) ms = or-false (has_more ms)
-first_or_last (Leave n) ms = or-false (has_more ms)
+-- with one more mark
+behind_with : (m : Mark) (before : List Mark) (i : ℕ) → i < length before → behind (m ∷ before) i ≡ (behind before i || has_more (m ∷ []))
+behind_with m before i l =
+    let le : suc i ≤ length (reverse before) = omega (arith, l, length-reverse before) in
+    ap (λ ms. has_more (drop (suc i) ms)) (reverse-append (m ∷ []) before)
+    ∙ ap has_more (drop-append-le (suc i) (reverse before) (m ∷ []) le)
+    ∙ has_more-append (drop (suc i) (reverse before)) (m ∷ [])
 
-last_mark : (m : Mark) (before : List Mark) (i : ℕ) → i ≤ length before → has_more (drop i (reverse (m ∷ before))) ≡ (has_more (drop i (reverse before)) || has_more (m ∷ []))
-last_mark m before i h =
-    let le : i ≤ length (reverse before) = omega (arith, length-reverse before) in
-    ap (λ ms. has_more (drop i ms)) (reverse-append (m ∷ []) before)
-    ∙ ap has_more (drop-append-le i (reverse before) (m ∷ []) le)
-    ∙ has_more-append (drop i (reverse before)) (m ∷ [])
+followed : (m : Mark) (before : List Mark) (i : ℕ) → has_more (m ∷ []) ≡ true → i < length before → behind (m ∷ before) i ≡ true
+followed m before i more l = behind_with m before i l ∙ or_right (behind before i) (has_more (m ∷ [])) more
 
-past_all : (ms : List Mark) (i : ℕ) → length ms ≤ i → has_more (drop i (reverse ms)) ≡ false
-past_all ms i h = ap has_more (drop_all i (reverse ms) (omega (arith, length-reverse ms)))
+over : (m : Mark) (before : List Mark) (i : ℕ) → has_more (m ∷ []) ≡ false → i < length before → behind (m ∷ before) i ≡ behind before i
+over m before i plain l = behind_with m before i l ∙ ap (λ b. behind before i || b) plain ∙ or-false (behind before i)
 
-behind_is : (before : List Mark) (i : ℕ) → has_more (drop (suc i) (reverse before)) ≡ has_more (since before i)
-behind_is [] i = past_all [] (suc i) (omega arith)
-behind_is (m ∷ before) i = elim (cases_lt i (length before)) [
-  | inl l ↦
-      last_mark m before (suc i) (omega (arith, l))
-      ∙ ap (λ b. b || has_more (m ∷ [])) (behind_is before i)
-      ∙ first_or_last m (since before i)
-      ∙ sym (ap has_more (since_more m before i l))
-  | inr l ↦ past_all (m ∷ before) (suc i) (omega (arith, l)) ∙ sym (ap has_more (since_none m before i l))
-]
-
-more_since : (ms : List Mark) (i : ℕ) → more_from ms (suc i) ≡ has_more (since (reverse ms) i)
-more_since ms i = ap (λ ns. has_more (drop (suc i) ns)) (sym (reverse-reverse ms)) ∙ behind_is (reverse ms) i
+none_behind : (ms : List Mark) (i : ℕ) → length ms ≤ suc i → behind ms i ≡ false
+none_behind ms i h = ap has_more (drop_all (suc i) (reverse ms) (omega (arith, h, length-reverse ms)))
 
 -- ---- shown newlines stand among the marks
 
@@ -91,17 +63,11 @@ shown_below ms i shown = omega (arith, newlines_within (reverse ms) [] i shown, 
 
 -- ---- one more mark behind a shown newline
 
-followed : (m : Mark) (before : List Mark) (i : ℕ) → ((ms : List Mark) → has_more (m ∷ ms) ≡ true) → i < length before → has_more (since (m ∷ before) i) ≡ true
-followed m before i more h = rw (since_more m before i h) (more (since before i))
+marked_behind : (m : Mark) (before after : List Mark) (i : ℕ) → has_more (m ∷ []) ≡ true → is_among i (newlines_before before (m ∷ after)) ≡ true → behind (m ∷ before) i ≡ false → ⊥
+marked_behind m before after i more e h = both_ways (behind (m ∷ before) i) h (followed m before i more (newlines_within before (m ∷ after) i e))
 
-over : (m : Mark) (before : List Mark) (i : ℕ) → ((ms : List Mark) → has_more (m ∷ ms) ≡ has_more ms) → i < length before → has_more (since (m ∷ before) i) ≡ has_more (since before i)
-over m before i same h = rw (since_more m before i h) (same (since before i))
-
-marked_behind : (m : Mark) (before after : List Mark) (i : ℕ) → ((ms : List Mark) → has_more (m ∷ ms) ≡ true) → is_among i (newlines_before before (m ∷ after)) ≡ true → has_more (since (m ∷ before) i) ≡ false → ⊥
-marked_behind m before after i more e h = both_ways (has_more (since (m ∷ before) i)) h (followed m before i more (newlines_within before (m ∷ after) i e))
-
-plain_behind : (m : Mark) (before after : List Mark) (i : ℕ) → ((ms : List Mark) → has_more (m ∷ ms) ≡ has_more ms) → is_among i (newlines_before before (m ∷ after)) ≡ true → has_more (since (m ∷ before) i) ≡ false → has_more (since before i) ≡ false
-plain_behind m before after i same e h = sym (over m before i same (newlines_within before (m ∷ after) i e)) ∙ h
+plain_behind : (m : Mark) (before after : List Mark) (i : ℕ) → has_more (m ∷ []) ≡ false → is_among i (newlines_before before (m ∷ after)) ≡ true → behind (m ∷ before) i ≡ false → behind before i ≡ false
+plain_behind m before after i plain e h = sym (over m before i plain (newlines_within before (m ∷ after) i e)) ∙ h
 
 -- ---- a shown newline with nothing behind it is the open one
 
@@ -112,15 +78,15 @@ shown_clear true false e h = absurd (false≢true h)
 shown_clear false s e h = absurd (false≢true h)
 
 -- it is also the last mark shown, but for blanks
-opens_there : (before after : List Mark) (i : ℕ) → is_among i (newlines_before before after) ≡ true → has_more (since before i) ≡ false → (ends before after ≡ true) × (open_before before after ≡ Some i)
+opens_there : (before after : List Mark) (i : ℕ) → is_among i (newlines_before before after) ≡ true → behind before i ≡ false → (ends before after ≡ true) × (open_before before after ≡ Some i)
 opens_there [] after i e h = absurd (false≢true e)
-opens_there (Text t ∷ before) after i e h = absurd (marked_behind (Text t) before after i (λ ms. refl) e h)
-opens_there (Tag t ∷ before) after i e h = absurd (marked_behind (Tag t) before after i (λ ms. refl) e h)
+opens_there (Text t ∷ before) after i e h = absurd (marked_behind (Text t) before after i refl e h)
+opens_there (Tag t ∷ before) after i e h = absurd (marked_behind (Tag t) before after i refl e h)
 opens_there (Newline ∷ before) after i e h =
     let shows = clear before after && some before (Newline ∷ after) in
     let ended = ends before (Newline ∷ after) in
     let there : is_among i (newlines_before before (Newline ∷ after)) ≡ true → (ended ≡ true) × (open_before before (Newline ∷ after) ≡ Some i) =
-    λ among. opens_there before (Newline ∷ after) i among (plain_behind Newline before after i (λ ms. refl) among h) in
+    λ among. opens_there before (Newline ∷ after) i among (plain_behind Newline before after i refl among h) in
     elim (cases_Bool (newline_shown before after)) [
       | inl s ↦
           let among : is_among i (length before ∷ newlines_before before (Newline ∷ after)) ≡ true = rw s at e in
@@ -133,20 +99,23 @@ opens_there (Newline ∷ before) after i e h =
           let found = there (rw s at e) in
           (or_right shows ended found.0, rw s found.1)
     ]
-opens_there (Blank t ∷ before) after i e h = opens_there before (Blank t ∷ after) i e (plain_behind (Blank t) before after i (λ ms. refl) e h)
-opens_there (Glue ∷ before) after i e h = opens_there before (Glue ∷ after) i e (plain_behind Glue before after i (λ ms. refl) e h)
-opens_there (Enter n ∷ before) after i e h = opens_there before (Enter n ∷ after) i e (plain_behind (Enter n) before after i (λ ms. refl) e h)
-opens_there (Leave n ∷ before) after i e h = opens_there before (Leave n ∷ after) i e (plain_behind (Leave n) before after i (λ ms. refl) e h)
+opens_there (Blank t ∷ before) after i e h = opens_there before (Blank t ∷ after) i e (plain_behind (Blank t) before after i refl e h)
+opens_there (Glue ∷ before) after i e h = opens_there before (Glue ∷ after) i e (plain_behind Glue before after i refl e h)
+opens_there (Enter n ∷ before) after i e h = opens_there before (Enter n ∷ after) i e (plain_behind (Enter n) before after i refl e h)
+opens_there (Leave n ∷ before) after i e h = opens_there before (Leave n ∷ after) i e (plain_behind (Leave n) before after i refl e h)
+
+same_behind : (ms : List Mark) (i : ℕ) → behind (reverse ms) i ≡ more_from ms (suc i)
+same_behind ms i = ap (λ ns. has_more (drop (suc i) ns)) (reverse-reverse ms)
 
 pub is_open : (ms : List Mark) (i : ℕ) → is_shown ms i ≡ true → more_from ms (suc i) ≡ false → open_newline ms ≡ Some i
-is_open ms i shown more = (opens_there (reverse ms) [] i shown (sym (more_since ms i) ∙ more)).1
+is_open ms i shown more = (opens_there (reverse ms) [] i shown (same_behind ms i ∙ more)).1
 
 -- ---- and the open one is shown, with nothing behind it
 
-onward : (m : Mark) (before after : List Mark) (i : ℕ) → ((ms : List Mark) → has_more (m ∷ ms) ≡ has_more ms) → (is_among i (newlines_before before (m ∷ after)) ≡ true) × (has_more (since before i) ≡ false) → (is_among i (newlines_before before (m ∷ after)) ≡ true) × (has_more (since (m ∷ before) i) ≡ false)
-onward m before after i same found = (found.0, over m before i same (newlines_within before (m ∷ after) i found.0) ∙ found.1)
+onward : (m : Mark) (before after : List Mark) (i : ℕ) → has_more (m ∷ []) ≡ false → (is_among i (newlines_before before (m ∷ after)) ≡ true) × (behind before i ≡ false) → (is_among i (newlines_before before (m ∷ after)) ≡ true) × (behind (m ∷ before) i ≡ false)
+onward m before after i plain found = (found.0, over m before i plain (newlines_within before (m ∷ after) i found.0) ∙ found.1)
 
-open_there : (before after : List Mark) (i : ℕ) → open_before before after ≡ Some i → (is_among i (newlines_before before after) ≡ true) × (has_more (since before i) ≡ false)
+open_there : (before after : List Mark) (i : ℕ) → open_before before after ≡ Some i → (is_among i (newlines_before before after) ≡ true) × (behind before i ≡ false)
 open_there [] after i e = cc
 open_there (Text t ∷ before) after i e = cc
 open_there (Tag t ∷ before) after i e = cc
@@ -155,16 +124,16 @@ open_there (Newline ∷ before) after i e = elim (cases_Bool (newline_shown befo
       let here = rw s at e in
       let same : i ≡ length before = cc in (
         rw s (or_left (eqb i (length before)) (is_among i (newlines_before before (Newline ∷ after))) (eq-eqb i (length before) same)),
-        ap has_more (since_none Newline before i (omega (arith, same))),
+        none_behind (Newline ∷ before) i (omega (arith, same)),
       )
   | inr s ↦
       let found = open_there before (Newline ∷ after) i (rw s at e) in
-      (rw s found.0, over Newline before i (λ ms. refl) (newlines_within before (Newline ∷ after) i found.0) ∙ found.1)
+      (rw s found.0, over Newline before i refl (newlines_within before (Newline ∷ after) i found.0) ∙ found.1)
 ]
-open_there (Blank t ∷ before) after i e = onward (Blank t) before after i (λ ms. refl) (open_there before (Blank t ∷ after) i e)
-open_there (Glue ∷ before) after i e = onward Glue before after i (λ ms. refl) (open_there before (Glue ∷ after) i e)
-open_there (Enter n ∷ before) after i e = onward (Enter n) before after i (λ ms. refl) (open_there before (Enter n ∷ after) i e)
-open_there (Leave n ∷ before) after i e = onward (Leave n) before after i (λ ms. refl) (open_there before (Leave n ∷ after) i e)
+open_there (Blank t ∷ before) after i e = onward (Blank t) before after i refl (open_there before (Blank t ∷ after) i e)
+open_there (Glue ∷ before) after i e = onward Glue before after i refl (open_there before (Glue ∷ after) i e)
+open_there (Enter n ∷ before) after i e = onward (Enter n) before after i refl (open_there before (Enter n ∷ after) i e)
+open_there (Leave n ∷ before) after i e = onward (Leave n) before after i refl (open_there before (Leave n ∷ after) i e)
 
 pub open_is : (ms : List Mark) (i : ℕ) → open_newline ms ≡ Some i → (is_shown ms i ≡ true) × (more_from ms (suc i) ≡ false)
-open_is ms i e = let found = open_there (reverse ms) [] i e in (found.0, more_since ms i ∙ found.1)
+open_is ms i e = let found = open_there (reverse ms) [] i e in (found.0, sym (same_behind ms i) ∙ found.1)
