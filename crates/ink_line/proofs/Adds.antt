@@ -10,7 +10,7 @@ use Rattle.ink_model.specs.Step.{Outcome, Next, Stop, Faults, Stepped, Comes, Wa
 use Rattle.ink_model.specs.Tree.{StoryTree}
 use Rattle.ink_model.specs.declared.host.Given.{Given}
 use Rattle.ink_model.specs.declared.mark.Mark.{Mark}
-use Rattle.ink_line.proofs.Grows.{OutcomeL, SteppedL, answered_l, step_l}
+use Rattle.ink_line.proofs.Grows.{OutcomeHolds, SteppedHolds, answered_holds, step_holds}
 use Rattle.ink_line.proofs.Opens.{has_more-append, open_is, shown_below}
 
 abbrev Adds : List Mark → List Mark → Type 0
@@ -46,15 +46,15 @@ module _ (s : StoryTree) (b : Bound) (c : Configuration) (i : ℕ) (opens : open
   itself : Adds c.page.line c.page.line
   itself = ([], sym (append-nil c.page.line))
 
-  after_written : (o : Outcome) (left : List (Option Given)) (made : List Made) → OutcomeL (Adds c.page.line) (more c.page.line) o → Written (moment_after c o left made)
+  after_written : (o : Outcome) (left : List (Option Given)) (made : List Made) → OutcomeHolds (Adds c.page.line) (more c.page.line) o → Written (moment_after c o left made)
   after_written (Next d) left made h = at_all d.page.line h
   after_written (Stop d) left made h = at_all d.page.line h
   after_written (Faults f) left made h = at_all c.page.line itself
 
-  came_written : (o : Stepped) (left : List (Option Given)) (made : List Made) → SteppedL (Adds c.page.line) (more c.page.line) o → Written (came s c o left made)
+  came_written : (o : Stepped) (left : List (Option Given)) (made : List Made) → SteppedHolds (Adds c.page.line) (more c.page.line) o → Written (came s c o left made)
   came_written (Comes o) left made h = after_written o left made h
   came_written (Wants name arguments f d) [] made h = none_from (suc i) ∙ sym (none_from (length c.page.line))
-  came_written (Wants name arguments f d) (a ∷ left) made h = after_written (answered s f d a) left _ (answered_l (Adds c.page.line) (more c.page.line) s f d a h)
+  came_written (Wants name arguments f d) (a ∷ left) made h = after_written (answered s f d a) left _ (answered_holds (Adds c.page.line) (more c.page.line) s f d a h)
 
   pub written_behind : (left : List (Option Given)) (made : List Made) → Written (next s b (At c left made))
-  written_behind left made = came_written (step s b c) left made (step_l (Adds c.page.line) (more c.page.line) s b c itself)
+  written_behind left made = came_written (step s b c) left made (step_holds (Adds c.page.line) (more c.page.line) s b c itself)

@@ -25,7 +25,7 @@ module _ (s : StoryTree) (b : Bound) where
         subst (λ x. Knows s b limit (moment s b c answers) n (search s b n (Seeking x))) start
         (search_knows s b limit (moment s b c answers) (λ k. run_goes_on k (At c answers [])) (subst (λ x. goes_on x ≡ true) (sym start) refl) n le)
 
-    -- A SEARCH comes to the line
+    -- a search comes to the line
     pub finds : IsLineOf s b limit (moment s b c answers) (found (search s b limit (Seeking (At c answers []))))
     finds = found_is s b limit (moment s b c answers) (λ k. run_goes_on k (At c answers [])) (search s b limit (Seeking (At c answers []))) (knows limit (omega arith))
 

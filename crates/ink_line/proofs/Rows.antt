@@ -94,7 +94,7 @@ module _ (s : StoryTree) (h : Bindings) where
   same_ready : (c d : Configuration) → Ready c ≡ Ready d → c ≡ d
   same_ready c d e = cc
 
-  -- A ROW of commands is a row of lines
+  -- a row of commands is a row of lines
   lines_of_row : (n : ℕ) (es : List Event) (old new : State) → Continues s h es n old new → (c e : Configuration) → old.condition ≡ Ready c → new.condition ≡ Ready e
       → (lines : List (List Made)) × Lines s h.functions c lines e × (called es ≡ joined lines)
   lines_of_row zero es old new x c e from to = ([], same_ready e c (sym to ∙ (ap (λ (st : State). st.condition) x.1 ∙ from)), ap called x.0)
