@@ -19,6 +19,7 @@ lines_of (c ∷ cs) = if c == 10 then [] ∷ lines_of cs else onto c (lines_of c
 -- Set has no value where its JSON is none or of another kind; Load has the value of its JSON, or none where it is no JSON. Choose
 -- has the place of a choice among those that are shown, from 0.
 pub data Command : Type 0 where
+  Continue : Command
   Through : Command
   Set : (name : List ℕ) → (value : Option Given) → Command
   Get : (name : List ℕ) → Command
@@ -30,8 +31,9 @@ pub data Command : Type 0 where
   Restart : Command
 
 abbrev pub plain_command : List ℕ → Option Command
-plain_command line = if bytes_eq line (codes "through") then Some Through
-    else (if bytes_eq line (codes "save") then Some Save else (if bytes_eq line (codes "restart") then Some Restart else None))
+plain_command line = if bytes_eq line (codes "continue") then Some Continue
+    else (if bytes_eq line (codes "through") then Some Through
+    else (if bytes_eq line (codes "save") then Some Save else (if bytes_eq line (codes "restart") then Some Restart else None)))
 
 -- a name that is not empty and has no space
 abbrev pub get_command : List ℕ → Option Command

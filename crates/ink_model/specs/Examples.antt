@@ -18,6 +18,7 @@ use Rattle.ink_model.specs.Configuration.{Configuration, with_globals, start, fr
 use Rattle.ink_model.specs.Effect.{with_mode, with_page, with_stack}
 use Rattle.ink_model.specs.Step.{Bound, Faults, step, nothing_bound, Next, Stop, Comes}
 use Rattle.ink_model.specs.Run.{Kept, Made, Moment, moment, next, run, through, cut_off, answered, At, Stopped}
+use Rattle.ink_model.specs.Command as command
 use Rattle.ink_model.specs.Command.{Through, lines_of, command_of}
 use Rattle.ink_model.specs.Answer.{answer, Tells, Acts, Shows, Refuses, Breaks}
 use Rattle.ink_model.specs.Bytes.{fits_text}
@@ -26,7 +27,7 @@ use Rattle.ink_model.specs.Effect.{Fields}
 use Rattle.ink_model.specs.Host.{no_objects}
 use Rattle.ink_model.specs.Memory.{GetsTo, asks}
 use Rattle.ink_model.specs.Passage.{passage, passage_asks}
-use Rattle.ink_model.specs.Session.{Session, Serves, Set, Get, Restart}
+use Rattle.ink_model.specs.Session.{Continue, Session, Serves, Set, Get, Restart}
 use Rattle.ink_model.specs.Shown.{shows_more}
 use Rattle.ink_model.specs.State.{State, Ready, Broken}
 use Rattle.ink_model.specs.Opening.{opened, opened_by, opening}
@@ -229,6 +230,10 @@ pub through_line : command_of (codes "through") ≡ Some Through
 unfolding command_of encode_utf8
 through_line = rw (is_utf8-from_IsUtf8 (codes "through") (codes "through", (refl, refl))) refl
 
+pub continue_line : command_of (codes "continue") ≡ Some command.Continue
+unfolding command_of encode_utf8
+continue_line = rw (is_utf8-from_IsUtf8 (codes "continue") (codes "continue", (refl, refl))) refl
+
 other_line : command_of (codes "bye") ≡ None
 unfolding command_of encode_utf8
 other_line = rw (is_utf8-from_IsUtf8 (codes "bye") (codes "bye", (refl, refl))) refl
@@ -263,6 +268,14 @@ a_session = a_stopped_session (put_at None (start small [])) refl
 a_broken_session : Session small no_objects [] (codes "through" ∷ []) broken (codes "{\"fault\":\"TooDeep\",\"refused\":\"Broken\"}\n") broken
 unfolding Serves
 a_broken_session = (Refuses (refusal.Broken fault.TooDeep), broken, [], [], [], refl, rw through_line (inl (refl, (refl, refl))), rw a_broken_answer refl, (refl, refl, refl))
+
+-- `continue` is refused as `through` is
+a_stopped_continue : Continue small no_objects [] stopped (Refuses refusal.CannotContinue) stopped
+unfolding start fresh_at
+a_stopped_continue = (refl, (refl, refl))
+
+a_broken_continue : Continue small no_objects [] broken (Refuses (refusal.Broken fault.TooDeep)) broken
+a_broken_continue = (refl, (refl, refl))
 
 -- a run that has stopped stays as it is
 pub stays : (s : StoryTree) (b : Bound) (c d : Configuration) (k j : ℕ) (left answers : List (Option Given)) (made : List Made)

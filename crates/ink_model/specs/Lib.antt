@@ -42,6 +42,7 @@ pub mod Move
 pub mod Choosing
 pub mod Step
 pub mod Run
+pub mod Line
 pub mod Opening
 pub mod ValueJson
 pub mod Command

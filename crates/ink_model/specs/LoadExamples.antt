@@ -1,11 +1,11 @@
 -- Small worked examples of `save` and `load`, each proved by computation (docs/PROTOCOL.md, "Command lines").
-use Rattle.std.specs.Prelude.{◌≡◌, ℕ, pos, ◌++◌, List, [], ◌∷◌, refl, codes, true, false, Some, None}
+use Rattle.std.specs.Prelude.{◌≡◌, pos, [], ◌∷◌, refl, codes, true, false, Some, None}
 use Rattle.std.proofs.Common.{inl, inr}
 use Rattle.std.proofs.lemmas.Str.{is_utf8-from_IsUtf8}
 use Rattle.std.specs.Char.{encode_utf8}
 use Rattle.std.specs.Fmt.{digits}
 use Rattle.serde_json.proofs.OnLiterals.{serde_json_on_literals}
-use Rattle.serde_json.specs.Data.{Data, null, number, object, array, no_items, no_members, member, unsigned}
+use Rattle.serde_json.specs.Data.{null, number, object, no_members, member, unsigned}
 use Rattle.ink_model.specs.Answer.{Refuses, Saves, answer}
 use Rattle.ink_model.specs.Command as command
 use Rattle.ink_model.specs.Command.{command_of, command_word, json_of, line_asks}
@@ -17,7 +17,7 @@ use Rattle.ink_model.specs.Place.{entered}
 use Rattle.ink_model.specs.Save.Reads.{Reads}
 use Rattle.ink_model.specs.Save.Spelling.{spelling}
 use Rattle.ink_model.specs.Session.{Load, Save, Session, Serves}
-use Rattle.ink_model.specs.State.{State, Ready, Broken}
+use Rattle.ink_model.specs.State.{State, Broken}
 use Rattle.ink_model.specs.declared.fault.Fault.TheVariants as fault
 use Rattle.ink_model.specs.declared.fault.Refusal.TheVariants as refusal
 use Rattle.ink_model.specs.declared.value.Value.TheVariants as value

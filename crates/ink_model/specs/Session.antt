@@ -9,7 +9,8 @@ use Rattle.ink_model.specs.Events.{calls, later}
 use Rattle.ink_model.specs.Host.{Bindings, value_given}
 use Rattle.ink_model.specs.Passage.{passage, passage_asks}
 use Rattle.ink_model.specs.Run.{Made, RunEnd, Kept, Broke, EndsThrough}
-use Rattle.ink_model.specs.Memory.{FallsShort, OpensShort, holds_memory}
+use Rattle.ink_model.specs.Line.{EndsLine}
+use Rattle.ink_model.specs.Memory.{FallsShort, LineFallsShort, OpensShort, holds_memory}
 pub use Rattle.ink_model.specs.Changed.{FailsAllocation, Keeps}
 use Rattle.ink_model.specs.Command as command
 use Rattle.ink_model.specs.Command.{Command, command_of}
@@ -84,22 +85,41 @@ EndsAs h start (Kept c) made es old reply new =
     ⊎ ((ending_asks h start c ≡ true) × BreaksBy OutOfMemory c.shared.globals (calls old.stamp made) es old reply new)
 EndsAs h start (Broke f globals) made es old reply new = BreaksBy f globals (calls old.stamp made) es old reply new
 
--- From a configuration in which flow has not stopped: the end of the run under the answers of the calls that were made. Only
--- where memory was refused it may fall short of that.
+-- From a configuration in which flow has not stopped, with these calls made: an end to which that comes. Only where memory was
+-- refused, with these globals left, it may fall short of that.
+abbrev pub RunsTo : (RunEnd → Type 0) → (Values → Type 0) → Bindings → Configuration → List Made → List Event → State → Reply → State → Type 0
+RunsTo Ends FallShort h c made es old reply new =
+    ((end : RunEnd) × Ends end × EndsAs h c.shared.globals end made es old reply new)
+    ⊎ ((globals : Values) × FallShort globals × BreaksBy OutOfMemory globals (calls old.stamp made) es old reply new)
+
+-- the end of the whole run, under the answers of the calls that were made
 abbrev pub RunsThrough : StoryTree → Bindings → Configuration → List Made → List Event → State → Reply → State → Type 0
-RunsThrough s h c made es old reply new =
-    ((end : RunEnd) × EndsThrough s h.functions c made end × EndsAs h c.shared.globals end made es old reply new)
-    ⊎ ((globals : Values) × FallsShort s h.functions c made globals × BreaksBy OutOfMemory globals (calls old.stamp made) es old reply new)
+RunsThrough s h c made es old reply new = RunsTo (EndsThrough s h.functions c made) (FallsShort s h.functions c made) h c made es old reply new
+
+-- the end of a line of it
+abbrev pub RunsLine : StoryTree → Bindings → Configuration → List Made → List Event → State → Reply → State → Type 0
+RunsLine s h c made es old reply new = RunsTo (EndsLine s h.functions c made) (LineFallsShort s h.functions c made) h c made es old reply new
+
+-- a command that runs, where flow has not stopped
+abbrev pub RunsFrom : (Configuration → List Made → List Event → State → Reply → State → Type 0) → List Event → Condition → State → Reply → State → Type 0
+RunsFrom Runs es (Broken f globals) old reply new = (es ≡ []) × Keeps (Refuses (refusal.Broken f)) old reply new
+RunsFrom Runs es (Ready c) old reply new = MatchBool (can_go_on c)
+    ((made : List Made) × Runs c made es old reply new)
+    ((es ≡ []) × Keeps (Refuses refusal.CannotContinue) old reply new)
 
 abbrev pub ThroughFrom : StoryTree → Bindings → List Event → Condition → State → Reply → State → Type 0
-ThroughFrom s h es (Broken f globals) old reply new = (es ≡ []) × Keeps (Refuses (refusal.Broken f)) old reply new
-ThroughFrom s h es (Ready c) old reply new = MatchBool (can_go_on c)
-    ((made : List Made) × RunsThrough s h c made es old reply new)
-    ((es ≡ []) × Keeps (Refuses refusal.CannotContinue) old reply new)
+ThroughFrom s h es k old reply new = RunsFrom (RunsThrough s h) es k old reply new
+
+abbrev pub ContinueFrom : StoryTree → Bindings → List Event → Condition → State → Reply → State → Type 0
+ContinueFrom s h es k old reply new = RunsFrom (RunsLine s h) es k old reply new
 
 -- `through`, with its events: the calls that it made, and what was told at its end
 abbrev pub Through : StoryTree → Bindings → List Event → State → Reply → State → Type 0
 Through s h es old reply new = ThroughFrom s h es old.condition old reply new
+
+-- `continue`: the same of one line
+abbrev pub Continue : StoryTree → Bindings → List Event → State → Reply → State → Type 0
+Continue s h es old reply new = ContinueFrom s h es old.condition old reply new
 
 -- A fault of the declarations breaks the player, with these globals; but where it is refused memory nothing has changed. No rule
 -- has OutOfMemory, so that fault alone tells refused memory apart.
@@ -191,6 +211,7 @@ Load s h es (Some j) old reply new = LoadsBy s h j es old reply new
 -- one command, with its events
 abbrev pub Does : StoryTree → Bindings → List Event → Option Command → State → Reply → State → Type 0
 Does s h es None old reply new = (es ≡ []) × Keeps (Refuses refusal.BadCommand) old reply new
+Does s h es (Some command.Continue) old reply new = Continue s h es old reply new
 Does s h es (Some command.Through) old reply new = Through s h es old reply new
 Does s h es (Some (command.Set name value)) old reply new = Set h es name value old reply new
 Does s h es (Some (command.Get name)) old reply new = (es ≡ []) × Get name old reply new

@@ -8,6 +8,7 @@ use Rattle.ink_protocol.specs.declared.command.LineCommand.TheVariants as line
 
 -- the command, with its name, its path, its number or its JSON
 abbrev pub command_by : LineCommand → Command
+command_by line.Continue = command.Continue
 command_by line.Through = command.Through
 command_by (line.Set name value) = command.Set name.now value
 command_by (line.Get name) = command.Get name.now

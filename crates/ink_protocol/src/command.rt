@@ -19,6 +19,7 @@ const MAX_DIGITS: usize = 9;
 /// JSON of another kind than a value has, or no JSON; that of `Load` is none where it has no JSON.
 #[derive(Drop)]
 pub enum LineCommand<'a> {
+    Continue,
     Through,
     Set { name: &'a str, value: Option<Given> },
     Get { name: &'a str },
@@ -46,6 +47,9 @@ fn command_in(alloc: Global, text: &str) -> Result<Option<LineCommand<'_>>, Allo
     ensures command { IfOk result (λ command. option_map command_by command ≡ command_word text.now) }
     ensures memory { OnErr result (line_asks (command_word text.now) ≡ true) }
 {
+    if text == "continue" {
+        return Ok(Some(LineCommand::Continue));
+    }
     if text == "through" {
         return Ok(Some(LineCommand::Through));
     }

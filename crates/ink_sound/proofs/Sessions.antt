@@ -11,9 +11,11 @@ use Rattle.ink_model.specs.Command as command
 use Rattle.ink_model.specs.Command.{Command, command_of}
 use Rattle.ink_model.specs.Configuration.{ChoiceOf, Configuration, can_go_on, settled, unnumbered_choice, with_globals}
 use Rattle.ink_model.specs.Host.{Bindings, value_given}
+use Rattle.ink_model.specs.Line.{EndsLine, line_end}
 use Rattle.ink_model.specs.Opening.{Unopened, opened, opening}
-use Rattle.ink_model.specs.Run.{Made, Moment, At, Stopped, Faulted, Waits, RunEnd, Kept, Broke, answers_of, end_of, through}
-use Rattle.ink_model.specs.Session.{Does, EndsAs, FailsToRestart, GetsFrom, Load, LoadsBy, RestartsAs, RunsThrough, SavesFrom, Serves, Session, SetsFrom, SetsIn, TellsDone, TellsOrKeeps, ThroughFrom, VisitsBy, VisitsFrom, condition_told, settable}
+use Rattle.ink_model.specs.Run.{Made, Moment, At, Stopped, Faulted, Waits, RunEnd, Kept, Broke, EndsThrough, answers_of, end_of, through}
+use Rattle.ink_model.specs.Memory.{FallsShort, LineFallsShort}
+use Rattle.ink_model.specs.Session.{Continue, Does, EndsAs, FailsToRestart, GetsFrom, Load, LoadsBy, RestartsAs, RunsFrom, RunsLine, RunsThrough, RunsTo, SavesFrom, Serves, Session, SetsFrom, SetsIn, TellsDone, TellsOrKeeps, Through, VisitsBy, VisitsFrom, condition_told, settable}
 use Rattle.ink_model.specs.State.{State, Condition, Ready, Broken}
 use Rattle.ink_model.specs.Store.{Values, store, stored}
 use Rattle.ink_model.specs.Tree.{StoryTree}
@@ -31,7 +33,7 @@ use Rattle.ink_model.specs.Save.Reads.{Rests}
 use Rattle.ink_model.specs.Save.Sound.{ChoiceFits, PlaceFits, Sound, ValueFits}
 use Rattle.ink_sound.proofs.Between.{Opens, choices_rest, chosen_rests, globals_rest, globals_sound, jumped_rests, opening_fits, settled_rests, settled_sound}
 use Rattle.ink_sound.proofs.Places.{jump_fits}
-use Rattle.ink_sound.proofs.Steps.{chosen_sound, jumped_sound, open_finds, through_fits}
+use Rattle.ink_sound.proofs.Steps.{chosen_sound, jumped_sound, line_fits, open_finds, through_fits}
 use Rattle.ink_sound.proofs.Variables.{stored_fits}
 
 module _ (s : StoryTree) where
@@ -166,18 +168,41 @@ module _ (s : StoryTree) where
     ends_fit start (Kept c) made es old reply new (inr x) k = subst (StateFits s) (sym x.1.2) tt
     ends_fit start (Broke f globals) made es old reply new x k = subst (StateFits s) (sym x.2) tt
 
-    runs_fit : (c : Configuration) (made : List Made) (es : List Event) (old : State) (reply : Reply) (new : State) → RunsThrough s h c made es old reply new → Sound s c → StateFits s new
-    runs_fit c made es old reply new (inl x) k =
-        ends_fit c.shared.globals x.0 made es old reply new x.2 (end_fits (through s h.functions c (answers_of made)) x.0 made x.1 (through_fits s story h.functions c (answers_of made) k))
-    runs_fit c made es old reply new (inr x) k = subst (StateFits s) (sym x.2.2) tt
+    line_end_fits : (m : Moment) (end : RunEnd) (made : List Made) → line_end m ≡ Some (end, made) → MomentFits s m → EndFits end
+    line_end_fits (At c [] calls) end made e h = subst EndFits (same_end (Kept c) end calls made e) h
+    line_end_fits (At c (a ∷ left) calls) end made e h = absurd cc
+    line_end_fits (Stopped c left calls) end made e h = end_fits (Stopped c left calls) end made e h
+    line_end_fits (Faulted f c left calls) end made e h = end_fits (Faulted f c left calls) end made e h
+    line_end_fits (Waits name calls) end made e h = absurd cc
 
-    through_fits_from : (es : List Event) (k : Condition) (old : State) (reply : Reply) (new : State) → ThroughFrom s h es k old reply new → ConditionFits s k → StateFits s old → StateFits s new
-    through_fits_from es (Broken f globals) old reply new does k o = kept _ old new reply does.1 o
-    through_fits_from es (Ready c) old reply new does k o = by (can_go_on c) does
+    through_end : (c : Configuration) (made : List Made) (end : RunEnd) → EndsThrough s h.functions c made end → Sound s c → EndFits end
+    through_end c made end x k = end_fits (through s h.functions c (answers_of made)) end made x (through_fits s story h.functions c (answers_of made) k)
+
+    line_fits_end : (c : Configuration) (made : List Made) (end : RunEnd) → EndsLine s h.functions c made end → Sound s c → EndFits end
+    line_fits_end c made end (m, line, x) k = line_end_fits m end made x (line_fits s story h.functions c (answers_of made) m line k)
+
+    runs_to_fit : (Ends : RunEnd → Type 0) (FallShort : Values → Type 0) (c : Configuration) (made : List Made) (es : List Event) (old : State) (reply : Reply) (new : State)
+        → RunsTo Ends FallShort h c made es old reply new → ((end : RunEnd) → Ends end → EndFits end) → StateFits s new
+    runs_to_fit Ends FallShort c made es old reply new (inl x) fits = ends_fit c.shared.globals x.0 made es old reply new x.2 (fits x.0 x.1)
+    runs_to_fit Ends FallShort c made es old reply new (inr x) fits = subst (StateFits s) (sym x.2.2) tt
+
+    runs_from_fit : (Runs : Configuration → List Made → List Event → State → Reply → State → Type 0) (es : List Event) (k : Condition) (old : State) (reply : Reply) (new : State)
+        → RunsFrom Runs es k old reply new → ((c : Configuration) (made : List Made) → Sound s c → Runs c made es old reply new → StateFits s new)
+        → ConditionFits s k → StateFits s old → StateFits s new
+    runs_from_fit Runs es (Broken f globals) old reply new does fits k o = kept _ old new reply does.1 o
+    runs_from_fit Runs es (Ready c) old reply new does fits k o = by (can_go_on c) does
       where
-        by : (b : Bool) → MatchBool b ((made : List Made) × RunsThrough s h c made es old reply new) ((es ≡ []) × Keeps (Refuses refusal.CannotContinue) old reply new) → StateFits s new
-        by true x = runs_fit c x.0 es old reply new x.1 k.0
+        by : (b : Bool) → MatchBool b ((made : List Made) × Runs c made es old reply new) ((es ≡ []) × Keeps (Refuses refusal.CannotContinue) old reply new) → StateFits s new
+        by true x = fits c x.0 k.0 x.1
         by false x = kept _ old new reply x.1 o
+
+    through_fits_from : (es : List Event) (old : State) (reply : Reply) (new : State) → Through s h es old reply new → StateFits s old → StateFits s new
+    through_fits_from es old reply new does o = runs_from_fit (RunsThrough s h) es old.condition old reply new does
+        (λ c made k x. runs_to_fit (EndsThrough s h.functions c made) (FallsShort s h.functions c made) c made es old reply new x (λ end y. through_end c made end y k)) o o
+
+    continue_fits_from : (es : List Event) (old : State) (reply : Reply) (new : State) → Continue s h es old reply new → StateFits s old → StateFits s new
+    continue_fits_from es old reply new does o = runs_from_fit (RunsLine s h) es old.condition old reply new does
+        (λ c made k x. runs_to_fit (EndsLine s h.functions c made) (LineFallsShort s h.functions c made) c made es old reply new x (λ end y. line_fits_end c made end y k)) o o
 
     fails_fit : (f : Fault) (globals : Values) (es : List Event) (old : State) (reply : Reply) (new : State) → FailsToRestart f globals es old reply new → StateFits s old → StateFits s new
     fails_fit OutOfMemory globals es old reply new x o = along old new x.1.1 o
@@ -191,7 +216,8 @@ module _ (s : StoryTree) where
 
     pub does_fit : (es : List Event) (c : Option Command) (old : State) (reply : Reply) (new : State) → Does s h es c old reply new → StateFits s old → StateFits s new
     does_fit es None old reply new does o = kept _ old new reply does.1 o
-    does_fit es (Some command.Through) old reply new does o = through_fits_from es old.condition old reply new does o o
+    does_fit es (Some command.Continue) old reply new does o = continue_fits_from es old reply new does o
+    does_fit es (Some command.Through) old reply new does o = through_fits_from es old reply new does o
     does_fit es (Some (command.Set name value)) old reply new does o = set_fits h name value old.condition es old reply new does o o
     does_fit es (Some (command.Get name)) old reply new does o = get_fits _ old reply new does.1 o
     does_fit es (Some (command.Visits path)) old reply new does o = visits_fit path old.condition old reply new does.1 o

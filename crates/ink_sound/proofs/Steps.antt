@@ -1,5 +1,5 @@
 -- A step keeps a configuration sound, and so do an answer and a run.
-use Rattle.std.proofs.Common.{◌≡◌, refl, subst, ℕ, zero, suc, lit≤, List, [], ◌∷◌, slice_get, Bool, true, false, if◌then◌else◌, Option, Some, None, option_map}
+use Rattle.std.proofs.Common.{◌≡◌, refl, subst, ℕ, zero, suc, lit≤, inl, inr, List, [], ◌∷◌, slice_get, Bool, true, false, if◌then◌else◌, Option, Some, None, is_some, option_map}
 use Rattle.std.proofs.lemmas.Bool.{cond_both}
 use Rattle.std.specs.List.{AllByRecursion as Each}
 use Rattle.ink_model.specs.Choices.{behind, can_take, only_invisible, taken, taken_of, visible}
@@ -9,6 +9,7 @@ use Rattle.ink_model.specs.Effect.{Effect, Fields, context_of, fields_of}
 use Rattle.ink_model.specs.Entered.{passed_places}
 use Rattle.ink_model.specs.Frames.{ThreadOf}
 use Rattle.ink_model.specs.Host.{Bound}
+use Rattle.ink_model.specs.Line.{Line}
 use Rattle.ink_model.specs.Move.{Outcome, Next, Stop, Faults, move}
 use Rattle.ink_model.specs.Place.{entered}
 use Rattle.ink_model.specs.Run.{Made, Moment, At, Stopped, Faulted, Waits, answered, came, cut_off, moment, moment_after, next, run, through}
@@ -20,7 +21,7 @@ use Rattle.ink_model.specs.declared.host.Given.{Given}
 use Rattle.ink_model.specs.declared.limits.TheConstants.{MAX_STEPS}
 use Rattle.ink_model.specs.declared.place.Part.{Part}
 use Rattle.ink_sound.specs.Kept.{CallFits, EffectFits, FieldsFit, Finds, MomentFits, OutcomeFits, Runs, SteppedFits, StoryFits}
-use Rattle.ink_model.specs.Save.Sound.{ChoiceFits, FlowStands, PlaceFits, Sound, ThreadFits, ThreadStands}
+use Rattle.ink_model.specs.Save.Sound.{ChoiceFits, FlowStands, PlaceFits, SomePlace, Sound, ThreadFits, ThreadStands}
 use Rattle.ink_sound.proofs.Counts.{one_more_most}
 use Rattle.ink_sound.proofs.Effects.{effect_fits}
 use Rattle.ink_sound.proofs.Flows.{top_fits}
@@ -187,6 +188,55 @@ module _ (s : StoryTree) where
 
     pub through_fits : (c : Configuration) (answers : List (Option Given)) → Sound s c → MomentFits s (through s b c answers)
     through_fits c answers h = cut_fits (moment s b (begun c) answers MAX_STEPS) (run_fits MAX_STEPS (At (begun c) answers []) (begun_sound c h))
+
+    -- ---- lines
+
+    pub line_fits : (c : Configuration) (answers : List (Option Given)) (x : Moment) → Line s b c answers x → Sound s c → MomentFits s x
+    line_fits c answers x (inl cut) h = subst (MomentFits s) cut.ends (run_fits (suc cut.step) (At (begun c) answers []) (begun_sound c h))
+    line_fits c answers x (inr whole) h = subst (MomentFits s) whole.ends (through_fits c answers h)
+
+    -- where a run goes on, flow is at a place
+    abbrev MomentRuns : Moment → Type 0
+    MomentRuns (At c left made) = Runs s c
+    MomentRuns m = Unit {0}
+
+    after_runs : (c : Configuration) (o : Outcome) (left : List (Option Given)) (made : List Made) → OutcomeFits s o → MomentRuns (moment_after c o left made)
+    after_runs c (Next d) left made k = k
+    after_runs c (Stop d) left made k = tt
+    after_runs c (Faults f) left made k = tt
+
+    came_runs : (c : Configuration) (o : Stepped) (left : List (Option Given)) (made : List Made) → SteppedFits s o → MomentRuns (came s c o left made)
+    came_runs c (Comes o) left made k = after_runs c o left made k
+    came_runs c (Wants name arguments f d) [] made k = tt
+    came_runs c (Wants name arguments f d) (a ∷ left) made k = after_runs c (answered s f d a) left _ (answered_fits f d a k.0 k.1)
+
+    next_runs : (m : Moment) → MomentFits s m → MomentRuns (next s b m)
+    next_runs (At c left made) h = came_runs c (step s b c) left made (step_fits c h)
+    next_runs (Stopped c left made) h = tt
+    next_runs (Faulted f c left made) h = tt
+    next_runs (Waits name made) h = tt
+
+    never_at : (m : Moment) (d : Configuration) (left : List (Option Given)) (made : List Made) → cut_off m ≡ At d left made → ⊥
+    never_at (At c l k) d left made e = cc
+    never_at (Stopped c l k) d left made e = cc
+    never_at (Faulted f c l k) d left made e = cc
+    never_at (Waits name k) d left made e = cc
+
+    line_runs : (c : Configuration) (answers : List (Option Given)) (d : Configuration) (left : List (Option Given)) (made : List Made)
+        → Line s b c answers (At d left made) → Sound s c → Runs s d
+    unfolding run
+    line_runs c answers d left made (inl cut) h = subst MomentRuns cut.ends
+        (next_runs (run s b cut.step (At (begun c) answers [])) (run_fits cut.step (At (begun c) answers []) (begun_sound c h)))
+    line_runs c answers d left made (inr whole) h = absurd (never_at (moment s b (begun c) answers MAX_STEPS) d left made whole.ends)
+
+    going_on : (o : Option (List Part)) → SomePlace s o → is_some o ≡ true
+    going_on (Some p) h = refl
+    going_on None h = absurd h
+
+    -- a line that was cut is kept in a sound configuration, and flow has not stopped
+    pub cut_fits_on : (c : Configuration) (answers : List (Option Given)) (d : Configuration) (left : List (Option Given)) (made : List Made)
+        → Line s b c answers (At d left made) → Sound s c → Sound s d × (can_go_on d ≡ true)
+    cut_fits_on c answers d left made line h = let runs = line_runs c answers d left made line h in (runs.0, going_on (current_place d) runs.1)
 
   -- ---- choosing and jumping
 

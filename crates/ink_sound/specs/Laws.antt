@@ -1,12 +1,13 @@
 -- The laws: a story that is opened is sound, each step and each command keeps that, and a spelling is read as what it spells.
-use Rattle.std.specs.Prelude.{◌≡◌, ℕ, ◌≤◌, List, [], false, Ok, Option, Some}
+use Rattle.std.specs.Prelude.{◌≡◌, ℕ, ◌≤◌, List, [], true, false, Ok, Option, Some}
 use Rattle.ink_model.specs.Acceptance.{accepted_story, bad_places}
 use Rattle.ink_model.specs.Answer.{Reply}
-use Rattle.ink_model.specs.Configuration.{Configuration, settled}
+use Rattle.ink_model.specs.Configuration.{Configuration, can_go_on, settled}
 use Rattle.ink_model.specs.Grammar.{IsSpelled}
 use Rattle.ink_model.specs.Host.{Bindings, Bound}
+use Rattle.ink_model.specs.Line.{Line}
 use Rattle.ink_model.specs.Opening.{opened, opening}
-use Rattle.ink_model.specs.Run.{moment}
+use Rattle.ink_model.specs.Run.{Made, At, moment}
 use Rattle.ink_model.specs.Session.{Does, Session}
 use Rattle.ink_model.specs.State.{Ready, State}
 use Rattle.ink_model.specs.Step.{step}
@@ -42,6 +43,11 @@ StepsFit = (s : StoryTree) → StoryFits s → (b : Bound) (c : Configuration) �
 abbrev pub MomentsFit : Type 0
 MomentsFit = (s : StoryTree) → StoryFits s → (b : Bound) (c : Configuration) → Sound s c
     → (answers : List (Option Given)) (n : ℕ) → MomentFits s (moment s b c answers n)
+
+-- a line that was cut is kept in a sound configuration, from which flow goes on: its passage has `more`
+abbrev pub CutsFit : Type 0
+CutsFit = (s : StoryTree) → StoryFits s → (b : Bound) (c : Configuration) → Sound s c
+    → (answers left : List (Option Given)) (made : List Made) (d : Configuration) → Line s b c answers (At d left made) → Sound s d × (can_go_on d ≡ true)
 
 -- what is settled is as sound as before, and at rest
 abbrev pub SettlingFits : Type 0

@@ -2,7 +2,7 @@
 //! definitions alone, each the contract of a function that does nothing.
 #![tactic(auto)]
 
-ghost use Rattle.ink_sound.specs.Laws.{AcceptedFit, CommandsFit, MomentsFit, OneSpelling, OpeningsFit, ReadsExactly, SessionsFit, SessionsReload, SettlingFits, SpelledFit, SpellsFlat, SpellsPlain, StepsFit};
+ghost use Rattle.ink_sound.specs.Laws.{AcceptedFit, CommandsFit, CutsFit, MomentsFit, OneSpelling, OpeningsFit, ReadsExactly, SessionsFit, SessionsReload, SettlingFits, SpelledFit, SpellsFlat, SpellsPlain, StepsFit};
 
 /// An accepted story has what the laws ask of one.
 pub fn accepted_stories_fit()
@@ -22,6 +22,11 @@ pub fn steps_keep_sound()
 /// Each moment of a run from a sound configuration is sound.
 pub fn runs_keep_sound()
     ensures { MomentsFit }
+{}
+
+/// A line that is cut is kept in a sound configuration, from which flow goes on.
+pub fn cut_lines_keep_sound()
+    ensures { CutsFit }
 {}
 
 /// A configuration that a command leaves, settled, is as sound as before, and at rest.

@@ -1,0 +1,14 @@
+pub mod Opens
+pub mod Moments
+pub mod Lines
+pub mod Looks
+pub mod Found
+pub mod Onward
+pub mod Firm
+pub mod Calls
+pub mod Laying
+pub mod Enough
+pub mod Rows
+pub mod Grows
+pub mod Adds
+pub mod Sessions

@@ -1,0 +1,114 @@
+-- A row of `continue` commands is a row of lines, and the calls among its events are theirs.
+use Rattle.std.proofs.Common.{◌≡◌, refl, sym, ap, ◌∙◌, subst, ℕ, zero, suc, List, [], ◌∷◌, ◌++◌, append-nil, inl, inr, Bool, true, false, MatchBool}
+use Rattle.ink_model.specs.Answer.{Reply, Tells, Refuses}
+use Rattle.ink_model.specs.Changed.{Keeps}
+use Rattle.ink_model.specs.Configuration.{Configuration, begun, can_go_on, settled}
+use Rattle.ink_model.specs.Events.{after, calls, later}
+use Rattle.ink_model.specs.Host.{Bindings}
+use Rattle.ink_model.specs.Line.{EndsLine}
+use Rattle.ink_model.specs.Run.{Made, RunEnd, Kept, Broke, At, answers_of}
+use Rattle.ink_model.specs.Session.{ContinueFrom, EndsAs, RunsLine, TellsDone, condition_told, reply_told, telling}
+use Rattle.ink_model.specs.State.{State, Condition, Ready, Broken}
+use Rattle.ink_model.specs.Told.{saws, told}
+use Rattle.ink_model.specs.Tree.{StoryTree}
+use Rattle.ink_model.specs.declared.fault.Refusal.TheVariants as refusal
+use Rattle.ink_model.specs.declared.host.Change.{Change}
+use Rattle.ink_model.specs.declared.host.Event.{Event}
+use Rattle.ink_model.specs.declared.host.Event.TheVariants as event
+use Rattle.ink_model.specs.declared.passage.Passage.{Passage}
+use Rattle.ink_line.specs.Rows.{Continues, Lines, called, joined, laid}
+use Rattle.ink_line.proofs.Laying.{lines_are_laid}
+
+-- ---- the calls among events
+
+called_joins : (xs ys : List Event) → called (xs ++ ys) ≡ called xs ++ called ys
+called_joins [] ys = refl
+called_joins (event.Call name arguments gave stamp ∷ xs) ys = ap (λ l. record { name = name; arguments = arguments; gave = gave } ∷ l) (called_joins xs ys)
+called_joins (event.Saw name stamp value ∷ xs) ys = called_joins xs ys
+
+called_back : (n : ℕ) (made : List Made) → called (calls n made) ≡ made
+called_back n [] = refl
+called_back n (m ∷ made) = ap (λ l. m ∷ l) (called_back (after n) made)
+
+none_called : (n : ℕ) (cs : List Change) (answers : List Bool) → called (saws n cs answers) ≡ []
+none_called n [] answers = refl
+none_called n (c ∷ cs) [] = refl
+none_called n (c ∷ cs) (true ∷ answers) = none_called (after n) cs answers
+none_called n (c ∷ cs) (false ∷ answers) = none_called n cs answers
+
+-- ---- one command
+
+-- the line that a command told of: its calls, what it kept, and the state after it
+pub record Told (s : StoryTree) (h : Bindings) (c : Configuration) (es : List Event) (new : State) : Type 0 where
+  pub made : List Made
+  pub kept : Configuration
+  pub line : EndsLine s h.functions c made (Kept kept)
+  pub called_so : called es ≡ made
+  pub ready : new.condition ≡ Ready (settled kept)
+
+abbrev is_line : Reply → Bool
+is_line (Tells line) = true
+is_line reply = false
+
+no_line : (line : Passage) (reply : Reply) → Tells line ≡ reply → is_line reply ≡ false → ⊥
+no_line line reply h e = let same : true ≡ false = ap is_line h ∙ e in absurd cc
+
+module _ (s : StoryTree) (h : Bindings) (c : Configuration) (es : List Event) (line : Passage) (old new : State) where
+  kept_told : (made : List Made) (d : Configuration) → EndsLine s h.functions c made (Kept d)
+      → TellsDone (told h.watches c.shared.globals d.shared.globals) (Ready (settled d)) (telling d) (calls old.stamp made) es old (Tells line) new → Told s h c es new
+  kept_told made d ends x = by x.all x.replies x.leaves
+    where
+      by : (all : Bool) → Tells line ≡ reply_told all (telling d es) es → new ≡ record { condition = condition_told all (Ready (settled d)); stamp = later old.stamp es } → Told s h c es new
+      by true replies leaves = record {
+        made = made;
+        kept = d;
+        line = ends;
+        called_so = ap called (x.events ∙ ap (λ l. calls old.stamp made ++ l) x.telling.events)
+            ∙ (called_joins (calls old.stamp made) (saws (later old.stamp (calls old.stamp made)) (told h.watches c.shared.globals d.shared.globals) x.telling.answers)
+            ∙ (ap (λ l. l ++ called (saws (later old.stamp (calls old.stamp made)) (told h.watches c.shared.globals d.shared.globals) x.telling.answers)) (called_back old.stamp made)
+            ∙ (ap (λ l. made ++ l) (none_called (later old.stamp (calls old.stamp made)) (told h.watches c.shared.globals d.shared.globals) x.telling.answers) ∙ append-nil made)));
+        ready = ap (λ (st : State). st.condition) leaves;
+      }
+      by false replies leaves = absurd (no_line line _ replies refl)
+
+  ends_told : (made : List Made) (end : RunEnd) → EndsLine s h.functions c made end → EndsAs h c.shared.globals end made es old (Tells line) new → Told s h c es new
+  ends_told made (Kept d) ends (inl x) = kept_told made d ends x
+  ends_told made (Kept d) ends (inr x) = absurd (no_line line _ x.1.1 refl)
+  ends_told made (Broke f globals) ends x = absurd (no_line line _ x.1 refl)
+
+  runs_told : (made : List Made) → RunsLine s h c made es old (Tells line) new → Told s h c es new
+  runs_told made (inl x) = ends_told made x.0 x.1 x.2
+  runs_told made (inr x) = absurd (no_line line _ x.2.1 refl)
+
+  continue_told : (k : Condition) → k ≡ Ready c → ContinueFrom s h es k old (Tells line) new → Told s h c es new
+  continue_told (Broken f globals) is x = absurd cc
+  continue_told (Ready d) is x = by (can_go_on c) (subst (λ k. ContinueFrom s h es k old (Tells line) new) is x)
+    where
+      by : (b : Bool) → MatchBool b ((made : List Made) × RunsLine s h c made es old (Tells line) new) ((es ≡ []) × Keeps (Refuses refusal.CannotContinue) old (Tells line) new) → Told s h c es new
+      by true x = runs_told x.0 x.1
+      by false x = absurd (no_line line _ x.1.0 refl)
+
+-- ---- rows
+
+module _ (s : StoryTree) (h : Bindings) where
+  same_ready : (c d : Configuration) → Ready c ≡ Ready d → c ≡ d
+  same_ready c d e = cc
+
+  -- a row of commands is a row of lines
+  lines_of_row : (n : ℕ) (es : List Event) (old new : State) → Continues s h es n old new → (c e : Configuration) → old.condition ≡ Ready c → new.condition ≡ Ready e
+      → (lines : List (List Made)) × Lines s h.functions c lines e × (called es ≡ joined lines)
+  lines_of_row zero es old new x c e from to = ([], same_ready e c (sym to ∙ (ap (λ (st : State). st.condition) x.1 ∙ from)), ap called x.0)
+  lines_of_row (suc n) es old new (first, others, line, mid, parts, does, on) c e from to =
+      let here : Told s h c first mid = continue_told s h c first line old mid old.condition from does in
+      let (rest, lines, same) = lines_of_row n others mid new on (settled here.kept) e here.ready to in (
+        here.made ∷ rest,
+        (here.kept, here.line, lines),
+        ap called parts ∙ (called_joins first others ∙ (ap (λ l. l ++ called others) here.called_so ∙ ap (λ l. here.made ++ l) same)),
+      )
+
+  pub continues_are_laid : (es : List Event) (n : ℕ) (old new : State) → Continues s h es n old new → (c e : Configuration) → old.condition ≡ Ready c → new.condition ≡ Ready e
+      → (steps : List ℕ) × (laid s h.functions steps (At (begun c) (answers_of (called es)) []) ≡ At (begun e) [] (called es))
+  continues_are_laid es n old new x c e from to =
+      let (lines, row, same) = lines_of_row n es old new x c e from to in
+      subst (λ made. (steps : List ℕ) × (laid s h.functions steps (At (begun c) (answers_of made) []) ≡ At (begun e) [] made)) (sym same)
+      (lines_are_laid s h.functions c e lines row)

@@ -1,0 +1,4 @@
+pub mod Look
+pub mod Rows
+pub mod Laws
+pub mod LineExamples
