@@ -80,6 +80,13 @@ def passage(text, loose=False):
     return json.dumps({"choices": [], "events": [], "loose": loose, "more": False, "tags": [], "text": text}, separators=(",", ":"))
 
 
+def save(text):
+    """What a session is saved as that stands at its start, with this text in the global `x`."""
+    frame = {"depth": 0, "eval": False, "fresh": False, "kind": "base", "place": [0], "temps": {}}
+    return json.dumps({"choices": [], "format": 1, "globals": [["x", text]], "safe": False, "stack": [], "threads": [{"frames": [frame], "previous": None}],
+                       "turn": 0, "turns": [], "visits": []}, separators=(",", ":"))
+
+
 def story(*root):
     return json.dumps({"inkVersion": 21, "root": list(root) + [None]}, separators=(",", ":"))
 
@@ -106,6 +113,10 @@ def sessions(program, folder):
     for size in (4000, 4096, 65536, MIB - 8):
         turns = (('set x "%s"' % ("y" * size), DONE), ("get x", '{"value":"%s"}' % ("y" * size)))
         yield "lines of %d bytes" % size, talk([program], first, turns * 2)
+    for size in (4000, 65536, MIB - 300):
+        text = "y" * size
+        turns = (('set x "%s"' % text, DONE), ("save", '{"saved":%s}' % save(text)), ("restart", DONE), ("load " + save(text), DONE), ("get x", '{"value":"%s"}' % text))
+        yield "saves of %d bytes" % size, talk([program], first, turns * 2)
 
 
 def main():
