@@ -1,0 +1,4 @@
+pub mod Opens
+pub mod Moments
+pub mod Looks
+pub mod Found

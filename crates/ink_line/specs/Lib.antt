@@ -1,0 +1,4 @@
+pub mod Line
+pub mod LineMemory
+pub mod Look
+pub mod Laws
