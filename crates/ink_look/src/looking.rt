@@ -44,6 +44,7 @@ pub(crate) enum Looked {
 }
 
 /// Where a newline stands in the line: shown, with no text or tag behind it or with one; or hidden.
+#[derive(Clone, Copy)]
 enum Standing {
     Last,
     Past,
@@ -145,7 +146,7 @@ fn went_on(machine: &mut Machine, marks: usize, newline: usize, kept: Option<Mac
         ≡ search_after s result (config_of s machine.new) left made }
     ensures start { (start : Values) → start_of machine.old ≡ start → KeptFrom start kept → (start_of machine.new ≡ start) × LookedFrom start result }
 {
-    match standing(machine.parts().output, newline) {
+    match judge(machine.parts().output, newline) {
         Standing::Last => Looked::Newline(Waiting { newline, kept }),
         Standing::Past => cut(machine, kept),
         Standing::Hidden => found(machine.parts().output, marks),
@@ -159,7 +160,7 @@ fn stopped(machine: &mut Machine, newline: usize, kept: Option<Machine>) -> Look
         ≡ search_after s result (config_of s machine.new) left made }
     ensures start { (start : Values) → start_of machine.old ≡ start → KeptFrom start kept → (start_of machine.new ≡ start) × LookedFrom start result }
 {
-    match standing(machine.parts().output, newline) {
+    match judge(machine.parts().output, newline) {
         Standing::Past => cut(machine, kept),
         _ => Looked::Stopped,
     }
@@ -216,7 +217,7 @@ fn found(output: &Output, marks: usize) -> Looked
 }
 
 // Where the newline at an index stands.
-fn standing(output: &Output, newline: usize) -> Standing
+fn judge(output: &Output, newline: usize) -> Standing
     ensures { StandsAs result (rules.is_shown output.now.page.line newline) (rules.more_from output.now.page.line (suc newline)) }
 {
     if let Some(last) = output.open_newline() {
