@@ -11,7 +11,7 @@ use Rattle.ink_line.specs.LineMemory.{LooksFrom}
 use Rattle.ink_line.specs.Look.{Knows, Looking, Over, Search, Seeking, found, kept_at, look_on, newline_between, search, sought}
 use Rattle.ink_line.proofs.Found.{finds, knows, over_is}
 use Rattle.ink_look.specs.LineEnds.{ComesToLine, LineFalls, LineShort, RunsToLine}
-use Rattle.ink_look.specs.Looking.{FindsAs, LooksAs, StepsOn, found_of, kept_of, search_after, search_at, stepped}
+use Rattle.ink_look.specs.Looking.{FindsAs, LooksAs, LookedFrom, StepsFrom, StepsOn, WaitsFrom, found_of, kept_of, search_after, search_at, stepped}
 use Rattle.ink_look.specs.declared.looking.Looked.{Looked}
 use Rattle.ink_look.specs.declared.looking.Looked.TheVariants as after
 use Rattle.ink_look.specs.declared.looking.Waiting.{Waiting}
@@ -21,6 +21,7 @@ use Rattle.ink_model.specs.Host.{Bound}
 use Rattle.ink_model.specs.Memory.{CallsAt, GetsTo}
 use Rattle.ink_model.specs.Run.{Moment, At, Stopped, Faulted, answers_of, came, moment}
 use Rattle.ink_model.specs.Step.{step}
+use Rattle.ink_model.specs.Store.{Values}
 use Rattle.ink_model.specs.Tree.{StoryTree}
 use Rattle.ink_model.specs.declared.fault.Fault.{Fault}
 use Rattle.ink_model.specs.declared.fault.Fault.TheVariants.{OutOfMemory, OutOfSteps}
@@ -144,6 +145,11 @@ module _ (s : StoryTree) (b : Bound) (old new : Configuration) (made more : List
   pub sought_fault : (f : Fault) → ((left : List (Option Given)) → comes left ≡ Faulted f old left (made ++ more))
       → (left : List (Option Given)) → look_on s b (search_at s None old (answers_of more ++ left) made) ≡ Over (Faulted f old left (made ++ more))
   sought_fault f h left = ap (sought (At old (answers_of more ++ left) made)) (h left)
+
+-- ---- from when changes are told
+
+pub starts_on : (first old new : Values) (w : Option Waiting) (l : Looked) → old ≡ first → WaitsFrom first w → StepsFrom old w new (Ok l) → (new ≡ first) × LookedFrom first l
+starts_on first old new w l is waits h = let so = h (subst (λ v. WaitsFrom v w) (sym is) waits) in (so.0 ∙ is, subst (λ v. LookedFrom v l) is so.1)
 
 -- ---- with the desk
 
