@@ -1,2 +1,5 @@
 mod Saying
 mod Comes
+mod Steps
+mod Searches
+mod LineEnding

@@ -1,2 +1,4 @@
 pub mod Words
 pub mod Ends
+pub mod LineEnds
+pub mod Looking

@@ -11,7 +11,7 @@ ghost use Rattle.ink_stack.specs.Words.{Changes, Grows};
 use crate::frame::CallKind;
 use crate::thread::Thread;
 use ink_model::{Fault, FrameKind, MAX_THREADS, Value};
-use std::alloc::Global;
+use std::alloc::{AllocError, Global};
 use std::marker::Model;
 
 /// Where flow is: threads, of which there is always one on top, 100 at the most. A contract sees those below it with the
@@ -45,6 +45,20 @@ impl<P: Copy> Threads<P> {
             below: Vec::new(alloc),
             alloc,
         }
+    }
+
+    /// A copy. The one error is a refused request for memory, which one thread of one frame without temporaries never makes.
+    pub fn clone_in(&self, alloc: Global) -> Result<Threads<P>, AllocError>
+        ensures copy { IfOk result (λ copy. copy.threads ≡ self.now.threads) }
+        ensures memory { OnErr result (((self.now.threads.thread.frame.temps ≢ []) ⊎ (self.now.threads.thread.below ≢ [])) ⊎ (self.now.threads.below ≢ [])) }
+    {
+        let thread = self.thread.clone_in(alloc)?;
+        let below = copied_threads(alloc, self.below.as_slice())?;
+        Ok(Threads {
+            thread,
+            below,
+            alloc,
+        })
     }
 
     /// The top thread.
@@ -233,4 +247,19 @@ fn clear_numbers_of<P: Copy>(threads: &mut [Thread<P>])
     for thread in threads {
         thread.clear_numbers();
     }
+}
+
+/// Copies of threads. The one error is a refused request for memory.
+fn copied_threads<P: Copy>(
+    alloc: Global,
+    threads: &[Thread<P>],
+) -> Result<Vec<Thread<P>>, AllocError>
+    ensures copy { IfOk result (λ copies. copies.items ≡ threads.now) }
+    ensures memory { OnErr result (threads.now ≢ []) }
+{
+    let mut copies = Vec::new(alloc);
+    for thread in threads {
+        copies.push(thread.clone_in(alloc)?)?;
+    }
+    Ok(copies)
 }

@@ -1,10 +1,11 @@
 //! The machine that runs a story forward.
 
-ghost use Rattle.std.specs.Prelude.{◌≡◌, IfErr, OnOk, OnErr, is_ok, is_some};
+ghost use Rattle.std.specs.Prelude.{◌≡◌, IfErr, IfOk, OnOk, OnErr, is_ok, is_some};
 ghost use Rattle.ink_model.specs.Configuration.{begun, settled, can_go_on, with_globals};
 ghost use Rattle.ink_model.specs.Passage.{is_loose};
 ghost use Rattle.ink_model.specs.Store.{store, stored};
 ghost use Rattle.ink_model.specs.Tree.{StoryTree};
+ghost use Rattle.ink_step.specs.Words.{flow_of, shared_of};
 
 use ink_choice::Choices;
 use ink_model::Value;
@@ -13,7 +14,7 @@ use ink_stack::Threads;
 use ink_tree::Spot;
 use ink_value::EvalStack;
 use ink_vars::{Counts, Globals, Turn};
-use std::alloc::Global;
+use std::alloc::{AllocError, Global};
 
 /// A flow: where it is, what it evaluates, and what it offers.
 #[derive(Drop)]
@@ -43,6 +44,21 @@ pub struct Machine {
 }
 
 impl Flow {
+    /// A copy. The one error is a refused request for memory.
+    pub fn clone_in(&self, alloc: Global) -> Result<Flow, AllocError>
+        ensures { (s : StoryTree) → IfOk result (λ copy. flow_of s copy ≡ flow_of s self.now) }
+    {
+        let threads = self.threads.clone_in(alloc)?;
+        let stack = self.stack.clone_in(alloc)?;
+        let choices = self.choices.clone_in(alloc)?;
+        Ok(Flow {
+            threads,
+            stack,
+            choices,
+            safe: self.safe,
+        })
+    }
+
     /// Stops are safe from now on, or not.
     pub(crate) fn set_safe(&mut self, safe: bool)
         ensures { self.new ≡ record self.old { safe = safe } }
@@ -52,6 +68,20 @@ impl Flow {
 }
 
 impl Shared {
+    /// A copy, with what the globals were when the last running command began. The one error is a refused request for memory.
+    pub fn clone_in(&self, alloc: Global) -> Result<Shared, AllocError>
+        ensures shared { (s : StoryTree) → IfOk result (λ copy. shared_of s copy ≡ shared_of s self.now) }
+        ensures start { IfOk result (λ copy. copy.globals.start ≡ self.now.globals.start) }
+    {
+        let globals = self.globals.clone_in(alloc)?;
+        let counts = self.counts.clone_in(alloc)?;
+        Ok(Shared {
+            globals,
+            counts,
+            turn: self.turn,
+        })
+    }
+
     /// The turn is this one from now on.
     pub(crate) fn set_turn(&mut self, turn: Turn)
         ensures { self.new ≡ record self.old { turn = turn } }
@@ -62,6 +92,23 @@ impl Shared {
 
 impl Machine {
     ghost use Rattle.ink_step.specs.Words.{config_of, globals_of, start_of};
+
+    /// A copy, to come back to; changes of globals are those from the same moment on. The one error is a refused request for
+    /// memory.
+    pub fn copy(&self) -> Result<Machine, AllocError>
+        ensures config { (s : StoryTree) → IfOk result (λ copy. config_of s copy ≡ config_of s self.now) }
+        ensures start { IfOk result (λ copy. start_of copy ≡ start_of self.now) }
+    {
+        let flow = self.flow.clone_in(self.alloc)?;
+        let shared = self.shared.clone_in(self.alloc)?;
+        let output = self.output.clone_in(self.alloc)?;
+        Ok(Machine {
+            flow,
+            shared,
+            output,
+            alloc: self.alloc,
+        })
+    }
 
     /// Whether flow has not stopped. Takes no memory.
     pub fn can_go_on(&self) -> bool

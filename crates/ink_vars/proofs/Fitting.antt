@@ -77,3 +77,14 @@ as_it_stood name noted now (inl none) = unnoted_was name noted 0 now (ap (λ k. 
 as_it_stood name noted now (inr absent) =
     let none : stored name now ≡ None = none_of (stored name now) absent in
     absent_then name noted 0 now none ∙ sym none
+
+-- no globals were none
+pub none_were : (noted : List Before) (now : Values) → now ≡ [] → as_they_were noted 0 now ≡ []
+none_were noted [] none = refl
+none_were noted (e ∷ now) none = absurd (cc)
+
+pub fits_same : (noted other : List Before) (now table : Values) → other ≡ noted → table ≡ now → Fits noted now → Fits other table
+fits_same noted other now table n t h = subst (λ bs. Fits bs table) (sym n) (subst (λ es. Fits noted es) (sym t) h)
+
+pub were_same : (noted other : List Before) (now table : Values) → other ≡ noted → table ≡ now → as_they_were other 0 table ≡ as_they_were noted 0 now
+were_same noted other now table n t = ap (λ bs. as_they_were bs 0 table) n ∙ ap (as_they_were noted 0) t

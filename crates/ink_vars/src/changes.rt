@@ -53,6 +53,20 @@ impl Changes {
         }
     }
 
+    /// A copy. The one error is a refused request for memory.
+    pub(crate) fn clone_in(&self, alloc: Global) -> Result<Changes, AllocError>
+        ensures { IfOk result (λ copy. copy ≡ self.now) }
+    {
+        let noted = copied_notes(alloc, self.noted.as_slice())?;
+        let mut marked = Vec::new(alloc);
+        marked.extend_from_slice(self.marked.as_slice())?;
+        Ok(Changes {
+            noted,
+            marked,
+            alloc,
+        })
+    }
+
     /// Forgets all: from now on, changes are those since this moment. Takes no memory.
     pub(crate) fn start(&mut self)
         ensures none { self.new ≡ [] }
@@ -160,6 +174,36 @@ fn has_changed<F: Fn(&str) -> bool>(before: &Before, globals: &Table, is_wanted:
         None => true,
     };
     is_wanted(name) && is_other
+}
+
+// Copies of notes. The one error is a refused request for memory.
+fn copied_notes(alloc: Global, notes: &[Before]) -> Result<Vec<Before>, AllocError>
+    ensures { IfOk result (λ copies. copies.items ≡ notes.now) }
+{
+    let mut copies = Vec::new(alloc);
+    for note in notes {
+        copies.push(copied_note(alloc, note)?)?;
+    }
+    Ok(copies)
+}
+
+fn copied_note(alloc: Global, note: &Before) -> Result<Before, AllocError>
+    ensures { IfOk result (λ copy. copy ≡ note.now) }
+{
+    let number = note.number;
+    match &note.value {
+        Some(value) => {
+            let value = value.clone_in(alloc)?;
+            Ok(Before {
+                number,
+                value: Some(value),
+            })
+        }
+        None => Ok(Before {
+            number,
+            value: None,
+        }),
+    }
 }
 
 fn copied(alloc: Global, value: Option<&Value>) -> Result<Option<Value>, AllocError>

@@ -45,17 +45,21 @@ impl Globals {
         }
     }
 
-    /// A copy, whose moment is this one. The one error is a refused request for memory, which no globals never make.
+    /// A copy, with its moment. The one error is a refused request for memory, which no globals never make.
     pub fn clone_in(&self, alloc: Global) -> Result<Globals, AllocError>
         ensures copy { IfOk result (λ copy. copy.rows ≡ self.now.rows) }
-        ensures start { IfOk result (λ copy. copy.start ≡ self.now.rows) }
+        ensures start { IfOk result (λ copy. copy.start ≡ self.now.start) }
         ensures memory { OnErr result (self.now.rows ≢ []) }
     {
+        if self.len() == 0 {
+            return Ok(Globals {
+                table: Table::new(alloc),
+                changes: Changes::new(alloc),
+            });
+        }
         let table = self.table.clone_in(alloc)?;
-        Ok(Globals {
-            table,
-            changes: Changes::new(alloc),
-        })
+        let changes = self.changes.clone_in(alloc)?;
+        Ok(Globals { table, changes })
     }
 
     /// The moment is this one from now on. Takes no memory.

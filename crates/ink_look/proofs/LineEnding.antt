@@ -1,0 +1,32 @@
+-- What a line comes to, from the search that is made for it.
+use Rattle.std.proofs.Common.{◌≡◌, ◌∙◌, ◌⊎◌, ap, sym, refl, subst, inl, inr, List, [], Bool, true, false, Some, Result, Ok, Err}
+use Rattle.ink_model.specs.Line.{Line, goes_on, line_end}
+use Rattle.ink_model.specs.Memory.{LineFallsShort}
+use Rattle.ink_look.specs.LineEnds.{ComesToLine, LineFalls, LineShort, RunsLine, RunsToLine, SaysLine, TellsCut, handed}
+use Rattle.ink_look.specs.Ends.{EndsWith}
+use Rattle.ink_look.specs.Words.{said, said_asks}
+use Rattle.ink_look.specs.declared.lines.LineEnd.{LineEnd}
+use Rattle.ink_look.specs.declared.lines.LineEnd.TheVariants as line_ends
+use Rattle.ink_model.specs.Configuration.{Configuration, begun}
+use Rattle.ink_model.specs.Host.{Bound}
+use Rattle.ink_model.specs.Run.{Broke, Kept, Made, Moment, At, Stopped, Faulted, answers_of}
+use Rattle.ink_model.specs.Tree.{StoryTree}
+use Rattle.ink_model.specs.declared.fault.Fault.{Fault}
+use Rattle.ink_model.specs.declared.fault.Fault.TheVariants.{OutOfMemory}
+
+module _ (s : StoryTree) (b : Bound) (made : List Made) (c start : Configuration) (is : start ≡ begun c) where
+  abbrev pub Ran : Configuration → LineEnd → Type 0
+  Ran new result = RunsLine said said_asks s b c made new result
+
+  line_to : (x : Moment) → ComesToLine s b start made x → Line s b c (answers_of made) x
+  line_to x h = subst (λ d. ComesToLine s b d made x) is h
+
+  pub says : (is_cut : Bool) (stop new : Configuration) (result : LineEnd) → RunsToLine s b start made stop (Ok is_cut) → SaysLine said said_asks is_cut stop new result → Ran new result
+  says true stop new result h said = inl (Kept stop, (At stop [] made, line_to (At stop [] made) h, refl), said.0, said.1)
+  says false stop new result h said = inl (Kept stop, (Stopped stop [] made, line_to (Stopped stop [] made) h, refl), said.0, said.1)
+
+  pub falls : (f : Fault) (new : Configuration) → LineFalls s b start made new.shared.globals f → Ran new (line_ends.Fault f)
+  falls f new h = elim h.why [
+    | inl faults ↦ inl (Broke f h.before.shared.globals, (Faulted f h.before [] made, line_to (Faulted f h.before [] made) faults, refl), tt, (refl, h.kept))
+    | inr short ↦ inr (ap line_ends.Fault short.0, record { reached = h.before; got_there = subst (λ d. LineShort s b d made h.before) is short.1; leaves = h.kept })
+  ]
