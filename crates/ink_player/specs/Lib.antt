@@ -6,3 +6,4 @@ pub mod Paths
 pub mod Visits
 pub mod Saving
 pub mod Passages
+pub mod Extents

@@ -4,38 +4,68 @@ ghost use Rattle.std.specs.Prelude.{◌≡◌, ◌≢◌, [], List, IfOk, OnErr}
 ghost use Rattle.ink_check.specs.Words.{story_tree};
 ghost use Rattle.ink_host.specs.Desk.{Grew, bound_by};
 ghost use Rattle.ink_host.specs.Telling.{log_of};
-ghost use Rattle.ink_look.specs.Ends.{RunsThrough};
+ghost use Rattle.ink_look.specs.Words.{said, said_asks};
 ghost use Rattle.ink_model.specs.Events.{Made, calls};
 ghost use Rattle.ink_model.specs.Passage.{passage, passage_asks};
 ghost use Rattle.ink_model.specs.Tree.{StoryTree};
 ghost use Rattle.ink_model.specs.Turns.{open_choices};
+ghost use Rattle.ink_player.specs.Extents.{RunsBy};
 ghost use Rattle.ink_player.specs.Passages.{passage_of};
 ghost use Rattle.ink_step.specs.Words.{config_of, globals_of, start_of};
 
 use ink_check::Story;
 use ink_host::{Desk, PureFn, TurnFn, Watcher};
-use ink_look::{Said, through};
+use ink_look::{LineEnd, Said, line, through};
 use ink_model::{Fault, Passage, Seq};
 use ink_step::Machine;
 use std::alloc::{AllocError, Global};
 
-/// Runs to the stop and answers the passage, without its events. The fault is that of the step that faulted, `OutOfSteps` after
-/// 1,000,000 steps, or `OutOfMemory` where memory was refused to the run or for the passage. After a fault the machine is of no
-/// more use, but for its globals.
-pub(crate) fn run_through<P: PureFn, F: TurnFn, O: Watcher>(
+/// How far a running command goes: to the end of a line, or to the stop.
+pub(crate) enum Extent {
+    Line,
+    Stop,
+}
+
+/// Runs as far as is asked and answers the passage, without its events. The fault is that of the step that faulted, `OutOfSteps`
+/// after 1,000,000 steps, or `OutOfMemory` where memory was refused to the run or for the passage. After a fault the machine is of
+/// no more use, but for its globals.
+pub(crate) fn run_to<P: PureFn, F: TurnFn, O: Watcher>(
     alloc: Global,
+    extent: Extent,
     machine: &mut Machine,
     story: &Story,
     desk: &mut Desk<P, F, O>,
 ) -> Result<Passage, Fault>
     ensures runs { let s = story_tree story.now in let b = bound_by P.meaning desk.old.functions in
-        (made : List Made) × Grew F.log (log_of O.state) desk.old (calls desk.old.next made) desk.new × RunsThrough passage passage_asks s b (config_of s machine.old) made (config_of s machine.new) result }
+        (made : List Made) × Grew F.log (log_of O.state) desk.old (calls desk.old.next made) desk.new × RunsBy passage passage_asks extent s b (config_of s machine.old) made (config_of s machine.new) result }
     ensures watchers { desk.new.watchers ≡ desk.old.watchers }
     ensures start { start_of machine.new ≡ globals_of machine.old }
 {
-    let said = through(machine, story, desk)?;
+    let said = say(extent, machine, story, desk)?;
     let passage = passage_of(alloc, machine, said)?;
     Ok(passage)
+}
+
+// Runs as far as is asked and answers what was said.
+fn say<P: PureFn, F: TurnFn, O: Watcher>(
+    extent: Extent,
+    machine: &mut Machine,
+    story: &Story,
+    desk: &mut Desk<P, F, O>,
+) -> Result<Said, Fault>
+    ensures runs { let s = story_tree story.now in let b = bound_by P.meaning desk.old.functions in
+        (made : List Made) × Grew F.log (log_of O.state) desk.old (calls desk.old.next made) desk.new × RunsBy said said_asks extent s b (config_of s machine.old) made (config_of s machine.new) result }
+    ensures watchers { desk.new.watchers ≡ desk.old.watchers }
+    ensures start { start_of machine.new ≡ globals_of machine.old }
+{
+    match extent {
+        Extent::Stop => through(machine, story, desk),
+        Extent::Line => match line(machine, story, desk) {
+            LineEnd::Line(said) => Ok(said),
+            LineEnd::Stopped(said) => Ok(said),
+            LineEnd::Fault(fault) => Err(fault),
+        },
+    }
 }
 
 // The passage of what a machine has said, as it stands now, without events. The one error is a refused request for memory, which

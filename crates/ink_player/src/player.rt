@@ -7,7 +7,7 @@ ghost use Rattle.ink_model.specs.Answer.{Acts, Breaks, Tells, reply_of, reply_of
 ghost use Rattle.ink_model.specs.Configuration.{Configuration, with_globals};
 ghost use Rattle.ink_model.specs.Host as host;
 ghost use Rattle.ink_model.specs.Opening.{opening, opened};
-ghost use Rattle.ink_model.specs.Session.{Through, Set, Get, Load, Restart, Save, TellsOrKeeps, reply_told, settable};
+ghost use Rattle.ink_model.specs.Session.{Continue, Through, Set, Get, Load, Restart, Save, TellsOrKeeps, reply_told, settable};
 ghost use Rattle.ink_model.specs.State.{Ready, is_running, fault_in, globals_of};
 ghost use Rattle.ink_model.specs.Store.{store, stored};
 ghost use Rattle.ink_model.specs.Told.{told};
@@ -17,12 +17,13 @@ ghost use Rattle.ink_model.specs.declared.host.Given.{Given as Gift};
 ghost use Rattle.ink_sound.specs.Kept.{ConditionFits, StateFits};
 ghost use Rattle.ink_protocol.specs.Plain.{IsPlain};
 ghost use Rattle.ink_protocol.specs.Replies.{reply_of_json};
+ghost use Rattle.ink_player.specs.Extents.{GoesOn};
 ghost use Rattle.ink_player.specs.Words.{DealtOnce, anew, bindings, desk_of, fault_told, state_of, story_of, told_from};
 ghost use Rattle.ink_step.specs.Words.{config_of};
 ghost use Rattle.serde_json.specs.Data.{Data};
 ghost use Rattle.serde_json.specs.View.{view};
 
-use crate::passages::run_through;
+use crate::passages::{Extent, run_to};
 use crate::path::landing_by;
 use crate::saving::{loaded, saved, story_fits};
 use crate::telling::{tell, tell_between, tell_one};
@@ -120,6 +121,22 @@ impl<P: PureFn, F: TurnFn, O: Watcher> Player<P, F, O> {
         self.broken.is_none() && self.machine.can_go_on()
     }
 
+    /// Runs one line, and answers its passage (docs/RUNNING.md, "Lines"): up to its newline, once it is sure to stand, or up to the
+    /// stop. What lies past the newline is left for the next command: nothing that was found there is kept, and no turn function
+    /// was called there. Refused with `Broken` after a fault, and with `CannotContinue` where flow has stopped; nothing has changed
+    /// then. A fault breaks the player: that of a step that faulted with no newline open, `OutOfSteps` after 1,000,000 steps without
+    /// one, and `OutOfMemory` where memory was refused to a step, to a look past a newline, to the passage, or to a watcher that is
+    /// told: then the line stands, and all others are told. What happened with the objects of the host is among the answer's
+    /// events, also after a fault, which tells no watcher (docs/HOST.md).
+    pub fn continue_line(&mut self) -> Result<Passage, Halt>
+        ensures does { (es : List Happening) × Continue (story_of self.old) (bindings P.meaning (desk_of self.old)) es (state_of self.old) (reply_of result) (state_of self.new)
+            × DealtOnce F.log O.state (told_from (desk_of self.old) (state_of self.old) (globals_of (state_of self.new).condition)) (desk_of self.old) es (desk_of self.new) }
+        ensures rest { Resting (rests O.state) (desk_of self.old).watchers → Resting (rests O.state) (desk_of self.new).watchers }
+        ensures story { story_of self.new ≡ story_of self.old }
+    {
+        self.go_on(Extent::Line)
+    }
+
     /// Runs to the stop, and answers the passage. Refused with `Broken` after a fault, and with `CannotContinue` where flow has
     /// stopped; nothing has changed then. A fault breaks the player: that of the step that faulted, `OutOfSteps` after 1,000,000
     /// steps, and `OutOfMemory` where memory was refused to a step, to the passage, or to a watcher that is told: then the run
@@ -131,14 +148,25 @@ impl<P: PureFn, F: TurnFn, O: Watcher> Player<P, F, O> {
         ensures rest { Resting (rests O.state) (desk_of self.old).watchers → Resting (rests O.state) (desk_of self.new).watchers }
         ensures story { story_of self.new ≡ story_of self.old }
     {
+        self.go_on(Extent::Stop)
+    }
+
+    /// Goes on as far as is asked, and answers the passage.
+    fn go_on(&mut self, extent: Extent) -> Result<Passage, Halt>
+        ensures does { (es : List Happening) × GoesOn extent (story_of self.old) (bindings P.meaning (desk_of self.old)) es (state_of self.old) (reply_of result) (state_of self.new)
+            × DealtOnce F.log O.state (told_from (desk_of self.old) (state_of self.old) (globals_of (state_of self.new).condition)) (desk_of self.old) es (desk_of self.new) }
+        ensures rest { Resting (rests O.state) (desk_of self.old).watchers → Resting (rests O.state) (desk_of self.new).watchers }
+        ensures story { story_of self.new ≡ story_of self.old }
+    {
         if let Some(fault) = self.broken {
             return Err(Halt::Refused(Refusal::Broken(fault)));
         }
         if !self.machine.can_go_on() {
             return Err(Halt::Refused(Refusal::CannotContinue));
         }
-        let passage = match run_through(
+        let passage = match run_to(
             self.alloc,
+            extent,
             &mut self.machine,
             &self.story,
             &mut self.desk,

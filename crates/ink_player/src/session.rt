@@ -220,6 +220,7 @@ fn perform<P: PureFn, F: TurnFn, O: Watcher>(
     ensures story { story_of player.new ≡ story_of player.old }
 {
     match command {
+        Some(LineCommand::Continue) => Outcome::Passage(player.continue_line()),
         Some(LineCommand::Through) => Outcome::Passage(player.through()),
         Some(LineCommand::Set { name, value }) => set(player, name, value),
         Some(LineCommand::Get { name }) => Outcome::Value(player.get(name)),
