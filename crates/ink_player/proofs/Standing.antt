@@ -49,11 +49,11 @@ choice_taken s (Some choice) c d (Ok u) h = inl (refl, ap (λ x. at_stamp (Ready
 choice_taken s (Some choice) c d (Err r) h = inr (h.1, (ap Refuses h.0, ap (λ x. at_stamp (Ready x) 0) h.2))
 
 -- what goes so far, as a command
-command_of : Extent → Command
-command_of extent.Line = command.Continue
-command_of extent.Stop = command.Through
+going : Extent → Command
+going extent.Line = command.Continue
+going extent.Stop = command.Through
 
-does_as : (s : StoryTree) (h : Bindings) (x : Extent) (es : List Event) (old : State) (reply : Reply) (new : State) → GoesOn x s h es old reply new → Does s h es (Some (command_of x)) old reply new
+does_as : (s : StoryTree) (h : Bindings) (x : Extent) (es : List Event) (old : State) (reply : Reply) (new : State) → GoesOn x s h es old reply new → Does s h es (Some (going x)) old reply new
 does_as s h extent.Line es old reply new goes = goes
 does_as s h extent.Stop es old reply new goes = goes
 
@@ -121,6 +121,6 @@ module _ (s : StoryTree) (story : StoryFits s) where
           replies = refl;
           leaves = refl;
         } in
-        subst (λ y. ConditionFits s (Ready y)) (sym is) (does b es (command_of x) (telling end es) new
+        subst (λ y. ConditionFits s (Ready y)) (sym is) (does b es (going x) (telling end es) new
         (does_as s (unwatched b) x es old (telling end es) new
         (goes-where s (unwatched b) None c 0 x es (telling end es) new true refl goes (made, inl (run.Kept end, ends, inl done)))))

@@ -14,7 +14,7 @@ use Rattle.ink_model.specs.Choices.{has_any}
 use Rattle.ink_model.specs.Passage.{passage, passage_asks}
 use Rattle.ink_model.specs.Run as run
 use Rattle.ink_model.specs.Session as rules
-use Rattle.ink_model.specs.Session.{BreaksBy, Keeps, RunsFrom, RunsTo, Set, SetsIn, TellsDone, TellsOrKeeps, condition_told, reply_told, settable, telling}
+use Rattle.ink_model.specs.Session.{BreaksBy, Keeps, RunsTo, Set, SetsIn, TellsDone, TellsOrKeeps, condition_told, reply_told, settable, telling}
 use Rattle.ink_model.specs.State.{State, Condition, Ready, Broken, globals_of}
 use Rattle.ink_model.specs.Store.{Values, store, stored}
 use Rattle.ink_model.specs.Told.{ToldAs, change_of, is_other, is_told, told}
@@ -28,7 +28,7 @@ use Rattle.ink_model.specs.declared.host.Event.{Event}
 use Rattle.ink_model.specs.declared.host.Given.{Given}
 use Rattle.ink_model.specs.declared.passage.Passage.{Passage}
 use Rattle.ink_model.specs.declared.value.Value.{Value}
-use Rattle.ink_player.specs.Extents.{EndsBy, FallsShortBy, GoesOn, RunsBy}
+use Rattle.ink_player.specs.Extents.{EndsBy, FallsShortBy, GoesFrom, GoesOn, RunsBy}
 use Rattle.ink_player.specs.Visits.{FindsVisits, TellsVisits}
 use Rattle.ink_player.specs.Words.{Dealt, DealtOnce, PlayerView, TellsOnce, TellsWatchers, bindings, condition_by, desk_of, fault_told, is_empty, state_of, story_of, told_from}
 use Rattle.ink_player.specs.declared.passages.Extent.{Extent}
@@ -107,9 +107,7 @@ module _ (s : StoryTree) (h : Bindings) (b : Option Fault) (c : Configuration) (
 
     -- by whether flow can go on
     pub goes-where : (goes : Bool) → b ≡ None → can_go_on c ≡ goes → GoesWhere goes → GoesOn x s h es start reply new
-    goes-where goes free e p =
-        let Runs : Configuration → List Made → List Event → State → Reply → State → Type 0 = λ d made. RunsTo (EndsBy x s h.functions d made) (FallsShortBy x s h.functions d made) h d made in
-        subst (λ y. RunsFrom Runs es (condition_by y c) start reply new) (sym free) (subst (λ y. GoesWhere y) (sym e) p)
+    goes-where goes free e p = subst (λ y. GoesFrom x s h es (condition_by y c) start reply new) (sym free) (subst (λ y. GoesWhere y) (sym e) p)
 
 any_of : {A : Type 0} (xs : List A) → xs ≢ [] → has_any xs ≡ true
 any_of [] h = absurd (h refl)
