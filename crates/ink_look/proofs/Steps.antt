@@ -101,6 +101,17 @@ module _ (s : StoryTree) (b : Bound) (newline : ℕ) (kept old : Configuration) 
   pub faults : (f : Fault) → is_call (step s b old) ≡ false → came s old (step s b old) left made ≡ Faulted f old left made → look_on s b looking ≡ Over (At kept left made)
   faults f none e = comes (Faulted f old left made) none e
 
+  -- a quiet step that neither went on nor stopped, and was not refused memory
+  pub cut_there : (es : List Event) (new : Configuration) (r : Result StepEnd Fault) → (r ≡ Ok ends.Went → ⊥) → (r ≡ Ok ends.Stopped → ⊥) → (r ≡ Err OutOfMemory → ⊥)
+      → QuietEnds s (step s b old) es old new r → look_on s b looking ≡ Over (At kept left made)
+  cut_there es new (Ok ends.Went) went stopped short h = absurd (went refl)
+  cut_there es new (Ok ends.Stopped) went stopped short h = absurd (stopped refl)
+  cut_there es new (Ok ends.WantsCall) went stopped short h = calls h.1
+  cut_there es new (Err f) went stopped short h = elim h.2 [
+    | inl faulted ↦ faults f faulted.0 (faulted.1 left made)
+    | inr refused ↦ absurd (short (ap Err refused))
+  ]
+
   module _ (new : Configuration) (none : is_call (step s b old) ≡ false) (other : Configuration) (same : other ≡ kept) (x : Search) where
     abbrev by : Configuration → Moment → Search
     by k m = looked_by (is_shown new.page.line newline) (more_from new.page.line (suc newline)) (At k left made) newline (At old left made) m
