@@ -83,6 +83,10 @@ module _ (s : StoryTree) (b : Bound) (n : ℕ) (asking : Bool) (es : List Event)
     | inr short ↦ inr short
   ])
 
+  -- the same by what it returned
+  pub quiet_so : (o : Stepped) (r k : Result StepEnd Fault) → r ≡ k → Steps true s b n asking o es old.shared.globals old new r → QuietEnds s o es old new k
+  quiet_so o r k is h = quiet_ends o k (subst (λ r. Steps true s b n asking o es old.shared.globals old new r) is h)
+
 -- ---- a look past a newline
 
 module _ (s : StoryTree) (b : Bound) (newline : ℕ) (kept old : Configuration) (left : List (Option Given)) (made : List Made) where

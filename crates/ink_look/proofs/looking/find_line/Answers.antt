@@ -1,4 +1,4 @@
-use Rattle.std.proofs.Common.{◌≡◌, ◌∙◌, arith, refl, rules, subst, sym, Err}
+use Rattle.std.proofs.Common.{◌≡◌, ◌∙◌, ◌+◌, arith, refl, rules, subst, sym, Err}
 use Rattle.ink_check.specs.Words.{story_tree}
 use Rattle.ink_host.specs.Telling.{log_of}
 use Rattle.ink_look.specs.Looking.{LookedFrom}
@@ -22,7 +22,7 @@ loop-step-preserved g c =
     let ran = ran_on g.F.TurnFn.log (log_of g.O.Watcher.state) g.P.PureFn.meaning s c.args.desk.now (config_of s c.args.machine.now) c.loop-step._step c.loop-step.desk c.step_on.new.desk
     (config_of s c.loop-step.machine) (config_of s c.step_on.new.machine) c.loop-step.waiting inv.ran l c.in_ok-step_on.ensures.steps in
     let so = starts_on first (start_of c.loop-step.machine) (start_of c.step_on.new.machine) c.loop-step.waiting l inv.start inv.waits c.in_ok-step_on.ensures.start in
-    elim c.match-branch.branch [
+    elim c.match-branch-2.branch [
       | in-Nothing w ↦ record {
           ran = ran_past g.F.TurnFn.log (log_of g.O.Watcher.state) g.P.PureFn.meaning s c.args.desk.now (config_of s c.args.machine.now) (c.loop-step._step + 1) c.step_on.new.desk
               (config_of s c.step_on.new.machine) l _ w.in-Nothing.is w.waiting-is ran;
