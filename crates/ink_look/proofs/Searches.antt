@@ -1,36 +1,32 @@
 -- A loop that looks for a line, step by step, with its desk.
-use Rattle.std.proofs.Common.{◌≡◌, ◌∙◌, ◌⊎◌, ◌++◌, ◌∷◌, ◌+◌, ◌<◌, ◌≤◌, ap, sym, refl, subst, inl, inr, arith, append_assoc, ℕ, zero, suc, Bool, true, false, List, [], Option, Some, None, Result, Ok, Err}
+use Rattle.std.proofs.Common.{◌≡◌, ◌∙◌, ◌++◌, ◌+◌, ◌<◌, ◌≤◌, ap, sym, refl, subst, inl, inr, arith, append_assoc, ℕ, suc, Bool, true, false, List, [], Option, Some, None, Result, Ok, Err}
 use Rattle.std.proofs.lemmas.List.{append-nil, map-append}
-use Rattle.ink_check.specs.Words.{story_tree}
 use Rattle.ink_host.specs.Desk.{DeskView, Grew, bound_by}
 use Rattle.ink_host.specs.declared.objects.Called.{Called}
 use Rattle.ink_host.specs.declared.objects.Seen.{Seen}
 use Rattle.ink_host.proofs.Laws.{bound-same, grew-grew, grew-none}
-use Rattle.ink_model.specs.Line.{IsLineOf, NoneBelow}
-use Rattle.ink_model.specs.Memory.{LooksFrom}
-use Rattle.ink_line.specs.Look.{Knows, Looking, Over, Search, Seeking, found, kept_at, look_on, newline_between, search, sought}
+use Rattle.ink_model.specs.Line.{NoneBelow}
+use Rattle.ink_line.specs.Look.{Knows, Over, Search, Seeking, found, kept_at, look_on, newline_between, search, sought}
 use Rattle.ink_line.proofs.Found.{finds, knows, over_is}
-use Rattle.ink_look.specs.LineEnds.{ComesToLine, LineFalls, LineShort, RunsToLine}
-use Rattle.ink_look.specs.Looking.{FindsAs, KeptFrom, LooksAs, LookedFrom, StepsFrom, StepsOn, WaitsFrom, found_of, kept_of, search_after, search_at, stepped}
+use Rattle.ink_look.specs.LineEnds.{ComesToLine, LineShort, RunsToLine}
+use Rattle.ink_look.specs.Looking.{FindsAs, KeptFrom, LookedFrom, StepsFrom, StepsOn, WaitsFrom, found_of, kept_of, search_after, search_at, stepped}
 use Rattle.ink_look.specs.declared.looking.Looked.{Looked}
 use Rattle.ink_look.specs.declared.looking.Looked.TheVariants as after
 use Rattle.ink_look.specs.declared.looking.Waiting.{Waiting}
 use Rattle.ink_model.specs.Configuration.{Configuration}
 use Rattle.ink_model.specs.Events.{Made, calls}
 use Rattle.ink_model.specs.Host.{Bound}
-use Rattle.ink_model.specs.Memory.{CallsAt, GetsTo}
+use Rattle.ink_model.specs.Memory.{GetsTo}
 use Rattle.ink_model.specs.Run.{Moment, At, Stopped, Faulted, answers_of, came, moment}
 use Rattle.ink_model.specs.Step.{step}
 use Rattle.ink_model.specs.Store.{Values}
 use Rattle.ink_model.specs.Tree.{StoryTree}
 use Rattle.ink_model.specs.declared.fault.Fault.{Fault}
-use Rattle.ink_model.specs.declared.fault.Fault.TheVariants.{OutOfMemory, OutOfSteps}
+use Rattle.ink_model.specs.declared.fault.Fault.TheVariants.{OutOfSteps}
 use Rattle.ink_model.specs.declared.host.Event.{Event}
 use Rattle.ink_model.specs.declared.host.Given.{Given}
 use Rattle.ink_model.specs.declared.limits.TheConstants.{MAX_STEPS}
 use Rattle.ink_model.specs.declared.value.Value.{Value}
-use Rattle.ink_step.specs.declared.flow.StepEnd.{StepEnd}
-use Rattle.ink_step.specs.declared.flow.StepEnd.TheVariants as ends
 use Rattle.ink_step.proofs.Growing.{calls_on}
 use Rattle.ink_step.proofs.Moments.{Did, Ends, Short, did}
 
@@ -95,22 +91,22 @@ module _ (s : StoryTree) (b : Bound) (start : Configuration) where
           (sym (append-nil made) ∙ ap (λ more. made ++ more) (sym before.0))
           (record { steps = n; within = below; got_there = got; asking = before.1 }, subst (λ all. NoneBelow s b MAX_STEPS (moment s b start (answers_of all)) n) (append-nil made) (none [])))
       | inr call ↦ inr (inl (
-          record {
-            steps = n;
-            within = below;
-            before = made;
-            got_there = got;
-            name = call.0;
-            arguments = call.1;
-            given = call.2;
-            fields = call.3;
-            calling = call.4;
-            wants = call.5;
-            calls = ap (λ more. made ++ more) call.6;
-            asking = call.7;
-          },
-          none more,
-        ))
+        record {
+          steps = n;
+          within = below;
+          before = made;
+          got_there = got;
+          name = call.0;
+          arguments = call.1;
+          given = call.2;
+          fields = call.3;
+          calling = call.4;
+          wants = call.5;
+          calls = ap (λ more. made ++ more) call.6;
+          asking = call.7;
+        },
+        none more,
+      ))
     ]
 
   pub look_falls : (n : ℕ) (made : List Made) (w : Waiting) (old : Configuration) → n < MAX_STEPS → ComesTo n (search_at s (Some w) old) made → LineShort s b start made old

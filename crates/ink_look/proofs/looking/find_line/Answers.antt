@@ -1,7 +1,6 @@
 use Rattle.std.proofs.Common.{◌≡◌, ◌∙◌, ◌+◌, arith, refl, rules, subst, sym, Err}
 use Rattle.ink_check.specs.Words.{story_tree}
 use Rattle.ink_host.specs.Telling.{log_of}
-use Rattle.ink_look.specs.Looking.{LookedFrom}
 use Rattle.ink_look.proofs.Searches.{EndsLine, ran_back, ran_none, ran_on, ran_out, ran_past, ran_to, ran_to_cut, ran_to_fault, ran_to_stop, starts_on, waited_at, waits_at, waits_past}
 use Rattle.ink_look.proofs.looking.find_line.Goals as goal
 use Rattle.ink_look.proofs.looking.find_line.Goals.{in-Nothing, in-Newline}
@@ -24,19 +23,19 @@ loop-step-preserved g c =
     let so = starts_on first (start_of c.loop-step.machine) (start_of c.step_on.new.machine) c.loop-step.waiting l inv.start inv.waits c.in_ok-step_on.ensures.start in
     elim c.match-branch-2.branch [
       | in-Nothing w ↦ record {
-          ran = ran_past g.F.TurnFn.log (log_of g.O.Watcher.state) g.P.PureFn.meaning s c.args.desk.now (config_of s c.args.machine.now) (c.loop-step._step + 1) c.step_on.new.desk
-              (config_of s c.step_on.new.machine) l _ w.in-Nothing.is w.waiting-is ran;
-          watchers = c.in_ok-step_on.ensures.watchers ∙ inv.watchers;
-          start = so.0;
-          waits = waits_past first _ w.waiting-is;
-        }
+        ran = ran_past g.F.TurnFn.log (log_of g.O.Watcher.state) g.P.PureFn.meaning s c.args.desk.now (config_of s c.args.machine.now) (c.loop-step._step + 1) c.step_on.new.desk
+            (config_of s c.step_on.new.machine) l _ w.in-Nothing.is w.waiting-is ran;
+        watchers = c.in_ok-step_on.ensures.watchers ∙ inv.watchers;
+        start = so.0;
+        waits = waits_past first _ w.waiting-is;
+      }
       | in-Newline w ↦ record {
-          ran = ran_to g.F.TurnFn.log (log_of g.O.Watcher.state) g.P.PureFn.meaning s c.args.desk.now (config_of s c.args.machine.now) (c.loop-step._step + 1) c.step_on.new.desk
-              (config_of s c.step_on.new.machine) l w.in-Newline.next _ w.in-Newline.is w.waiting-is ran;
-          watchers = c.in_ok-step_on.ensures.watchers ∙ inv.watchers;
-          start = so.0;
-          waits = waits_at first l w.in-Newline.next _ w.in-Newline.is w.waiting-is so.1;
-        }
+        ran = ran_to g.F.TurnFn.log (log_of g.O.Watcher.state) g.P.PureFn.meaning s c.args.desk.now (config_of s c.args.machine.now) (c.loop-step._step + 1) c.step_on.new.desk
+            (config_of s c.step_on.new.machine) l w.in-Newline.next _ w.in-Newline.is w.waiting-is ran;
+        watchers = c.in_ok-step_on.ensures.watchers ∙ inv.watchers;
+        start = so.0;
+        waits = waits_at first l w.in-Newline.next _ w.in-Newline.is w.waiting-is so.1;
+      }
     ]
 
 -- the line was cut
