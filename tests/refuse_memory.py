@@ -392,7 +392,7 @@ def wrong_requests(worker, table, shim, seconds, jobs):
 def main():
     parser = argparse.ArgumentParser()
     parser.add_argument("--seconds", type=float, default=480)
-    parser.add_argument("--program", default=os.path.join(toolchain.TOP, "out/inkplay/crates/inkplay/out/inkplay"))
+    parser.add_argument("--program", default=os.path.join(toolchain.TOP, "out/inkplay/inkplay/crates/inkplay/out/inkplay"))
     parser.add_argument("tables", nargs="*")
     words = parser.parse_args()
     subprocess.run([os.path.join(toolchain.TOP, "inkplay")], input=(HELLO + "\n").encode(), check=True)  # built
