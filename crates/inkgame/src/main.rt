@@ -1,5 +1,5 @@
-//! A small game that plays its story as any game would: it binds objects of its own, shows each passage with its choices, and
-//! takes a choice for each line of its input, which is the choice's number (docs/HOST.md).
+//! A small game that plays its story as any game would: it binds objects of its own, shows line by line what comes and then the
+//! choices, and takes a choice for each line of its input, which is the choice's number (docs/HOST.md).
 #![tactic(auto)]
 
 mod objects;
@@ -75,7 +75,7 @@ fn bound<X: Drop, E: Drop>(outcome: Result<X, E>) -> Result<(), GameFault> {
     }
 }
 
-/// Plays passage by passage, to the end of the story or of the input.
+/// Plays line by line, to the end of the story or of the input.
 fn play<R: Print + Drop>(
     rt: &(impl Print + Input + Alloc<A = Global>),
     alloc: Global,
@@ -92,19 +92,27 @@ fn play<R: Print + Drop>(
     Ok(())
 }
 
-/// Runs to the stop, and shows what came.
+/// Shows line by line what comes, up to the next choice.
 fn tell<R: Print + Drop>(rt: &impl Print, game: &mut Game<R>) -> io::Result<()> {
-    match game.through() {
-        Ok(passage) => show(rt, &passage),
-        Err(Halt::Refused(refusal)) => println!(rt; "{}", refusal.name()),
-        Err(Halt::Fault { fault, events: _ }) => println!(rt; "{}", fault.name()),
+    for _line in 0..u64::MAX {
+        match game.continue_line() {
+            Ok(line) => {
+                show(rt, &line)?;
+                if !line.more {
+                    return Ok(());
+                }
+            }
+            Err(Halt::Refused(refusal)) => return println!(rt; "{}", refusal.name()),
+            Err(Halt::Fault { fault, events: _ }) => return println!(rt; "{}", fault.name()),
+        }
     }
+    Ok(())
 }
 
-/// Shows a passage, and its choices by their numbers.
-fn show(rt: &impl Print, passage: &Passage) -> io::Result<()> {
-    print!(rt; "{}", passage.text.as_str())?;
-    for (number, choice) in passage.choices.as_slice().iter().enumerate() {
+/// Shows a line, and behind the last one the choices by their numbers.
+fn show(rt: &impl Print, line: &Passage) -> io::Result<()> {
+    print!(rt; "{}", line.text.as_str())?;
+    for (number, choice) in line.choices.as_slice().iter().enumerate() {
         println!(rt; "  {number}: {}", choice.text.as_str())?;
     }
     Ok(())
