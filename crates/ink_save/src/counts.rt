@@ -55,7 +55,7 @@ fn write_slots(alloc: Global, tree: &Tree, slots: &[Option<u32>]) -> Result<Vec<
 fn write_row(alloc: Global, tree: &Tree, number: usize, count: u32) -> Result<Json, AllocError>
     ensures { IfOk result (λ json. view json ≡ row_data (place_at (story_tree tree.now) number, count)) }
 {
-    let mut pair = Vec::new(alloc);
+    let mut pair = Vec::with_capacity(alloc, 2)?;
     pair.push(write_place(alloc, tree, number)?)?;
     pair.push(Json::Number(Number::from(count)))?;
     Ok(Json::Array(pair))

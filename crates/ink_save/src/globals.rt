@@ -39,7 +39,7 @@ fn write_rows(alloc: Global, tree: &Tree, globals: &Globals) -> Result<Vec<Json>
 fn write_global(alloc: Global, tree: &Tree, name: &str, value: &Value) -> Result<Json, AllocError>
     ensures { IfOk result (λ json. view json ≡ global_data (name.now, value.now)) }
 {
-    let mut pair = Vec::new(alloc);
+    let mut pair = Vec::with_capacity(alloc, 2)?;
     pair.push(write_text(alloc, name)?)?;
     pair.push(value.write(alloc, tree)?)?;
     Ok(Json::Array(pair))

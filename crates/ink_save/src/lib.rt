@@ -18,6 +18,7 @@ mod members;
 mod offering;
 mod pair;
 mod place;
+mod placed;
 mod plain;
 mod saved;
 mod saving;

@@ -1,30 +1,18 @@
 //! Plain things as JSON values.
 
-ghost use Rattle.std.specs.Prelude.{◌≡◌, IfOk, option_map};
+ghost use Rattle.std.specs.Prelude.{◌≡◌, IfOk};
 ghost use Rattle.serde_json.specs.Data.{string};
 ghost use Rattle.serde_json.specs.View.{view};
 ghost use Rattle.ink_model.specs.ValueJson.{value_data};
-ghost use Rattle.ink_model.specs.Save.Spelling.{kind_data, part_data, place_data, place_or_null};
-ghost use Rattle.ink_tree.specs.Nodes.{place_of};
+ghost use Rattle.ink_model.specs.Save.Spelling.{kind_data};
 ghost use Rattle.ink_model.specs.declared.value.Value.TheVariants.{Target};
 
-use crate::written::{Written, write_list};
-use ink_model::{FrameKind, Part, Path, Shared, Text, Value};
+use crate::written::Written;
+use ink_model::{FrameKind, Path, Shared, Text, Value};
 use ink_path::print_path;
-use ink_tree::{Spot, Tree};
+use ink_tree::Tree;
 use serde_json::{Number, Value as Json, json};
 use std::alloc::{AllocError, Global};
-
-impl Written for Part {
-    ghost spelling = { λ s part. part_data part };
-
-    fn write(&self, alloc: Global, _tree: &Tree) -> Result<Json, AllocError> {
-        match self {
-            Part::Index(index) => Ok(Json::Number(Number::from(*index))),
-            Part::Name(name) => write_text(alloc, name.as_str()),
-        }
-    }
-}
 
 /// A text. The one error is a refused request for memory.
 pub(crate) fn write_text(alloc: Global, text: &str) -> Result<Json, AllocError>
@@ -38,26 +26,6 @@ impl Written for Shared<Text> {
 
     fn write(&self, alloc: Global, _tree: &Tree) -> Result<Json, AllocError> {
         write_text(alloc, self.as_str())
-    }
-}
-
-impl Written for Spot {
-    ghost spelling = { λ s spot. place_data (place_of s spot) };
-
-    fn write(&self, alloc: Global, tree: &Tree) -> Result<Json, AllocError> {
-        let place = tree.place(*self)?;
-        write_list(alloc, tree, place.parts())
-    }
-}
-
-impl Written for Option<Spot> {
-    ghost spelling = { λ s spot. place_or_null (option_map (place_of s) spot) };
-
-    fn write(&self, alloc: Global, tree: &Tree) -> Result<Json, AllocError> {
-        match self {
-            Some(spot) => spot.write(alloc, tree),
-            None => Ok(Json::Null),
-        }
     }
 }
 

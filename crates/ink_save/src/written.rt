@@ -28,7 +28,7 @@ pub(crate) fn write_list<T: Written>(
 ) -> Result<Json, AllocError>
     ensures { IfOk result (λ json. view json ≡ list_data (T.spelling (story_tree tree.now)) items.now) }
 {
-    let made = write_all(alloc, tree, items)?;
+    let made = write_all(alloc, tree, items, 0)?;
     Ok(Json::Array(made))
 }
 
@@ -41,7 +41,7 @@ pub(crate) fn write_pile<T: Written>(
 ) -> Result<Json, AllocError>
     ensures { IfOk result (λ json. view json ≡ list_data (T.spelling (story_tree tree.now)) (reverse (top.now ∷ reverse below.now))) }
 {
-    let made = write_all(alloc, tree, below)?;
+    let made = write_all(alloc, tree, below, 1)?;
     let last = top.write(alloc, tree)?;
     with_last(made, last)
 }
@@ -55,11 +55,16 @@ fn with_last(made: Vec<Json>, last: Json) -> Result<Json, AllocError>
     Ok(Json::Array(all))
 }
 
-// The JSON values of these. The one error is a refused request for memory.
-fn write_all<T: Written>(alloc: Global, tree: &Tree, items: &[T]) -> Result<Vec<Json>, AllocError>
+// The JSON values of these, with room for so many more. The one error is a refused request for memory.
+fn write_all<T: Written>(
+    alloc: Global,
+    tree: &Tree,
+    items: &[T],
+    room: usize,
+) -> Result<Vec<Json>, AllocError>
     ensures { IfOk result (λ made. map view made.items ≡ map (T.spelling (story_tree tree.now)) items.now) }
 {
-    let mut made = Vec::new(alloc);
+    let mut made = Vec::with_capacity(alloc, items.len().saturating_add(room))?;
     for item in items {
         made.push(item.write(alloc, tree)?)?;
     }
