@@ -39,7 +39,7 @@ pub use globals::write_globals;
 pub use listed::Listed;
 pub use loading::{SaveRefusal, read};
 pub use saved::{Saved, read_saved};
-pub use saving::write;
+pub use saving::{write, write_text};
 pub use spelled::Spelled;
 pub use temps::SavedTemps;
 pub use thread::{SavedThread, SavedThreads};

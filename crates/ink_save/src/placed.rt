@@ -1,16 +1,19 @@
-//! Places as JSON values, made from their ends.
+//! Places as JSON values and as their text, made from their ends.
 
-ghost use Rattle.std.specs.Prelude.{◌≡◌, ◌++◌, ◌∷◌, [], IfOk, map, option_map};
+ghost use Rattle.std.specs.Prelude.{◌≡◌, ◌++◌, ◌∷◌, [], IfOk, OnOk, flat_map, map, option_map};
 ghost use Rattle.serde_json.specs.View.{view};
 ghost use Rattle.ink_json.specs.Order.{key_part};
 ghost use Rattle.ink_model.specs.Save.Spelling.{part_data, place_data, place_or_null};
 ghost use Rattle.ink_model.specs.declared.place.Part.TheVariants.{Index};
+ghost use Rattle.ink_tokens.specs.Tokens.{Added, data_tokens};
 ghost use Rattle.ink_tree.specs.Nodes.{node_place, place_of, story_tree};
 
 use crate::writing::write_text;
 use crate::written::Written;
 use ink_json::Key;
+use ink_tokens::{put, put_natural};
 use ink_tree::{NodeId, Spot, Tree};
+use json::{Token, Writer};
 use serde_json::{Number, Value as Json};
 use std::alloc::{AllocError, Global};
 
@@ -19,6 +22,10 @@ impl Written for Spot {
 
     fn write(&self, alloc: Global, tree: &Tree) -> Result<Json, AllocError> {
         write_spot(alloc, tree, *self)
+    }
+
+    fn put(&self, _alloc: Global, tree: &Tree, out: &mut Writer) -> Result<(), AllocError> {
+        put_spot(tree, out, *self)
     }
 }
 
@@ -29,6 +36,13 @@ impl Written for Option<Spot> {
         match self {
             Some(spot) => spot.write(alloc, tree),
             None => Ok(Json::Null),
+        }
+    }
+
+    fn put(&self, alloc: Global, tree: &Tree, out: &mut Writer) -> Result<(), AllocError> {
+        match self {
+            Some(spot) => spot.put(alloc, tree, out),
+            None => put(out, Token::Null),
         }
     }
 }
@@ -101,5 +115,50 @@ fn write_key(alloc: Global, key: Key<'_>) -> Result<Json, AllocError>
     match key {
         Key::Index(index) => Ok(Json::Number(Number::from(index))),
         Key::Name(name) => write_text(alloc, name),
+    }
+}
+
+/// The tokens of a place. The one error is a refused request for memory.
+pub(crate) fn put_spot(tree: &Tree, out: &mut Writer, spot: Spot) -> Result<(), AllocError>
+    ensures { OnOk result (Added out.old out.new (data_tokens (place_data (place_of (story_tree tree.now) spot)))) }
+{
+    put(out, Token::BeginArray)?;
+    put_parts(tree, out, spot)?;
+    put(out, Token::EndArray)
+}
+
+// The tokens of the parts of a place. The one error is a refused request for memory.
+fn put_parts(tree: &Tree, out: &mut Writer, spot: Spot) -> Result<(), AllocError>
+    ensures { OnOk result (Added out.old out.new (flat_map data_tokens (map part_data (place_of (story_tree tree.now) spot)))) }
+{
+    match spot.index {
+        Some(index) => {
+            put_node(tree, out, spot.holder)?;
+            put_natural(out, index as u64)
+        }
+        None => put_node(tree, out, spot.holder),
+    }
+}
+
+// The tokens of the parts of a content's place, the root's first. The one error is a refused request for memory.
+fn put_node(tree: &Tree, out: &mut Writer, node: NodeId) -> Result<(), AllocError>
+    ensures { OnOk result (Added out.old out.new (flat_map data_tokens (map part_data (node_place (story_tree tree.now) node)))) }
+{
+    match tree.above(node) {
+        Some((last, holder)) => {
+            put_node(tree, out, holder)?;
+            put_key(out, last)
+        }
+        None => Ok(()),
+    }
+}
+
+// The token of a part. The one error is a refused request for memory.
+fn put_key(out: &mut Writer, key: Key<'_>) -> Result<(), AllocError>
+    ensures { OnOk result (Added out.old out.new (data_tokens (part_data (key_part key.entry)))) }
+{
+    match key {
+        Key::Index(index) => put_natural(out, index as u64),
+        Key::Name(name) => put(out, Token::String(name)),
     }
 }

@@ -1,4 +1,4 @@
-//! Plain things as JSON values.
+//! Plain things as JSON values, and as their text.
 
 ghost use Rattle.std.specs.Prelude.{◌≡◌, IfOk};
 ghost use Rattle.serde_json.specs.Data.{string};
@@ -10,7 +10,9 @@ ghost use Rattle.ink_model.specs.declared.value.Value.TheVariants.{Target};
 use crate::written::Written;
 use ink_model::{FrameKind, Path, Shared, Text, Value};
 use ink_path::print_path;
+use ink_tokens::{put, write_value};
 use ink_tree::Tree;
+use json::{Token, Writer};
 use serde_json::{Number, Value as Json, json};
 use std::alloc::{AllocError, Global};
 
@@ -27,17 +29,32 @@ impl Written for Shared<Text> {
     fn write(&self, alloc: Global, _tree: &Tree) -> Result<Json, AllocError> {
         write_text(alloc, self.as_str())
     }
+
+    fn put(&self, _alloc: Global, _tree: &Tree, out: &mut Writer) -> Result<(), AllocError> {
+        put(out, Token::String(self.as_str()))
+    }
 }
 
 impl Written for FrameKind {
     ghost spelling = { λ s kind. kind_data kind };
 
     fn write(&self, alloc: Global, _tree: &Tree) -> Result<Json, AllocError> {
-        match self {
-            FrameKind::Base => write_text(alloc, "base"),
-            FrameKind::Function => write_text(alloc, "function"),
-            FrameKind::Tunnel => write_text(alloc, "tunnel"),
-        }
+        write_text(alloc, word_of(*self))
+    }
+
+    fn put(&self, _alloc: Global, _tree: &Tree, out: &mut Writer) -> Result<(), AllocError> {
+        put(out, Token::String(word_of(*self)))
+    }
+}
+
+// The word for what a frame was pushed for.
+fn word_of(kind: FrameKind) -> &'static str
+    ensures { string result.now ≡ kind_data kind }
+{
+    match kind {
+        FrameKind::Base => "base",
+        FrameKind::Function => "function",
+        FrameKind::Tunnel => "tunnel",
     }
 }
 
@@ -54,6 +71,10 @@ impl Written for Value {
             Value::Void => Ok(Json::Null),
             Value::Tag(text) => json!(in alloc; {"tag": text.as_str()}),
         }
+    }
+
+    fn put(&self, alloc: Global, _tree: &Tree, out: &mut Writer) -> Result<(), AllocError> {
+        write_value(alloc, out, self)
     }
 }
 
