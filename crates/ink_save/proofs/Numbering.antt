@@ -19,7 +19,7 @@ use Rattle.ink_model.specs.declared.limits.TheConstants.{MAX_COUNT}
 use Rattle.ink_model.specs.declared.place.Part.{Part}
 use Rattle.json.specs.Written.{Written}
 use Rattle.ink_tokens.specs.Tokens.{Added, data_tokens}
-use Rattle.ink_tokens.proofs.Adding.{more_items, then}
+use Rattle.ink_tokens.proofs.Adding.{after, more_items}
 use Rattle.ink_save.proofs.Texts.{all_tokens}
 use Rattle.ink_save.specs.Counted.{place_at, row_at, rows_at, slot_row}
 use Rattle.ink_step.specs.Words.{rows_below, rows_in}
@@ -103,7 +103,7 @@ module _ (s : StoryTree) (slots : List (Option ℕ)) (i : ℕ) (lt : i < length 
       → Added a c (all_tokens row_data (rows_at s (rows_from 0 (take (i + 1) slots))))
   put_row_more v c is row =
       subst (λ rs. Added a c (all_tokens row_data rs)) (sym (rows_with ((i, v) ∷ []) (ap (slot_row i) is)))
-      (subst (Added a c) (sym (more_items row_data (rows_at s (rows_from 0 (take i slots))) (place_at s i, v))) (then before row))
+      (subst (Added a c) (sym (more_items row_data (rows_at s (rows_from 0 (take i slots))) (place_at s i, v))) (after before row))
 
   pub put_no_row : ((v : ℕ) → get_or slots i None ≡ Some v → ⊥) → Added a b (all_tokens row_data (rows_at s (rows_from 0 (take (i + 1) slots))))
   put_no_row never =

@@ -13,7 +13,15 @@ use Rattle.ink_model.specs.Store.{Values}
 use Rattle.ink_model.specs.ValueJson.{value_data}
 use Rattle.ink_model.specs.declared.value.Value.{Value}
 use Rattle.ink_tokens.specs.Tokens.{Added, data_tokens}
-use Rattle.ink_tokens.proofs.Adding.{finally, list_whole, more_items, then}
+use Rattle.ink_tokens.proofs.Adding.{after, finally, list_whole, more_items}
+
+-- ---- the same tokens
+
+pub value_as : {E : Type 0} (r : Result (Unit {0}) E) (a b : Written) (d e : Data) → d ≡ e → OnOk r (Added a b (data_tokens d)) → OnOk r (Added a b (data_tokens e))
+value_as r a b d e same h = subst (λ x. OnOk r (Added a b (data_tokens x))) same h
+
+pub member_as : (a b : Written) (name : List ℕ) (d e : Data) → d ≡ e → Added a b (token.key name ∷ data_tokens d) → Added a b (token.key name ∷ data_tokens e)
+member_as a b name d e same h = subst (λ x. Added a b (token.key name ∷ data_tokens x)) same h
 
 -- ---- lists
 
@@ -22,6 +30,9 @@ abbrev pub all_tokens : {A : Type 0} → (A → Data) → List A → List Token
 all_tokens f xs = flat_map data_tokens (map f xs)
 
 module _ {A : Type 0} (f : A → Data) where
+  pub items_as : (a b : Written) (xs ys : List A) → xs ≡ ys → Added a b (all_tokens f xs) → Added a b (all_tokens f ys)
+  items_as a b xs ys same h = subst (λ zs. Added a b (all_tokens f zs)) same h
+
   -- one more, which comes last
   pub item_more : {E : Type 0} (xs : List A) (x : A) (r : Result (Unit {0}) E) (a b c : Written) → Added a b (all_tokens f xs) → OnOk r (Added b c (data_tokens (f x)))
       → OnOk r (Added a c (all_tokens f (xs ++ x ∷ [])))
@@ -33,7 +44,7 @@ module _ {A : Type 0} (f : A → Data) where
       → Added c d (data_tokens (f top)) → OnOk r (Added d e (token.end_array ∷ [])) → OnOk r (Added a e (data_tokens (list_data f (reverse (top ∷ reverse below)))))
   pile_whole below top r a b c d e opened all last closed =
       let same : reverse (top ∷ reverse below) ≡ below ++ top ∷ [] = reverse-append (top ∷ []) (reverse below) ∙ ap (λ xs. xs ++ top ∷ []) (reverse-reverse below) in
-      let items : Added b d (all_tokens f (below ++ top ∷ [])) = subst (Added b d) (sym (more_items f below top)) (then all last) in
+      let items : Added b d (all_tokens f (below ++ top ∷ [])) = subst (Added b d) (sym (more_items f below top)) (after all last) in
       subst (λ xs. OnOk r (Added a e (data_tokens (list_data f xs)))) (sym same) (list_whole f (below ++ top ∷ []) r a b d e opened items closed)
 
   -- one row more
@@ -41,7 +52,7 @@ module _ {A : Type 0} (f : A → Data) where
       → Added a c (all_tokens f (take (i + 1) xs))
   row_more xs i x a b c there before last =
       let all : take (i + 1) xs ≡ take i xs ++ x ∷ [] = take_more xs i x (slice_get_within xs i x there) ∙ ap (λ y. take i xs ++ y ∷ []) (get_or_from_slice_get xs i x x there) in
-      subst (λ ys. Added a c (all_tokens f ys)) (sym all) (subst (Added a c) (sym (more_items f (take i xs) x)) (then before last))
+      subst (λ ys. Added a c (all_tokens f ys)) (sym all) (subst (Added a c) (sym (more_items f (take i xs) x)) (after before last))
 
   -- past the last row
   pub row_last : (xs : List A) (i : ℕ) (a b : Written) → slice_get xs i ≡ None → Added a b (all_tokens f (take i xs)) → Added a b (all_tokens f xs)

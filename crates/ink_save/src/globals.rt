@@ -77,12 +77,7 @@ fn put_rows(alloc: Global, out: &mut Writer, globals: &Globals) -> Result<(), Al
 }
 
 // The tokens of a global. The one error is a refused request for memory.
-fn put_global(
-    alloc: Global,
-    out: &mut Writer,
-    name: &str,
-    value: &Value,
-) -> Result<(), AllocError>
+fn put_global(alloc: Global, out: &mut Writer, name: &str, value: &Value) -> Result<(), AllocError>
     ensures { OnOk result (Added out.old out.new (data_tokens (global_data (name.now, value.now)))) }
 {
     put(out, Token::BeginArray)?;

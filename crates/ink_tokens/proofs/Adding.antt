@@ -27,14 +27,14 @@ added_integer r a b (negsuc n) w = added_one r a b (token.number (signed_decimal
 pub added_natural : {E : Type 0} (r : Result (Unit {0}) E) (a b : Written) (n : ℕ) → Writes r a b (token.number (decimal n)) → OnOk r (Added a b (data_tokens (number (of_integer (pos n)))))
 added_natural r a b n w = added_one r a b (token.number (decimal n)) w
 
-pub then : {a b c : Written} {xs ys : List Token} → Added a b xs → Added b c ys → Added a c (xs ++ ys)
-then {a = a} {xs = xs} {ys = ys} h k = record {
+pub after : {a b c : Written} {xs ys : List Token} → Added a b xs → Added b c ys → Added a c (xs ++ ys)
+after {a = a} {xs = xs} {ys = ys} h k = record {
   tokens = k.tokens ∙ ap (λ ts. ts ++ ys) h.tokens ∙ append_assoc a.tokens xs ys;
   before = k.before ∙ h.before;
 }
 
 pub finally : {E : Type 0} (r : Result (Unit {0}) E) (a b c : Written) (xs ys : List Token) → Added a b xs → OnOk r (Added b c ys) → OnOk r (Added a c (xs ++ ys))
-finally (Ok x) a b c xs ys h k = then h k
+finally (Ok x) a b c xs ys h k = after h k
 finally (Err e) a b c xs ys h k = tt
 
 -- ---- lists
