@@ -341,8 +341,8 @@ def waiting(count, frames):
 
 
 def saves(_program, worker):
-    """Saves and loads, beside what the JSON library takes to print and to parse the same values."""
-    print("%-34s %9s %9s %9s %9s %9s %9s %9s" % ("ms", "KiB", "saved", "printed", "times", "loaded", "parsed", "times"))
+    """Saves, as texts and as JSON values, and loads, beside what the JSON library takes to print and to parse the same values."""
+    print("%-34s %9s %9s %9s %9s %9s %9s %9s %9s %9s" % ("ms", "KiB", "saved", "printed", "times", "as value", "times", "loaded", "parsed", "times"))
     sizes = [("%d visited, %d globals" % (count, count // 10), counted(count)) for count in (1000, 10000, 100000)]
     sizes += [("%d choices of %d frames" % (count, frames), waiting(count, frames)) for count, frames in ((10, 10), (1000, 10), (10, 1000))]
     for name, (story, save) in sizes:
@@ -351,8 +351,9 @@ def saves(_program, worker):
         rounds = max(1, (20 * MIB) // len(text))
         def took(what):
             return (best_work(worker, [what, rounds], lines) - best_work(worker, [what, 0], lines)) / rounds
-        saved, printed, loaded, parsed = (took(what) for what in ("save", "print", "load", "parse"))
-        print("%-34s %9.0f %9.3f %9.3f %9.2f %9.3f %9.3f %9.2f" % (name, len(text) / 1024, saved, printed, saved / printed, loaded, parsed, loaded / parsed))
+        saved, printed, value, loaded, parsed = (took(what) for what in ("save", "print", "value", "load", "parse"))
+        print("%-34s %9.0f %9.3f %9.3f %9.2f %9.3f %9.2f %9.3f %9.3f %9.2f"
+              % (name, len(text) / 1024, saved, printed, saved / printed, value, value / printed, loaded, parsed, loaded / parsed))
 
 
 BENCHES = {"reading": reading, "arithmetic": steps, "passages": passages, "commands": commands, "calls": calls, "visits": visits, "choices": choices, "hosts": hosts,

@@ -2,7 +2,7 @@
 use Rattle.std.proofs.Common.{◌≡◌, ◌∙◌, ap, refl, subst, sym, inl, inr, ℕ, List, [], Bool, true, false, Option, None, Some, Result, Ok, Err, IfOk}
 use Rattle.serde_json.specs.Data.{Data}
 use Rattle.serde_json.specs.View.{view}
-use Rattle.serde_json.specs.Written.{has_float}
+use Rattle.serde_json.specs.Written.{compact_text, has_float}
 use Rattle.serde_json.specs.declared.value.Value.{Value}
 use Rattle.ink_model.specs.Answer.{Reply, Acts, Refuses, Saves, reply_of_events}
 use Rattle.ink_model.specs.Configuration.{Configuration}
@@ -23,10 +23,10 @@ use Rattle.ink_model.specs.declared.fault.Halt.{Halt}
 use Rattle.ink_sound.specs.Kept.{ConditionFits, StoryFits}
 use Rattle.ink_sound.proofs.Respelling.{reads_one}
 use Rattle.ink_player.proofs.Tellings.{at_stamp}
-use Rattle.ink_player.specs.Saving.{IsSave, LoadsAs, NotLoaded, ReadsAsState}
+use Rattle.ink_player.specs.Saving.{IsSave, IsSaveText, LoadsAs, NotLoaded, ReadsAsState}
 use Rattle.ink_player.specs.Words.{condition_by}
 use Rattle.ink_protocol.specs.Plain.{IsPlain}
-use Rattle.ink_protocol.specs.Replies.{reply_of_json}
+use Rattle.ink_protocol.specs.Replies.{IsTextOf, reply_of_json, reply_of_text}
 use Rattle.ink_sound.proofs.Plain.{spelling_plain}
 
 module _ (c : Configuration) where
@@ -62,6 +62,35 @@ module _ (c : Configuration) where
       let same : c ≡ x.0 = cc in
       x.2.spells ∙ ap spelling (sym same) ∙ sym h
   save-only s b n (Err r) free h = tt
+
+-- ---- the same of its text
+
+module _ (c : Configuration) where
+  texts-ready : (n : ℕ) (r : Result (List ℕ) Refusal) → IsSaveText c r
+      → (j : Data) × IsTextOf j r × Save (at_stamp (Ready c) n) (reply_of_text j r) (at_stamp (Ready c) n)
+  texts-ready n (Ok text) h = (spelling c, h, inl (refl, refl))
+  texts-ready n (Err r) h = (spelling c, tt, inr (ap (λ x. Refuses x) h, refl))
+
+  -- by a player that is not broken
+  pub texts-free : (b : Option Fault) (n : ℕ) (r : Result (List ℕ) Refusal) → b ≡ None → IsSaveText c r
+      → (j : Data) × IsTextOf j r × Save (at_stamp (condition_by b c) n) (reply_of_text j r) (at_stamp (condition_by b c) n)
+  texts-free b n r free h =
+      subst (λ x. (j : Data) × IsTextOf j r × Save (at_stamp (condition_by x c) n) (reply_of_text j r) (at_stamp (condition_by x c) n)) (sym free) (texts-ready n r h)
+
+  pub text-reads : (s : StoryTree) (b : Option Fault) (n : ℕ) (r : Result (List ℕ) Refusal) → b ≡ None → IsSaveText c r → ConditionFits s (condition_by b c)
+      → IfOk r (λ text. (j : Data) × (text ≡ compact_text j) × ReadsAsState s j (at_stamp (condition_by b c) n))
+  text-reads s b n (Ok text) free h fits =
+      let sound = subst (λ x. ConditionFits s (condition_by x c)) free fits in
+      (spelling c, h, (c, ap (λ x. condition_by x c) free, record { spells = refl; sound = sound.0; rests = sound.1 }))
+  text-reads s b n (Err r) free h fits = tt
+
+  pub text-only : (s : StoryTree) (b : Option Fault) (n : ℕ) (r : Result (List ℕ) Refusal) → b ≡ None → IsSaveText c r
+      → IfOk r (λ text. (j : Data) → ReadsAsState s j (at_stamp (condition_by b c) n) → text ≡ compact_text j)
+  text-only s b n (Ok text) free h = λ j x.
+      let now : Ready c ≡ Ready x.0 = sym (ap (λ y. condition_by y c) free) ∙ x.1 in
+      let same : c ≡ x.0 = cc in
+      h ∙ ap (λ y. compact_text (spelling y)) same ∙ ap compact_text (sym x.2.spells)
+  text-only s b n (Err r) free h = tt
 
 module _ (s : StoryTree) (h : Bindings) (j : Data) (old : State) where
   -- with these globals before

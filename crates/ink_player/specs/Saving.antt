@@ -1,7 +1,8 @@
 -- What a machine is saved as, and what a save is loaded as (docs/SAVES.md).
-use Rattle.std.specs.Prelude.{◌≡◌, ◌⊎◌, Result, Ok, Err}
+use Rattle.std.specs.Prelude.{◌≡◌, ◌⊎◌, ℕ, List, Result, Ok, Err}
 use Rattle.serde_json.specs.Data.{Data}
 use Rattle.serde_json.specs.View.{view}
+use Rattle.serde_json.specs.Written.{compact_text}
 use Rattle.serde_json.specs.declared.value.Value.{Value}
 use Rattle.ink_model.specs.Answer.{Reply, Acts, Breaks, Refuses}
 use Rattle.ink_model.specs.Configuration.{Configuration}
@@ -19,6 +20,11 @@ use Rattle.ink_step.specs.declared.machine.Machine.{Machine}
 abbrev pub IsSave : Configuration → Result Value Refusal → Type 0
 IsSave c (Ok json) = view json ≡ spelling c
 IsSave c (Err r) = r ≡ refusal.OutOfMemory
+
+-- the compact text of that value; or memory was refused
+abbrev pub IsSaveText : Configuration → Result (List ℕ) Refusal → Type 0
+IsSaveText c (Ok text) = text ≡ compact_text (spelling c)
+IsSaveText c (Err r) = r ≡ refusal.OutOfMemory
 
 -- why no machine was made of a value: it reads as no configuration, or memory was refused
 abbrev pub NotLoaded : StoryTree → Data → Refusal → Type 0

@@ -16,22 +16,23 @@ ghost use Rattle.ink_model.specs.declared.host.Event.{Event as Happening};
 ghost use Rattle.ink_model.specs.declared.host.Given.{Given as Gift};
 ghost use Rattle.ink_sound.specs.Kept.{ConditionFits, StateFits};
 ghost use Rattle.ink_protocol.specs.Plain.{IsPlain};
-ghost use Rattle.ink_protocol.specs.Replies.{reply_of_json};
+ghost use Rattle.ink_protocol.specs.Replies.{IsTextOf, reply_of_json, reply_of_text};
 ghost use Rattle.ink_player.specs.Extents.{GoesOn};
 ghost use Rattle.ink_player.specs.Words.{DealtOnce, anew, bindings, desk_of, fault_told, state_of, story_of, told_from};
 ghost use Rattle.ink_step.specs.Words.{config_of};
 ghost use Rattle.serde_json.specs.Data.{Data};
 ghost use Rattle.serde_json.specs.View.{view};
+ghost use Rattle.serde_json.specs.Written.{compact_text};
 
 use crate::passages::{Extent, run_to};
 use crate::path::landing_by;
-use crate::saving::{loaded, saved, story_fits};
+use crate::saving::{loaded, saved, saved_text, story_fits};
 use crate::telling::{tell, tell_between, tell_one};
 use crate::visits::visits_by;
 use ink_check::Story;
 use ink_host::{Bound, Desk, PureFn, TurnFn, Watcher};
 use ink_model::{
-    Event, Fault, Given, Halt, MAX_TEXT, Passage, Refusal, Seq, Shown, Value, value_given,
+    Event, Fault, Given, Halt, MAX_TEXT, Passage, Refusal, Seq, Shown, Text, Value, value_given,
 };
 use ink_step::{Machine, Unopened};
 use serde_json::Value as Json;
@@ -313,6 +314,19 @@ impl<P: PureFn, F: TurnFn, O: Watcher> Player<P, F, O> {
         match self.broken {
             Some(cause) => Err(Refusal::Broken(cause)),
             None => saved(self.alloc, &self.story, &self.machine),
+        }
+    }
+
+    /// The compact text of what `save` gives, made without that value. Refused as `save` is.
+    pub fn save_text(&self) -> Result<Text, Refusal>
+        ensures does { (j : Data) × IsTextOf j result × Save (state_of self.now) (reply_of_text j result) (state_of self.now) }
+        ensures reads { IfOk result (λ text. (j : Data) × (text ≡ compact_text j) × ReadsAsState (story_of self.now) j (state_of self.now)) }
+        ensures only { IfOk result (λ text. (j : Data) → ReadsAsState (story_of self.now) j (state_of self.now) → text ≡ compact_text j) }
+        ensures sound { StateFits (story_of self.now) (state_of self.now) }
+    {
+        match self.broken {
+            Some(why) => Err(Refusal::Broken(why)),
+            None => saved_text(self.alloc, &self.story, &self.machine),
         }
     }
 

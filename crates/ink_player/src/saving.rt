@@ -2,13 +2,13 @@
 
 ghost use Rattle.serde_json.specs.View.{view};
 ghost use Rattle.ink_check.specs.Words.{story_tree};
-ghost use Rattle.ink_player.specs.Saving.{FindsSave, IsSave};
+ghost use Rattle.ink_player.specs.Saving.{FindsSave, IsSave, IsSaveText};
 ghost use Rattle.ink_sound.specs.Kept.{StoryFits};
 ghost use Rattle.ink_step.specs.Words.{config_of};
 
 use ink_check::Story;
-use ink_model::Refusal;
-use ink_save::{SaveRefusal, read, write};
+use ink_model::{Refusal, Text};
+use ink_save::{SaveRefusal, read, write, write_text};
 use ink_sound::spelled_stories_fit;
 use ink_step::Machine;
 use serde_json::Value as Json;
@@ -20,6 +20,16 @@ pub(crate) fn saved(alloc: Global, story: &Story, machine: &Machine) -> Result<J
 {
     match write(alloc, story, machine) {
         Ok(json) => Ok(json),
+        Err(_) => Err(Refusal::OutOfMemory),
+    }
+}
+
+/// The compact text of that value. Refused with `OutOfMemory` alone.
+pub(crate) fn saved_text(alloc: Global, story: &Story, machine: &Machine) -> Result<Text, Refusal>
+    ensures { let s = story_tree story.now in IsSaveText (config_of s machine.now) result }
+{
+    match write_text(alloc, story, machine) {
+        Ok(text) => Ok(text),
         Err(_) => Err(Refusal::OutOfMemory),
     }
 }

@@ -3,25 +3,26 @@
 ghost use Rattle.std.specs.Prelude.{◌≡◌, ℕ, List, [], ◌⊎◌, option_map};
 ghost use Rattle.ink_host.specs.Desk.{Resting};
 ghost use Rattle.ink_host.specs.Telling.{rests};
-ghost use Rattle.ink_model.specs.Answer.{Refuses};
-ghost use Rattle.ink_model.specs.Session.{Does, Load, Save, Serves, Set};
+ghost use Rattle.ink_model.specs.Answer.{Refuses, reply_of_events};
+ghost use Rattle.ink_model.specs.Session.{Does, Load, Serves, Set};
 ghost use Rattle.ink_model.specs.Host.{Bindings};
 ghost use Rattle.ink_model.specs.declared.host.Event.{Event};
 ghost use Rattle.ink_protocol.specs.Commands.{command_by};
-ghost use Rattle.ink_protocol.specs.Replies.{reply_by, reply_of_json};
+ghost use Rattle.ink_protocol.specs.Replies.{HasTextOf, reply_by};
 ghost use Rattle.ink_player.specs.Words.{Dealt, bindings, desk_of, state_of, story_of};
 ghost use Rattle.ink_protocol.specs.Ends.{Reports, reads_fail, writes_fail};
 ghost use Rattle.ink_player.specs.Serving.{Answers, Runs, ServesNext};
 ghost use Rattle.ink_model.specs.Unread.{PathFails};
 ghost use Rattle.ink_model.specs.declared.limits.TheConstants.{MAX_INPUT};
+ghost use Rattle.serde_json.specs.Data.{Data};
 ghost use Rattle.serde_json.specs.View.{view};
 
 use crate::player::Player;
 use ink_host::{PureFn, TurnFn, Watcher};
-use ink_model::{Given, MAX_INPUT, MAX_LINE, Refusal};
+use ink_model::{Given, Halt, MAX_INPUT, MAX_LINE, Refusal, Seq};
 use ink_protocol::{
-    Ahead, Lent, Line, LineCommand, Outcome, PlainJson, RunFault, Sink, Source, answer_text,
-    fixed_answer, next_line, read_command, write_answer,
+    Ahead, Lent, Line, LineCommand, Outcome, RunFault, Sink, Source, answer_text, fixed_answer,
+    next_line, read_command, write_answer,
 };
 use serde_json::Value as Json;
 use std::alloc::{AllocError, Global};
@@ -197,7 +198,8 @@ fn outcome_of<P: PureFn, F: TurnFn, O: Watcher>(
     player: &mut Player<P, F, O>,
     line: &[u8],
 ) -> Outcome
-    ensures serves { (es : List Event) × Serves (story_of player.old) (bindings P.meaning (desk_of player.old)) es line.now (state_of player.old) (reply_by result) (state_of player.new)
+    ensures serves { (es : List Event) × (saved : Data) × HasTextOf saved result
+        × Serves (story_of player.old) (bindings P.meaning (desk_of player.old)) es line.now (state_of player.old) (reply_by saved result) (state_of player.new)
         × Dealt F.log O.state (desk_of player.old) es (desk_of player.new) }
     ensures rest { Resting (rests O.state) (desk_of player.old).watchers → Resting (rests O.state) (desk_of player.new).watchers }
     ensures story { story_of player.new ≡ story_of player.old }
@@ -213,8 +215,9 @@ fn perform<P: PureFn, F: TurnFn, O: Watcher>(
     player: &mut Player<P, F, O>,
     command: Option<LineCommand<'_>>,
 ) -> Outcome
-    ensures does { (es : List Event) × (Does (story_of player.old) (bindings P.meaning (desk_of player.old)) es (option_map command_by command.entry) (state_of player.old) (reply_by result) (state_of player.new)
-        ⊎ ((es ≡ []) × PathFails (option_map command_by command.entry) (state_of player.old) (reply_by result) (state_of player.new)))
+    ensures does { (es : List Event) × (saved : Data) × HasTextOf saved result
+        × (Does (story_of player.old) (bindings P.meaning (desk_of player.old)) es (option_map command_by command.entry) (state_of player.old) (reply_by saved result) (state_of player.new)
+        ⊎ ((es ≡ []) × PathFails (option_map command_by command.entry) (state_of player.old) (reply_by saved result) (state_of player.new)))
         × Dealt F.log O.state (desk_of player.old) es (desk_of player.new) }
     ensures rest { Resting (rests O.state) (desk_of player.old).watchers → Resting (rests O.state) (desk_of player.new).watchers }
     ensures story { story_of player.new ≡ story_of player.old }
@@ -222,13 +225,13 @@ fn perform<P: PureFn, F: TurnFn, O: Watcher>(
     match command {
         Some(LineCommand::Continue) => Outcome::Passage(player.continue_line()),
         Some(LineCommand::Through) => Outcome::Passage(player.through()),
-        Some(LineCommand::Set { name, value }) => set(player, name, value),
+        Some(LineCommand::Set { name, value }) => Outcome::Events(set(player, name, value)),
         Some(LineCommand::Get { name }) => Outcome::Value(player.get(name)),
         Some(LineCommand::Visits { path }) => Outcome::Visits(player.visits(path)),
         Some(LineCommand::Choose { number }) => Outcome::Landing(player.choose(number)),
         Some(LineCommand::Jump { path }) => Outcome::Landing(player.jump(path)),
-        Some(LineCommand::Save) => Outcome::Saved(save(player)),
-        Some(LineCommand::Load { saved }) => load(player, saved),
+        Some(LineCommand::Save) => Outcome::Saved(player.save_text()),
+        Some(LineCommand::Load { saved }) => Outcome::Events(load(player, saved)),
         Some(LineCommand::Restart) => Outcome::Events(player.restart()),
         None => Outcome::Refused(Refusal::BadCommand),
     }
@@ -239,16 +242,16 @@ fn set<P: PureFn, F: TurnFn, O: Watcher>(
     player: &mut Player<P, F, O>,
     name: &str,
     value: Option<Given>,
-) -> Outcome
-    ensures does { (es : List Event) × Set (bindings P.meaning (desk_of player.old)) es name.now value (state_of player.old) (reply_by result) (state_of player.new)
+) -> Result<Seq<ink_model::Event>, Halt>
+    ensures does { (es : List Event) × Set (bindings P.meaning (desk_of player.old)) es name.now value (state_of player.old) (reply_of_events result) (state_of player.new)
         × Dealt F.log O.state (desk_of player.old) es (desk_of player.new) }
     ensures rest { Resting (rests O.state) (desk_of player.old).watchers → Resting (rests O.state) (desk_of player.new).watchers }
     ensures story { story_of player.new ≡ story_of player.old }
 {
     let Some(value) = value else {
-        return Outcome::Refused(no_value(player));
+        return Err(Halt::Refused(no_value(player)));
     };
-    Outcome::Events(player.set(name, value))
+    player.set(name, value)
 }
 
 // Why a line without a value is refused: a fault that broke the player comes first.
@@ -261,28 +264,18 @@ fn no_value<P: PureFn, F: TurnFn, O: Watcher>(player: &Player<P, F, O>) -> Refus
     }
 }
 
-// What a player is saved as.
-fn save<P: PureFn, F: TurnFn, O: Watcher>(player: &Player<P, F, O>) -> Result<PlainJson, Refusal>
-    ensures { Save (state_of player.now) (reply_of_json result) (state_of player.now) }
-{
-    match player.save() {
-        Ok(json) => Ok(PlainJson::new(json)),
-        Err(refusal) => Err(refusal),
-    }
-}
-
 // Loads a save, or refuses where the line has no JSON.
 fn load<P: PureFn, F: TurnFn, O: Watcher>(
     player: &mut Player<P, F, O>,
     saved: Option<Json>,
-) -> Outcome
-    ensures does { (es : List Event) × Load (story_of player.old) (bindings P.meaning (desk_of player.old)) es (option_map view saved) (state_of player.old) (reply_by result) (state_of player.new)
+) -> Result<Seq<ink_model::Event>, Halt>
+    ensures does { (es : List Event) × Load (story_of player.old) (bindings P.meaning (desk_of player.old)) es (option_map view saved) (state_of player.old) (reply_of_events result) (state_of player.new)
         × Dealt F.log O.state (desk_of player.old) es (desk_of player.new) }
     ensures rest { Resting (rests O.state) (desk_of player.old).watchers → Resting (rests O.state) (desk_of player.new).watchers }
     ensures story { story_of player.new ≡ story_of player.old }
 {
     let Some(json) = saved else {
-        return Outcome::Refused(Refusal::BadSave);
+        return Err(Halt::Refused(Refusal::BadSave));
     };
-    Outcome::Events(player.load(&json))
+    player.load(&json)
 }

@@ -2,24 +2,20 @@
 
 ghost use Rattle.std.specs.Fmt.{signed_decimal};
 ghost use Rattle.std.specs.Prelude.{◌≡◌, [], ◌∷◌, ◌++◌, OnOk, IfOk, IfNone, IfSome, true, false, map, codes, pos};
-ghost use Rattle.json.specs.Print.{IsPrintable};
-ghost use Rattle.json.specs.Reads.{token_of};
 ghost use Rattle.json.specs.Token as tokens;
-ghost use Rattle.serde_json.specs.Data.{Data, array, string, number};
+ghost use Rattle.serde_json.specs.Data.{Data, array, number, string};
 ghost use Rattle.serde_json.specs.Find.{of_integer};
+ghost use Rattle.serde_json.specs.Written.{compact_text};
 ghost use Rattle.ink_model.specs.Answer.{answer, answer_asks, refusal_data, reply_data, reply_of_events, reply_of_halt, Acts, Breaks, Counts, Saves, Shows, items_of, passage_data, shown_data};
 ghost use Rattle.ink_model.specs.Events.{call_data, event_data};
 ghost use Rattle.ink_model.specs.Host.{value_given};
 ghost use Rattle.ink_model.specs.ValueJson.{value_data};
-ghost use Rattle.ink_protocol.specs.Answers.{Added, data_tokens, outcome_tokens, values_text};
-ghost use Rattle.ink_protocol.specs.Replies.{is_saved, reply_by, reply_of_json};
-ghost use Rattle.serde_json.specs.View.{view};
+ghost use Rattle.ink_protocol.specs.Answers.{outcome_tokens, values_text};
+ghost use Rattle.ink_protocol.specs.Replies.{HasTextOf, IsTextOf, is_saved, reply_by, reply_of_text};
+ghost use Rattle.ink_tokens.specs.Tokens.{Added, data_tokens};
 
-use crate::plain::PlainJson;
-use ink_model::{
-    Event, Fault, Given, Halt, Passage, Path, Refusal, Seq, Shared, Shown, Text, Value,
-};
-use ink_path::print_path;
+use ink_model::{Event, Fault, Given, Halt, Passage, Refusal, Seq, Shared, Shown, Text, Value};
+use ink_tokens::{put, put_flag, put_integer, put_natural, put_text, write_value};
 use json::{Token, Writer};
 use std::alloc::{AllocError, Global};
 
@@ -31,15 +27,15 @@ pub enum Outcome {
     Value(Result<Value, Refusal>),
     Visits(Result<i32, Refusal>),
     Landing(Result<(), Refusal>),
-    Saved(Result<PlainJson, Refusal>),
+    Saved(Result<Text, Refusal>),
     Refused(Refusal),
 }
 
 /// The line that is written where a command's call was done and tells nothing, its newline at the end; none of any other
 /// outcome. Takes no memory.
 pub fn fixed_answer(outcome: &Outcome) -> Option<&'static str>
-    ensures text { IfSome result (λ text. text.now ≡ answer (reply_by outcome.now)) }
-    ensures none { IfNone result (answer_asks (reply_by outcome.now) ≡ true) }
+    ensures text { (saved : Data) → IfSome result (λ text. text.now ≡ answer (reply_by saved outcome.now)) }
+    ensures none { (saved : Data) → IfNone result (answer_asks (reply_by saved outcome.now) ≡ true) }
 {
     match outcome {
         Outcome::Events(events) => done_answer(events),
@@ -78,7 +74,7 @@ fn done_text() -> &'static str
 /// What a command's call returned, as the line that is written, its newline at the end, in the memory of a buffer whose
 /// bytes go. The one error is a refused request for memory.
 pub fn answer_text(alloc: Global, buffer: Vec<u8>, outcome: Outcome) -> Result<Vec<u8>, AllocError>
-    ensures { IfOk result (λ text. text.items ≡ answer (reply_by outcome)) }
+    ensures { (saved : Data) → HasTextOf saved outcome → IfOk result (λ line. line.items ≡ answer (reply_by saved outcome)) }
 {
     let mut empty = buffer;
     empty.clear();
@@ -90,7 +86,7 @@ pub fn answer_text(alloc: Global, buffer: Vec<u8>, outcome: Outcome) -> Result<V
 
 // The number that a command's call returned, if it returned one, and what stands before it in the answer.
 fn told_number(outcome: &Outcome) -> Option<(&'static str, i32)>
-    ensures { IfSome result (λ told. answer (reply_by outcome.now) ≡ told.0.now ++ (signed_decimal told.1 ++ codes "}\n")) }
+    ensures { (saved : Data) → IfSome result (λ told. answer (reply_by saved outcome.now) ≡ told.0.now ++ (signed_decimal told.1 ++ codes "}\n")) }
 {
     match outcome {
         Outcome::Value(Ok(Value::Int(number))) => Some(("{\"value\":", *number)),
@@ -114,7 +110,7 @@ fn number_text(empty: Vec<u8>, front: &str, number: i32) -> Result<Vec<u8>, Allo
 
 fn replied_text(alloc: Global, empty: Vec<u8>, outcome: Outcome) -> Result<Vec<u8>, AllocError>
     requires { empty.items ≡ [] }
-    ensures { IfOk result (λ text. text.items ≡ answer (reply_by outcome)) }
+    ensures { (saved : Data) → HasTextOf saved outcome → IfOk result (λ line. line.items ≡ answer (reply_by saved outcome)) }
 {
     match outcome {
         Outcome::Saved(saved) => save_text(alloc, empty, saved),
@@ -125,26 +121,25 @@ fn replied_text(alloc: Global, empty: Vec<u8>, outcome: Outcome) -> Result<Vec<u
 fn save_text(
     alloc: Global,
     empty: Vec<u8>,
-    saved: Result<PlainJson, Refusal>,
+    save: Result<Text, Refusal>,
 ) -> Result<Vec<u8>, AllocError>
     requires { empty.items ≡ [] }
-    ensures { IfOk result (λ text. text.items ≡ answer (reply_of_json saved)) }
+    ensures { (saved : Data) → IsTextOf saved save → IfOk result (λ line. line.items ≡ answer (reply_of_text saved save)) }
 {
-    match saved {
-        Ok(json) => saved_text(alloc, empty, &json),
+    match save {
+        Ok(text) => saved_text(empty, text.as_str()),
         Err(refusal) => written_text(alloc, empty, Outcome::Refused(refusal)),
     }
 }
 
 // The answer that has a save.
-fn saved_text(alloc: Global, empty: Vec<u8>, json: &PlainJson) -> Result<Vec<u8>, AllocError>
+fn saved_text(empty: Vec<u8>, text: &str) -> Result<Vec<u8>, AllocError>
     requires { empty.items ≡ [] }
-    ensures { IfOk result (λ text. text.items ≡ answer (Saves (view json.now))) }
+    ensures { (saved : Data) → text.now ≡ compact_text saved → IfOk result (λ line. line.items ≡ answer (Saves saved)) }
 {
-    let inner = json.text(alloc)?;
     let mut line = empty;
     line.extend_from_slice(b"{\"saved\":")?;
-    line.extend_from_slice(inner.as_slice())?;
+    line.extend_from_slice(text.as_bytes())?;
     line.extend_from_slice(b"}\n")?;
     Ok(line)
 }
@@ -153,7 +148,7 @@ fn saved_text(alloc: Global, empty: Vec<u8>, json: &PlainJson) -> Result<Vec<u8>
 fn written_text(alloc: Global, empty: Vec<u8>, outcome: Outcome) -> Result<Vec<u8>, AllocError>
     requires empty { empty.items ≡ [] }
     requires told { is_saved outcome ≡ false }
-    ensures { IfOk result (λ text. text.items ≡ answer (reply_by outcome)) }
+    ensures { (saved : Data) → IfOk result (λ line. line.items ≡ answer (reply_by saved outcome)) }
 {
     let mut out = Writer::new(empty);
     write_reply(alloc, &mut out, outcome)?;
@@ -174,7 +169,7 @@ pub fn print_values(alloc: Global, values: &[Value]) -> Result<Vec<u8>, AllocErr
 
 fn write_reply(alloc: Global, out: &mut Writer, outcome: Outcome) -> Result<(), AllocError>
     requires { is_saved outcome ≡ false }
-    ensures { OnOk result (Added out.old out.new (data_tokens (reply_data (reply_by outcome)))) }
+    ensures { (saved : Data) → OnOk result (Added out.old out.new (data_tokens (reply_data (reply_by saved outcome)))) }
 {
     match outcome {
         Outcome::Passage(Ok(passage)) => write_passage(alloc, out, &passage),
@@ -194,48 +189,12 @@ fn write_reply(alloc: Global, out: &mut Writer, outcome: Outcome) -> Result<(), 
 
 // ---- parts of answers
 
-// One token. A number's text is a number of JSON.
-fn put(out: &mut Writer, token: Token<'_>) -> Result<(), AllocError>
-    requires { IsPrintable (token_of token) }
-    ensures { OnOk result (Added out.old out.new (token_of token.entry ∷ [])) }
-{
-    out.token(token)
-}
-
-fn put_integer(out: &mut Writer, integer: i32) -> Result<(), AllocError>
-    ensures { OnOk result (Added out.old out.new (data_tokens (number (of_integer integer)))) }
-{
-    out.i64(integer as i64)
-}
-
-// A member with a text.
-fn put_text(out: &mut Writer, name: &str, text: &str) -> Result<(), AllocError>
-    ensures { OnOk result (Added out.old out.new (tokens.key name.now ∷ tokens.string text.now ∷ [])) }
-{
-    put(out, Token::Key(name))?;
-    put(out, Token::String(text))
-}
-
-// A member with a truth value.
-fn put_flag(out: &mut Writer, name: &str, truth: bool) -> Result<(), AllocError>
-    ensures { OnOk result (Added out.old out.new (tokens.key name.now ∷ tokens.boolean truth ∷ [])) }
-{
-    put(out, Token::Key(name))?;
-    put(out, Token::Bool(truth))
-}
-
 // The member with an event's stamp.
 fn put_stamp(out: &mut Writer, stamp: u64) -> Result<(), AllocError>
     ensures { OnOk result (Added out.old out.new (tokens.key (codes "stamp") ∷ data_tokens (number (of_integer (pos stamp))))) }
 {
     put(out, Token::Key("stamp"))?;
     put_natural(out, stamp)
-}
-
-fn put_natural(out: &mut Writer, natural: u64) -> Result<(), AllocError>
-    ensures { OnOk result (Added out.old out.new (data_tokens (number (of_integer (pos natural))))) }
-{
-    out.u64(natural)
 }
 
 // What stands in lists of answers.
@@ -350,47 +309,6 @@ fn write_visits(out: &mut Writer, visits: i32) -> Result<(), AllocError>
     put(out, Token::BeginObject)?;
     put(out, Token::Key("visits"))?;
     put_integer(out, visits)?;
-    put(out, Token::EndObject)
-}
-
-fn write_value(alloc: Global, out: &mut Writer, value: &Value) -> Result<(), AllocError>
-    ensures { OnOk result (Added out.old out.new (data_tokens (value_data value.now))) }
-{
-    match value {
-        Value::Int(number) => put_integer(out, *number),
-        Value::Bool(truth) => put(out, Token::Bool(*truth)),
-        Value::Text(text) => put(out, Token::String(text.get().as_str())),
-        Value::Target(path) => write_target(alloc, out, path.get()),
-        Value::Pointer(frame, name) => write_pointer(out, *frame, name.get()),
-        Value::Void => put(out, Token::Null),
-        Value::Tag(text) => write_tag(out, text.get()),
-    }
-}
-
-fn write_target(alloc: Global, out: &mut Writer, path: &Path) -> Result<(), AllocError>
-    ensures { OnOk result (Added out.old out.new (data_tokens (value_data (Value.Target path.now)))) }
-{
-    let text = print_path(alloc, path)?;
-    put(out, Token::BeginObject)?;
-    put_text(out, "->", text.as_str())?;
-    put(out, Token::EndObject)
-}
-
-fn write_pointer(out: &mut Writer, frame: i32, name: &Text) -> Result<(), AllocError>
-    ensures { OnOk result (Added out.old out.new (data_tokens (value_data (Value.Pointer frame name.now)))) }
-{
-    put(out, Token::BeginObject)?;
-    put(out, Token::Key("ci"))?;
-    put_integer(out, frame)?;
-    put_text(out, "var", name.as_str())?;
-    put(out, Token::EndObject)
-}
-
-fn write_tag(out: &mut Writer, text: &Text) -> Result<(), AllocError>
-    ensures { OnOk result (Added out.old out.new (data_tokens (value_data (Value.Tag text.now)))) }
-{
-    put(out, Token::BeginObject)?;
-    put_text(out, "tag", text.as_str())?;
     put(out, Token::EndObject)
 }
 

@@ -9,7 +9,6 @@ mod input;
 mod lines;
 mod output;
 mod parse;
-mod plain;
 mod watched;
 
 pub use answer::{Outcome, answer_text, fixed_answer, print_values};
@@ -18,5 +17,4 @@ pub use fault::RunFault;
 pub use input::{Ahead, ReadFailed, Source};
 pub use lines::{Line, next_line};
 pub use output::{Sink, WriteFailed, write_answer};
-pub use plain::PlainJson;
 pub use watched::{Lent, Watched};

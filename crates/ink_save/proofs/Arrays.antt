@@ -29,11 +29,16 @@ module _ {A : Type 0} (f : A → Data) where
   pub listed : (items : List A) (made : List Value) → map view made ≡ map f items → array (items_view made) ≡ list_data f items
   listed items made e = ap array (items_same (map view made) ∙ ap events.items_of e)
 
+  -- one more, which comes last
+  pub one_more : (items : List A) (x : A) (made : List Value) (last : Value) → map view made ≡ map f items → view last ≡ f x
+      → map view (made ++ last ∷ []) ≡ map f (items ++ x ∷ [])
+  one_more items x made last e h =
+      map-append view made (last ∷ []) ∙ ap (λ ds. ds ++ view last ∷ []) e ∙ ap (λ d. map f items ++ d ∷ []) h ∙ sym (map-append f items (x ∷ []))
+
   pub piled : (below : List A) (top : A) (made : List Value) (last : Value) → map view made ≡ map f below → view last ≡ f top
       → array (items_view (made ++ last ∷ [])) ≡ list_data f (reverse (top ∷ reverse below))
   piled below top made last e h =
-      listed (below ++ top ∷ []) (made ++ last ∷ [])
-      (map-append view made (last ∷ []) ∙ ap (λ ds. ds ++ view last ∷ []) e ∙ ap (λ d. map f below ++ d ∷ []) h ∙ sym (map-append f below (top ∷ [])))
+      listed (below ++ top ∷ []) (made ++ last ∷ []) (one_more below top made last e h)
       ∙ ap (list_data f) (sym (reverse-append (top ∷ []) (reverse below) ∙ ap (λ xs. xs ++ top ∷ []) (reverse-reverse below)))
 
 -- one row more

@@ -2,6 +2,7 @@ pub mod Lists
 pub mod Making
 pub mod Standing
 pub mod Arrays
+pub mod Texts
 pub mod Leading
 pub mod Gathering
 pub mod Limits

@@ -17,6 +17,10 @@ use Rattle.ink_model.specs.Path.{ends_at, is_place}
 use Rattle.ink_model.specs.Tree.{StoryTree, at}
 use Rattle.ink_model.specs.declared.limits.TheConstants.{MAX_COUNT}
 use Rattle.ink_model.specs.declared.place.Part.{Part}
+use Rattle.json.specs.Written.{Written}
+use Rattle.ink_tokens.specs.Tokens.{Added, data_tokens}
+use Rattle.ink_tokens.proofs.Adding.{after, more_items}
+use Rattle.ink_save.proofs.Texts.{all_tokens}
 use Rattle.ink_save.specs.Counted.{place_at, row_at, rows_at, slot_row}
 use Rattle.ink_step.specs.Words.{rows_below, rows_in}
 use Rattle.ink_save.proofs.Standing.{both}
@@ -83,6 +87,27 @@ module _ (s : StoryTree) (slots : List (Option ℕ)) (i : ℕ) (lt : i < length 
 
   pub wrote_none : ((v : ℕ) → get_or slots i None ≡ Some v → ⊥) → Wrote made i → Wrote made (i + 1)
   wrote_none never h = sym (append-nil (map view made)) ∙ sym (wrote_so [] (empty (get_or slots i None) refl) h)
+    where
+      empty : (o : Option ℕ) → get_or slots i None ≡ o → slot_row i o ≡ []
+      empty None e = refl
+      empty (Some v) e = absurd (never v e)
+
+module _ (s : StoryTree) (slots : List (Option ℕ)) (i : ℕ) (lt : i < length slots) (a b : Written) (before : Added a b (all_tokens row_data (rows_at s (rows_from 0 (take i slots))))) where
+  rows_with : (row : List (ℕ × ℕ)) → slot_row i (get_or slots i None) ≡ row
+      → rows_at s (rows_from 0 (take (i + 1) slots)) ≡ rows_at s (rows_from 0 (take i slots)) ++ rows_at s row
+  rows_with row is =
+      ap (rows_at s) (slots_more slots i lt ∙ ap (λ r. rows_from 0 (take i slots) ++ r) is) ∙ map-append (row_at s) (rows_from 0 (take i slots)) row
+
+  -- the tokens of a row more are written
+  pub put_row_more : (v : ℕ) (c : Written) → get_or slots i None ≡ Some v → Added b c (data_tokens (row_data (place_at s i, v)))
+      → Added a c (all_tokens row_data (rows_at s (rows_from 0 (take (i + 1) slots))))
+  put_row_more v c is row =
+      subst (λ rs. Added a c (all_tokens row_data rs)) (sym (rows_with ((i, v) ∷ []) (ap (slot_row i) is)))
+      (subst (Added a c) (sym (more_items row_data (rows_at s (rows_from 0 (take i slots))) (place_at s i, v))) (after before row))
+
+  pub put_no_row : ((v : ℕ) → get_or slots i None ≡ Some v → ⊥) → Added a b (all_tokens row_data (rows_at s (rows_from 0 (take (i + 1) slots))))
+  put_no_row never =
+      subst (λ rs. Added a b (all_tokens row_data rs)) (sym (rows_with [] (empty (get_or slots i None) refl) ∙ append-nil (rows_at s (rows_from 0 (take i slots))))) before
     where
       empty : (o : Option ℕ) → get_or slots i None ≡ o → slot_row i o ≡ []
       empty None e = refl

@@ -1,16 +1,22 @@
-//! Visits and turns as JSON values.
+//! Visits and turns as JSON values, and as their text.
 
-ghost use Rattle.std.specs.Prelude.{◌≡◌, IfOk, length, map};
+ghost use Rattle.std.specs.Prelude.{◌≡◌, ◌∷◌, IfOk, OnOk, flat_map, length, map};
+ghost use Rattle.json.specs.Token as tokens;
 ghost use Rattle.serde_json.specs.View.{view};
 ghost use Rattle.ink_model.specs.Places.{places};
 ghost use Rattle.ink_model.specs.Save.Spelling.{list_data, place_data, row_data};
 ghost use Rattle.ink_save.specs.Counted.{place_at, rows_at};
 ghost use Rattle.ink_step.specs.Words.{rows_below, rows_in};
-ghost use Rattle.ink_tree.specs.Nodes.{story_tree};
+ghost use Rattle.ink_model.specs.Tree.{StoryTree};
+ghost use Rattle.ink_tokens.specs.Tokens.{Added, data_tokens};
+ghost use Rattle.ink_tree.specs.Nodes.{place_of, story_tree};
 ghost use Rattle.ink_vars.specs.Slots.{rows_from};
 
+use crate::placed::put_spot;
 use crate::written::Written;
+use ink_tokens::{put, put_natural};
 use ink_tree::{NodeId, Spot, Tree};
+use json::{Token, Writer};
 use serde_json::{Number, Value as Json};
 use std::alloc::{AllocError, Global};
 
@@ -55,7 +61,7 @@ fn write_slots(alloc: Global, tree: &Tree, slots: &[Option<u32>]) -> Result<Vec<
 fn write_row(alloc: Global, tree: &Tree, number: usize, count: u32) -> Result<Json, AllocError>
     ensures { IfOk result (λ json. view json ≡ row_data (place_at (story_tree tree.now) number, count)) }
 {
-    let mut pair = Vec::new(alloc);
+    let mut pair = Vec::with_capacity(alloc, 2)?;
     pair.push(write_place(alloc, tree, number)?)?;
     pair.push(Json::Number(Number::from(count)))?;
     Ok(Json::Array(pair))
@@ -65,9 +71,53 @@ fn write_row(alloc: Global, tree: &Tree, number: usize, count: u32) -> Result<Js
 fn write_place(alloc: Global, tree: &Tree, number: usize) -> Result<Json, AllocError>
     ensures { IfOk result (λ json. view json ≡ place_data (place_at (story_tree tree.now) number)) }
 {
-    let spot = Spot {
+    container_spot(number).write(alloc, tree)
+}
+
+// The spot of a container.
+fn container_spot(number: usize) -> Spot
+    ensures { (s : StoryTree) → place_of s result ≡ place_at s number }
+{
+    Spot {
         holder: NodeId { number },
         index: None,
-    };
-    spot.write(alloc, tree)
+    }
+}
+
+/// The member of this name with counts. The one error is a refused request for memory.
+pub(crate) fn put_counts(
+    tree: &Tree,
+    out: &mut Writer,
+    name: &str,
+    slots: &[Option<u32>],
+) -> Result<(), AllocError>
+    ensures { let s = story_tree tree.now in
+        OnOk result (Added out.old out.new (tokens.key name.now ∷ data_tokens (list_data row_data (rows_in s (rows_from 0 slots.now))))) }
+{
+    put(out, Token::Key(name))?;
+    put(out, Token::BeginArray)?;
+    put_slots(tree, out, own_slots(tree, slots))?;
+    put(out, Token::EndArray)
+}
+
+// The tokens of counts. The one error is a refused request for memory.
+fn put_slots(tree: &Tree, out: &mut Writer, slots: &[Option<u32>]) -> Result<(), AllocError>
+    ensures { OnOk result (Added out.old out.new (flat_map data_tokens (map row_data (rows_at (story_tree tree.now) (rows_from 0 slots.now))))) }
+{
+    for number in 0..slots.len() {
+        if let Some(count) = slots[number] {
+            put_row(tree, out, number, count)?;
+        }
+    }
+    Ok(())
+}
+
+// The tokens of a count. The one error is a refused request for memory.
+fn put_row(tree: &Tree, out: &mut Writer, number: usize, count: u32) -> Result<(), AllocError>
+    ensures { OnOk result (Added out.old out.new (data_tokens (row_data (place_at (story_tree tree.now) number, count)))) }
+{
+    put(out, Token::BeginArray)?;
+    put_spot(tree, out, container_spot(number))?;
+    put_natural(out, count as u64)?;
+    put(out, Token::EndArray)
 }

@@ -1,19 +1,23 @@
-//! Frames and threads as JSON values.
+//! Frames and threads as JSON values, and as their text.
 
-ghost use Rattle.std.specs.Prelude.{◌≡◌, ◌∷◌, IfOk, true, map, reverse};
+ghost use Rattle.std.specs.Prelude.{◌≡◌, ◌∷◌, IfOk, OnOk, codes, true, map, reverse};
+ghost use Rattle.json.specs.Token as tokens;
 ghost use Rattle.serde_json.specs.Data.{no_members, object};
 ghost use Rattle.serde_json.specs.View.{members_view, view};
 ghost use Rattle.ink_model.specs.Frames.{map_frame, map_thread, map_threads};
 ghost use Rattle.ink_model.specs.Rows.{name_order, rows_rise};
 ghost use Rattle.ink_model.specs.Save.Spelling.{frame_data, list_data, temps_members, thread_data, threads_data};
 ghost use Rattle.ink_save.specs.Words.{put_all};
+ghost use Rattle.ink_tokens.specs.Tokens.{Added, data_tokens};
 ghost use Rattle.ink_tree.specs.Nodes.{place_of, story_tree};
 
-use crate::written::{Written, write_pile};
+use crate::written::{Written, put_member, put_pile, write_pile};
 use ink_model::{Shared, Text, Value};
 use ink_stack::{Frame, Thread, Threads};
+use ink_tokens::{put, put_flag, put_number};
 use ink_tree::{Spot, Tree};
-use serde_json::{Map, Value as Json, json, put};
+use json::{Token, Writer};
+use serde_json::{Map, Value as Json, json, put as put_entry};
 use std::alloc::{AllocError, Global};
 
 impl Written for Frame<Spot> {
@@ -32,6 +36,34 @@ impl Written for Frame<Spot> {
             "temps": temps
         })
     }
+
+    fn put(&self, alloc: Global, tree: &Tree, out: &mut Writer) -> Result<(), AllocError> {
+        put(out, Token::BeginObject)?;
+        put_number(out, "depth", self.depth() as u64)?;
+        put_flag(out, "eval", self.is_evaluating())?;
+        put_flag(out, "fresh", self.is_fresh())?;
+        put_member(alloc, tree, out, "kind", &self.kind())?;
+        put_member(alloc, tree, out, "place", &self.place())?;
+        put_temps(alloc, tree, out, self.temps())?;
+        put(out, Token::EndObject)
+    }
+}
+
+// The member with temporaries. The one error is a refused request for memory.
+fn put_temps(
+    alloc: Global,
+    tree: &Tree,
+    out: &mut Writer,
+    rows: &[(Shared<Text>, Value)],
+) -> Result<(), AllocError>
+    ensures { OnOk result (Added out.old out.new (tokens.key (codes "temps") ∷ data_tokens (object (temps_members rows.now)))) }
+{
+    put(out, Token::Key("temps"))?;
+    put(out, Token::BeginObject)?;
+    for row in rows {
+        put_member(alloc, tree, out, row.0.as_str(), &row.1)?;
+    }
+    put(out, Token::EndObject)
 }
 
 // Temporaries, which rise by name. The one error is a refused request for memory.
@@ -58,7 +90,7 @@ fn put_rows(
     let mut members = Map::new(alloc);
     for row in rows {
         let value = row.1.write(alloc, tree)?;
-        put(&mut members, alloc, row.0.as_str(), value)?;
+        put_entry(&mut members, alloc, row.0.as_str(), value)?;
     }
     Ok(members)
 }
@@ -71,6 +103,27 @@ impl Written for Thread<Spot> {
         let previous = self.previous().write(alloc, tree)?;
         json!(in alloc; {"frames": frames, "previous": previous})
     }
+
+    fn put(&self, alloc: Global, tree: &Tree, out: &mut Writer) -> Result<(), AllocError> {
+        put(out, Token::BeginObject)?;
+        put_frames(alloc, tree, out, self)?;
+        put_member(alloc, tree, out, "previous", &self.previous())?;
+        put(out, Token::EndObject)
+    }
+}
+
+// The member with the frames of a thread, the bottom one first. The one error is a refused request for memory.
+fn put_frames(
+    alloc: Global,
+    tree: &Tree,
+    out: &mut Writer,
+    thread: &Thread<Spot>,
+) -> Result<(), AllocError>
+    ensures { let p = place_of (story_tree tree.now) in
+        OnOk result (Added out.old out.new (tokens.key (codes "frames") ∷ data_tokens (list_data frame_data (reverse (map_frame p thread.now.frame ∷ map (map_frame p) thread.now.below))))) }
+{
+    put(out, Token::Key("frames"))?;
+    put_pile(alloc, tree, out, thread.below(), thread.top())
 }
 
 // The frames of a thread, the bottom one first. The one error is a refused request for memory.
@@ -90,4 +143,17 @@ pub(crate) fn write_threads(
     ensures { IfOk result (λ json. view json ≡ threads_data (map_threads (place_of (story_tree tree.now)) threads.now.threads)) }
 {
     write_pile(alloc, tree, threads.below(), threads.top())
+}
+
+/// The member with threads, the bottom one first. The one error is a refused request for memory.
+pub(crate) fn put_threads(
+    alloc: Global,
+    tree: &Tree,
+    out: &mut Writer,
+    threads: &Threads<Spot>,
+) -> Result<(), AllocError>
+    ensures { OnOk result (Added out.old out.new (tokens.key (codes "threads") ∷ data_tokens (threads_data (map_threads (place_of (story_tree tree.now)) threads.now.threads)))) }
+{
+    put(out, Token::Key("threads"))?;
+    put_pile(alloc, tree, out, threads.below(), threads.top())
 }

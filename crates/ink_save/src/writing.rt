@@ -1,30 +1,20 @@
-//! Plain things as JSON values.
+//! Plain things as JSON values, and as their text.
 
-ghost use Rattle.std.specs.Prelude.{◌≡◌, IfOk, option_map};
+ghost use Rattle.std.specs.Prelude.{◌≡◌, IfOk};
 ghost use Rattle.serde_json.specs.Data.{string};
 ghost use Rattle.serde_json.specs.View.{view};
 ghost use Rattle.ink_model.specs.ValueJson.{value_data};
-ghost use Rattle.ink_model.specs.Save.Spelling.{kind_data, part_data, place_data, place_or_null};
-ghost use Rattle.ink_tree.specs.Nodes.{place_of};
+ghost use Rattle.ink_model.specs.Save.Spelling.{kind_data};
 ghost use Rattle.ink_model.specs.declared.value.Value.TheVariants.{Target};
 
-use crate::written::{Written, write_list};
-use ink_model::{FrameKind, Part, Path, Shared, Text, Value};
+use crate::written::Written;
+use ink_model::{FrameKind, Path, Shared, Text, Value};
 use ink_path::print_path;
-use ink_tree::{Spot, Tree};
+use ink_tokens::{put, write_value};
+use ink_tree::Tree;
+use json::{Token, Writer};
 use serde_json::{Number, Value as Json, json};
 use std::alloc::{AllocError, Global};
-
-impl Written for Part {
-    ghost spelling = { λ s part. part_data part };
-
-    fn write(&self, alloc: Global, _tree: &Tree) -> Result<Json, AllocError> {
-        match self {
-            Part::Index(index) => Ok(Json::Number(Number::from(*index))),
-            Part::Name(name) => write_text(alloc, name.as_str()),
-        }
-    }
-}
 
 /// A text. The one error is a refused request for memory.
 pub(crate) fn write_text(alloc: Global, text: &str) -> Result<Json, AllocError>
@@ -39,25 +29,9 @@ impl Written for Shared<Text> {
     fn write(&self, alloc: Global, _tree: &Tree) -> Result<Json, AllocError> {
         write_text(alloc, self.as_str())
     }
-}
 
-impl Written for Spot {
-    ghost spelling = { λ s spot. place_data (place_of s spot) };
-
-    fn write(&self, alloc: Global, tree: &Tree) -> Result<Json, AllocError> {
-        let place = tree.place(*self)?;
-        write_list(alloc, tree, place.parts())
-    }
-}
-
-impl Written for Option<Spot> {
-    ghost spelling = { λ s spot. place_or_null (option_map (place_of s) spot) };
-
-    fn write(&self, alloc: Global, tree: &Tree) -> Result<Json, AllocError> {
-        match self {
-            Some(spot) => spot.write(alloc, tree),
-            None => Ok(Json::Null),
-        }
+    fn put(&self, _alloc: Global, _tree: &Tree, out: &mut Writer) -> Result<(), AllocError> {
+        put(out, Token::String(self.as_str()))
     }
 }
 
@@ -65,11 +39,22 @@ impl Written for FrameKind {
     ghost spelling = { λ s kind. kind_data kind };
 
     fn write(&self, alloc: Global, _tree: &Tree) -> Result<Json, AllocError> {
-        match self {
-            FrameKind::Base => write_text(alloc, "base"),
-            FrameKind::Function => write_text(alloc, "function"),
-            FrameKind::Tunnel => write_text(alloc, "tunnel"),
-        }
+        write_text(alloc, word_of(*self))
+    }
+
+    fn put(&self, _alloc: Global, _tree: &Tree, out: &mut Writer) -> Result<(), AllocError> {
+        put(out, Token::String(word_of(*self)))
+    }
+}
+
+// The word for what a frame was pushed for.
+fn word_of(kind: FrameKind) -> &'static str
+    ensures { string result.now ≡ kind_data kind }
+{
+    match kind {
+        FrameKind::Base => "base",
+        FrameKind::Function => "function",
+        FrameKind::Tunnel => "tunnel",
     }
 }
 
@@ -86,6 +71,10 @@ impl Written for Value {
             Value::Void => Ok(Json::Null),
             Value::Tag(text) => json!(in alloc; {"tag": text.as_str()}),
         }
+    }
+
+    fn put(&self, alloc: Global, _tree: &Tree, out: &mut Writer) -> Result<(), AllocError> {
+        write_value(alloc, out, self)
     }
 }
 

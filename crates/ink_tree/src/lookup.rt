@@ -97,8 +97,8 @@ impl Tree {
         }
     }
 
-    /// The part that leads to a node from the content around it, and that content; none for the root.
-    pub(crate) fn above(&self, node: NodeId) -> Option<(Key<'_>, NodeId)>
+    /// The part that leads to a node from the content around it, and that content; none for the root. Takes no memory.
+    pub fn above(&self, node: NodeId) -> Option<(Key<'_>, NodeId)>
         ensures { IsAbove (story_tree self.now) (node_place (story_tree self.now) node) result }
     {
         let kept = self.kept(node);

@@ -2,15 +2,16 @@
 //! reads and checks it; `marks COUNT ROUNDS` writes so many marks and shows them, so many times, and `asked` asks after each
 //! mark whether the line ends; `strings` and `tags` open, write and close so many; `functions COUNT LINES` begins, writes and
 //! ends so many on each of so many lines. Of a story and a save, a line of standard input each, `save ROUNDS` makes the text of
-//! what is saved so many times, and `load` what is loaded from the text; `print` and `parse` make the text of the save's JSON
-//! value, and the value from the text. It exits with 0 where the work was done.
+//! what is saved so many times, `value` its JSON value, and `load` what is loaded from the text; `print` and `parse` make the text
+//! of the save's JSON value, and the value from the text. It exits with 0 where the work was done.
 #![tactic(auto)]
 
 use ink_check::{Story, check};
 use ink_json::read_story;
 use ink_model::{Fault, Shared, Text, Value};
 use ink_out::Output;
-use ink_save::{read, write};
+use ink_save::{read, write, write_text};
+use ink_step::Machine;
 use serde_json::Value as Json;
 use std::alloc::{AllocError, Global};
 use std::io::Read;
@@ -33,6 +34,7 @@ fn main(rt: HostRuntime) -> ExitCode {
         "tags" => repeats(alloc, &words, Work::Tags),
         "functions" => writes_functions(alloc, number(&words, 2), number(&words, 3)).is_ok(),
         "save" => repeats_saves(alloc, &mut reader, Deed::Save, number(&words, 2)),
+        "value" => repeats_saves(alloc, &mut reader, Deed::Value, number(&words, 2)),
         "load" => repeats_saves(alloc, &mut reader, Deed::Load, number(&words, 2)),
         "print" => repeats_saves(alloc, &mut reader, Deed::Print, number(&words, 2)),
         "parse" => repeats_saves(alloc, &mut reader, Deed::Parse, number(&words, 2)),
@@ -191,6 +193,7 @@ fn shared(alloc: Global, text: &str) -> Result<Shared<Text>, AllocError> {
 #[derive(Clone, Copy)]
 enum Deed {
     Save,
+    Value,
     Load,
     Print,
     Parse,
@@ -217,29 +220,50 @@ fn repeats_saves<R: Read>(alloc: Global, reader: &mut R, deed: Deed, rounds: u32
 fn repeats_deed(alloc: Global, story: &Story, save: &str, deed: Deed, rounds: u32) -> bool {
     match deed {
         Deed::Save => saves(alloc, story, save, rounds),
+        Deed::Value => saves_values(alloc, story, save, rounds),
         Deed::Load => loads(alloc, story, save, rounds),
         Deed::Print => prints(alloc, save, rounds),
         Deed::Parse => parses_often(alloc, save, rounds),
     }
 }
 
-/// Makes a machine's save, and its text.
+/// Makes the text of a machine's save.
 fn saves(alloc: Global, story: &Story, save: &str, rounds: u32) -> bool {
-    let Ok(json) = Json::from_str(alloc, save) else {
-        return false;
-    };
-    let Ok(machine) = read(alloc, story, &json) else {
+    let Some(machine) = machine_of(alloc, story, save) else {
         return false;
     };
     for _round in 0..rounds {
-        let Ok(json) = write(alloc, story, &machine) else {
-            return false;
-        };
-        if !is_printed(alloc, &json) {
-            return false;
+        match write_text(alloc, story, &machine) {
+            Ok(text) if text.as_str() == save => {}
+            _ => return false,
         }
     }
     true
+}
+
+/// Makes a machine's save as a JSON value.
+fn saves_values(alloc: Global, story: &Story, save: &str, rounds: u32) -> bool {
+    let Some(machine) = machine_of(alloc, story, save) else {
+        return false;
+    };
+    for _round in 0..rounds {
+        match write(alloc, story, &machine) {
+            Ok(Json::Object(members)) if !members.is_empty() => {}
+            _ => return false,
+        }
+    }
+    true
+}
+
+/// The machine that a save's text spells.
+fn machine_of(alloc: Global, story: &Story, save: &str) -> Option<Machine> {
+    let Ok(json) = Json::from_str(alloc, save) else {
+        return None;
+    };
+    match read(alloc, story, &json) {
+        Ok(machine) => Some(machine),
+        Err(_) => None,
+    }
 }
 
 /// Makes a JSON value of a text, and a machine of that.

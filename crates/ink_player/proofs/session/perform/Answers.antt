@@ -1,4 +1,5 @@
 use Rattle.std.proofs.Common.{◌∙◌, [], None, Some, ap, inl, inr, refl}
+use Rattle.serde_json.specs.Data.{null}
 use Rattle.ink_player.specs.Words.{desk_of}
 use Rattle.ink_protocol.specs.declared.command.LineCommand.TheVariants as line
 use Rattle.ink_player.proofs.Sessions.{command_acts, command_does}
@@ -17,6 +18,8 @@ pub returns-in-Some-Through-clause-does : goal.returns-in-Some-Through-clause-do
 returns-in-Some-Through-clause-does g c =
     let does = c.through.ensures.does in (
       does.0,
+      null,
+      tt,
       command_acts _ _ does.0 _ _ _ c.args.command (Some line.Through) (c.in-Some-Through.is ∙ ap (λ k. Some k) c.in-Some-Through.field-0-is) does.1,
       dealt-once g.F.TurnFn.log g.O.Watcher.state _ (desk_of c.args.player.now) (desk_of c.through.new.self) does.0 does.2,
     )
@@ -25,13 +28,27 @@ pub returns-in-Some-Restart-clause-does : goal.returns-in-Some-Restart-clause-do
 returns-in-Some-Restart-clause-does g c =
     let does = c.restart.ensures.does in (
       does.0,
+      null,
+      tt,
       command_acts _ _ does.0 _ _ _ c.args.command (Some line.Restart) (c.in-Some-Restart.is ∙ ap (λ k. Some k) c.in-Some-Restart.field-0-is) does.1,
       dealt-once g.F.TurnFn.log g.O.Watcher.state _ (desk_of c.args.player.now) (desk_of c.restart.new.self) does.0 does.2,
+    )
+
+pub returns-in-Some-Set-clause-does : goal.returns-in-Some-Set-clause-does
+returns-in-Some-Set-clause-does g c =
+    let does = c.set.ensures.does in (
+      does.0,
+      null,
+      tt,
+      command_acts _ _ does.0 _ _ _ c.args.command (Some (line.Set c.in-Some-Set.name c.in-Some-Set.value)) (c.in-Some-Set.is ∙ ap (λ k. Some k) c.in-Some-Set.field-0-is) does.1,
+      does.2,
     )
 
 pub returns-in-Some-Get-clause-does : goal.returns-in-Some-Get-clause-does
 returns-in-Some-Get-clause-does g c = (
   [],
+  null,
+  tt,
   command_does _ _ _ _ _ c.args.command (Some (line.Get c.in-Some-Get.name)) (c.in-Some-Get.is ∙ ap (λ k. Some k) c.in-Some-Get.field-0-is) (inl (refl, c.get.ensures)),
   dealt-none g.F.TurnFn.log g.O.Watcher.state (desk_of c.args.player.now),
 )
@@ -39,6 +56,8 @@ returns-in-Some-Get-clause-does g c = (
 pub returns-in-Some-Visits-clause-does : goal.returns-in-Some-Visits-clause-does
 returns-in-Some-Visits-clause-does g c = (
   [],
+  null,
+  tt,
   command_does _ _ _ _ _ c.args.command (Some (line.Visits c.in-Some-Visits.path)) (c.in-Some-Visits.is ∙ ap (λ k. Some k) c.in-Some-Visits.field-0-is) (elim c.visits.ensures [ inl p ↦ inl (refl, p) | inr p ↦ inr p ]),
   dealt-none g.F.TurnFn.log g.O.Watcher.state (desk_of c.args.player.now),
 )
@@ -46,6 +65,8 @@ returns-in-Some-Visits-clause-does g c = (
 pub returns-in-Some-Choose-clause-does : goal.returns-in-Some-Choose-clause-does
 returns-in-Some-Choose-clause-does g c = (
   [],
+  null,
+  tt,
   command_does _ _ _ _ _ c.args.command (Some (line.Choose c.in-Some-Choose.number)) (c.in-Some-Choose.is ∙ ap (λ k. Some k) c.in-Some-Choose.field-0-is) (inl (refl, c.choose.ensures.does)),
   dealt-kept g.F.TurnFn.log g.O.Watcher.state (desk_of c.args.player.now) (desk_of c.choose.new.self) c.choose.ensures.desk,
 )
@@ -53,24 +74,31 @@ returns-in-Some-Choose-clause-does g c = (
 pub returns-in-Some-Jump-clause-does : goal.returns-in-Some-Jump-clause-does
 returns-in-Some-Jump-clause-does g c = (
   [],
+  null,
+  tt,
   command_does _ _ _ _ _ c.args.command (Some (line.Jump c.in-Some-Jump.path)) (c.in-Some-Jump.is ∙ ap (λ k. Some k) c.in-Some-Jump.field-0-is) (elim c.jump.ensures.does [ inl p ↦ inl (refl, p) | inr p ↦ inr p ]),
   dealt-kept g.F.TurnFn.log g.O.Watcher.state (desk_of c.args.player.now) (desk_of c.jump.new.self) c.jump.ensures.desk,
 )
 
 pub returns-in-Some-Save-clause-does : goal.returns-in-Some-Save-clause-does
-returns-in-Some-Save-clause-does g c = (
-  [],
-  command_does _ _ _ _ _ c.args.command (Some line.Save) (c.in-Some-Save.is ∙ ap (λ k. Some k) c.in-Some-Save.field-0-is) (inl (refl, c.save.ensures)),
-  dealt-none g.F.TurnFn.log g.O.Watcher.state (desk_of c.args.player.now),
-)
+returns-in-Some-Save-clause-does g c =
+    let does = c.save_text.ensures.does in (
+      [],
+      does.0,
+      does.1,
+      command_does _ _ _ _ _ c.args.command (Some line.Save) (c.in-Some-Save.is ∙ ap (λ k. Some k) c.in-Some-Save.field-0-is) (inl (refl, does.2)),
+      dealt-none g.F.TurnFn.log g.O.Watcher.state (desk_of c.args.player.now),
+    )
 
 pub returns-in-Some-Load-clause-does : goal.returns-in-Some-Load-clause-does
 returns-in-Some-Load-clause-does g c =
     let does = c.load.ensures.does in (
       does.0,
+      null,
+      tt,
       command_acts _ _ does.0 _ _ _ c.args.command (Some (line.Load c.in-Some-Load.saved)) (c.in-Some-Load.is ∙ ap (λ k. Some k) c.in-Some-Load.field-0-is) does.1,
       does.2,
     )
 
 pub returns-in-None-clause-does : goal.returns-in-None-clause-does
-returns-in-None-clause-does g c = ([], command_does _ _ _ _ _ c.args.command None c.in-None.is (inl (refl, (refl, refl))), dealt-none g.F.TurnFn.log g.O.Watcher.state (desk_of c.args.player.now))
+returns-in-None-clause-does g c = ([], null, tt, command_does _ _ _ _ _ c.args.command None c.in-None.is (inl (refl, (refl, refl))), dealt-none g.F.TurnFn.log g.O.Watcher.state (desk_of c.args.player.now))

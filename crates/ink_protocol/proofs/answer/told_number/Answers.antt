@@ -9,15 +9,15 @@ use Rattle.ink_protocol.proofs.Answering.{number_answer, visits_answer}
 use Rattle.ink_protocol.proofs.answer.told_number.Goals as goal
 
 pub returns-in-Value-Ok-Int : goal.returns-in-Value-Ok-Int
-returns-in-Value-Ok-Int c =
+returns-in-Value-Ok-Int c saved =
     let n = c.in-Value-Ok-Int.number in
     let range : FitsSigned w32 n = search rules in
-    let reply : reply_by c.args.outcome.now ≡ Shows (value.Int n) = search rules in
+    let reply : reply_by saved c.args.outcome.now ≡ Shows (value.Int n) = search rules in
     ap answer reply ∙ number_answer n ∙ ap (λ (z : ℤ). codes "{\"value\":" ++ (signed_decimal z ++ codes "}\n")) (sym (to_z-of_z w32 n range))
 
 pub returns-in-Visits-Ok : goal.returns-in-Visits-Ok
-returns-in-Visits-Ok c =
+returns-in-Visits-Ok c saved =
     let n = c.in-Visits-Ok.visits in
     let range : FitsSigned w32 n = search rules in
-    let reply : reply_by c.args.outcome.now ≡ Counts n = search rules in
+    let reply : reply_by saved c.args.outcome.now ≡ Counts n = search rules in
     ap answer reply ∙ visits_answer n ∙ ap (λ (z : ℤ). codes "{\"visits\":" ++ (signed_decimal z ++ codes "}\n")) (sym (to_z-of_z w32 n range))

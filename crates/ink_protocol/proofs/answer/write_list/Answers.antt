@@ -1,4 +1,4 @@
-use Rattle.ink_protocol.proofs.Answering.{list_ends}
+use Rattle.ink_tokens.proofs.Adding.{list_ends}
 use Rattle.ink_protocol.proofs.answer.write_list.Goals as goal
 
 pub returns : goal.returns

@@ -1,6 +1,6 @@
 use Rattle.std.proofs.Common.{take}
-use Rattle.ink_protocol.specs.Answers.{Added}
-use Rattle.ink_protocol.proofs.Answering.{list_front}
+use Rattle.ink_tokens.specs.Tokens.{Added}
+use Rattle.ink_tokens.proofs.Adding.{list_front}
 use Rattle.ink_protocol.proofs.answer.write_list.Given as goal
 
 abbrev pub invariant-loop-item : goal.invariant-loop-item

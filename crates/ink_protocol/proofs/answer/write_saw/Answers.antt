@@ -1,4 +1,4 @@
-use Rattle.ink_protocol.proofs.Answering.{finally}
+use Rattle.ink_tokens.proofs.Adding.{finally}
 use Rattle.ink_protocol.proofs.answer.write_saw.Goals as goal
 
 pub returns : goal.returns

@@ -4,8 +4,8 @@ use Rattle.std.specs.Prelude.{FitsSigned}
 use Rattle.std.specs.Fmt.{signed_decimal}
 use Rattle.json.specs.Token as token
 use Rattle.json.specs.Written.{Writes}
-use Rattle.ink_protocol.proofs.Answering.{added_integer}
-use Rattle.ink_protocol.proofs.answer.put_integer.Goals as goal
+use Rattle.ink_tokens.proofs.Adding.{added_integer}
+use Rattle.ink_tokens.proofs.tokens.put_integer.Goals as goal
 
 pub returns : goal.returns
 returns c =
