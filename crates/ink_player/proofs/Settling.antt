@@ -1,15 +1,17 @@
 -- What was said, and how flow stands once it was taken, are the passage of the stop; and so a run that says something comes to a
 -- passage.
-use Rattle.std.proofs.Common.{◌≡◌, ◌≢◌, ◌∙◌, ap, refl, subst, inl, inr, List, [], ◌∷◌, map, Bool, true, false, not, ◌&&◌, ◌||◌, if◌then◌else◌, Result, Ok, Err}
-use Rattle.ink_look.specs.Ends.{EndsWith, RunsThrough}
+use Rattle.std.proofs.Common.{◌≡◌, ◌≢◌, ◌∙◌, ap, refl, subst, sym, inl, inr, List, [], ◌∷◌, map, Bool, true, false, not, ◌&&◌, ◌||◌, if◌then◌else◌, Result, Ok, Err}
+use Rattle.ink_look.specs.Ends.{EndsWith}
+use Rattle.ink_look.specs.LineEnds.{RunsLine, handed}
 use Rattle.ink_look.specs.Words.{said, said_asks}
+use Rattle.ink_look.specs.declared.lines.LineEnd.{LineEnd}
 use Rattle.ink_look.specs.declared.said.Said.{Said}
 use Rattle.ink_model.specs.Choices.{has_any, shown, shown_choice, visible}
 use Rattle.ink_model.specs.Configuration.{ChoiceOf, Configuration, can_go_on, settled, unnumbered_choice}
 use Rattle.ink_model.specs.Host.{Bound}
 use Rattle.ink_model.specs.Mark.{tags}
 use Rattle.ink_model.specs.Passage.{has_none, is_loose, passage, passage_asks}
-use Rattle.ink_model.specs.Run.{Broke, EndsThrough, Kept, Made, RunEnd}
+use Rattle.ink_model.specs.Run.{Broke, Kept, Made, RunEnd}
 use Rattle.ink_model.specs.Shown.{shows_more}
 use Rattle.ink_model.specs.Tree.{StoryTree}
 use Rattle.ink_model.specs.Turns.{open_choices}
@@ -19,7 +21,10 @@ use Rattle.ink_model.specs.declared.host.Event.{Event}
 use Rattle.ink_model.specs.declared.passage.Passage.{Passage}
 use Rattle.ink_model.specs.declared.passage.Shown.{Shown}
 use Rattle.ink_model.specs.declared.place.Part.{Part}
+use Rattle.ink_player.specs.Extents.{EndsBy, RunsBy}
 use Rattle.ink_player.specs.Passages.{passage_of}
+use Rattle.ink_player.specs.declared.passages.Extent.{Extent}
+use Rattle.ink_player.specs.declared.passages.Extent.TheVariants as extent
 
 -- ---- numbers of Enters show nowhere
 
@@ -99,22 +104,22 @@ asks_choices c some = last_one (shows_more c.page.line) (has_any (tags c.page.li
 
 -- ---- runs
 
-module _ (s : StoryTree) (b : Bound) (old : Configuration) (made : List Made) (new : Configuration) where
+module _ (x : Extent) (s : StoryTree) (b : Bound) (old : Configuration) (made : List Made) (new : Configuration) where
   -- it says this
   abbrev Says : Result Said Fault → Type 0
-  Says result = RunsThrough said said_asks s b old made new result
+  Says result = RunsBy said said_asks x s b old made new result
 
   -- it comes to this passage
   abbrev Passes : Result Passage Fault → Type 0
-  Passes result = RunsThrough passage passage_asks s b old made new result
+  Passes result = RunsBy passage passage_asks x s b old made new result
 
   abbrev Ends : Result Passage Fault → Type 0
-  Ends result = (end : RunEnd) × EndsThrough s b old made end × EndsWith passage passage_asks end new result
+  Ends result = (end : RunEnd) × EndsBy x s b old made end × EndsWith passage passage_asks end new result
 
   pub passes : (w : Said) (p : Passage) → Says (Ok w) → p ≡ passage_of w new → Passes (Ok p)
   passes w p (inl ran) is = inl (by ran.0 ran.1 ran.2)
     where
-      by : (end : RunEnd) → EndsThrough s b old made end → EndsWith said said_asks end new (Ok w) → Ends (Ok p)
+      by : (end : RunEnd) → EndsBy x s b old made end → EndsWith said said_asks end new (Ok w) → Ends (Ok p)
       by (Kept stop) ends left = (Kept stop, ends, (is ∙ ap (λ v. passage_of v new) left.0 ∙ ap (passage_of (said stop)) left.1 ∙ passage_settled stop, left.1))
       by (Broke f globals) ends left = absurd (let never = left.0 in cc)
   passes w p (inr short) is = absurd (let never = short.0 in cc)
@@ -123,7 +128,7 @@ module _ (s : StoryTree) (b : Bound) (old : Configuration) (made : List Made) (n
   pub passes_short : (w : Said) → Says (Ok w) → open_choices new ≢ [] → Passes (Err OutOfMemory)
   passes_short w (inl ran) some = inl (by ran.0 ran.1 ran.2)
     where
-      by : (end : RunEnd) → EndsThrough s b old made end → EndsWith said said_asks end new (Ok w) → Ends (Err OutOfMemory)
+      by : (end : RunEnd) → EndsBy x s b old made end → EndsWith said said_asks end new (Ok w) → Ends (Err OutOfMemory)
       by (Kept stop) ends left = (
         Kept stop,
         ends,
@@ -135,7 +140,16 @@ module _ (s : StoryTree) (b : Bound) (old : Configuration) (made : List Made) (n
   pub passes_fault : (f : Fault) → Says (Err f) → Passes (Err f)
   passes_fault f (inl ran) = inl (by ran.0 ran.1 ran.2)
     where
-      by : (end : RunEnd) → EndsThrough s b old made end → EndsWith said said_asks end new (Err f) → Ends (Err f)
+      by : (end : RunEnd) → EndsBy x s b old made end → EndsWith said said_asks end new (Err f) → Ends (Err f)
       by (Kept stop) ends left = (Kept stop, ends, (left.0, asks_said stop left.1, left.2))
       by (Broke g globals) ends left = (Broke g globals, ends, (ap Err (same_fault f g left.0), left.1))
   passes_fault f (inr short) = inr (ap Err (same_fault f OutOfMemory short.0), short.1)
+
+-- what a line says, by how it ended
+pub line_says : (s : StoryTree) (b : Bound) (old : Configuration) (made : List Made) (new : Configuration) (end : LineEnd) (result : Result Said Fault) → result ≡ handed end
+    → RunsLine said said_asks s b old made new end → RunsBy said said_asks extent.Line s b old made new result
+line_says s b old made new end result is ran = subst (RunsBy said said_asks extent.Line s b old made new) (sym is) (by ran)
+  where
+    by : RunsLine said said_asks s b old made new end → RunsBy said said_asks extent.Line s b old made new (handed end)
+    by (inl ran) = inl (ran.0, ran.1, ran.3)
+    by (inr short) = inr (ap handed short.0, short.1)

@@ -26,8 +26,11 @@ use Rattle.ink_sound.proofs.Sessions.{does_fit}
 use Rattle.ink_step.specs.Steps.{Chooses}
 use Rattle.ink_step.specs.Words.{config_of}
 use Rattle.ink_step.specs.declared.machine.Machine.{Machine}
+use Rattle.ink_player.specs.Extents.{EndsBy, GoesOn}
+use Rattle.ink_player.specs.declared.passages.Extent.{Extent}
+use Rattle.ink_player.specs.declared.passages.Extent.TheVariants as extent
 use Rattle.ink_player.specs.Words.{Stands, condition_by, fault_told, is_empty}
-use Rattle.ink_player.proofs.Tellings.{at_stamp, nobody-told, sets, through-where}
+use Rattle.ink_player.proofs.Tellings.{at_stamp, goes-where, nobody-told, sets}
 
 -- names bound as they are, and nobody watches
 abbrev unwatched : Bound → Bindings
@@ -44,6 +47,15 @@ choice_taken s None c d (Ok u) h = absurd h
 choice_taken s None c d (Err r) h = (ap Refuses h.0, ap (λ x. at_stamp (Ready x) 0) h.1)
 choice_taken s (Some choice) c d (Ok u) h = inl (refl, ap (λ x. at_stamp (Ready x) 0) h)
 choice_taken s (Some choice) c d (Err r) h = inr (h.1, (ap Refuses h.0, ap (λ x. at_stamp (Ready x) 0) h.2))
+
+-- what goes so far, as a command
+going : Extent → Command
+going extent.Line = command.Continue
+going extent.Stop = command.Through
+
+does_as : (s : StoryTree) (h : Bindings) (x : Extent) (es : List Event) (old : State) (reply : Reply) (new : State) → GoesOn x s h es old reply new → Does s h es (Some (going x)) old reply new
+does_as s h extent.Line es old reply new goes = goes
+does_as s h extent.Stop es old reply new goes = goes
 
 -- a machine stands in a story as in one that is the same
 pub stands-as : (s t : StoryTree) (m : Machine) → s ≡ t → ConditionFits s (Ready (config_of s m)) → ConditionFits t (Ready (config_of t m))
@@ -94,20 +106,21 @@ module _ (s : StoryTree) (story : StoryFits s) where
         does nothing_bound [] (command.Set name (Some g)) (Acts []) (at_stamp (Ready new) 0)
         (sets (unwatched nothing_bound) name c None 0 g [] (Acts []) (at_stamp (Ready new) 0) (value_given g) refl refl e k (inl done))
 
-    -- a run came to its end with a configuration, and left it settled
-    pub run-stands : (b : Bound) (made : List Made) (stop d : Configuration) → can_go_on c ≡ true → run.EndsThrough s b c made (run.Kept stop) → d ≡ settled stop → ConditionFits s (Ready d)
-    run-stands b made stop d goes ends is =
+    -- it came to its end with a configuration, and left it settled
+    pub run-stands : (x : Extent) (b : Bound) (made : List Made) (end d : Configuration) → can_go_on c ≡ true → EndsBy x s b c made (run.Kept end) → d ≡ settled end → ConditionFits s (Ready d)
+    run-stands x b made end d goes ends is =
         let es = calls 0 made ++ [] in
         let old = at_stamp (Ready c) 0 in
-        let new = left_with (Ready (settled stop)) es old in
-        let cs = told (λ name. false) c.shared.globals stop.shared.globals in
-        let done : TellsDone cs (Ready (settled stop)) (telling stop) (calls 0 made) es old (telling stop es) new = record {
+        let new = left_with (Ready (settled end)) es old in
+        let cs = told (λ name. false) c.shared.globals end.shared.globals in
+        let done : TellsDone cs (Ready (settled end)) (telling end) (calls 0 made) es old (telling end es) new = record {
           all = true;
           saw = [];
-          telling = subst (λ xs. ToldAs (later 0 (calls 0 made)) xs true []) (sym (told_unwatched c.shared.globals stop.shared.globals)) (nobody-told (later 0 (calls 0 made)));
+          telling = subst (λ xs. ToldAs (later 0 (calls 0 made)) xs true []) (sym (told_unwatched c.shared.globals end.shared.globals)) (nobody-told (later 0 (calls 0 made)));
           events = refl;
           replies = refl;
           leaves = refl;
         } in
-        subst (λ x. ConditionFits s (Ready x)) (sym is) (does b es command.Through (telling stop es) new
-        (through-where s (unwatched b) None c 0 es (telling stop es) new true refl goes (made, inl (run.Kept stop, ends, inl done))))
+        subst (λ y. ConditionFits s (Ready y)) (sym is) (does b es (going x) (telling end es) new
+        (does_as s (unwatched b) x es old (telling end es) new
+        (goes-where s (unwatched b) None c 0 x es (telling end es) new true refl goes (made, inl (run.Kept end, ends, inl done)))))

@@ -5,7 +5,7 @@ use Rattle.ink_host.specs.declared.objects.Called.{Called}
 use Rattle.ink_host.specs.Telling.{AreRounds, IsRound, Round, Stand, Watching, log_of, rests, round, rounds}
 use Rattle.ink_host.proofs.Laws.{bound-same, grew-grew, grew-none, watches-same}
 use Rattle.ink_host.proofs.TellingLoops.{stand-round}
-use Rattle.ink_look.specs.Ends.{EndsWith, RunsThrough}
+use Rattle.ink_look.specs.Ends.{EndsWith}
 use Rattle.ink_model.specs.Answer.{Reply, Acts, Breaks, Counts, Refuses, Tells, reply_of_visits}
 use Rattle.ink_model.specs.Configuration.{Configuration, can_go_on, settled, with_globals}
 use Rattle.ink_model.specs.Events.{Made, calls}
@@ -14,7 +14,7 @@ use Rattle.ink_model.specs.Choices.{has_any}
 use Rattle.ink_model.specs.Passage.{passage, passage_asks}
 use Rattle.ink_model.specs.Run as run
 use Rattle.ink_model.specs.Session as rules
-use Rattle.ink_model.specs.Session.{BreaksBy, Keeps, Set, SetsIn, TellsDone, TellsOrKeeps, Through, condition_told, reply_told, settable, telling}
+use Rattle.ink_model.specs.Session.{BreaksBy, Keeps, RunsTo, Set, SetsIn, TellsDone, TellsOrKeeps, condition_told, reply_told, settable, telling}
 use Rattle.ink_model.specs.State.{State, Condition, Ready, Broken, globals_of}
 use Rattle.ink_model.specs.Store.{Values, store, stored}
 use Rattle.ink_model.specs.Told.{ToldAs, change_of, is_other, is_told, told}
@@ -28,8 +28,10 @@ use Rattle.ink_model.specs.declared.host.Event.{Event}
 use Rattle.ink_model.specs.declared.host.Given.{Given}
 use Rattle.ink_model.specs.declared.passage.Passage.{Passage}
 use Rattle.ink_model.specs.declared.value.Value.{Value}
+use Rattle.ink_player.specs.Extents.{EndsBy, FallsShortBy, GoesFrom, GoesOn, RunsBy}
 use Rattle.ink_player.specs.Visits.{FindsVisits, TellsVisits}
 use Rattle.ink_player.specs.Words.{Dealt, DealtOnce, PlayerView, TellsOnce, TellsWatchers, bindings, condition_by, desk_of, fault_told, is_empty, state_of, story_of, told_from}
+use Rattle.ink_player.specs.declared.passages.Extent.{Extent}
 use Rattle.ink_step.specs.declared.machine.Machine.{Machine}
 use Rattle.ink_step.specs.Words.{config_of}
 
@@ -94,17 +96,18 @@ module _ (s : StoryTree) (h : Bindings) (b : Option Fault) (c : Configuration) (
   abbrev start : State
   start = at_stamp (condition_by b c) n
 
-  pub through-broken : (f : Fault) → b ≡ Some f → Through s h [] start (Refuses (refusal.Broken f)) start
-  through-broken f e = subst (λ x. Through s h [] (at_stamp (condition_by x c) n) (Refuses (refusal.Broken f)) (at_stamp (condition_by x c) n)) (sym e) (refl, (refl, refl))
+  pub goes-broken : (x : Extent) (f : Fault) → b ≡ Some f → GoesOn x s h [] start (Refuses (refusal.Broken f)) start
+  goes-broken x f e = subst (λ y. GoesOn x s h [] (at_stamp (condition_by y c) n) (Refuses (refusal.Broken f)) (at_stamp (condition_by y c) n)) (sym e) (refl, (refl, refl))
 
   -- from a player that is not broken
-  module _ (es : List Event) (reply : Reply) (new : State) where
-    abbrev ThroughWhere : Bool → Type 0
-    ThroughWhere goes = MatchBool goes ((made : List Made) × rules.RunsThrough s h c made es start reply new) ((es ≡ []) × Keeps (Refuses refusal.CannotContinue) start reply new)
+  module _ (x : Extent) (es : List Event) (reply : Reply) (new : State) where
+    abbrev GoesWhere : Bool → Type 0
+    GoesWhere goes = MatchBool goes ((made : List Made) × RunsTo (EndsBy x s h.functions c made) (FallsShortBy x s h.functions c made) h c made es start reply new)
+        ((es ≡ []) × Keeps (Refuses refusal.CannotContinue) start reply new)
 
     -- by whether flow can go on
-    pub through-where : (goes : Bool) → b ≡ None → can_go_on c ≡ goes → ThroughWhere goes → Through s h es start reply new
-    through-where goes free e p = subst (λ x. rules.ThroughFrom s h es (condition_by x c) start reply new) (sym free) (subst (λ x. ThroughWhere x) (sym e) p)
+    pub goes-where : (goes : Bool) → b ≡ None → can_go_on c ≡ goes → GoesWhere goes → GoesOn x s h es start reply new
+    goes-where goes free e p = subst (λ y. GoesFrom x s h es (condition_by y c) start reply new) (sym free) (subst (λ y. GoesWhere y) (sym e) p)
 
 any_of : {A : Type 0} (xs : List A) → xs ≢ [] → has_any xs ≡ true
 any_of [] h = absurd (h refl)
@@ -250,7 +253,7 @@ module _ {P F O : Type 0} (turn_log : F → List Called) (state : O → Watching
 
   -- ---- a running command: it left this machine, and a desk whose turn functions were called
 
-  module _ (meaning : P → List Value → Option Given) (p : PlayerView P F O) (m : Machine) (d1 : DeskView P F O) (made : List Made)
+  module _ (x : Extent) (meaning : P → List Value → Option Given) (p : PlayerView P F O) (m : Machine) (d1 : DeskView P F O) (made : List Made)
       (free : p.broken ≡ None) (none : (desk_of p).events ≡ []) (goes : can_go_on (config_of (story_of p) p.machine) ≡ true)
       (called : Grew turn_log (log_of state) (desk_of p) (calls (desk_of p).next made) d1) (watching : d1.watchers ≡ (desk_of p).watchers) where
     abbrev tree : StoryTree
@@ -268,34 +271,37 @@ module _ {P F O : Type 0} (turn_log : F → List Called) (state : O → Watching
     abbrev first : List Event
     first = calls (desk_of p).next made
 
-    abbrev ComesThrough : Reply → State → DeskView P F O → Type 0
-    ComesThrough reply new d = (es : List Event) × Through tree host es (state_of p) reply new
+    abbrev Comes : Reply → State → DeskView P F O → Type 0
+    Comes reply new d = (es : List Event) × GoesOn x tree host es (state_of p) reply new
         × DealtOnce turn_log state (told_from (desk_of p) (state_of p) (globals_of new.condition)) (desk_of p) es d
 
     abbrev Ran : Result Passage Fault → Type 0
-    Ran result = RunsThrough passage passage_asks tree host.functions before made after result
+    Ran result = RunsBy passage passage_asks x tree host.functions before made after result
+
+    abbrev Runs : List Event → Reply → State → Type 0
+    Runs es reply new = RunsTo (EndsBy x tree host.functions before made) (FallsShortBy x tree host.functions before made) host before made es (state_of p) reply new
 
     -- its run came to its end with a configuration, which it hands out and leaves
     abbrev Stops : Passage → Type 0
-    Stops passed = (stop : Configuration) × run.EndsThrough tree host.functions before made (run.Kept stop) × (passed ≡ passage stop) × (after ≡ settled stop)
+    Stops passed = (stop : Configuration) × EndsBy x tree host.functions before made (run.Kept stop) × (passed ≡ passage stop) × (after ≡ settled stop)
 
     pub stops : (passed : Passage) → Ran (Ok passed) → Stops passed
     stops passed (inl ran) = by ran.0 ran.1 ran.2
       where
-        by : (end : run.RunEnd) → run.EndsThrough tree host.functions before made end → EndsWith passage passage_asks end after (Ok passed) → Stops passed
+        by : (end : run.RunEnd) → EndsBy x tree host.functions before made end → EndsWith passage passage_asks end after (Ok passed) → Stops passed
         by (run.Kept stop) ends left = (stop, ends, left.0, left.1)
         by (run.Broke f globals) ends left = absurd (let never = left.0 in cc)
     stops passed (inr short) = absurd (let never = short.0 in cc)
 
     -- and watchers were told
-    pub through-told : (passed : Passage) (all : Bool) (d2 d : DeskView P F O) (reply : Reply) (new : State)
+    pub goes-told : (passed : Passage) (all : Bool) (d2 d : DeskView P F O) (reply : Reply) (new : State)
         → Ran (Ok passed)
         → (let cs = told (watches d1.watchers) before.shared.globals after.shared.globals in
         (saw : List Event) × (t : ToldAs d1.next cs all saw) × IsRound state d1.next cs cs t.answers d1.watchers d2.watchers × Grew turn_log (log_of state) d1 saw d2)
         → reply ≡ reply_told all (telling_of passed d2.events) d2.events → new ≡ at_stamp (condition_told all (Ready after)) d2.next → d ≡ record d2 { events = [] }
-        → ComesThrough reply new d
+        → Comes reply new d
     unfolding settled
-    through-told passed all d2 d reply new ran t replies leaves is =
+    goes-told passed all d2 d reply new ran t replies leaves is =
         let stopped = stops passed ran in
         let stop = stopped.0 in
         let es = first ++ t.0 in
@@ -309,7 +315,7 @@ module _ {P F O : Type 0} (turn_log : F → List Called) (state : O → Watching
         ∙ ap (λ g. told host.watches g after.shared.globals) (sym (globals-by p.broken before))
         ∙ ap (λ g. told host.watches (globals_of (state_of p).condition) g) (sym (ap (λ s. globals_of s.condition) leaves ∙ globals-told all after)) in (
           es,
-          through-where tree host p.broken before (desk_of p).next es reply new true free goes (
+          goes-where tree host p.broken before (desk_of p).next x es reply new true free goes (
             made,
             inl (
               run.Kept stop,
@@ -332,13 +338,13 @@ module _ {P F O : Type 0} (turn_log : F → List Called) (state : O → Watching
 
     -- a fault broke the player, and nobody was told
     breaks : (f : Fault) (q : PlayerView P F O) (reply : Reply) → reply ≡ Breaks f d1.events → q ≡ record p { machine = m; broken = Some f; desk = record d1 { events = [] } }
-        → (BreaksBy f after.shared.globals first first (state_of p) reply (state_of q) → rules.RunsThrough tree host before made first (state_of p) reply (state_of q))
-        → ComesThrough reply (state_of q) (desk_of q)
+        → (BreaksBy f after.shared.globals first first (state_of p) reply (state_of q) → Runs first reply (state_of q))
+        → Comes reply (state_of q) (desk_of q)
     breaks f q reply replies is runs =
         let events : d1.events ≡ first = called.events ∙ ap (λ l. l ++ first) none in
         let by = runs (refl, replies ∙ ap (λ l. Breaks f l) events, ap (λ x. state_of x) is ∙ ap (at_stamp (Broken f after.shared.globals)) called.next) in (
           first,
-          through-where tree host p.broken before (desk_of p).next first reply (state_of q) true free goes (made, by),
+          goes-where tree host p.broken before (desk_of p).next x first reply (state_of q) true free goes (made, by),
           (
             grown-to (desk_of p) d1 (desk_of q) first called (ap (λ x. desk_of x) is),
             inl (ap (λ x. states state (desk_of x).watchers) is ∙ ap (states state) watching),
@@ -350,13 +356,13 @@ module _ {P F O : Type 0} (turn_log : F → List Called) (state : O → Watching
       abbrev Breaks_it : Fault → Values → Type 0
       Breaks_it g globals = BreaksBy g globals first first (state_of p) reply new
 
-      runs-broken : Ran (Err f) → Breaks_it f after.shared.globals → rules.RunsThrough tree host before made first (state_of p) reply new
+      runs-broken : Ran (Err f) → Breaks_it f after.shared.globals → Runs first reply new
       runs-broken (inl ran) broke = by ran.0 ran.1 ran.2
         where
           same : (g : Fault) → ◌≡◌ {A = Result Passage Fault} (Err f) (Err g) → f ≡ g
           same g e = cc
 
-          by : (end : run.RunEnd) → run.EndsThrough tree host.functions before made end → EndsWith passage passage_asks end after (Err f) → rules.RunsThrough tree host before made first (state_of p) reply new
+          by : (end : run.RunEnd) → EndsBy x tree host.functions before made end → EndsWith passage passage_asks end after (Err f) → Runs first reply new
           by (run.Kept stop) ends left = inl (
             run.Kept stop,
             ends,
@@ -366,10 +372,10 @@ module _ {P F O : Type 0} (turn_log : F → List Called) (state : O → Watching
       runs-broken (inr short) broke = inr (after.shared.globals, short.1, subst (λ h. Breaks_it h after.shared.globals) (let is = short.0 in cc) broke)
 
     -- there was no memory for telling
-    pub through-untold : (passed : Passage) (q : PlayerView P F O) (d2 : DeskView P F O) (reply : Reply) → Ran (Ok passed) → told host.watches before.shared.globals after.shared.globals ≢ [] → d2 ≡ d1
-        → reply ≡ Breaks OutOfMemory d2.events → q ≡ record p { machine = m; broken = Some OutOfMemory; desk = record d2 { events = [] } } → ComesThrough reply (state_of q) (desk_of q)
+    pub goes-untold : (passed : Passage) (q : PlayerView P F O) (d2 : DeskView P F O) (reply : Reply) → Ran (Ok passed) → told host.watches before.shared.globals after.shared.globals ≢ [] → d2 ≡ d1
+        → reply ≡ Breaks OutOfMemory d2.events → q ≡ record p { machine = m; broken = Some OutOfMemory; desk = record d2 { events = [] } } → Comes reply (state_of q) (desk_of q)
     unfolding settled
-    through-untold passed q d2 reply ran some same replies is =
+    goes-untold passed q d2 reply ran some same replies is =
         let stopped = stops passed ran in
         let kept : after.shared.globals ≡ stopped.0.shared.globals = ap (λ c. c.shared.globals) stopped.3 in
         let asks = or-right (passage_asks stopped.0) _ (subst (λ vs. has_any (told host.watches before.shared.globals vs) ≡ true) kept (any_of _ some)) in
@@ -377,9 +383,9 @@ module _ {P F O : Type 0} (turn_log : F → List Called) (state : O → Watching
         (λ by. inl (run.Kept stopped.0, stopped.1, inr (asks, subst (λ vs. BreaksBy OutOfMemory vs first first (state_of p) reply (state_of q)) kept by)))
 
     -- a fault of the run, or memory was refused to it or for its passage
-    pub through-fault : (f : Fault) (q : PlayerView P F O) (reply : Reply) → Ran (Err f) → reply ≡ Breaks f d1.events → q ≡ record p { machine = m; broken = Some f; desk = record d1 { events = [] } }
-        → ComesThrough reply (state_of q) (desk_of q)
-    through-fault f q reply ran replies is = breaks f q reply replies is (runs-broken f reply (state_of q) ran)
+    pub goes-fault : (f : Fault) (q : PlayerView P F O) (reply : Reply) → Ran (Err f) → reply ≡ Breaks f d1.events → q ≡ record p { machine = m; broken = Some f; desk = record d1 { events = [] } }
+        → Comes reply (state_of q) (desk_of q)
+    goes-fault f q reply ran replies is = breaks f q reply replies is (runs-broken f reply (state_of q) ran)
 
   -- ---- a command that runs nothing
 

@@ -8,7 +8,7 @@ use Rattle.ink_model.specs.Line.{EndsLine}
 use Rattle.ink_model.specs.Memory.{FallsShort, LineFallsShort}
 use Rattle.ink_model.specs.Run.{EndsThrough, Made, RunEnd}
 use Rattle.ink_model.specs.Session.{RunsFrom, RunsTo}
-use Rattle.ink_model.specs.State.{State}
+use Rattle.ink_model.specs.State.{Condition, State}
 use Rattle.ink_model.specs.Store.{Values}
 use Rattle.ink_model.specs.Tree.{StoryTree}
 use Rattle.ink_model.specs.declared.fault.Fault.{Fault}
@@ -19,13 +19,13 @@ use Rattle.ink_player.specs.declared.passages.Extent.TheVariants as extent
 
 -- an end to which it comes
 abbrev pub EndsBy : Extent → StoryTree → Bound → Configuration → List Made → RunEnd → Type 0
-EndsBy extent.Line s b c made end = EndsLine s b c made end
-EndsBy extent.Stop s b c made end = EndsThrough s b c made end
+EndsBy extent.Line = EndsLine
+EndsBy extent.Stop = EndsThrough
 
 -- the globals that it leaves where memory was refused on the way
 abbrev pub FallsShortBy : Extent → StoryTree → Bound → Configuration → List Made → Values → Type 0
-FallsShortBy extent.Line s b c made globals = LineFallsShort s b c made globals
-FallsShortBy extent.Stop s b c made globals = FallsShort s b c made globals
+FallsShortBy extent.Line = LineFallsShort
+FallsShortBy extent.Stop = FallsShort
 
 -- what is handed out of the configuration that is kept, and which of them ask for memory for it
 module _ {A : Type 0} (hands : Configuration → A) (asks : Configuration → Bool) where
@@ -34,7 +34,9 @@ module _ {A : Type 0} (hands : Configuration → A) (asks : Configuration → Bo
   RunsBy x s b old made new result = ((end : RunEnd) × EndsBy x s b old made end × EndsWith hands asks end new result)
       ⊎ ((result ≡ Err OutOfMemory) × FallsShortBy x s b old made new.shared.globals)
 
--- the command that goes so far, with its events
+-- the command that goes so far, with its events: `continue`, or `through`
+abbrev pub GoesFrom : Extent → StoryTree → Bindings → List Event → Condition → State → Reply → State → Type 0
+GoesFrom x s h es k old reply new = RunsFrom (λ c made. RunsTo (EndsBy x s h.functions c made) (FallsShortBy x s h.functions c made) h c made) es k old reply new
+
 abbrev pub GoesOn : Extent → StoryTree → Bindings → List Event → State → Reply → State → Type 0
-GoesOn x s h es old reply new =
-    RunsFrom (λ c made. RunsTo (EndsBy x s h.functions c made) (FallsShortBy x s h.functions c made) h c made) es old.condition old reply new
+GoesOn x s h es old reply new = GoesFrom x s h es old.condition old reply new

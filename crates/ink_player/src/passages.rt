@@ -21,6 +21,7 @@ use ink_step::Machine;
 use std::alloc::{AllocError, Global};
 
 /// How far a running command goes: to the end of a line, or to the stop.
+#[derive(Clone, Copy)]
 pub(crate) enum Extent {
     Line,
     Stop,

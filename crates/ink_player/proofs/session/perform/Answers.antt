@@ -5,6 +5,14 @@ use Rattle.ink_player.proofs.Sessions.{command_acts, command_does}
 use Rattle.ink_player.proofs.Tellings.{dealt-kept, dealt-none, dealt-once}
 use Rattle.ink_player.proofs.session.perform.Goals as goal
 
+pub returns-in-Some-Continue-clause-does : goal.returns-in-Some-Continue-clause-does
+returns-in-Some-Continue-clause-does g c =
+    let does = c.continue_line.ensures.does in (
+      does.0,
+      command_acts _ _ does.0 _ _ _ c.args.command (Some line.Continue) (c.in-Some-Continue.is ∙ ap (λ k. Some k) c.in-Some-Continue.field-0-is) does.1,
+      dealt-once g.F.TurnFn.log g.O.Watcher.state _ (desk_of c.args.player.now) (desk_of c.continue_line.new.self) does.0 does.2,
+    )
+
 pub returns-in-Some-Through-clause-does : goal.returns-in-Some-Through-clause-does
 returns-in-Some-Through-clause-does g c =
     let does = c.through.ensures.does in (
