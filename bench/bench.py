@@ -366,15 +366,13 @@ def of_lines(start, declared=(), silent="", knots=""):
 
 
 def lines(program, _worker):
-    """Lines one at a time, by how much the story has to keep while it looks past a newline."""
-    def row_of(name, size, story, count, before=""):
-        start = story + "\n" + before + "continue\n"
-        took, written = best(program, start + "continue\n" * count)
-        if written.count(b'"more":true') != count + 1:
-            sys.exit("bench: %r" % written[-300:])
-        print("%-34s %9s %9d %12.0f" % (name, size, count, (took - best(program, start)[0]) * 1e6 / count), flush=True)
+    """Lines one at a time, whose answers are read through a pipe, by how much the story has to keep while it looks past a newline."""
+    def row_of(name, size, story, count):
+        line = "continue\n"
+        took = piped(program, story, line * (count + 1)) - piped(program, story, line)
+        print("%-34s %9s %9d %12.0f" % (name, size, count, took * 1e9 / count), flush=True)
 
-    print("%-34s %9s %9s %12s" % ("lines one at a time", "size", "lines", "ns a line"))
+    print("%-34s %9s %9s %12s" % ("lines one at a time", "size", "lines", "ns each, processor"))
     for count in (20000, 80000):
         listed = '{"inkVersion":21,"root":[' + '"^You go on along the road.","\\n",' * (count + 2) + '"done",null]}'
         row_of("  of a list of lines", "", listed, count)
