@@ -3,7 +3,6 @@ pub mod Moments
 pub mod Lines
 pub mod Looks
 pub mod Found
-pub mod Onward
 pub mod Firm
 pub mod Calls
 pub mod Laying

@@ -1,14 +1,12 @@
 -- Looking for a line, forward: at a newline the moment is kept; then the run goes on, until it goes back there or forgets it.
-use Rattle.std.specs.Prelude.{◌≡◌, ℕ, zero, suc, List, [], ◌++◌, length, Bool, true, false, if◌then◌else◌, Option, Some, None}
-use Rattle.ink_model.specs.Configuration.{Configuration}
+use Rattle.std.specs.Prelude.{◌≡◌, ℕ, zero, suc, length, Bool, true, false, if◌then◌else◌, Option, Some, None}
 use Rattle.ink_model.specs.Host.{Bound}
 use Rattle.ink_model.specs.Line.{IsLineOf, NoneBelow, StaysOpen, at_least, calls_in, goes_on, goes_past, newline_in, shows}
 use Rattle.ink_model.specs.Output.{is_line}
 use Rattle.ink_model.specs.Page.{Page}
-use Rattle.ink_model.specs.Run.{Made, Moment, At, Stopped, answers_of, cut_off, next}
+use Rattle.ink_model.specs.Run.{Moment, At, Stopped, cut_off, next}
 use Rattle.ink_model.specs.Shown.{open_newline}
 use Rattle.ink_model.specs.Tree.{StoryTree}
-use Rattle.ink_model.specs.declared.host.Given.{Given}
 
 -- no newline is open; or one is, by its index, and the moment after its step is kept; or the line is known
 pub data Search : Type 0 where
@@ -76,13 +74,3 @@ Knows s b limit m n (Over end) = IsLineOf s b limit m end
 -- The newline of a step between two pages: with the line alone open, the open one, where it stands behind the marks before.
 abbrev pub newline_between : Page → Page → Option ℕ
 newline_between before after = if is_line after.sections then at_least (length before.line) (open_newline after.line) else None
-
--- After n steps from a configuration, in which these calls were made, no newline is open, whatever answers are still to come; it is
--- now at this configuration.
-abbrev pub SeeksAt : StoryTree → Bound → Configuration → ℕ → List Made → Configuration → Type 0
-SeeksAt s b c n made now = (later : List (Option Given)) → search s b n (Seeking (At c (answers_of made ++ later) [])) ≡ Seeking (At now later made)
-
--- or a newline is open, which came with the configuration that is kept
-abbrev pub LooksAt : StoryTree → Bound → Configuration → ℕ → List Made → Configuration → ℕ → Configuration → Type 0
-LooksAt s b c n made kept newline now = (later : List (Option Given))
-    → search s b n (Seeking (At c (answers_of made ++ later) [])) ≡ Looking (At kept later made) newline (At now later made)

@@ -1,9 +1,7 @@
 -- What a line comes to, from the search that is made for it.
-use Rattle.std.proofs.Common.{◌≡◌, ◌∙◌, ◌⊎◌, ap, sym, refl, subst, inl, inr, List, [], Bool, true, false, Some, Result, Ok, Err}
-use Rattle.ink_model.specs.Line.{Line, goes_on, line_end}
-use Rattle.ink_model.specs.Memory.{LineFallsShort}
-use Rattle.ink_look.specs.LineEnds.{ComesToLine, LineFalls, LineShort, RunsLine, RunsToLine, SaysLine, TellsCut, handed}
-use Rattle.ink_look.specs.Ends.{EndsWith}
+use Rattle.std.proofs.Common.{◌≡◌, ap, refl, subst, inl, inr, List, [], Bool, true, false, Ok}
+use Rattle.ink_model.specs.Line.{Line}
+use Rattle.ink_look.specs.LineEnds.{ComesToLine, LineFalls, LineShort, RunsLine, RunsToLine, SaysLine}
 use Rattle.ink_look.specs.Words.{said, said_asks}
 use Rattle.ink_look.specs.declared.lines.LineEnd.{LineEnd}
 use Rattle.ink_look.specs.declared.lines.LineEnd.TheVariants as line_ends
@@ -12,7 +10,6 @@ use Rattle.ink_model.specs.Host.{Bound}
 use Rattle.ink_model.specs.Run.{Broke, Kept, Made, Moment, At, Stopped, Faulted, answers_of}
 use Rattle.ink_model.specs.Tree.{StoryTree}
 use Rattle.ink_model.specs.declared.fault.Fault.{Fault}
-use Rattle.ink_model.specs.declared.fault.Fault.TheVariants.{OutOfMemory}
 
 module _ (s : StoryTree) (b : Bound) (made : List Made) (c start : Configuration) (is : start ≡ begun c) where
   abbrev pub Ran : Configuration → LineEnd → Type 0

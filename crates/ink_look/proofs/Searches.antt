@@ -1,36 +1,32 @@
 -- A loop that looks for a line, step by step, with its desk.
-use Rattle.std.proofs.Common.{◌≡◌, ◌∙◌, ◌⊎◌, ◌++◌, ◌∷◌, ◌+◌, ◌<◌, ◌≤◌, ap, sym, refl, subst, inl, inr, arith, append_assoc, ℕ, zero, suc, Bool, true, false, List, [], Option, Some, None, Result, Ok, Err}
+use Rattle.std.proofs.Common.{◌≡◌, ◌∙◌, ◌++◌, ◌+◌, ◌<◌, ◌≤◌, ap, sym, refl, subst, inl, inr, arith, append_assoc, ℕ, suc, Bool, true, false, List, [], Option, Some, None, Result, Ok, Err}
 use Rattle.std.proofs.lemmas.List.{append-nil, map-append}
-use Rattle.ink_check.specs.Words.{story_tree}
 use Rattle.ink_host.specs.Desk.{DeskView, Grew, bound_by}
 use Rattle.ink_host.specs.declared.objects.Called.{Called}
 use Rattle.ink_host.specs.declared.objects.Seen.{Seen}
 use Rattle.ink_host.proofs.Laws.{bound-same, grew-grew, grew-none}
-use Rattle.ink_model.specs.Line.{IsLineOf, NoneBelow}
-use Rattle.ink_model.specs.Memory.{LooksFrom}
-use Rattle.ink_line.specs.Look.{Knows, Looking, Over, Search, Seeking, found, kept_at, look_on, newline_between, search, sought}
+use Rattle.ink_model.specs.Line.{NoneBelow}
+use Rattle.ink_line.specs.Look.{Knows, Over, Search, Seeking, found, kept_at, look_on, newline_between, search, sought}
 use Rattle.ink_line.proofs.Found.{finds, knows, over_is}
-use Rattle.ink_look.specs.LineEnds.{ComesToLine, LineFalls, LineShort, RunsToLine}
-use Rattle.ink_look.specs.Looking.{FindsAs, LooksAs, LookedFrom, StepsFrom, StepsOn, WaitsFrom, found_of, kept_of, search_after, search_at, stepped}
+use Rattle.ink_look.specs.LineEnds.{ComesToLine, LineShort, RunsToLine}
+use Rattle.ink_look.specs.Looking.{FindsAs, KeptFrom, LookedFrom, StepsFrom, StepsOn, WaitsFrom, found_of, kept_of, search_after, search_at, stepped}
 use Rattle.ink_look.specs.declared.looking.Looked.{Looked}
 use Rattle.ink_look.specs.declared.looking.Looked.TheVariants as after
 use Rattle.ink_look.specs.declared.looking.Waiting.{Waiting}
 use Rattle.ink_model.specs.Configuration.{Configuration}
 use Rattle.ink_model.specs.Events.{Made, calls}
 use Rattle.ink_model.specs.Host.{Bound}
-use Rattle.ink_model.specs.Memory.{CallsAt, GetsTo}
+use Rattle.ink_model.specs.Memory.{GetsTo}
 use Rattle.ink_model.specs.Run.{Moment, At, Stopped, Faulted, answers_of, came, moment}
 use Rattle.ink_model.specs.Step.{step}
 use Rattle.ink_model.specs.Store.{Values}
 use Rattle.ink_model.specs.Tree.{StoryTree}
 use Rattle.ink_model.specs.declared.fault.Fault.{Fault}
-use Rattle.ink_model.specs.declared.fault.Fault.TheVariants.{OutOfMemory, OutOfSteps}
+use Rattle.ink_model.specs.declared.fault.Fault.TheVariants.{OutOfSteps}
 use Rattle.ink_model.specs.declared.host.Event.{Event}
 use Rattle.ink_model.specs.declared.host.Given.{Given}
 use Rattle.ink_model.specs.declared.limits.TheConstants.{MAX_STEPS}
 use Rattle.ink_model.specs.declared.value.Value.{Value}
-use Rattle.ink_step.specs.declared.flow.StepEnd.{StepEnd}
-use Rattle.ink_step.specs.declared.flow.StepEnd.TheVariants as ends
 use Rattle.ink_step.proofs.Growing.{calls_on}
 use Rattle.ink_step.proofs.Moments.{Did, Ends, Short, did}
 
@@ -95,22 +91,22 @@ module _ (s : StoryTree) (b : Bound) (start : Configuration) where
           (sym (append-nil made) ∙ ap (λ more. made ++ more) (sym before.0))
           (record { steps = n; within = below; got_there = got; asking = before.1 }, subst (λ all. NoneBelow s b MAX_STEPS (moment s b start (answers_of all)) n) (append-nil made) (none [])))
       | inr call ↦ inr (inl (
-          record {
-            steps = n;
-            within = below;
-            before = made;
-            got_there = got;
-            name = call.0;
-            arguments = call.1;
-            given = call.2;
-            fields = call.3;
-            calling = call.4;
-            wants = call.5;
-            calls = ap (λ more. made ++ more) call.6;
-            asking = call.7;
-          },
-          none more,
-        ))
+        record {
+          steps = n;
+          within = below;
+          before = made;
+          got_there = got;
+          name = call.0;
+          arguments = call.1;
+          given = call.2;
+          fields = call.3;
+          calling = call.4;
+          wants = call.5;
+          calls = ap (λ more. made ++ more) call.6;
+          asking = call.7;
+        },
+        none more,
+      ))
     ]
 
   pub look_falls : (n : ℕ) (made : List Made) (w : Waiting) (old : Configuration) → n < MAX_STEPS → ComesTo n (search_at s (Some w) old) made → LineShort s b start made old
@@ -150,6 +146,15 @@ module _ (s : StoryTree) (b : Bound) (old new : Configuration) (made more : List
 
 pub starts_on : (first old new : Values) (w : Option Waiting) (l : Looked) → old ≡ first → WaitsFrom first w → StepsFrom old w new (Ok l) → (new ≡ first) × LookedFrom first l
 starts_on first old new w l is waits h = let so = h (subst (λ v. WaitsFrom v w) (sym is) waits) in (so.0 ∙ is, subst (λ v. LookedFrom v l) is so.1)
+
+pub waits_past : (first : Values) (w : Option Waiting) → w ≡ None → WaitsFrom first w
+waits_past first w is = subst (WaitsFrom first) (sym is) tt
+
+pub waits_at : (first : Values) (l : Looked) (newline : Waiting) (w : Option Waiting) → l ≡ after.Newline newline → w ≡ Some newline → LookedFrom first l → WaitsFrom first w
+waits_at first l newline w is waits h = subst (WaitsFrom first) (sym waits) (subst (LookedFrom first) is h)
+
+pub waited_at : (first : Values) (w : Option Waiting) (newline : Waiting) → w ≡ Some newline → WaitsFrom first w → KeptFrom first newline.kept
+waited_at first w newline is h = subst (WaitsFrom first) is h
 
 -- ---- with the desk
 
@@ -247,30 +252,42 @@ module _ {P T W : Type 0} (turn_log : T → List Called) (watch_log : W → List
     ran_to_fault None ran f below h = sought_to_fault ran f below h
     ran_to_fault (Some w) ran f below h = looked_to_fault w ran f below h
 
-  -- ---- ends
+  -- ---- what a step came to
 
   module _ (n : ℕ) (desk : DeskView P T W) (now : Configuration) where
-    pub ran_to_cut : n ≤ MAX_STEPS → Ran n desk (search_after s after.Cut now) → EndsLine desk now (Ok true)
-    ran_to_cut le ran = (ran.made, ran.grew, over s bound_first start n ran.made (At now) le ran.comes)
+    -- no newline waits, or this one
+    pub ran_past : (l : Looked) (w : Option Waiting) → l ≡ after.Nothing → w ≡ None → Ran n desk (search_after s l now) → Ran n desk (search_at s w now)
+    ran_past l w is waits ran = subst (λ w. Ran n desk (search_at s w now)) (sym waits) (subst (λ l. Ran n desk (search_after s l now)) is ran)
 
-    pub ran_to_stop : n ≤ MAX_STEPS → Ran n desk (search_after s after.Stopped now) → EndsLine desk now (Ok false)
-    ran_to_stop le ran = (ran.made, ran.grew, over s bound_first start n ran.made (Stopped now) le ran.comes)
+    pub ran_to : (l : Looked) (newline : Waiting) (w : Option Waiting) → l ≡ after.Newline newline → w ≡ Some newline → Ran n desk (search_after s l now) → Ran n desk (search_at s w now)
+    ran_to l newline w is waits ran = subst (λ w. Ran n desk (search_at s w now)) (sym waits) (subst (λ l. Ran n desk (search_after s l now)) is ran)
+
+    pub ran_to_cut : (l : Looked) → l ≡ after.Cut → n ≤ MAX_STEPS → Ran n desk (search_after s l now) → EndsLine desk now (Ok true)
+    ran_to_cut l is le h = let ran = subst (λ l. Ran n desk (search_after s l now)) is h in
+        (ran.made, ran.grew, over s bound_first start n ran.made (At now) le ran.comes)
+
+    pub ran_to_stop : (l : Looked) → l ≡ after.Stopped → n ≤ MAX_STEPS → Ran n desk (search_after s l now) → EndsLine desk now (Ok false)
+    ran_to_stop l is le h = let ran = subst (λ l. Ran n desk (search_after s l now)) is h in
+        (ran.made, ran.grew, over s bound_first start n ran.made (Stopped now) le ran.comes)
+
+    -- ---- no step is left
 
     last_of : (x : List (Option Given) → List Made → Search) → MAX_STEPS ≡ n → (ran : Ran n desk x) → ComesTo s bound_first start MAX_STEPS x ran.made
     last_of x e ran left = ap (λ k. search s bound_first k (Seeking (At start (answers_of ran.made ++ left) []))) e ∙ ran.comes left
 
-    pub ran_out : MAX_STEPS ≡ n → Ran n desk (search_at s None now) → EndsLine desk now (Err OutOfSteps)
-    ran_out e ran = (
+    pub ran_out : (w : Option Waiting) → w ≡ None → MAX_STEPS ≡ n → Ran n desk (search_at s w now) → EndsLine desk now (Err OutOfSteps)
+    ran_out w is e h = let ran = subst (λ w. Ran n desk (search_at s w now)) is h in (
       ran.made,
       ran.grew,
       record { before = now; kept = refl; why = inl (at_last s bound_first start ran.made (search_at s None now) (last_of (search_at s None now) e ran)) },
     )
 
     -- it goes back to the newline that waits
-    pub ran_back : (w : Waiting) (new : Configuration) → MAX_STEPS ≡ n → Ran n desk (search_at s (Some w) now) → new ≡ kept_of s w.kept now → EndsLine desk new (Ok true)
-    ran_back w new e ran is = (
+    pub ran_back : (w : Option Waiting) (newline : Waiting) (new : Configuration) → w ≡ Some newline → MAX_STEPS ≡ n → Ran n desk (search_at s w now) → new ≡ kept_of s newline.kept now
+        → EndsLine desk new (Ok true)
+    ran_back w newline new waits e h is = let ran = subst (λ w. Ran n desk (search_at s w now)) waits h in (
       ran.made,
       ran.grew,
       subst (λ c. ComesToLine s bound_first start ran.made (At c [] ran.made)) (sym is)
-          (at_last s bound_first start ran.made (search_at s (Some w) now) (last_of (search_at s (Some w) now) e ran)),
+          (at_last s bound_first start ran.made (search_at s (Some newline) now) (last_of (search_at s (Some newline) now) e ran)),
     )

@@ -1,5 +1,5 @@
 -- Steps of a loop that looks for a line, by the definition of the search.
-use Rattle.std.specs.Prelude.{◌≡◌, ⊤, ℕ, List, [], length, Bool, true, false, if◌then◌else◌, Option, Some, None, Result, Ok, Err}
+use Rattle.std.specs.Prelude.{◌≡◌, ⊤, ℕ, List, [], Bool, true, false, if◌then◌else◌, Option, Some, None, Result, Ok, Err}
 use Rattle.ink_model.specs.Line.{at_least}
 use Rattle.ink_line.specs.Look.{Looking, Over, Search, Seeking, look_on, newline_between}
 use Rattle.ink_look.specs.declared.looking.Looked.{Looked}

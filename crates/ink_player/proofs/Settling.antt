@@ -1,6 +1,6 @@
 -- What was said, and how flow stands once it was taken, are the passage of the stop; and so a run that says something comes to a
 -- passage.
-use Rattle.std.proofs.Common.{◌≡◌, ◌≢◌, ◌∙◌, ap, refl, subst, sym, inl, inr, List, [], ◌∷◌, map, Bool, true, false, not, ◌&&◌, ◌||◌, if◌then◌else◌, Result, Ok, Err}
+use Rattle.std.proofs.Common.{◌≡◌, ◌≢◌, ◌∙◌, ap, refl, subst, inl, inr, List, [], ◌∷◌, map, Bool, true, false, not, ◌&&◌, ◌||◌, if◌then◌else◌, Result, Ok, Err}
 use Rattle.ink_look.specs.Ends.{EndsWith}
 use Rattle.ink_look.specs.LineEnds.{RunsLine, handed}
 use Rattle.ink_look.specs.Words.{said, said_asks}
@@ -146,10 +146,7 @@ module _ (x : Extent) (s : StoryTree) (b : Bound) (old : Configuration) (made : 
   passes_fault f (inr short) = inr (ap Err (same_fault f OutOfMemory short.0), short.1)
 
 -- what a line says, by how it ended
-pub line_says : (s : StoryTree) (b : Bound) (old : Configuration) (made : List Made) (new : Configuration) (end : LineEnd) (result : Result Said Fault) → result ≡ handed end
-    → RunsLine said said_asks s b old made new end → RunsBy said said_asks extent.Line s b old made new result
-line_says s b old made new end result is ran = subst (RunsBy said said_asks extent.Line s b old made new) (sym is) (by ran)
-  where
-    by : RunsLine said said_asks s b old made new end → RunsBy said said_asks extent.Line s b old made new (handed end)
-    by (inl ran) = inl (ran.0, ran.1, ran.3)
-    by (inr short) = inr (ap handed short.0, short.1)
+pub line_says : (s : StoryTree) (b : Bound) (old : Configuration) (made : List Made) (new : Configuration) (end : LineEnd) → RunsLine said said_asks s b old made new end
+    → RunsBy said said_asks extent.Line s b old made new (handed end)
+line_says s b old made new end (inl ran) = inl (ran.0, ran.1, ran.3)
+line_says s b old made new end (inr short) = inr (ap handed short.0, short.1)

@@ -49,7 +49,7 @@ choice_taken s (Some choice) c d (Ok u) h = inl (refl, ap (λ x. at_stamp (Ready
 choice_taken s (Some choice) c d (Err r) h = inr (h.1, (ap Refuses h.0, ap (λ x. at_stamp (Ready x) 0) h.2))
 
 -- what goes so far, as a command
-going : Extent → Command
+abbrev going : Extent → Command
 going extent.Line = command.Continue
 going extent.Stop = command.Through
 

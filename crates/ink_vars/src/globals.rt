@@ -51,7 +51,7 @@ impl Globals {
         ensures start { IfOk result (λ copy. copy.start ≡ self.now.start) }
         ensures memory { OnErr result (self.now.rows ≢ []) }
     {
-        if self.len() == 0 {
+        if self.table.len() == 0 {
             return Ok(Globals {
                 table: Table::new(alloc),
                 changes: Changes::new(alloc),

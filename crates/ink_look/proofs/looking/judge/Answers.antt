@@ -1,4 +1,4 @@
-use Rattle.std.proofs.Common.{◌≡◌, ◌∙◌, sym, None, Some}
+use Rattle.std.proofs.Common.{◌≡◌, ◌∙◌, sym, Some}
 use Rattle.ink_line.proofs.Moments.{some_same}
 use Rattle.ink_look.proofs.Steps.{stands_last, stands_past}
 use Rattle.ink_look.proofs.looking.judge.Goals.{in-Some+else-last-newline, in_default}

@@ -4,7 +4,7 @@ use Rattle.ink_host.specs.Desk.{bound_by}
 use Rattle.ink_host.specs.Telling.{log_of}
 use Rattle.ink_host.proofs.Laws.{grew-none}
 use Rattle.ink_look.specs.Looking.{LooksAs, kept_of, search_after}
-use Rattle.ink_look.proofs.Steps.{goes, quiet_ends, stops}
+use Rattle.ink_look.proofs.Steps.{goes, quiet_so, stops}
 use Rattle.ink_look.proofs.looking.look.Goals as goal
 use Rattle.ink_model.specs.Asks.{asks}
 use Rattle.ink_model.specs.Step.{step}
@@ -27,10 +27,16 @@ returns-in-Ok-Went-clause-steps g c =
     let old = config_of s c.args.machine.now in
     let new = config_of s c.step.new.self in
     let h = c.in-Ok-Went.ensures.step in
-    let q = quiet_ends s b c.args.desk.now.next (asks s b old) h.0 old new (step s b old) (Ok ends.Went) h.2 in
-    (h.0, h.1, (q.0, λ left made. goes s b c.args.waiting.newline (kept_of s c.args.waiting.kept old) old left made new q.1 (kept_of s c.in_ok-kept.kept new) (c.in_ok-kept.ensures.kept s new)
-        (search_after s c.went_on.result (config_of s c.went_on.new.machine) left made) (q.2 left made)
-        (c.went_on.ensures.looked s old (sym (c.len-marks.ensures.marks ∙ ap (λ d. length d.page.line) (c.parts.ensures s))) left made)))
+    let q = quiet_so s b c.args.desk.now.next (asks s b old) h.0 old new (step s b old) (Ok c.in-Ok-Went.field-0) (Ok ends.Went) (ap Ok c.in-Ok-Went.field-0-is) h.2 in (
+      h.0,
+      h.1,
+      (
+        q.0,
+        λ left made. goes s b c.args.waiting.newline (kept_of s c.args.waiting.kept old) old left made new q.1 (kept_of s c.in_ok-kept.kept new) (c.in_ok-kept.ensures.kept s new)
+            (search_after s c.went_on.result (config_of s c.went_on.new.machine) left made) (q.2 left made)
+            (c.went_on.ensures.looked s old (sym (c.len-marks.ensures.marks ∙ ap (λ d. length d.page.line) (c.parts.ensures s))) left made),
+      ),
+    )
 
 pub returns-in-Ok-Went-clause-start : goal.returns-in-Ok-Went-clause-start
 returns-in-Ok-Went-clause-start g c from =
@@ -43,9 +49,15 @@ returns-in-Ok-Stopped-clause-steps g c =
     let old = config_of s c.args.machine.now in
     let new = config_of s c.step.new.self in
     let h = c.in-Ok-Stopped.ensures.step in
-    let q = quiet_ends s b c.args.desk.now.next (asks s b old) h.0 old new (step s b old) (Ok ends.Stopped) h.2 in
-    (h.0, h.1, (q.0, λ left made. stops s b c.args.waiting.newline (kept_of s c.args.waiting.kept old) old left made new q.1 (kept_of s c.in_ok-kept.kept new) (c.in_ok-kept.ensures.kept s new)
-        (search_after s c.stopped.result (config_of s c.stopped.new.machine) left made) (q.2 left made) (c.stopped.ensures.looked s old left made)))
+    let q = quiet_so s b c.args.desk.now.next (asks s b old) h.0 old new (step s b old) (Ok c.in-Ok-Stopped.field-0) (Ok ends.Stopped) (ap Ok c.in-Ok-Stopped.field-0-is) h.2 in (
+      h.0,
+      h.1,
+      (
+        q.0,
+        λ left made. stops s b c.args.waiting.newline (kept_of s c.args.waiting.kept old) old left made new q.1 (kept_of s c.in_ok-kept.kept new) (c.in_ok-kept.ensures.kept s new)
+            (search_after s c.stopped.result (config_of s c.stopped.new.machine) left made) (q.2 left made) (c.stopped.ensures.looked s old left made),
+      ),
+    )
 
 pub returns-in-Ok-Stopped-clause-start : goal.returns-in-Ok-Stopped-clause-start
 returns-in-Ok-Stopped-clause-start g c from =
@@ -58,5 +70,5 @@ returns-in-Err-OutOfMemory-clause-steps g c =
     let old = config_of s c.args.machine.now in
     let new = config_of s c.step.new.self in
     let h = c.in-Err-OutOfMemory.ensures.step in
-    let q = quiet_ends s b c.args.desk.now.next (asks s b old) h.0 old new (step s b old) (Err OutOfMemory) h.2 in
+    let q = quiet_so s b c.args.desk.now.next (asks s b old) h.0 old new (step s b old) (Err c.in-Err-OutOfMemory.field-0) (Err OutOfMemory) (ap Err c.in-Err-OutOfMemory.field-0-is) h.2 in
     (h.0, h.1, (q.0, (refl, q.1)))
