@@ -1,9 +1,9 @@
 #!/usr/bin/env python3
 """Times reading, checking and running stories of 1, 4 and 16 MiB, long arithmetic, long passages, command lines, calls,
-visits, choices, objects of a host and saves, and prints the times side by side.
+visits, choices, objects of a host, saves and lines, and prints the times side by side.
 
     bench/bench.py [--program PROGRAM] [--worker WORKER] [reading] [arithmetic] [passages] [commands] [calls] [visits] [choices]
-                   [hosts] [saves]
+                   [hosts] [saves] [lines]
         ./inkplay, crates/inkbench and all of them, unless others are named
 
 Each time is the least of three runs, in milliseconds, with the program's start in it. The last column is the time at
@@ -356,8 +356,43 @@ def saves(_program, worker):
               % (name, len(text) / 1024, saved, printed, saved / printed, value, value / printed, loaded, parsed, loaded / parsed))
 
 
+# a loop of short lines, each with its number
+LINES = ('"lines":["^Line ","ev",{"VAR?":"i"},"out",{"VAR?":"i"},1,"+",{"VAR=":"i","re":true},"/ev","^ of many.","\\n",%s{"->":"lines"},null]')
+
+
+def of_lines(start, declared=(), silent="", knots=""):
+    """A story that begins so and then says lines without an end, with such content behind each newline."""
+    values = ",".join('%s,{"VAR=":"%s"}' % (value, name) for name, value in [("i", 0)] + list(declared))
+    return '{"inkVersion":21,"root":[[%s{"->":"lines"},null],"done",{%s%s,"global decl":["ev",%s,"/ev","end",null]}]}' % (start, knots, LINES % silent, values)
+
+
+def lines(program, _worker):
+    """Lines one at a time, whose answers are read through a pipe, by how much the story has to keep while it looks past a newline."""
+    def row_of(name, size, story, count):
+        line = "continue\n"
+        took = piped(program, story, line * (count + 1)) - piped(program, story, line)
+        print("%-34s %9s %9d %12.0f" % (name, size, count, took * 1e9 / count), flush=True)
+
+    print("%-34s %9s %9s %12s" % ("lines one at a time", "size", "lines", "ns each, processor"))
+    for count in (20000, 80000):
+        listed = '{"inkVersion":21,"root":[' + '"^You go on along the road.","\\n",' * (count + 2) + '"done",null]}'
+        row_of("  of a list of lines", "", listed, count)
+        row_of("  of a loop", "", of_lines(""), count)
+    for size in (10, 100, 1000, 10000):
+        count = 20000 if size < 1000 else 2000
+        row_of("  beside globals", size, of_lines("", [("g%d" % n, n) for n in range(size)]), count)
+        row_of("  behind counted containers", size, of_lines('["nop",{"#f":3}],' * size), count)
+    for size in (10, 100, 990):
+        row_of("  beside choices", size, of_lines('"ev","str","^Go on","/str","/ev",{"*":"lines","flg":4},' * size), 2000)
+        tunnels = ('"down":["ev",{"VAR?":"n"},1,"-","du",{"VAR=":"n","re":true},"/ev",{"temp=":"t"},"ev",{"VAR?":"n"},0,">","/ev",{"->":".^.in","c":true},{"->":"lines"},'
+                   '{"in":[{"->t->":"down"},"ev","void","/ev","->->",null]}],')
+        row_of("  in tunnels with a temporary", size, of_lines('{"->t->":"down"},', [("n", size)], knots=tunnels), 2000)
+    for size in (10, 100, 1000):
+        row_of("  with silent steps behind", size, of_lines("", silent='"nop",' * size), 2000)
+
+
 BENCHES = {"reading": reading, "arithmetic": steps, "passages": passages, "commands": commands, "calls": calls, "visits": visits, "choices": choices, "hosts": hosts,
-           "saves": saves}
+           "saves": saves, "lines": lines}
 
 
 def main():

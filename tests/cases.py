@@ -35,6 +35,16 @@ GOLD = story("ev", 11, {"VAR=": "gold", "re": True}, "/ev", "done", {"global dec
 GOLD = GOLD.replace(', null], "listDefs"', '], "listDefs"')
 
 
+# says three lines; behind the first it asks `roll` with 6 and keeps the answer in `gold`
+LINES = story("^Heads?", "\n", "ev", 6, {"x()": "roll", "exArgs": 1}, {"VAR=": "gold", "re": True}, "/ev", "^Tails.", "\n", "ev", {"VAR?": "gold"}, "out", "/ev", "\n", "done",
+              ["ev", 10, {"VAR=": "gold"}, "/ev", "end", {"#n": "global decl"}])
+
+
+def line(text, more=True, events=""):
+    """The passage of a line."""
+    return PASSAGE.replace('"events":[]', '"events":[%s]' % events).replace('"more":false', '"more":%s' % ("true" if more else "false")).replace('""', '"%s\\n"' % text)
+
+
 def rolled(gave, text):
     """The passage of a story that rolled a die."""
     event = '{"args":[6],"call":"roll","gave":%s,"stamp":0}' % gave
@@ -68,6 +78,7 @@ def padded(text, size):
 # name, standard input, and the output, standard error and status
 RUNS = (
     ("served to the end", story("^Hello, 世界", "\n", "done") + "\nthrough\nbye", (HELLO + BAD, "", 0)),
+    ("served line by line", story("^Hello,", "\n", "^世界", "\n", "done") + "\ncontinue\ncontinue\ncontinue", (line("Hello,") + line("世界", False) + '{"refused":"CannotContinue"}\n', "", 0)),
     ("no command", DONE, ("", "", 0)),
     ("nothing", "", refused("NotJson")),
     ("no JSON", "{\nthrough\n", refused("NotJson")),
@@ -146,6 +157,7 @@ def run_objects(program, folder):
             ([], "through\n", ('{"events":[],"fault":"Unbound"}\n', "", 0))):
         yield "words %s" % words, run(program, text, [path] + words), wanted
         yield "words %s, story first" % words, run(program, ROLLS + "\n" + text, words), wanted
+    yield from run_lines(program, folder)
     watched = PASSAGE.replace('"events":[]', told(11, 0)) + '{%s}\n{"events":[]}\n{%s}\n' % (told(7, 1), told(10, 2))
     yield "a watcher", run(program, GOLD + "\nthrough\nset gold 7\nset gold 7\nrestart\n", ["--watch", "gold"]), (watched, "", 0)
     saved = load(("other", "a"), ("gold", 11))
@@ -158,6 +170,38 @@ def run_objects(program, folder):
     start = load(place=[0])
     yield ("calls go on after loads", run(program, (start + "through\n") * 4, [path, "--answer", "roll=[4,2]"] + table),
            ("".join('{"events":[]}\n' + roll for roll in rolls), "", 0))
+
+
+def run_lines(program, folder):
+    """A story that is played line by line, with objects."""
+    path = os.path.join(folder, "lines")
+    with open(path, "w") as out:
+        out.write(LINES)
+    called = '{"args":[6],"call":"roll","gave":4,"stamp":0}'
+    refused_call = '{"args":[6],"call":"roll","refused":true,"stamp":0}'
+    text = "continue\nget gold\ncontinue\nget gold\ncontinue\ncontinue\n"
+
+    def lines(value, events=""):
+        return (line("Heads?") + '{"value":10}\n' + line("Tails.", events=events) + '{"value":%s}\n' % value + line(value, False) + '{"refused":"CannotContinue"}\n', "", 0)
+
+    def broken(fault, events=""):
+        return (line("Heads?") + '{"value":10}\n{"events":[%s],"fault":"%s"}\n{"value":10}\n' % (events, fault)
+                + '{"fault":"%s","refused":"Broken"}\n' % fault * 2, "", 0)
+
+    for words, wanted in (
+            (["--answer", "roll=[4,2]"], lines("4", called)),
+            (["--answer", "roll=[4,2]", "--watch", "gold"], lines("4", called + ',{"saw":"gold","stamp":1,"value":4}')),
+            (["--table", 'roll={"[6]":4}'], lines("4")),
+            (["--table", 'roll={"[6]":4}', "--watch", "gold"], lines("4", '{"saw":"gold","stamp":0,"value":4}')),
+            (["--table", 'roll={"[6]":10}', "--watch", "gold"], lines("10")),
+            (["--answer", "roll=[]"], broken("HostRefused", refused_call)),
+            (["--table", "roll={}"], broken("HostRefused")),
+            ([], broken("Unbound"))):
+        yield "words %s, line by line" % words, run(program, text, [path] + words), wanted
+        yield "words %s, story first, line by line" % words, run(program, LINES + "\n" + text, words), wanted
+    again = line("Heads?") + '{"events":[]}\n' + line("Heads?")
+    yield ("a call is made by the line that keeps it", run(program, "continue\nrestart\ncontinue\nthrough\n", [path, "--answer", "roll=[4,2]"]),
+           (again + line("Tails.\\n4", False, called), "", 0))
 
 
 def run_ends(program):

@@ -5,12 +5,13 @@
     tests/model.py --stories N [--seed N]               prints that many random stories, one a line: small ones that are accepted
     tests/model.py --twins                              prints the stories that it reads as cases of a table of twins for inktest
 
-The model shares nothing with the program or its definitions. Many sessions are saved, and loaded once something else was done:
-there the model goes on from the machine that it kept, so that what follows is what would have followed. Other saves are loaded
-with a change in them, which the model reads by the rules of docs/SAVES.md.
+The model shares nothing with the program or its definitions. A line is what docs/RUNNING.md ("Lines") says it is: the model runs
+forward, once, keeps all moments of the run, and cuts it behind the first step whose newline is firm; it never goes back. Many
+sessions are saved, and loaded once something else was done: there the model goes on from the machine that it kept, so that what
+follows is what would have followed. Other saves are loaded with a change in them, which the model reads by the rules of docs/SAVES.md.
 
 Prints the first runs that differ, and last how many do, with how many really played, how many were left out since the model takes
-too long for them, and how many saves were loaded and refused. The status is 0 only where none differs.
+too long for them, how many lines were cut, and how many saves were loaded and refused. The status is 0 only where none differs.
 """
 import argparse
 import copy
@@ -178,19 +179,24 @@ def left(marks, i):
     return False
 
 
-def shown(marks):
-    out, begun, last = "", False, None
-    for i, (kind, text) in enumerate(marks):
+def shown_marks(marks):
+    """The indexes of the marks that are shown."""
+    indexes, last = [], None
+    for i, (kind, _) in enumerate(marks):
         before, after = marks[:i], marks[i + 1:]
         if kind == "text":
-            out, begun, last = out + text, True, "text"
+            indexes, last = indexes + [i], "text"
         elif kind in ("blank", "newline") and left(marks, i):
             continue
         elif kind == "blank" and not (broken(before) and glue_comes(after, ("text",))):
-            out, begun = out + text, True
-        elif kind == "newline" and begun and last != "newline" and not glued(before) and not glue_comes(after, ("text", "tag")):
-            out, last = out + text, "newline"
-    return out
+            indexes = indexes + [i]
+        elif kind == "newline" and indexes and last != "newline" and not glued(before) and not glue_comes(after, ("text", "tag")):
+            indexes, last = indexes + [i], "newline"
+    return indexes
+
+
+def shown(marks):
+    return "".join(marks[i][1] for i in shown_marks(marks))
 
 
 def cleaned(text):
@@ -439,6 +445,7 @@ class Machine:
         other.globals, other.stack = dict(self.globals), list(self.stack)
         other.threads, other.choices = [thread.again() for thread in self.threads], [choice.again() for choice in self.choices]
         other.visits, other.turns = dict(self.visits), dict(self.turns)
+        other.marks, other.sections = list(self.marks), [(kind, list(marks)) for kind, marks in self.sections]
         return other
 
     @property
@@ -891,6 +898,132 @@ class Machine:
         raise TooSlow()
 
 
+# ---- lines: a run forward, all of whose moments are kept, and where it is cut
+
+class Wanted(Exception):
+    """A turn function is called."""
+
+
+class Asked(Host):
+    """What a host has bound, where a call of a turn function is wanted and not made."""
+
+    def __init__(self, host):
+        self.scripts, self.tables = host.scripts, host.tables
+
+    def gives(self, name, arguments):
+        if name in self.scripts:
+            raise Wanted()
+        return Host.gives(self, name, arguments)
+
+
+# what a step comes to that leads to no moment; where flow has stopped there is no step
+CALL, NO_STEP = "call", "no step"
+
+
+class Run:
+    """The run forward from a machine, with all its moments: the n-th is a machine that stands where it stood after n steps."""
+
+    def __init__(self, machine):
+        self.host, self.asked = machine.host, Asked(machine.host)
+        first = machine.again()
+        first.begin()
+        self.moments, self.calls, self.end = [first], set(), None
+        # what is shown of so many marks: a moment's marks are those of the moment before, and those that its step wrote
+        self.shown_of = {}
+
+    def add(self, host):
+        """One more step, if it leads to a moment. Otherwise this tells what it comes to: a call, a fault, or that there is none."""
+        if self.moments[-1].frame.place is None:
+            self.end = NO_STEP
+            return
+        if len(self.moments) > 5000:
+            raise TooSlow()
+        machine = self.moments[-1].again()
+        machine.host = host
+        try:
+            machine.step()
+            machine.host = self.host
+            self.moments.append(machine)
+            self.end = None
+        except Wanted:
+            self.end = CALL
+        except Fault as fault:
+            self.end = fault
+
+    def go_on(self):
+        """Some more steps, but no call."""
+        for _ in range(len(self.moments)):
+            if self.end is None:
+                self.add(self.asked)
+
+    def call(self):
+        """The step that makes the call that is wanted."""
+        self.add(self.host)
+        self.calls.add(len(self.moments) - (self.end is None))
+
+    def written(self, step):
+        """The marks that a step wrote into the line, by their indexes."""
+        return range(len(self.moments[step - 1].marks), len(self.moments[step].marks))
+
+    def shows(self, moment, index):
+        """Whether a mark of the line is shown at a moment."""
+        marks = self.moments[moment].marks
+        if len(marks) not in self.shown_of:
+            self.shown_of[len(marks)] = shown_marks(marks)
+        return index in self.shown_of[len(marks)]
+
+    def newline(self, step):
+        """The newline that a step has: one that it wrote, and that is shown after it, with no text or tag behind it, and no string
+        or tag open; none where there is none."""
+        machine = self.moments[step]
+        for index in [] if machine.sections else self.written(step):
+            behind = [kind for kind, _ in machine.marks[index + 1:]]
+            if machine.marks[index][0] == "newline" and self.shows(step, index) and "text" not in behind and "tag" not in behind:
+                return index
+        return None
+
+    def is_firm(self, step):
+        """Whether a step has a newline that is firm; none where that is not known before there are more steps."""
+        index = self.newline(step)
+        if index is None:
+            return False
+        for later in range(step + 1, len(self.moments) + 1):
+            if not self.shows(later - 1, index):
+                return False
+            if later == len(self.moments):
+                # the step that the run has come to
+                return None if self.end is None else self.end is not NO_STEP
+            if later in self.calls:
+                return True
+            kinds = [self.moments[later].marks[i][0] for i in self.written(later)]
+            if ("text" in kinds or "tag" in kinds) and self.shows(later, index):
+                return True
+        raise AssertionError("a step that is not there")
+
+    def first_firm(self, known):
+        """The first step with a firm newline, and how many steps before it are known to have none; the step is none where none is
+        known to be the first."""
+        for step in range(known + 1, len(self.moments)):
+            is_firm = self.is_firm(step)
+            if is_firm is not False:
+                return (step if is_firm else None), step - 1
+        return None, len(self.moments) - 1
+
+
+def line_from(machine):
+    """The line of a command: the machine that is kept, whether the run was cut there, and its fault, if it has one."""
+    run, known = Run(machine), 0
+    while True:
+        run.go_on()
+        step, known = run.first_firm(known)
+        if step is not None:
+            return run.moments[step], True, None
+        if run.end is CALL:
+            run.call()
+        elif run.end is not None:
+            return run.moments[-1], False, None if run.end is NO_STEP else run.end
+
+
 def opened(root, host):
     """The machine at the start of a story. Nothing is bound while its declarations run."""
     place, declared = knot(root, "global decl"), {}
@@ -1122,23 +1255,33 @@ class Player:
 
     def __init__(self, root, host):
         self.root, self.host, self.machine, self.broken = root, host, opened(root, host), None
-        self.last_save, self.kept = to_json(spelled(self.machine)), {}
+        self.last_save, self.kept, self.cuts = to_json(spelled(self.machine)), {}, 0
 
-    def through(self):
-        machine = self.machine
-        if self.broken:
-            return {"fault": self.broken, "refused": "Broken"}
-        if machine.frame.place is None:
-            return {"refused": "CannotContinue"}
+    def through_from(self, machine):
+        """All of the run, as a line is told."""
         machine.begin()
-        before = dict(machine.globals)
         try:
             machine.run()
+            return machine, False, None
         except Fault as fault:
+            return machine, False, fault
+
+    def goes_on(self, extent):
+        """A command that runs, as far as the extent goes."""
+        if self.broken:
+            return {"fault": self.broken, "refused": "Broken"}
+        if self.machine.frame.place is None:
+            return {"refused": "CannotContinue"}
+        before = dict(self.machine.globals)
+        self.machine, is_cut, fault = extent(self.machine)
+        machine = self.machine
+        if fault:
             self.broken = str(fault)
             return {"events": self.host.taken(), "fault": self.broken}
         self.host.tell(before, machine.globals)
-        return {"choices": [choice.shown() for choice in machine.visible()], "events": self.host.taken(), "loose": not machine.safe and not machine.choices, "more": False,
+        self.cuts += is_cut
+        return {"choices": [] if is_cut else [choice.shown() for choice in machine.visible()], "events": self.host.taken(),
+                "loose": not is_cut and not machine.safe and not machine.choices, "more": is_cut,
                 "tags": [str(text) for kind, text in machine.marks if kind == "tag"], "text": cleaned(shown(machine.marks))}
 
     def restart(self):
@@ -1212,7 +1355,9 @@ class Player:
         return {"visits": self.machine.visits_at(place)}
 
     def answer(self, line):
-        if line in ("through", "restart", "save"):
+        if line in ("continue", "through"):
+            return self.goes_on(line_from if line == "continue" else self.through_from)
+        if line in ("restart", "save"):
             return getattr(self, line)()
         word, _, rest = line.partition(" ")
         if word == "get" and rest and " " not in rest:
@@ -1236,14 +1381,14 @@ class Player:
 # stand for paths until the story is whole, one onward, and one anywhere
 WAY, BACK = "?", "??"
 
-COMMANDS = ("through", "through", "restart", "get x", "get y", "get z", "set x 5", "set y true", 'set z "q r"', "set x null", "set w 1",
+COMMANDS = ("through", "through", "continue", "continue", "continue", "continue x", "continue ", "Continue", "restart", "get x", "get y", "get z", "set x 5", "set y true", 'set z "q r"', "set x null", "set w 1",
             "set x 1.5", "set  x 1", "bye", "set x  -3 ", "get  x", 'set y "a\\nb"', "set x",
             "visits f", "visits t", "visits h", "visits k", "visits 0", "visits 1", "visits 0.0", "visits 1.k", "visits .0", "visits x..y",
             "choose 0", "choose 1", "choose 00", "choose 1234567890", "choose -1", "choose", "jump f", "jump .0", "jump c1", "jump 0", "jump x..y",
             "save", "save x", "load", "load {}", "load x")
 
 # what is done between a save and its load
-MEANWHILE = ("through", "through", "restart", "set x 9", "set n 0", 'set y "later"', "choose 0", "choose 1", "jump c2", "jump h", "jump 0", "save")
+MEANWHILE = ("through", "through", "continue", "continue", "restart", "set x 9", "set n 0", 'set y "later"', "choose 0", "choose 1", "jump c2", "jump h", "jump 0", "save")
 
 
 def random_text(chance):
@@ -1540,9 +1685,119 @@ def scenes_story(chance):
     return {"inkVersion": 21, "root": root, "listDefs": {}}
 
 
+# the knots of a story that is played line by line, in order
+PARTS = ("p0", "p1", "p2", "p3")
+# the functions that they call, each of which calls those behind it
+FUNCTIONS = ("f", "g", "d", "h")
+
+
+def line_text(chance):
+    """A text, mostly with more than blanks, at times with a newline at an end."""
+    return chance.choice(("^a", "^b ", "^ c", "^d e", "^é", "^ ", "^\t", "^", "^\n", "^x\n", "^\ny", "^ \n ", "^x\ny", random_text(chance)))
+
+
+def line_fault(chance):
+    """Content that mostly faults, in some way."""
+    return chance.choice((["ev", 1, 0, "/", "out", "/ev"], ["ev", "pop", "pop", "/ev"], ["->->"], ["~ret"], ["/#"], ["/ev"], ["ev", "<>"], ["ev", "^a", "_", "/ev"],
+                          ["ev", {"x()": "d", "exArgs": 9}, "/ev"], ["ev", "void", {"x()": "e", "exArgs": 1}, "/ev"], ["ev", "str", {"x()": "d"}, "/str", "out", "/ev"],
+                          ["ev", 1, {"temp=": "none", "re": True}, "/ev"], ["ev", "str", "^s", "done"]))
+
+
+def line_call(chance, functions):
+    """Content that calls a function of the story: by itself, in an evaluation, or in a string."""
+    if not functions:
+        return [line_text(chance)]
+    call = {"f()": chance.choice(functions)}
+    return chance.choice(([call], ["ev", call, "out", "/ev"], ["ev", call, "pop", "/ev"], ["ev", call, {"VAR=": chance.choice("xyz")}, "/ev"],
+                          ["ev", "str", line_text(chance), call, "/str", "out", "/ev"], ["ev", "str", call, "\n", "/str", "pop", "/ev"]))
+
+
+def line_bit(chance, functions):
+    """What may stand before or behind a newline, and matters to it."""
+    return chance.choice((
+        lambda: [line_text(chance)],
+        lambda: [line_text(chance)],
+        lambda: ["<>"],
+        lambda: ["<>"],
+        lambda: ["\n"],
+        lambda: ["#", line_text(chance), "/#"],
+        lambda: ["#", line_text(chance), "/#", "<>"],
+        lambda: ["ev", "str"] + [chance.choice(("\n", "<>", line_text(chance))) for _ in range(chance.randrange(3))] + ["/str"]
+        + chance.choice((["pop"], ["out"], [{"VAR=": chance.choice("xyz")}])) + ["/ev"],
+        lambda: line_call(chance, functions),
+        lambda: line_call(chance, functions),
+        lambda: random_external(chance, chance.choice(("fgd", "fgd", EXTERNALS))),
+        lambda: random_external(chance, "fgd"),
+        lambda: ["ev", random_number(chance), {"VAR=": chance.choice("nxyz"), "re": True}, "/ev"],
+        lambda: ["ev", {"VAR?": "n"}, 1, "+", {"VAR=": "n", "re": True}, "/ev"],
+        lambda: ["ev", chance.randrange(9), {"temp=": chance.choice("pq")}, {"VAR?": chance.choice("pq")}, "out", "/ev"],
+        lambda: ["ev", {"VAR?": chance.choice("nxyz")}, "out", "/ev"],
+        lambda: ["ev", chance.choice(("turn", "choiceCnt")), "out", "/ev"],
+        lambda: ["ev", {"CNT?": chance.choice(PARTS)}, "out", "/ev"],
+        lambda: [[line_text(chance), {"#f": chance.choice((1, 3, 5))}]],
+        lambda: line_fault(chance) if chance.random() < 0.2 else [],
+    ))()
+
+
+def random_number(chance):
+    return chance.choice((0, 1, 2, 7, True, False, "^t", -1))
+
+
+def line_group(chance, functions):
+    """What stands before a newline, a newline, and what stands behind it."""
+    before = [bit for _ in range(chance.choice((0, 1, 1, 2))) for bit in line_bit(chance, functions)]
+    behind = [bit for _ in range(chance.choice((0, 0, 1, 1, 2, 3))) for bit in line_bit(chance, functions)]
+    return before + [chance.choice(("\n", "\n", "\n", "^\n", "^ \n"))] + behind
+
+
+def line_part(chance, at):
+    """A part of a story, which leads on to others, or back as often as the global `n` allows."""
+    content, onward = [], PARTS[at + 1:]
+    for _ in range(chance.choice((1, 2, 2, 3, 5))):
+        kind = chance.random()
+        if kind < 0.82:
+            content += line_group(chance, FUNCTIONS)
+        elif kind < 0.86:
+            content += ["thread", {"->": "t"}]
+        elif kind < 0.9:
+            content += [{"->t->": "u"}]
+        elif kind < 0.94:
+            offer = {"*": chance.choice(onward), "flg": chance.choice((4, 20, 12))} if onward else {"*": chance.choice(PARTS), "flg": 4}
+            content += ["ev", "str", line_text(chance), "/str", "/ev", offer]
+        else:
+            content += ["ev", random_number(chance), "/ev", {"->": chance.choice(onward), "c": True}] if onward else []
+    if chance.random() < 0.2:
+        loop = random_loop(chance)
+        loop[-1]["->"] = chance.choice(PARTS)
+        content += loop
+    ends = (["done"], ["end"], [], ["ev", "str", "^go", "/str", "/ev", {"*": "p0", "flg": 4}, "done"], ["ev", "/ev", {"*": PARTS[-1], "flg": 8}])
+    last = [{"->": onward[0]}] if onward and chance.random() < 0.9 else chance.choice(ends if onward else ends[:-1])
+    return content + last + [{"#f": chance.choice((1, 3, 5, 7))}]
+
+
+def line_function(chance, at):
+    """A function with newlines in it, and texts, or none."""
+    content = [bit for _ in range(chance.randrange(4)) for bit in chance.choice((["\n"], ["\n"], ["<>"], line_bit(chance, FUNCTIONS[at + 1:])))]
+    return content + chance.choice(([], [], ["ev", 3, "/ev", "~ret"], ["ev", "^r", "/ev", "~ret"], ["\n"])) + [None]
+
+
+def lines_story(chance):
+    """A story that is played line by line."""
+    names = {name: line_part(chance, at) for at, name in enumerate(PARTS)}
+    names.update((name, line_function(chance, at)) for at, name in enumerate(FUNCTIONS))
+    names["u"] = line_group(chance, FUNCTIONS) + chance.choice((["ev", "void", "/ev", "->->"], ["ev", {"^->": "p3"}, "/ev", "->->"])) + [None]
+    names["t"] = line_group(chance, FUNCTIONS) + chance.choice(([], ["done"])) + [None]
+    declared = [part for name in chance.sample("xyz", chance.choice((2, 3, 3, 3, 3, 3))) for part in (random_number(chance), {"VAR=": name})]
+    names["global decl"] = ["ev"] + declared + [0, {"VAR=": "n"}, "/ev", "end", None]
+    return {"inkVersion": 21, "root": [line_group(chance, FUNCTIONS) + [{"->": "p0"}, None], "done", names], "listDefs": {}}
+
+
 def random_story(chance):
-    if chance.random() < 0.3:
+    kind = chance.random()
+    if kind < 0.25:
         return scenes_story(chance)
+    if kind < 0.6:
+        return lines_story(chance)
     root = random_container(chance, 3)
     if chance.random() < 0.6:
         add_calls(chance, root)
@@ -1631,7 +1886,7 @@ def random_host(chance):
     for name in EXTERNALS:
         kind = chance.random()
         if kind < 0.45:
-            scripts[name] = [random_answer(chance) for _ in range(chance.choice((0, 1, 3, 8, 8)))]
+            scripts[name] = [random_answer(chance) for _ in range(chance.choice((0, 1, 3, 8, 8, 20)))]
         elif kind < 0.8:
             keys = [[]] + [[value] for value in ARGUMENTS] + [[chance.choice(ARGUMENTS), chance.choice(ARGUMENTS)] for _ in range(20)]
             tables[name] = {json.dumps(key, separators=(",", ":"), ensure_ascii=False): random_answer(chance) for key in keys if chance.random() < 0.97}
@@ -1845,7 +2100,8 @@ def with_saves(chance, commands):
         commands = commands[:at] + ["save"] + [chance.choice(MEANWHILE) for _ in range(chance.randrange(4))] + [LOAD] + commands[at:]
     for _ in range(chance.choice((0, 0, 0, 1, 2, 5))):
         at = chance.randrange(len(commands) + 1)
-        goes_on = chance.choice((["save"], ["through"], ["through", "choose 0", "through"], ["save", "through", "save"], ["get x"], []))
+        goes_on = chance.choice((["save"], ["through"], ["continue", "continue"], ["through", "choose 0", "through"], ["save", "through", "save"],
+                                 ["continue", "save", "continue", "save"], ["get x"], []))
         commands = commands[:at] + [LOAD_CHANGED] + goes_on + commands[at:]
     return commands
 
@@ -1858,30 +2114,38 @@ def line_of(chance, player, command):
 
 
 def expected(story, host, commands, chance):
-    """The lines of commands, and what they come to."""
+    """The lines of commands, what they come to, and how many lines of text were cut."""
     why = refusal(story["root"])
     if why:
-        return [], ([], "inkplay: story refused: %s\n" % why, 2)
+        return [], ([], "inkplay: story refused: %s\n" % why, 2), 0
     try:
         player = Player(story["root"], host)
     except Fault as fault:
-        return [], ([], "inkplay: story fault: %s\n" % fault, 2)
+        return [], ([], "inkplay: story fault: %s\n" % fault, 2), 0
     lines, answers = [], []
     for command in commands:
         lines.append(line_of(chance, player, command))
         answers.append(to_json(player.answer(lines[-1])))
-    return lines, (answers, "", 0)
+    return lines, (answers, "", 0), player.cuts
+
+
+def going_on(chance):
+    """Commands that run the story: to the stop, or some lines."""
+    lines = ["continue"] * chance.choice((1, 1, 2, 3, 5, 8))
+    if chance.random() < 0.2:
+        lines.insert(chance.randrange(len(lines) + 1), chance.choice(("get n", "get x", "set x 5", "set n 0", "visits p1", "restart", "jump p1", "save")))
+    return chance.choice((["through"], lines, lines, lines + ["through"]))
 
 
 def random_commands(chance, root):
     """Command lines that mostly begin by running the story."""
-    first = ["through"] if chance.random() < 0.85 else []
+    first = going_on(chance) if chance.random() < 0.85 else []
     counted_ones = [place for place in places(root) if (flags_at(root, place) or 0) & 1 and place]
     asked = ["visits " + ".".join(map(str, chance.choice(counted_ones))) for _ in range(chance.randrange(4)) if counted_ones]
     jumps = ["jump " + ".".join(map(str, chance.choice(list(places(root))[1:])))] if chance.random() < 0.15 and list(places(root))[1:] else []
     turns = []
     for _ in range(chance.choice((0, 1, 2, 4, 8)) + (6 if "c0" in own(root) else 0)):
-        turns += ["choose %d" % chance.choice((0, 0, 0, 1, 2)), "through"]
+        turns += ["restart"] * (chance.random() < 0.1) + ["choose %d" % chance.choice((0, 0, 0, 1, 2))] + going_on(chance)
     rest = asked + jumps + [chance.choice(COMMANDS) for _ in range(chance.randrange(1, 8))]
     return with_saves(chance, first + turns + rest)
 
@@ -1959,7 +2223,7 @@ def main():
         return print_stories(words.stories, words.seed)
     sys.setrecursionlimit(20000)
     differ = 0
-    counts = dict.fromkeys(("played", "asked", "refused", "not opened", "left out", "loads", "no loads"), 0)
+    counts = dict.fromkeys(("played", "asked", "refused", "not opened", "left out", "lines", "loads", "no loads"), 0)
     for number in range(words.runs):
         chance = random.Random("%d.%d" % (words.seed, number))
         story = random_story(chance)
@@ -1968,12 +2232,13 @@ def main():
         options = host.words()
         first = json.dumps(story, ensure_ascii=chance.random() < 0.5)
         try:
-            lines, wanted = expected(story, host, commands, chance)
+            lines, wanted, cuts = expected(story, host, commands, chance)
         except TooSlow:
             counts["left out"] += 1
             continue
         text = "\n".join([first] + lines) + "\n"
         counts[kind_of(wanted)] += 1
+        counts["lines"] += cuts
         counts["loads"] += sum(line.startswith("load ") and answer != BAD_SAVE for line, answer in zip(lines, wanted[0]))
         counts["no loads"] += wanted[0].count(BAD_SAVE)
         done = subprocess.run([words.program] + options, input=text.encode(), stdout=subprocess.PIPE, stderr=subprocess.PIPE)
@@ -1982,8 +2247,8 @@ def main():
             differ += 1
             if differ <= 3:
                 print("%s\n%s\nwanted %s\ntold   %s\n" % (options, text, wanted, told))
-    print("%d runs: %d played, %d only set and asked, %d stories refused, %d not opened, %d left out; %d saves loaded, %d refused; %d differ"
-          % (words.runs, counts["played"], counts["asked"], counts["refused"], counts["not opened"], counts["left out"], counts["loads"],
+    print("%d runs: %d played, %d only set and asked, %d stories refused, %d not opened, %d left out; %d lines cut; %d saves loaded, %d refused; %d differ"
+          % (words.runs, counts["played"], counts["asked"], counts["refused"], counts["not opened"], counts["left out"], counts["lines"], counts["loads"],
              counts["no loads"], differ))
     return 1 if differ else 0
 

@@ -4,7 +4,8 @@
     tests/pipe.py [PROGRAM]      the program is ./inkplay unless another is named
 
 An answer that has not come after some seconds, or that is another one, fails. The story is the first line, and then a file;
-answers are small, and larger than a pipe holds; lines come whole, and in pieces. Last it prints how many sessions hold; the
+answers are small, and larger than a pipe holds; lines come whole, and in pieces; stories are played to their stop, and line by
+line, one that has no end among them. Last it prints how many sessions hold; the
 status is 0 only where all do.
 """
 import json
@@ -76,8 +77,8 @@ def talk(words, first, turns, pieces=1):
             player.kill()
 
 
-def passage(text, loose=False):
-    return json.dumps({"choices": [], "events": [], "loose": loose, "more": False, "tags": [], "text": text}, separators=(",", ":"))
+def passage(text, loose=False, more=False):
+    return json.dumps({"choices": [], "events": [], "loose": loose, "more": more, "tags": [], "text": text}, separators=(",", ":"))
 
 
 def save(text):
@@ -96,6 +97,14 @@ DONE = '{"events":[]}'
 SMALL = (("get x", '{"value":1}'), ("bye", '{"refused":"BadCommand"}'), ("set x 7", DONE), ("through", passage("7")),
          ("through", '{"refused":"CannotContinue"}'), ("", '{"refused":"BadCommand"}'), ("restart", DONE), ("through", passage("1")))
 
+# a story of lines: two lines, and then the value of `x`, which may be set between them
+LINES = story("^A", "\n", "ev", 8, {"VAR=": "y"}, "/ev", "^B", "\n", "ev", {"VAR?": "x"}, "out", "/ev", "\n", "done", ["ev", 1, {"VAR=": "x"}, "/ev", "end", {"#n": "global decl"}])
+BY_LINES = (("continue", passage("A\n", more=True)), ("get y", '{"refused":"NoSuchVariable"}'), ("continue", passage("B\n", more=True)), ("get y", '{"value":8}'),
+            ("set x 7", DONE), ("continue", passage("7\n")), ("continue", '{"refused":"CannotContinue"}'), ("restart", DONE), ("continue", passage("A\n", more=True)),
+            ("through", passage("B\n1\n")))
+# one without an end
+ENDLESS = story(["^again", "\n", {"->": "0"}, None])
+
 
 def sessions(program, folder):
     """A name for each session, and what is wrong in it."""
@@ -106,6 +115,14 @@ def sessions(program, folder):
     with open(file, "w") as out:
         out.write(DECLARED)
     yield "small answers, the story in a file", talk([program, file], b"", SMALL)
+    lines = LINES.encode() + b"\n"
+    yield "line by line", talk([program], lines, BY_LINES)
+    yield "line by line, commands in pieces", talk([program], lines, BY_LINES, 3)
+    yield "lines without an end", talk([program], ENDLESS.encode() + b"\n", (("continue", passage("again\n", more=True)),) * 30)
+    for size in (4000, 65536, MIB):
+        long = story("^" + "x" * size, "\n", "^" + "y" * size, "\n", "^" + "z" * size, "end")
+        turns = [("continue", passage(letter * size + "\n", more=True)) for letter in "xy"] + [("continue", passage("z" * size)), ("restart", DONE)]
+        yield "lines of text of %d bytes" % size, talk([program], long.encode() + b"\n", turns * 2)
     for size in (4000, 4096, 65536, MIB, 8 * MIB):
         texts = ["^" + "x" * min(MIB, size - at) for at in range(0, size, MIB)]
         again = (("through", passage("x" * size)), ("restart", DONE))

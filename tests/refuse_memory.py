@@ -157,6 +157,22 @@ STORIES += ((SAVED, ("save", "load {}", "load [", "through", "save")),)
 
 # stories with objects: the words that bind them, the story and the commands
 GIVING = ["--answer", 'f=[1,"a",null]', "--table", 'g={"[1,\\"b\\"]":"c","[]":2}', "--watch", "x", "--watch", "y"]
+# a line behind another: what it looks at past a newline is strings, calls, threads, choices, visits and globals that are declared
+BY_LINES = ("continue", "get x", "continue", "get x", "through", "get x", "restart", "continue", "get x")
+STORIES += (
+    ('{"inkVersion":21,"root":["^A","\\n","^B","\\n","^C","\\n","done",null]}', ("continue", "continue", "continue", "continue", "restart", "continue", "through")),
+    ('{"inkVersion":21,"root":["^A","\\n","ev","str","^s","#","^t","/#","/str",{"VAR=":"x","re":true},"pop","/ev","<>","^B","\\n","#","^u","/#","^C",{"global decl":["ev","str","^word","/str",{"VAR=":"x"},"/ev","end",null]}]}',
+     BY_LINES),
+    ('{"inkVersion":21,"root":["^A","\\n","ev","str","^ one","/str",{"VAR=":"x"},4,{"VAR=":"y"},"/ev","^B","\\n","ev","str","^two","/str",{"VAR=":"x","re":true},"/ev","^C","\\n","ev",{"VAR?":"x"},"out","/ev","done",null]}',
+     BY_LINES),
+    ('{"inkVersion":21,"root":[["^A",{"f()":"f"},"^B","\\n",{"->t->":"t"},"thread",{"->":"a"},"^C","\\n","done",null],{"f":["^x","\\n","ev",1,{"temp=":"p"},"/ev","^y","\\n","nop",null],"t":["^in","\\n","ev","void","/ev","->->",null],"a":["ev","str","^s","/str",{"temp=":"q"},"/ev","^th","\\n","nop",null]}]}',
+     ("continue", "continue", "continue", "continue", "continue", "restart", "continue", "through")),
+    ('{"inkVersion":21,"root":[["^A","\\n",{"->":"k"},null],{"k":["ev","str","^go","#","^t","/#","/str","/ev",{"*":"c","flg":20},"^B","\\n","ev",{"CNT?":"k"},"out","/ev","\\n","ev","/ev",{"*":"d","flg":8},"done",{"#f":3}],"c":["^C","\\n","ev","turn","out","/ev","\\n","end",{"#f":3}],"d":["end",{"#f":1}]}]}',
+     ("continue", "visits k", "continue", "visits k", "continue", "choose 0", "visits c", "continue", "continue", "visits c", "jump k", "continue", "visits k")),
+    ('{"inkVersion":21,"root":["^A","\\n","ev","str","^one","/str",{"VAR=":"x"},"/ev","ev",1,0,"/","/ev",null]}', ("continue", "get x", "continue", "continue", "get x", "restart", "continue")),
+    (SAVED, ("save", "continue", "save", "continue", "save", "restart", "continue", SAVES[0], "continue", "save", SAVES[4], "continue", "get y")),
+)
+
 OBJECTS = (
     (GIVING, '{"inkVersion":21,"root":["ev",7,"^b",{"x()":"f","exArgs":2},"out",{"x()":"f"},{"VAR=":"x","re":true},1,"^b",{"x()":"g","exArgs":2},{"VAR=":"y","re":true},{"VAR?":"y"},"out",{"x()":"g"},"out","/ev","\\n","end",{"global decl":["ev","^s",{"VAR=":"x"},0,{"VAR=":"y"},"/ev","end",null]}]}',
      ("through", "get x", "set y 3", 'set x "t"', "restart", "get y", "through", "get x")),
@@ -164,6 +180,10 @@ OBJECTS = (
      ("through", "restart", "through", "restart", "through", "restart", "through")),
     (["--watch", "x", "--watch", "y"], '{"inkVersion":21,"root":["ev","str","^a","^b","/str",{"VAR=":"x","re":true},4,{"VAR=":"z"},{"^->":"k"},{"VAR=":"y"},"/ev","end",{"k":["^k",null],"global decl":["ev","^s",{"VAR=":"x"},"/ev","end",null]}]}',
      ("through", "get x", "get y", "set y 5", "restart", "get x")),
+    (GIVING, '{"inkVersion":21,"root":["^A","\\n","ev",7,"^b",{"x()":"f","exArgs":2},{"VAR=":"x","re":true},"/ev","<>","^B","\\n","ev",1,"^b",{"x()":"g","exArgs":2},{"VAR=":"y","re":true},{"x()":"g"},"out","/ev","\\n",{"x()":"f"},"^C","\\n","end",{"global decl":["ev","^s",{"VAR=":"x"},0,{"VAR=":"y"},"/ev","end",null]}]}',
+     ("continue", "get x", "continue", "get x", "get y", "continue", "continue", "get y", "restart", "continue", "continue")),
+    (["--table", 'g={"[]":"word"}', "--watch", "x", "--watch", "y"], '{"inkVersion":21,"root":["ev",{"x()":"g"},{"VAR=":"x","re":true},"/ev","^A","\\n","ev",{"x()":"g"},{"VAR=":"y"},"/ev","^B","\\n","end",{"global decl":["ev","^s",{"VAR=":"x"},"/ev","end",null]}]}',
+     ("continue", "get x", "get y", "continue", "get y", "restart", "continue", "through")),
     (["--watch", "x", "--watch", "y"], SAVED, ("through", SAVES[4], "get y", SAVES[3], "save", "through")),
 )
 
@@ -214,12 +234,12 @@ def is_fault(command, line, ample_line):
     """Whether an answer tells the want of memory while the story ran, or while its watchers were told: the events up to it are
     those of the answer with ample memory, of which some that a watcher was to see may be missing."""
     answer = parsed(line)
-    if command not in ("through", "restart") and not command.startswith(("set ", "load ")) or not answer or answer.get("fault") != "OutOfMemory" or "refused" in answer:
+    if command not in ("continue", "through", "restart") and not command.startswith(("set ", "load ")) or not answer or answer.get("fault") != "OutOfMemory" or "refused" in answer:
         return False
     calls, ample_calls = [[e for e in events_of(each) if "call" in e] for each in (line, ample_line)]
     seen, ample_seen = [[(e["saw"], e["value"]) for e in events_of(each) if "saw" in e] for each in (line, ample_line)]
     rest = iter(ample_seen)
-    return calls == ample_calls[:len(calls)] and all(each in rest for each in seen) and (command == "through" or len(seen) < len(ample_seen))
+    return calls == ample_calls[:len(calls)] and all(each in rest for each in seen) and (command in ("continue", "through") or len(seen) < len(ample_seen))
 
 
 def is_run(words, story, commands, ample_lines, lines):
@@ -249,18 +269,19 @@ def answers(words, story, commands):
 
 def broken_from(words, story, before, command, after, used, stamp):
     """What a player may answer that a command after others has broken, once it has made so many calls and told so many events.
-    Its globals are those of some moment of the run: in these stories as they were before it or as they are after it."""
+    Its globals are those of some moment of the run: in these stories as they were before it or as they are after it, or, of a
+    line that looked past its newline, as they are after the next one."""
     rest = []
     for k, line in enumerate(after):
         word = line.split()[0]
         if word == "restart" or word == "load" and answers(words, story, (line,))[0] != BAD_SAVE:
             return rest + restarted(words, story, before + (command,), after[:k], after[k:], used, stamp)
         if word == "get":
-            rest.append((answers(words, story, before + (line,))[-1], answers(words, story, before + (command, line))[-1]))
+            rest.append([answers(words, story, before + way + (line,))[-1] for way in ((), (command,), (command, "continue"))[:3 if command == "continue" else 2]])
         elif word == "load":
             rest.append((BAD_SAVE,))
         else:
-            rest.append((BROKEN,) if word in ("through", "set", "visits", "choose", "jump", "save") else (BAD_COMMAND,))
+            rest.append((BROKEN,) if word in ("continue", "through", "set", "visits", "choose", "jump", "save") else (BAD_COMMAND,))
     return rest
 
 

@@ -4,7 +4,7 @@
     tests/saves.py [PROGRAM]      the program is ./inkplay unless another is named
 
 Each story in the tables of crates/inktest/data and crates/playtest/data is played, a session by its own lines and any other
-story by some turns and jumps, and saved before each line and at the end. Then each save is loaded and saved again, which has to
+story by some lines, turns and jumps, and saved before each line and at the end. Then each save is loaded and saved again, which has to
 give the same bytes, and played on by the line that came next, which has to be answered as it was.
 
 Of four saves, one with calls and temporaries, one with threads and choices, one with counts, and one with texts on the stack and
@@ -25,7 +25,7 @@ import toolchain
 MOST_INPUT = 48 << 20
 # so many lines of a session have a save before each; of more lines every k-th has one
 MOST_SAVES = 1000
-TURNS = ("through", "choose 0", "through", "choose 1", "through", "choose 0", "through", "choose 2", "through")
+TURNS = ("continue", "continue", "through", "choose 0", "continue", "through", "choose 1", "through", "choose 0", "continue", "through", "choose 2", "through")
 MOST_JUMPS = 4
 DONE, BAD_SAVE, BAD_COMMAND = b'{"events":[]}', b'{"refused":"BadSave"}', b'{"refused":"BadCommand"}'
 
@@ -72,7 +72,7 @@ def turns_of(story):
     except (ValueError, RecursionError, KeyError, IndexError, TypeError):
         names = []
     jumps = [("jump " + name).encode() for name in names[:MOST_JUMPS] if name and "\n" not in name and "." not in name]
-    return [turn.encode() for turn in TURNS] + sum(([jump, b"through", b"choose 0", b"through"] for jump in jumps), [])
+    return [turn.encode() for turn in TURNS] + sum(([jump, b"continue", b"through", b"choose 0", b"continue", b"through"] for jump in jumps), [])
 
 
 def table_sessions(path):

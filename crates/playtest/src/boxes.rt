@@ -3,14 +3,14 @@
 //! A question is words, done in turn on one player. A turn function, a pure function and a watcher are bound before them, and
 //! three others at the word `again`. The story calls `act`, asks `ask` and sets `gold`.
 //!
-//! - `through`, `restart`; `short`, which is `through`, of which want of memory is an answer
+//! - `continue`, `through`, `restart`; `short`, which is `through`, of which want of memory is an answer
 //! - `take_turn`, `take_pure`, `take_watcher`: takes an object away, and keeps it, as what was bound is kept at `again`
 //! - `forget`: lets go of what is kept
 //!
 //! Watchers find no memory where `short` is the first word. The question `order` is what two watchers do, of two globals that a
 //! story sets, in one list: `begin`, `told` and `end` with the name of the global.
 //!
-//! A turn function answers one call. The answer is that of each `through` and `restart`, as a player's; then how many turn
+//! A turn function answers one call. The answer is that of each command that tells, as a player's; then how many turn
 //! functions, pure functions and watchers were let go, of how many there are, as `0/2 0/2 0/2`; and behind `|` the same once the
 //! player is closed.
 
@@ -343,6 +343,7 @@ fn call(
     word: &str,
 ) -> Result<(), NoAnswer> {
     match word {
+        "continue" => say(alloc, said, passage(alloc, player.continue_line())),
         "through" => say(alloc, said, passage(alloc, player.through())),
         "short" => say(alloc, said, passage_shortly(alloc, player.through())),
         "restart" => say(alloc, said, done(alloc, player.restart())),

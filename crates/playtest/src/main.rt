@@ -18,10 +18,11 @@ use std::alloc::Global;
 use std::process::ExitCode;
 
 /// The tables that are read where none are named.
-const TABLES: [&str; 20] = [
+const TABLES: [&str; 23] = [
     "boxes.txt",
     "players.txt",
     "players_large.txt",
+    "players_lines.txt",
     "players_objects.txt",
     "players_objects_large.txt",
     "players_short.txt",
@@ -36,6 +37,8 @@ const TABLES: [&str; 20] = [
     "sessions_games.txt",
     "sessions_large.txt",
     "sessions_limits.txt",
+    "sessions_lines.txt",
+    "sessions_lines_large.txt",
     "sessions_refused.txt",
     "sessions_saves.txt",
     "sessions_variables.txt",

@@ -2,12 +2,12 @@
 //! say. All but the first are of one player.
 //!
 //! - `opened`: `Player::open`, which hands back a story whose declarations fault
-//! - `through`: the passage's text, ` #TAG` for each tag, ` more` and ` loose`
+//! - `continue`, `through`: the passage's text, ` #TAG` for each tag, ` more` and ` loose`
 //! - `choices`: each text and its tags as a passage has them, apart by ` | `; `none` where there is none
 //! - `restart`, `can_continue`, `get NAME`, `set NAME VALUE`, `visits PATH`, `choose N`, `jump PATH`
 //! - `turn NAME DEED..`, `pure NAME DEED`, `watch NAME`, `unbind NAME`, `unwatch NAME`: what is handed back, or `nothing`. A deed
 //!   is a value, `refuses` or `short`, which finds no memory; a watcher does not with `watch NAME short`
-//! - `short CALL`: `through`, `restart` or `set`, of which want of memory is an answer, with the events until then
+//! - `short CALL`: `continue`, `through`, `restart` or `set`, of which want of memory is an answer, with the events until then
 //!
 //! A fault or a refusal is told by its name. Events stand behind an answer: `roll(6)=4@0` is a call and what it gave, `roll(6)!@0`
 //! one that was refused, and `gold:7@1` a new value that was told. What is handed back is told with what it noted. Where memory is
@@ -161,6 +161,7 @@ pub(crate) fn why_not(fault: &PlayFault) -> NoAnswer {
 fn said(alloc: Global, player: &mut TestPlayer, call: &str) -> Answer {
     let (word, rest) = first_word(call);
     match word {
+        "continue" => passage(alloc, player.continue_line()),
         "through" => passage(alloc, player.through()),
         "restart" => done(alloc, player.restart()),
         "can_continue" => text(
@@ -269,6 +270,7 @@ fn set(alloc: Global, player: &mut TestPlayer, rest: &str) -> Result<Outcome, No
 fn said_shortly(alloc: Global, player: &mut TestPlayer, call: &str) -> Answer {
     let (word, rest) = first_word(call);
     match word {
+        "continue" => passage_shortly(alloc, player.continue_line()),
         "through" => passage_shortly(alloc, player.through()),
         "restart" => done_shortly(alloc, player.restart()),
         "set" => done_shortly(alloc, set(alloc, player, rest)?),

@@ -26,10 +26,10 @@ use std::alloc::{AllocError, Global};
 /// The longest input that is also played by `open_story` with `run` and `serve`, and by few bytes at a time.
 const SHORT: usize = 65_536;
 
-/// What is answered where a command found no memory, but for `through`.
+/// What is answered where a command found no memory that does not run.
 const REFUSED: &str = r#"{"refused":"OutOfMemory"}"#;
 
-/// What is answered where `through` found no memory.
+/// What is answered where one that runs found no memory.
 const FAULT: &str = r#"{"events":[],"fault":"OutOfMemory"}"#;
 
 /// A session: what is read, what has to be written, and how the play has to end, which is nothing where it is served to its
