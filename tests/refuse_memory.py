@@ -363,9 +363,10 @@ def run_table(worker, table, shim, **env):
 
 
 def players_of(table):
-    """The lines of a table by players."""
+    """The lines of a table by players; where it names no stories, each line has a player of its own."""
     with open(table, encoding="utf-8") as it:
-        return [part.split("\n") for part in it.read().split("\n= ")[1:]]
+        text = it.read()
+    return [part.split("\n") for part in text.split("\n= ")[1:]] or [[line] for line in text.split("\n")]
 
 
 def are_excused(table, told):
