@@ -4,8 +4,8 @@
     tests/saves.py [PROGRAM]      the program is ./inkplay unless another is named
 
 Each story in the tables of crates/inktest/data and crates/playtest/data is played, a session by its own lines and any other
-story by some lines, turns and jumps, and saved before each line and at the end. Then each save is loaded and saved again, which has to
-give the same bytes, and played on by the line that came next, which has to be answered as it was.
+story by some lines, turns and jumps, and saved before each command and at the end. Then each save is loaded and saved again,
+which has to give the same bytes, and played on by the command that came next, which has to be answered as it was.
 
 Of four saves, one with calls and temporaries, one with threads and choices, one with counts, and one with texts on the stack and
 an open evaluation, each beginning is loaded, and each save that has one bit flipped or one byte doubled. What is no save has to
