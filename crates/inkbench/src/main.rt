@@ -247,9 +247,11 @@ fn saves_values(alloc: Global, story: &Story, save: &str, rounds: u32) -> bool {
         return false;
     };
     for _round in 0..rounds {
-        match write(alloc, story, &machine) {
-            Ok(Json::Object(members)) if !members.is_empty() => {}
-            _ => return false,
+        let Ok(json) = write(alloc, story, &machine) else {
+            return false;
+        };
+        if !json.is_object() {
+            return false;
         }
     }
     true
