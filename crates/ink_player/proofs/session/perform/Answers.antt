@@ -10,6 +10,8 @@ pub returns-in-Some-Continue-clause-does : goal.returns-in-Some-Continue-clause-
 returns-in-Some-Continue-clause-does g c =
     let does = c.continue_line.ensures.does in (
       does.0,
+      null,
+      tt,
       command_acts _ _ does.0 _ _ _ c.args.command (Some line.Continue) (c.in-Some-Continue.is ∙ ap (λ k. Some k) c.in-Some-Continue.field-0-is) does.1,
       dealt-once g.F.TurnFn.log g.O.Watcher.state _ (desk_of c.args.player.now) (desk_of c.continue_line.new.self) does.0 does.2,
     )
