@@ -18,13 +18,14 @@ use std::alloc::Global;
 use std::process::ExitCode;
 
 /// The tables that are read where none are named.
-const TABLES: [&str; 23] = [
+const TABLES: [&str; 24] = [
     "boxes.txt",
     "players.txt",
     "players_large.txt",
     "players_lines.txt",
     "players_objects.txt",
     "players_objects_large.txt",
+    "players_saves.txt",
     "players_short.txt",
     "sessions.txt",
     "sessions_calls.txt",

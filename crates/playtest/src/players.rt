@@ -5,9 +5,11 @@
 //! - `continue`, `through`: the passage's text, ` #TAG` for each tag, ` more` and ` loose`
 //! - `choices`: each text and its tags as a passage has them, apart by ` | `; `none` where there is none
 //! - `restart`, `can_continue`, `get NAME`, `set NAME VALUE`, `visits PATH`, `choose N`, `jump PATH`
+//! - `save`: the text of the save; `load JSON`
 //! - `turn NAME DEED..`, `pure NAME DEED`, `watch NAME`, `unbind NAME`, `unwatch NAME`: what is handed back, or `nothing`. A deed
 //!   is a value, `refuses` or `short`, which finds no memory; a watcher does not with `watch NAME short`
-//! - `short CALL`: `continue`, `through`, `restart` or `set`, of which want of memory is an answer, with the events until then
+//! - `short CALL`: `continue`, `through`, `restart`, `set` or `load`, of which want of memory is an answer, with the events until
+//!   then
 //!
 //! A fault or a refusal is told by its name. Events stand behind an answer: `roll(6)=4@0` is a call and what it gave, `roll(6)!@0`
 //! one that was refused, and `gold:7@1` a new value that was told. What is handed back is told with what it noted. Where memory is
@@ -23,6 +25,7 @@ use inkcases::{
     Answer, NoAnswer, Table, Tally, Verdict, compared, encode, expanded, first_line, first_word,
     given_of, is_comment, question_and_answer, show_given, show_value, shown_value, text, value_of,
 };
+use serde_json::Value as Json;
 use std::alloc::{AllocError, Global};
 
 /// A player with the objects of tables.
@@ -178,6 +181,8 @@ fn said(alloc: Global, player: &mut TestPlayer, call: &str) -> Answer {
         "choices" => choices(alloc, player),
         "choose" => choose(alloc, player, rest),
         "jump" => landed(alloc, player.jump(rest)),
+        "save" => saved(alloc, player),
+        "load" => done(alloc, load(alloc, player, rest)?),
         "turn" => bind_turn(alloc, player, rest),
         "pure" => bind_pure(alloc, player, rest),
         "watch" => watch(alloc, player, rest),
@@ -266,6 +271,19 @@ fn set(alloc: Global, player: &mut TestPlayer, rest: &str) -> Result<Outcome, No
     Ok(player.set(name, value))
 }
 
+fn saved(alloc: Global, player: &TestPlayer) -> Answer {
+    let save = player.save()?;
+    Ok(save.to_string(alloc)?)
+}
+
+fn load(alloc: Global, player: &mut TestPlayer, save: &str) -> Result<Outcome, NoAnswer> {
+    match Json::from_str(alloc, save) {
+        Ok(save) => Ok(player.load(&save)),
+        Err(why) if why.is_memory() => Err(NoAnswer::OutOfMemory),
+        Err(_) => Err(NoAnswer::NoQuestion),
+    }
+}
+
 /// What a call says that may find no memory, which is an answer here.
 fn said_shortly(alloc: Global, player: &mut TestPlayer, call: &str) -> Answer {
     let (word, rest) = first_word(call);
@@ -274,6 +292,7 @@ fn said_shortly(alloc: Global, player: &mut TestPlayer, call: &str) -> Answer {
         "through" => passage_shortly(alloc, player.through()),
         "restart" => done_shortly(alloc, player.restart()),
         "set" => done_shortly(alloc, set(alloc, player, rest)?),
+        "load" => done_shortly(alloc, load(alloc, player, rest)?),
         _ => Err(NoAnswer::NoQuestion),
     }
 }
