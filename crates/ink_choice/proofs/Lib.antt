@@ -3,3 +3,4 @@ pub mod Lists
 pub mod Depths
 pub mod Makings
 pub mod Nth
+pub mod Undoing

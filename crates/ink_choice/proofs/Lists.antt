@@ -1,12 +1,12 @@
 -- Lists of choices, seen one after another.
-use Rattle.std.proofs.Common.{◌≡◌, ◌≢◌, ◌∙◌, ℕ, zero, suc, ◌+◌, ◌<◌, ◌≤◌, Bool, true, false, not, ◌||◌, cond, if◌then◌else◌, List, [], ◌∷◌, ◌++◌, length, map, get_or, take, drop, Option, Some, None, Err, option_map, ap, sym, refl, append_assoc, add-one, arith, inl, inr}
+use Rattle.std.proofs.Common.{◌≡◌, ◌≢◌, ◌∙◌, ℕ, zero, suc, ◌+◌, ◌<◌, ◌≤◌, Bool, true, false, not, ◌||◌, cond, if◌then◌else◌, List, [], ◌∷◌, ◌++◌, length, map, get_or, take, drop, Option, Some, None, Ok, Err, option_map, ap, sym, refl, append_assoc, add-one, arith, inl, inr}
 use Rattle.std.specs.List.{filter, remove}
 use Rattle.std.proofs.lemmas.Bool.{cases_Bool, le-ltb, not-false, not-true}
 use Rattle.std.proofs.lemmas.List.{drop_more, take_more}
 use Rattle.ink_choice.specs.Words.{Adds, FindsIndex, Takes}
 use Rattle.ink_model.specs.Choices.{added, behind, none_visible, shown, shown_choice, taken, taken_of, visible}
 use Rattle.ink_model.specs.Configuration.{ChoiceOf}
-use Rattle.ink_model.specs.declared.fault.Fault.TheVariants.{TooDeep}
+use Rattle.ink_model.specs.declared.fault.Fault.TheVariants.{OutOfMemory, TooDeep}
 use Rattle.ink_model.specs.declared.limits.TheConstants.{MAX_CHOICES}
 use Rattle.ink_model.specs.declared.passage.Shown.{Shown}
 
@@ -82,7 +82,7 @@ module _ {P : Type 0} where
           ∙ ap (λ k. Some (get_or cs i d, take i cs ++ drop k cs)) (add-one i)
 
   pub took : (n i : ℕ) (cs new : List (ChoiceOf P)) (x : ChoiceOf P) (any : Bool) → any ≡ none_visible cs → FindsIndex (λ c. any || not c.hidden) n cs (Some i)
-      → x ≡ get_or cs i x → new ≡ remove cs i → Takes (taken n cs) cs new (Some x)
+      → x ≡ get_or cs i x → new ≡ remove cs i → Takes (taken n cs) cs new (Ok (Some x))
   took n i cs new x any same found is left =
       let taken_is : taken n cs ≡ Some (get_or cs i x, remove cs i) = ap (λ b. taken_of (λ c. b || not c.hidden) n cs) (sym same) ∙ found.1 x in
       rw taken_is (is, left)
@@ -129,3 +129,8 @@ module _ {P : Type 0} where
   -- there is no room for one more
   pub full : (c : ChoiceOf P) (cs : List (ChoiceOf P)) → MAX_CHOICES ≤ length cs → Adds (added c cs) cs cs (Err TooDeep)
   full c cs h = rw (le-ltb (length cs) MAX_CHOICES h) (refl, refl)
+
+  -- a call that is refused memory
+  pub took_nothing : (r : Option (ChoiceOf P × List (ChoiceOf P))) (cs new : List (ChoiceOf P)) → new ≡ cs → Takes r cs new (Err OutOfMemory)
+  took_nothing None cs new h = (refl, h)
+  took_nothing (Some r) cs new h = (refl, h)

@@ -1,3 +1,4 @@
 pub mod Choices
 pub mod Words
 pub mod Operands
+pub mod Undo

@@ -1,5 +1,5 @@
 -- What calls do, by what the rules give.
-use Rattle.std.specs.Prelude.{◌≡◌, ◌⊎◌, ℕ, ◌<◌, true, false, List, length, get_or, remove, reverse, drop, Bool, Option, Some, None, Result, Ok, Err}
+use Rattle.std.specs.Prelude.{◌≡◌, ◌⊎◌, ℕ, ◌<◌, true, false, List, length, get_or, remove, reverse, drop, Bool, ◌||◌, Option, Some, None, Result, Ok, Err}
 use Rattle.ink_model.specs.Bytes.{fits_text}
 use Rattle.ink_model.specs.Choices.{choice_asks, has_any, option_asks, taken_of}
 use Rattle.ink_model.specs.Configuration.{ChoiceOf}
@@ -19,12 +19,12 @@ module _ {P : Type 0} where
   Chooses c (Err f) = ((f ≡ TooDeep) × (fits_text c.text ≡ false)) ⊎ ((f ≡ OutOfMemory) × (fits_text c.text ≡ true) × (choice_asks c ≡ true))
 
   -- A call hands out what the rule makes and leaves the stack that it leaves, or gives the rule's fault. It may be refused
-  -- memory for a choice that asks for some. After an error nothing has changed.
-  abbrev pub Makes : Result (Option (ChoiceOf P) × List Value) Fault → List Value → List Value → Result (Option (ChoiceOf P)) Fault → Type 0
-  Makes (Ok r) old new (Ok made) = (made ≡ r.0) × (new ≡ r.1)
-  Makes (Ok r) old new (Err f) = (f ≡ OutOfMemory) × (option_asks r.0 ≡ true) × (new ≡ old)
-  Makes (Err g) old new (Ok made) = ⊥
-  Makes (Err g) old new (Err f) = (f ≡ g) × (new ≡ old)
+  -- memory for a choice that asks for some, and while the stack has a mark. After an error nothing has changed.
+  abbrev pub Makes : Bool → Result (Option (ChoiceOf P) × List Value) Fault → List Value → List Value → Result (Option (ChoiceOf P)) Fault → Type 0
+  Makes marked (Ok r) old new (Ok made) = (made ≡ r.0) × (new ≡ r.1)
+  Makes marked (Ok r) old new (Err f) = (f ≡ OutOfMemory) × (option_asks r.0 || marked ≡ true) × (new ≡ old)
+  Makes marked (Err g) old new (Ok made) = ⊥
+  Makes marked (Err g) old new (Err f) = (f ≡ g) × (new ≡ old)
 
   -- the same before anything is popped: how many of these values are to be, which are listed from the top down
   abbrev pub Finds : Result (Option (ChoiceOf P) × List Value) Fault → List Value → Result (Option (ChoiceOf P) × ℕ) Fault → Type 0
@@ -33,12 +33,14 @@ module _ {P : Type 0} where
   Finds (Err g) vs (Ok found) = ⊥
   Finds (Err g) vs (Err f) = f ≡ g
 
-  -- A call takes what the rule says out of a list, or leaves the list as it is.
-  abbrev pub Takes : Option (ChoiceOf P × List (ChoiceOf P)) → List (ChoiceOf P) → List (ChoiceOf P) → Option (ChoiceOf P) → Type 0
-  Takes (Some r) old new (Some c) = (c ≡ r.0) × (new ≡ r.1)
-  Takes (Some r) old new None = ⊥
-  Takes None old new (Some c) = ⊥
-  Takes None old new None = new ≡ old
+  -- A call takes what the rule says out of a list, or leaves the list as it is; it may be refused memory, and leaves it so too.
+  abbrev pub Takes : Option (ChoiceOf P × List (ChoiceOf P)) → List (ChoiceOf P) → List (ChoiceOf P) → Result (Option (ChoiceOf P)) Fault → Type 0
+  Takes (Some r) old new (Ok (Some c)) = (c ≡ r.0) × (new ≡ r.1)
+  Takes (Some r) old new (Ok None) = ⊥
+  Takes None old new (Ok (Some c)) = ⊥
+  Takes None old new (Ok None) = new ≡ old
+  Takes (Some r) old new (Err f) = (f ≡ OutOfMemory) × (new ≡ old)
+  Takes None old new (Err f) = (f ≡ OutOfMemory) × (new ≡ old)
 
   -- the index of what is to be taken
   abbrev pub FindsIndex : (ChoiceOf P → Bool) → ℕ → List (ChoiceOf P) → Option ℕ → Type 0

@@ -1,41 +1,52 @@
 //! The choices that are offered.
 
-ghost use Rattle.std.specs.Prelude.{◌≡◌, ◌≢◌, ◌≤◌, ◌||◌, [], not, length, map, option_map, slice_get, IfOk, OnErr};
+ghost use Rattle.std.specs.Prelude.{◌≡◌, ◌≢◌, ◌≤◌, ◌<◌, ◌||◌, [], None, not, length, map, option_map, remove, slice_get, slice_index_or, IfOk, IsSome, OnOk, OnErr};
 ghost use Rattle.ink_model.specs.declared.limits.TheConstants.{MAX_CHOICES};
+ghost use Rattle.ink_choice.specs.Undo.{choices_back};
 ghost use Rattle.ink_choice.specs.Words.{Adds, FindsIndex, Takes};
 ghost use Rattle.ink_model.specs.Choices as rules;
 ghost use Rattle.ink_model.specs.Configuration.{unnumbered_choice};
+ghost use Rattle.ink_trail.specs.Undo.{Begins, Ends, HasRoom, KeepsTrail, Trails, TrailsOrKeeps, stood, trail_of, writes_of};
 
 use crate::choice::{Choice, copied_tags, copied_text};
+use crate::undo::{ChoicePair, put_back};
 use ink_model::{Fault, MAX_CHOICES, Seq, Shown};
+use ink_trail::Trail;
 use std::alloc::{AllocError, Global};
 use std::marker::Model;
+use std::mem;
 
-/// Choices, the invisible ones among them, in the order in which they were made: 1,000 at the most. A contract sees the list.
+/// Choices, the invisible ones among them, in the order in which they were made: 1,000 at the most; and while a mark stands the
+/// trail of what they were. A contract sees the list and the trail.
 #[derive(Drop)]
 pub struct Choices<P> {
     pub(crate) items: Vec<Choice<P>>,
+    pub(crate) trail: Trail<ChoicePair<P>>,
 }
 
 impl<P> Model for Choices<P> {
-    ghost use Rattle.std.specs.Prelude.{◌≤◌, length};
+    ghost use Rattle.std.specs.Prelude.{◌≤◌, length, vec_capacity};
     ghost use Rattle.ink_choice.specs.Choices.{ChoicesView};
+    ghost use Rattle.ink_choice.specs.Undo.{StaysHeld};
     ghost use Rattle.ink_model.specs.declared.limits.TheConstants.{MAX_CHOICES};
+    ghost use Rattle.ink_trail.specs.Undo.{trail_of};
 
     ghost Value = { ChoicesView P };
 
-    ghost view = { λ c. record { items = c.items.items } };
+    ghost view = { λ c. record { items = c.items.items; trail = c.trail } };
 
-    ghost invariant = { λ c. length c.items.items ≤ MAX_CHOICES };
+    ghost invariant = { λ c. (length c.items.items ≤ MAX_CHOICES) × StaysHeld (vec_capacity c.items) (trail_of c.trail.undo) c.items.items };
 }
 
 impl<P: Copy> Choices<P> {
     /// No choices, which take no memory.
     pub fn new(alloc: Global) -> Choices<P>
-        ensures { result.items ≡ [] }
+        ensures items { result.items ≡ [] }
+        ensures undo { result.trail.undo ≡ None }
     {
         Choices {
             items: Vec::new(alloc),
+            trail: Trail::new(alloc),
         }
     }
 
@@ -43,9 +54,11 @@ impl<P: Copy> Choices<P> {
     pub fn clone_in(&self, alloc: Global) -> Result<Choices<P>, AllocError>
         ensures copy { IfOk result (λ copy. copy.items ≡ self.now.items) }
         ensures memory { OnErr result (self.now.items ≢ []) }
+        ensures undo { IfOk result (λ copy. copy.trail.undo ≡ None) }
     {
         let items = copied_choices(alloc, self.items.as_slice())?;
-        Ok(Choices { items })
+        let trail = Trail::new(alloc);
+        Ok(Choices { items, trail })
     }
 
     /// How many there are, the invisible ones counted: 1,000 at the most. Takes no memory.
@@ -56,18 +69,19 @@ impl<P: Copy> Choices<P> {
         self.items.len()
     }
 
-    /// Adds a choice behind the others. `TooDeep` where there are 1,000; `OutOfMemory` for a refused request for memory. On an
-    /// error nothing has changed (docs/CHOICES.md, "The list").
+    /// Adds a choice behind the others, which is one change of a cell. `TooDeep` where there are 1,000; `OutOfMemory` for a refused
+    /// request for memory. On an error nothing has changed (docs/CHOICES.md, "The list").
     #[tactic(auto, using(crate::proofs::Lists::full))]
     pub fn add(&mut self, choice: Choice<P>) -> Result<(), Fault>
-        ensures { Adds (rules.added choice self.old.items) self.old.items self.new.items result }
+        ensures items { Adds (rules.added choice self.old.items) self.old.items self.new.items result }
+        ensures trail { TrailsOrKeeps choices_back 1 self.old.items self.old.trail self.new.items self.new.trail result }
     {
         if self.len() >= MAX_CHOICES {
             return Err(Fault::TooDeep);
         }
-        if self.items.push(choice).is_err() {
-            return Err(Fault::OutOfMemory);
-        }
+        self.items.reserve(1)?;
+        self.trail.add(ChoicePair::Added, 1)?;
+        self.items.push_reserved(choice);
         Ok(())
     }
 
@@ -113,31 +127,128 @@ impl<P: Copy> Choices<P> {
         }
     }
 
-    /// Takes a choice out of the list: the n-th visible one, counted from 0, or where none is visible the n-th. None where there
-    /// is no such choice, and then nothing has changed. Takes no memory (docs/CHOICES.md, "Taking a choice").
-    pub fn take(&mut self, number: usize) -> Option<Choice<P>>
-        ensures { Takes (rules.taken number self.old.items) self.old.items self.new.items result }
+    /// Takes a choice out of the list, which is one change of a cell: the n-th visible one, counted from 0, or where none is visible
+    /// the n-th. None where there is no such choice, and then nothing has changed. While a mark stands it hands out a copy, and then
+    /// alone there is an error, `OutOfMemory` for a refused request for memory; nothing has changed then (docs/CHOICES.md, "Taking a
+    /// choice").
+    pub fn take(&mut self, number: usize) -> Result<Option<Choice<P>>, Fault>
+        ensures items { Takes (rules.taken number self.old.items) self.old.items self.new.items result }
+        ensures memory { OnErr result (IsSome self.old.trail.undo) }
+        ensures trail { TrailsOrKeeps choices_back 1 self.old.items self.old.trail self.new.items self.new.trail result }
     {
         let any = none_visible(self.items.as_slice());
         match index_of(self.items.as_slice(), number, any) {
-            Some(index) => Some(self.items.remove(index)),
-            None => None,
+            Some(index) => match self.take_at(index) {
+                Ok(choice) => Ok(Some(choice)),
+                Err(_) => Err(Fault::OutOfMemory),
+            },
+            None => Ok(None),
         }
     }
 
-    /// No frame of the choices' threads has the number of its mark any more. Takes no memory.
+    // Takes the choice at an index out of the list. The one error is a refused request for memory, while a mark stands.
+    fn take_at(&mut self, index: usize) -> Result<Choice<P>, AllocError>
+        requires { index < length self.old.items }
+        ensures choice { IfOk result (λ choice. choice ≡ slice_index_or self.old.items index choice) }
+        ensures items { OnOk result (self.new.items ≡ remove self.old.items index) }
+        ensures memory { OnErr result (IsSome self.old.trail.undo) }
+        ensures trail { TrailsOrKeeps choices_back 1 self.old.items self.old.trail self.new.items self.new.trail result }
+    {
+        if self.trail.is_marked() {
+            let copy = self.items[index].clone_in(*self.items.allocator())?;
+            self.trail.ready(1)?;
+            let choice = self.items.remove(index);
+            self.trail.note(ChoicePair::Taken(index, choice), 1);
+            return Ok(copy);
+        }
+        Ok(self.items.remove(index))
+    }
+
+    /// No frame of the choices' threads has the number of its mark any more. No mark may stand. Takes no memory.
     pub fn clear_numbers(&mut self)
-        ensures { self.new.items ≡ map unnumbered_choice self.old.items }
+        requires unmarked { self.old.trail.undo ≡ None }
+        ensures items { self.new.items ≡ map unnumbered_choice self.old.items }
+        ensures trail { KeepsTrail self.old.trail self.new.trail }
     {
         clear_numbers_of(self.items.as_mut_slice());
     }
 
-    /// All choices go. Takes no memory.
+    /// All choices go, which is one change of a cell. Takes no memory.
     pub fn clear(&mut self)
-        ensures { self.new.items ≡ [] }
+        requires room { HasRoom 1 self.old.trail }
+        ensures items { self.new.items ≡ [] }
+        ensures trail { Trails choices_back 1 self.old.items self.old.trail self.new.items self.new.trail }
     {
-        self.items.clear();
+        if self.trail.is_marked() {
+            let cleared = taken_whole(&mut self.items);
+            self.trail.note(ChoicePair::Cleared(cleared), 1);
+        } else {
+            self.items.clear();
+        }
     }
+
+    /// Starts a mark with an empty trail, and forgets an older one. Takes no memory.
+    pub fn mark(&mut self)
+        ensures items { self.new.items ≡ self.old.items }
+        ensures trail { Begins self.old.trail self.new.trail }
+    {
+        self.trail.mark();
+    }
+
+    /// How many changes of single cells there were since the mark, which stays at 2^64 - 1; 0 without one.
+    pub fn writes(&self) -> u64
+        ensures { result ≡ writes_of self.now.trail.undo }
+    {
+        self.trail.writes()
+    }
+
+    /// Puts the choices back as they stood at the mark, ends the mark, and answers how many pairs there were. Without a mark it
+    /// changes nothing, and answers 0. Takes no memory.
+    pub fn back(&mut self) -> u64
+        ensures items { self.new.items ≡ stood choices_back self.old.trail self.old.items }
+        ensures trail { Ends self.old.trail self.new.trail }
+        ensures len { result ≡ length (trail_of self.old.trail.undo) }
+        ensures writes { result ≤ writes_of self.old.trail.undo }
+    {
+        let count = put_back(&mut self.items, &mut self.trail);
+        self.trail.forget();
+        count
+    }
+
+    /// Ends the mark, and changes nothing else. Takes no memory.
+    pub fn forget(&mut self)
+        ensures items { self.new.items ≡ self.old.items }
+        ensures trail { Ends self.old.trail self.new.trail }
+    {
+        self.trail.forget();
+    }
+
+    /// Makes room for so many changes to be noted without memory. The one error is a refused request for memory, and leaves all as
+    /// it was.
+    pub fn make_room(&mut self, count: usize) -> Result<(), AllocError>
+        ensures items { self.new.items ≡ self.old.items }
+        ensures kept { KeepsTrail self.old.trail self.new.trail }
+        ensures ok { OnOk result (count ≤ self.new.trail.room) }
+        ensures memory { OnErr result (self.old.trail.room < count) }
+    {
+        self.trail.make_room(count)
+    }
+
+    /// How many changes can be noted without memory.
+    pub fn room(&self) -> usize
+        ensures { result ≡ self.now.trail.room }
+    {
+        self.trail.room()
+    }
+}
+
+// Takes the whole list, and leaves an empty one.
+fn taken_whole<P: Copy>(items: &mut Vec<Choice<P>>) -> Vec<Choice<P>>
+    ensures whole { result ≡ items.old }
+    ensures empty { items.new.items ≡ [] }
+{
+    let empty = Vec::new(*items.allocator());
+    mem::replace(items, empty)
 }
 
 // Copies of choices. The one error is a refused request for memory.

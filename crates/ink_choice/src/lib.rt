@@ -7,7 +7,9 @@ mod making;
 mod operands;
 mod saving;
 mod texts;
+mod undo;
 
 pub use choice::Choice;
 pub use choices::Choices;
 pub use making::make;
+pub use undo::ChoicePair;

@@ -1,10 +1,12 @@
 //! What a choice point makes (docs/CHOICES.md, "What is made").
 
-ghost use Rattle.std.specs.Prelude.{◌≡◌, true, reverse, IfOk, OnErr};
+ghost use Rattle.std.specs.Prelude.{◌≡◌, ◌-◌, is_some, length, true, reverse, IfOk, OnErr};
 ghost use Rattle.ink_choice.specs.Operands.{operands_of};
 ghost use Rattle.ink_choice.specs.Words.{Chooses, Finds, Makes};
 ghost use Rattle.ink_model.specs.Choices as rules;
 ghost use Rattle.ink_model.specs.Choices.{choice_tags, has_any};
+ghost use Rattle.ink_trail.specs.Undo.{TrailsOrKeeps};
+ghost use Rattle.ink_value.specs.Undo.{stack_back};
 
 use crate::choice::Choice;
 use crate::operands::{Operands, find_operands, pop_all, push_tags};
@@ -22,7 +24,8 @@ use std::alloc::{AllocError, Global};
 /// `StackEmpty` where a value is missing; `BadOperands` for a condition that is neither true nor false, and for a value that is no
 /// text in the place of one, in the order in which they are popped; `TooDeep` where the text of a choice that is made is longer
 /// than a text may be; `OutOfMemory` for a refused request for memory, which is made only for a choice: for a text that is not
-/// empty, for tags, and for a thread with temporaries or more than one frame. On an error nothing has changed.
+/// empty, for tags, and for a thread with temporaries or more than one frame, and while the stack has a mark. Each value that is
+/// popped is a change of a cell of the stack. On an error nothing has changed.
 pub fn make<P: Copy>(
     alloc: Global,
     flags: u8,
@@ -31,13 +34,14 @@ pub fn make<P: Copy>(
     visited: bool,
     threads: &Threads<P>,
 ) -> Result<Option<Choice<P>>, Fault>
-    ensures { Makes (rules.make flags target visited threads.now.threads.thread stack.old.items) stack.old.items stack.new.items result }
+    ensures made { Makes (is_some stack.old.trail.undo) (rules.make flags target visited threads.now.threads.thread stack.old.items) stack.old.items stack.new.items result }
+    ensures trail { TrailsOrKeeps stack_back (length stack.old.items - length stack.new.items) stack.old.items stack.old.trail stack.new.items stack.new.trail result }
 {
     match found(alloc, flags, target, stack, visited, threads) {
-        Ok((choice, count)) => {
-            pop_all(stack, count);
-            Ok(choice)
-        }
+        Ok((choice, count)) => match pop_all(stack, count) {
+            Ok(()) => Ok(choice),
+            Err(_) => Err(Fault::OutOfMemory),
+        },
         Err(fault) => Err(fault),
     }
 }

@@ -6,6 +6,7 @@ ghost use Rattle.ink_model.specs.declared.limits.TheConstants.{MAX_CHOICES};
 use crate::choice::Choice;
 use crate::choices::Choices;
 use ink_model::MAX_CHOICES;
+use ink_trail::Trail;
 
 impl<P: Copy> Choices<P> {
     /// Takes choices, in the order in which they were made; none where there are more than 1,000. Takes no memory.
@@ -14,7 +15,8 @@ impl<P: Copy> Choices<P> {
             ≡ (if nat_le (length items.items) MAX_CHOICES then Some items.items else None) }
     {
         if items.len() <= MAX_CHOICES {
-            Some(Choices { items })
+            let trail = Trail::new(*items.allocator());
+            Some(Choices { items, trail })
         } else {
             None
         }

@@ -3,3 +3,4 @@ pub mod Lengths
 pub mod Standing
 pub mod Tops
 pub mod SameValues
+pub mod Undoing

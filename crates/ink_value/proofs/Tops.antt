@@ -15,7 +15,7 @@ use Rattle.ink_model.specs.declared.operator.Op.{Op}
 use Rattle.ink_model.specs.declared.operator.Op.TheVariants as op
 use Rattle.ink_model.specs.declared.value.Value.{Value}
 
-top_of : (vs : List Value) (v : Value) → popped (vs ++ v ∷ []) ≡ Some (v, vs)
+pub top_of : (vs : List Value) (v : Value) → popped (vs ++ v ∷ []) ≡ Some (v, vs)
 top_of [] v = refl
 top_of (w ∷ []) v = refl
 top_of (w ∷ x ∷ vs) v = ap (option_map (λ r. (r.0, w ∷ r.1))) (top_of (x ∷ vs) v)
@@ -50,38 +50,6 @@ taken_short (suc n) (w ∷ ws) above h =
     let few : length r.0 < n = omega (arith, r.3) in
     subst (λ xs. taken (suc n) xs above ≡ None) (sym r.2)
     (ap (option_and_then (λ t. taken n t.1 (t.0 ∷ above))) (top_of r.0 r.1) ∙ taken_short n r.0 (r.1 ∷ above) few)
-
--- ---- what an operator makes stands where its first operand stood
-
--- one operand is left
-abbrev pub LeavesOne : List Value → ℕ → List Value → Type 0
-LeavesOne vs below us = (length us ≡ suc below) × (take below us ≡ take below vs)
-
-pub left_by : (vs us : List Value) (below : ℕ) (v : Value) → LeavesOne vs below us → slice_set us below v ≡ take below vs ++ v ∷ []
-left_by vs us below v one =
-    let within : length (slice_set us below v) ≤ suc below = rw (length-set us below v) (omega (arith, one.0)) in
-    sym (take_all (suc below) (slice_set us below v) within) ∙ take-suc-set us below v (omega (arith, one.0)) ∙ ap (λ xs. xs ++ v ∷ []) one.1
-
-takes_few : (o : Op) → (takes o ≡ 1) ⊎ (takes o ≡ 2)
-takes_few op.Negate = inl refl
-takes_few op.Not = inl refl
-takes_few op.Floor = inl refl
-takes_few op.Ceiling = inl refl
-takes_few op.Int = inl refl
-takes_few o = inr refl
-
-pub leaves_it : (o : Op) (vs : List Value) (below : ℕ) → length vs ≡ below + takes o → length vs ≤ below + 1 → LeavesOne vs below vs
-leaves_it o vs below enough few = (elim (takes_few o) [ inl one ↦ omega (arith, one) | inr two ↦ omega (arith, two) ], refl)
-
-pub leaves_first : (o : Op) (vs us : List Value) (below : ℕ) → length vs ≡ below + takes o → below + 1 < length vs → us ≡ take (length vs - 1) vs → LeavesOne vs below us
-leaves_first o vs us below enough more is =
-    let two : length vs - 1 ≡ suc below = elim (takes_few o) [ inl one ↦ absurd (omega (arith, enough, more, one)) | inr two ↦ omega (arith, enough, two) ] in
-    let n = length vs - 1 in
-    let all : length (take n vs) ≡ n = length-take-le n vs (omega arith) in
-    let within : below ≤ length (take n vs) = omega (arith, all, two) in
-    let first : take below (take n vs) ≡ take below vs =
-    sym (take-append-le below (take n vs) (drop n vs) within) ∙ ap (take below) (take-append-drop n vs) in
-    (ap length is ∙ all ∙ two, ap (take below) is ∙ first)
 
 -- ---- an operator on the values on top
 
@@ -118,18 +86,19 @@ module _ (o : Op) (vs : List Value) (below : ℕ) (enough : length vs ≡ below 
   pub asks : makes_text o (take (length xs - below) (drop below xs)) ≢ false → operator_asks o (taken (takes o) vs []) ≡ true
   asks h = ap (operator_asks o) operands ∙ true_from_ne_false _ h
 
--- ---- another value in the place of the one on top
+-- as many as an operator takes at the least and at the most
+pub takes_some : (o : Op) → 0 < takes o
+takes_some op.Negate = omega arith
+takes_some op.Not = omega arith
+takes_some op.Floor = omega arith
+takes_some op.Ceiling = omega arith
+takes_some op.Int = omega arith
+takes_some o = omega arith
 
-with_top_under : (w v : Value) (r : Option (Value × List Value)) → with_top v (option_map (λ t. (t.0, w ∷ t.1)) r) ≡ option_map (λ us. w ∷ us) (with_top v r)
-with_top_under w v None = refl
-with_top_under w v (Some t) = refl
-
-pub top_set : (vs : List Value) (n : ℕ) (v : Value) → length vs ≡ suc n → Some (slice_set vs n v) ≡ with_top v (popped vs)
-top_set [] n v h = absurd (cc)
-top_set (w ∷ []) zero v h = refl
-top_set (w ∷ []) (suc n) v h = absurd (omega arith)
-top_set (w ∷ x ∷ vs) zero v h = absurd (omega arith)
-top_set (w ∷ x ∷ vs) (suc n) v h = ap (option_map (λ us. w ∷ us)) (top_set (x ∷ vs) n v (omega arith)) ∙ sym (with_top_under w v (popped (x ∷ vs)))
-
-pub last_set : (vs : List Value) (v : Value) → 0 < length vs → Some (slice_set vs (length vs - 1) v) ≡ with_top v (popped vs)
-last_set vs v h = top_set vs (length vs - 1) v (omega arith)
+pub takes_two : (o : Op) → takes o ≤ 2
+takes_two op.Negate = omega arith
+takes_two op.Not = omega arith
+takes_two op.Floor = omega arith
+takes_two op.Ceiling = omega arith
+takes_two op.Int = omega arith
+takes_two o = omega arith

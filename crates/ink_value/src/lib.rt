@@ -11,9 +11,11 @@ mod stack;
 mod targets;
 mod texts;
 mod truth;
+mod undo;
 
 pub use operate::apply;
 pub use printing::printed;
 pub use same::same_value;
 pub use stack::EvalStack;
 pub use truth::is_true;
+pub use undo::StackPair;

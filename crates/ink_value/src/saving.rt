@@ -5,6 +5,7 @@ ghost use Rattle.ink_model.specs.declared.limits.TheConstants.{MAX_STACK};
 
 use crate::stack::EvalStack;
 use ink_model::{MAX_STACK, Value};
+use ink_trail::Trail;
 
 impl EvalStack {
     /// Takes values, the bottom one first; none where there are more than 10,000. Takes no memory.
@@ -13,7 +14,8 @@ impl EvalStack {
             ≡ (if nat_le (length items.items) MAX_STACK then Some items.items else None) }
     {
         if items.len() <= MAX_STACK {
-            Some(EvalStack { items })
+            let trail = Trail::new(*items.allocator());
+            Some(EvalStack { items, trail })
         } else {
             None
         }

@@ -1,43 +1,53 @@
 //! The evaluation stack.
 
-ghost use Rattle.std.specs.Prelude.{◌≡◌, ◌≢◌, ◌<◌, ◌≤◌, vec_len, vec_capacity, ◌↔◌, ◌⊎◌, [], ◌∷◌, ◌++◌, true, Some, None, length, option_map, reverse, slice_get, take, ◌-◌, OnOk, OnErr, IfOk, IfErr, MatchResult};
+ghost use Rattle.std.specs.Prelude.{◌≡◌, ◌≢◌, ◌<◌, ◌≤◌, vec_len, vec_capacity, ◌↔◌, ◌⊎◌, [], ◌∷◌, ◌++◌, ◌+◌, true, Some, None, length, option_map, reverse, slice_get, take, ◌-◌, OnOk, OnErr, IfOk, IfErr, IsSome, MatchResult};
 ghost use Rattle.ink_model.specs.Asks.{operator_asks};
 ghost use Rattle.ink_model.specs.Memory.{Leaves};
 ghost use Rattle.ink_model.specs.Operator as rules;
 ghost use Rattle.ink_model.specs.Stack.{applied, popped, taken};
 ghost use Rattle.ink_model.specs.Step.Host.{arguments_on};
+ghost use Rattle.ink_trail.specs.Undo.{Begins, Ends, HasRoom, KeepsTrail, LacksRoom, Trails, TrailsOrKeeps, stood, trail_of, writes_of};
 ghost use Rattle.ink_value.specs.Stack.{with_top};
+ghost use Rattle.ink_value.specs.Undo.{stack_back};
 
 use crate::operate::apply;
+use crate::undo::{StackPair, drop_noted, put_back};
 use ink_model::{Fault, MAX_STACK, Op, Value};
+use ink_trail::Trail;
 use std::alloc::{AllocError, Global};
 use std::marker::Model;
 
-/// The values that are being evaluated. A contract sees them from the bottom up.
+/// The values that are being evaluated, and while a mark stands the trail of what they were. A contract sees the values from the
+/// bottom up.
 #[derive(Drop)]
 pub struct EvalStack {
     pub(crate) items: Vec<Value>,
+    pub(crate) trail: Trail<StackPair>,
 }
 
 impl Model for EvalStack {
-    ghost use Rattle.std.specs.Prelude.{◌≤◌, vec_len};
-    ghost use Rattle.ink_value.specs.Stack.{Stack};
+    ghost use Rattle.std.specs.Prelude.{◌≤◌, vec_capacity, vec_len};
     ghost use Rattle.ink_model.specs.declared.limits.TheConstants.{MAX_STACK};
+    ghost use Rattle.ink_value.specs.Stack.{Stack};
+    ghost use Rattle.ink_trail.specs.Undo.{trail_of};
+    ghost use Rattle.ink_value.specs.Undo.{StaysHeld};
 
     ghost Value = { Stack };
 
-    ghost view = { λ s. record { items = s.items.items } };
+    ghost view = { λ s. record { items = s.items.items; trail = s.trail } };
 
-    ghost invariant = { λ s. vec_len s.items ≤ MAX_STACK };
+    ghost invariant = { λ s. (vec_len s.items ≤ MAX_STACK) × StaysHeld (vec_capacity s.items) (trail_of s.trail.undo) s.items.items };
 }
 
 impl EvalStack {
     /// An empty stack, which takes no memory.
     pub fn new(alloc: Global) -> EvalStack
-        ensures { result.items ≡ [] }
+        ensures items { result.items ≡ [] }
+        ensures undo { result.trail.undo ≡ None }
     {
         EvalStack {
             items: Vec::new(alloc),
+            trail: Trail::new(alloc),
         }
     }
 
@@ -45,17 +55,19 @@ impl EvalStack {
     pub fn clone_in(&self, alloc: Global) -> Result<EvalStack, AllocError>
         ensures copy { IfOk result (λ copy. copy.items ≡ self.now.items) }
         ensures memory { OnErr result (self.now.items ≢ []) }
+        ensures undo { IfOk result (λ copy. copy.trail.undo ≡ None) }
     {
         let mut items = Vec::new(alloc);
         for value in &self.items {
             let copy = value.clone_in(alloc)?;
             items.push(copy)?;
         }
-        Ok(EvalStack { items })
+        let trail = Trail::new(alloc);
+        Ok(EvalStack { items, trail })
     }
 
-    /// Puts a value on top. `TooDeep` where 10,000 values are there; `OutOfMemory` for a refused request for memory. On an
-    /// error nothing has changed.
+    /// Puts a value on top, which is one change of a cell. `TooDeep` where 10,000 values are there; `OutOfMemory` for a refused
+    /// request for memory. On an error nothing has changed.
     #[inline(always)]
     pub fn push(&mut self, value: Value) -> Result<(), Fault>
         ensures ok { OnOk result (self.new.items ≡ self.old.items ++ value ∷ []) }
@@ -63,44 +75,73 @@ impl EvalStack {
         ensures too_deep { (result ≡ Err Fault.TooDeep) ↔ (length self.old.items ≡ MAX_STACK) }
         ensures faults { IfErr result (λ f. (f ≡ Fault.TooDeep) ⊎ (f ≡ Fault.OutOfMemory)) }
         ensures within { length self.new.items ≤ MAX_STACK }
+        ensures trail { TrailsOrKeeps stack_back 1 self.old.items self.old.trail self.new.items self.new.trail result }
     {
         if self.items.len() >= MAX_STACK {
             return Err(Fault::TooDeep);
         }
-        if self.items.len() == self.items.capacity() {
-            make_room(&mut self.items)?;
-        }
+        make_room(&mut self.items)?;
+        self.trail.add(StackPair::Pushed, 1)?;
         self.items.push_reserved(value);
         Ok(())
     }
 
-    /// Takes the value on top. `StackEmpty` where there is none, and then nothing has changed.
+    /// Takes the value on top, which is one change of a cell. `StackEmpty` where there is none. While a mark stands it hands out a
+    /// copy, and then alone `OutOfMemory` is for a count of owners that is full, or a refused request for memory. On an error
+    /// nothing has changed.
     pub fn pop(&mut self) -> Result<Value, Fault>
         ensures items { IfOk result (λ value. self.old.items ≡ self.new.items ++ value ∷ []) }
         ensures err { OnErr result (self.new.items ≡ self.old.items) }
         ensures empty { (result ≡ Err Fault.StackEmpty) ↔ (self.old.items ≡ []) }
         ensures faults { IfErr result (λ f. (f ≡ Fault.StackEmpty) ⊎ (f ≡ Fault.OutOfMemory)) }
-        ensures memory { result ≢ Err Fault.OutOfMemory }
+        ensures memory { result ≡ Err Fault.OutOfMemory → IsSome self.old.trail.undo }
+        ensures trail { TrailsOrKeeps stack_back 1 self.old.items self.old.trail self.new.items self.new.trail result }
     {
+        if self.trail.is_marked() {
+            return self.pop_marked();
+        }
         self.items.pop().ok_or(Fault::StackEmpty)
     }
 
-    /// Puts a value in the place of the one on top, without memory. Where there is none nothing has changed, and the value is
-    /// handed back.
+    // As `pop`, while a mark stands.
+    #[cold]
+    #[inline(never)]
+    fn pop_marked(&mut self) -> Result<Value, Fault>
+        ensures items { IfOk result (λ value. self.old.items ≡ self.new.items ++ value ∷ []) }
+        ensures err { OnErr result (self.new.items ≡ self.old.items) }
+        ensures empty { (result ≡ Err Fault.StackEmpty) ↔ (self.old.items ≡ []) }
+        ensures faults { IfErr result (λ f. (f ≡ Fault.StackEmpty) ⊎ (f ≡ Fault.OutOfMemory)) }
+        ensures trail { TrailsOrKeeps stack_back 1 self.old.items self.old.trail self.new.items self.new.trail result }
+    {
+        let Some(top) = self.items.last() else {
+            return Err(Fault::StackEmpty);
+        };
+        let copy = top.clone_in(*self.items.allocator())?;
+        self.trail.ready(1)?;
+        let Some(value) = self.items.pop() else {
+            return Err(Fault::StackEmpty);
+        };
+        self.trail.note(StackPair::Popped(value), 1);
+        Ok(copy)
+    }
+
+    /// Puts a value in the place of the one on top, which is one change of a cell, without memory. Where there is none nothing has
+    /// changed, and the value is handed back.
     pub fn replace_top(&mut self, value: Value) -> Result<(), Value>
+        requires room { HasRoom 1 self.old.trail }
         ensures ok { OnOk result (Some self.new.items ≡ with_top value (popped self.old.items)) }
         ensures err { OnErr result (popped self.old.items ≡ None) }
         ensures kept { OnErr result (self.new.items ≡ self.old.items) }
         ensures handed_back { IfErr result (λ handed_back. handed_back ≡ value) }
         ensures within { length self.new.items ≤ MAX_STACK }
+        ensures trail { TrailsOrKeeps stack_back 1 self.old.items self.old.trail self.new.items self.new.trail result }
     {
-        match self.items.last_mut() {
-            Some(top) => {
-                *top = value;
-                Ok(())
-            }
-            None => Err(value),
-        }
+        let Some(before) = self.items.pop() else {
+            return Err(value);
+        };
+        self.trail.note(StackPair::Replaced(before), 1);
+        self.items.push_reserved(value);
+        Ok(())
     }
 
     /// The value that lies so deep: 0 is the top. `StackEmpty` where there is none so deep.
@@ -122,43 +163,87 @@ impl EvalStack {
         Some(&self.items[below..])
     }
 
-    /// Takes away the values on top, so many of them. Takes no memory.
+    /// Takes away the values on top, so many of them, each of which is a change of a cell. Takes no memory.
     pub fn drop_top(&mut self, count: usize)
-        requires { count ≤ length self.old.items }
-        ensures { option_map (λ arguments. arguments.1) (arguments_on count self.old.items) ≡ Some self.new.items }
+        requires there { count ≤ length self.old.items }
+        requires room { HasRoom count self.old.trail }
+        ensures items { option_map (λ arguments. arguments.1) (arguments_on count self.old.items) ≡ Some self.new.items }
+        ensures trail { Trails stack_back count self.old.items self.old.trail self.new.items self.new.trail }
     {
-        self.items.truncate(self.items.len() - count);
+        if self.trail.is_marked() {
+            drop_noted(&mut self.items, &mut self.trail, count);
+        } else {
+            self.items.truncate(self.items.len() - count);
+        }
     }
 
-    /// Puts what an operator makes of the values on top in their place (docs/VALUES.md, "Operators"). `StackEmpty` where there
-    /// are not as many as it takes, else the faults of `apply`: `OutOfMemory` only where it makes a text of them. On an error
-    /// nothing has changed.
+    /// Puts what an operator makes of the values on top in their place (docs/VALUES.md, "Operators"), which is two changes of
+    /// cells. `StackEmpty` where there are not as many as it takes, else the faults of `apply`: `OutOfMemory` only where it makes
+    /// a text of them, and for a refused request for memory while a mark stands. On an error nothing has changed.
     pub fn apply_top(&mut self, alloc: Global, operator: Op) -> Result<(), Fault>
         ensures stack { Leaves (applied operator self.old.items) self.old.items self.new.items result }
-        ensures memory { result ≡ Err Fault.OutOfMemory → operator_asks operator (taken (rules.takes operator) self.old.items []) ≡ true }
+        ensures memory { result ≡ Err Fault.OutOfMemory → (operator_asks operator (taken (rules.takes operator) self.old.items []) ≡ true) ⊎ LacksRoom 2 self.old.trail }
+        ensures trail { TrailsOrKeeps stack_back 2 self.old.items self.old.trail self.new.items self.new.trail result }
     {
         let Some(below) = self.items.len().checked_sub(takes(operator)) else {
             return Err(Fault::StackEmpty);
         };
         match apply(alloc, operator, &self.items[below..]) {
             Ok(value) => {
-                if below + 1 < self.items.len() {
-                    self.drop_one();
+                if self.trail.ready(2).is_err() {
+                    return Err(Fault::OutOfMemory);
                 }
-                self.items[below] = value;
+                self.leave(below, value);
                 Ok(())
             }
             Err(fault) => Err(fault),
         }
     }
 
+    // A value stands for the one or two on top, from an index on.
+    #[inline(always)]
+    fn leave(&mut self, below: usize, value: Value)
+        requires there { below < length self.old.items }
+        requires few { length self.old.items ≤ below + 2 }
+        requires room { HasRoom 2 self.old.trail }
+        ensures items { self.new.items ≡ take below self.old.items ++ value ∷ [] }
+        ensures trail { Trails stack_back 2 self.old.items self.old.trail self.new.items self.new.trail }
+    {
+        if self.len() - below > 1 {
+            self.drop_one();
+            self.set_top(value);
+        } else {
+            self.set_top(value);
+        }
+    }
+
     // The value on top goes.
     #[inline(always)]
     fn drop_one(&mut self)
-        requires { self.old.items ≢ [] }
-        ensures { self.new.items ≡ take (length self.old.items - 1) self.old.items }
+        requires there { 0 < length self.old.items }
+        requires room { HasRoom 1 self.old.trail }
+        ensures items { self.new.items ≡ take (length self.old.items - 1) self.old.items }
+        ensures trail { Trails stack_back 1 self.old.items self.old.trail self.new.items self.new.trail }
     {
-        self.items.pop();
+        let Some(value) = self.items.pop() else {
+            return;
+        };
+        self.trail.note(StackPair::Popped(value), 1);
+    }
+
+    // Another value stands on top.
+    #[inline(always)]
+    fn set_top(&mut self, value: Value)
+        requires there { 0 < length self.old.items }
+        requires room { HasRoom 1 self.old.trail }
+        ensures items { self.new.items ≡ take (length self.old.items - 1) self.old.items ++ value ∷ [] }
+        ensures trail { Trails stack_back 1 self.old.items self.old.trail self.new.items self.new.trail }
+    {
+        let Some(before) = self.items.pop() else {
+            return;
+        };
+        self.trail.note(StackPair::Replaced(before), 1);
+        self.items.push_reserved(value);
     }
 
     /// How many values there are.
@@ -167,14 +252,93 @@ impl EvalStack {
     {
         self.items.len()
     }
+
+    /// Starts a mark with an empty trail, and forgets an older one. Takes no memory.
+    pub fn mark(&mut self)
+        ensures items { self.new.items ≡ self.old.items }
+        ensures trail { Begins self.old.trail self.new.trail }
+    {
+        self.trail.mark();
+    }
+
+    /// How many changes of single cells there were since the mark, which stays at 2^64 - 1; 0 without one.
+    pub fn writes(&self) -> u64
+        ensures { result ≡ writes_of self.now.trail.undo }
+    {
+        self.trail.writes()
+    }
+
+    /// Puts the values back as they stood at the mark, ends the mark, and answers how many pairs there were. Without a mark it
+    /// changes nothing, and answers 0. Takes no memory.
+    pub fn back(&mut self) -> u64
+        ensures items { self.new.items ≡ stood stack_back self.old.trail self.old.items }
+        ensures trail { Ends self.old.trail self.new.trail }
+        ensures len { result ≡ length (trail_of self.old.trail.undo) }
+        ensures writes { result ≤ writes_of self.old.trail.undo }
+    {
+        let count = put_back(&mut self.items, &mut self.trail);
+        self.trail.forget();
+        count
+    }
+
+    /// Ends the mark, and changes nothing else. Takes no memory.
+    pub fn forget(&mut self)
+        ensures items { self.new.items ≡ self.old.items }
+        ensures trail { Ends self.old.trail self.new.trail }
+    {
+        self.trail.forget();
+    }
+
+    /// Makes room for so many changes to be noted without memory. The one error is a refused request for memory, and leaves all as
+    /// it was.
+    pub fn make_room(&mut self, count: usize) -> Result<(), AllocError>
+        ensures items { self.new.items ≡ self.old.items }
+        ensures kept { KeepsTrail self.old.trail self.new.trail }
+        ensures ok { OnOk result (count ≤ self.new.trail.room) }
+        ensures memory { OnErr result (self.old.trail.room < count) }
+    {
+        self.trail.make_room(count)
+    }
+
+    /// The same while a mark stands; without one it takes no memory.
+    pub fn ready(&mut self, count: usize) -> Result<(), AllocError>
+        ensures items { self.new.items ≡ self.old.items }
+        ensures kept { KeepsTrail self.old.trail self.new.trail }
+        ensures ok { OnOk result (HasRoom count self.new.trail) }
+        ensures memory { OnErr result (LacksRoom count self.old.trail) }
+    {
+        self.trail.ready(count)
+    }
+
+    /// How many changes can be noted without memory.
+    pub fn room(&self) -> usize
+        ensures { result ≡ self.now.trail.room }
+    {
+        self.trail.room()
+    }
 }
 
 /// Makes room for one more value. `OutOfMemory` for a refused request for memory.
-#[cold]
-#[inline(never)]
+#[inline(always)]
 fn make_room(items: &mut Vec<Value>) -> Result<(), Fault>
     ensures items { items.new.items ≡ items.old.items }
     ensures len { vec_len items.new ≡ vec_len items.old }
+    ensures more { vec_capacity items.old ≤ vec_capacity items.new }
+    ensures room { OnOk result (vec_len items.new < vec_capacity items.new) }
+    ensures fault { IfErr result (λ f. f ≡ Fault.OutOfMemory) }
+{
+    if items.len() == items.capacity() {
+        return grow(items);
+    }
+    Ok(())
+}
+
+#[cold]
+#[inline(never)]
+fn grow(items: &mut Vec<Value>) -> Result<(), Fault>
+    ensures items { items.new.items ≡ items.old.items }
+    ensures len { vec_len items.new ≡ vec_len items.old }
+    ensures more { vec_capacity items.old ≤ vec_capacity items.new }
     ensures room { OnOk result (vec_len items.new < vec_capacity items.new) }
     ensures fault { IfErr result (λ f. f ≡ Fault.OutOfMemory) }
 {

@@ -1,8 +1,10 @@
-use Rattle.ink_choice.proofs.Makings.{made, not_made}
+use Rattle.std.proofs.Common.{is_some}
+use Rattle.ink_choice.proofs.Makings.{made, not_made, not_popped}
 use Rattle.ink_choice.proofs.making.make.Goals as goal
 
-pub returns-in-Ok : goal.returns-in-Ok
-returns-in-Ok g c = made _ c.args.stack.now.items c.pop_all.new.stack.items c.in-Ok.choice c.in-Ok.count c.in-Ok.ensures c.pop_all.ensures
+pub returns-in-Ok-pop_all-clause-made : goal.returns-in-Ok-pop_all-clause-made
+returns-in-Ok-pop_all-clause-made g c =
+    made (is_some c.args.stack.now.trail.undo) _ c.args.stack.now.items c.pop_all.new.stack.items c.in-Ok.choice c.in-Ok.count c.in-Ok.ensures c.in-Ok-pop_all.ensures.ok
 
-pub returns-in-Err : goal.returns-in-Err
-returns-in-Err g c = not_made _ c.args.stack.now.items c.in-Err.fault c.in-Err.ensures
+pub returns-in-Err-clause-made : goal.returns-in-Err-clause-made
+returns-in-Err-clause-made g c = not_made (is_some c.args.stack.now.trail.undo) _ c.args.stack.now.items c.in-Err.fault c.in-Err.ensures

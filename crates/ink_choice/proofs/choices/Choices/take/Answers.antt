@@ -1,10 +1,21 @@
-use Rattle.ink_choice.proofs.Lists.{took}
+use Rattle.std.proofs.Common.{◌≡◌, ◌∙◌, ◌||◌, Some, ap, arith, not, refl, subst}
+use Rattle.ink_choice.specs.Undo.{choices_back}
+use Rattle.ink_choice.specs.Words.{FindsIndex}
+use Rattle.ink_model.specs.Choices.{none_visible}
+use Rattle.ink_trail.proofs.Undoing.{trails-kept}
+use Rattle.ink_choice.proofs.Lists.{took, took_nothing}
 use Rattle.ink_choice.proofs.choices.Choices.take.Goals as goal
 
-pub returns-in-Some : goal.returns-in-Some
-returns-in-Some g c =
-    let cs = c.self.inside.items.items in
-    rw (← c.self.view_is)
-    (took c.args.number c.in-Some.index cs c.remove.new.self.items c.remove.result c.none_visible-any.result
-    (rw c.as_slice.ensures.value at c.none_visible-any.ensures)
-    (rw c.as_slice-2.ensures.value at c.in-Some.ensures) c.remove.ensures.value c.remove.ensures.items)
+pub returns-in-Ok-clause-items : goal.returns-in-Ok-clause-items
+returns-in-Ok-clause-items g c =
+    let same : c.self.inside.items.items ≡ c.args.self.now.items = ap (λ s. s.items) c.self.view_is in
+    took c.args.number c.in-Some.index c.args.self.now.items c.take_at.new.self.items c.in-Ok.choice c.none_visible-any.result
+    (c.none_visible-any.ensures ∙ ap none_visible (c.as_slice.ensures.value ∙ same))
+    (subst (λ cs. FindsIndex (λ x. c.none_visible-any.result || not x.hidden) c.args.number cs (Some c.in-Some.index)) (c.as_slice-2.ensures.value ∙ same) c.in-Some.ensures)
+    c.in-Ok.ensures.choice c.in-Ok.ensures.items
+
+pub returns-in-Err-clause-items : goal.returns-in-Err-clause-items
+returns-in-Err-clause-items g c = took_nothing _ c.args.self.now.items c.take_at.new.self.items c.in-Err.ensures.trail.0
+
+pub returns-in-None-clause-trail : goal.returns-in-None-clause-trail
+returns-in-None-clause-trail g c = rw (← c.self.view_is) (trails-kept choices_back 1 _ _ _ _ refl (refl, omega arith))

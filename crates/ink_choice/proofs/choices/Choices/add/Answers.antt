@@ -1,0 +1,42 @@
+use Rattle.std.proofs.Common.{◌≡◌, ◌∙◌, ◌<◌, ◌+◌, ◌≤◌, ◌∷◌, ◌++◌, [], ap, arith, length, refl, rules, vec_capacity, vec_len}
+use Rattle.std.proofs.lemmas.List.{length-append}
+use Rattle.ink_model.specs.declared.limits.TheConstants.{MAX_CHOICES}
+use Rattle.ink_trail.proofs.Undoing.{trails-one}
+use Rattle.ink_choice.specs.Undo.{choices_back}
+use Rattle.ink_choice.specs.declared.undo.ChoicePair.TheVariants.{Added}
+use Rattle.ink_choice.proofs.Undoing.{added_back, held-as, held-with}
+use Rattle.ink_choice.proofs.choices.Choices.add.Goals as goal
+
+pub invariant_of-self : goal.invariant_of-self
+invariant_of-self g c = (
+  omega (arith, ap length c.reserve.ensures.items, c.self.invariant.0),
+  held-as _ _ c.self.inside.trail.undo _ c.self.inside.items.items _ refl c.reserve.ensures.items c.reserve.ensures.capacity c.self.invariant.1,
+)
+
+pub invariant_of-self-in_err-add : goal.invariant_of-self-in_err-add
+invariant_of-self-in_err-add g c = (
+  omega (arith, ap length c.reserve.ensures.items, c.self.invariant.0),
+  held-as _ _ c.self.inside.trail.undo _ c.self.inside.items.items _ c.in_err-add.ensures.err.0 c.reserve.ensures.items c.reserve.ensures.capacity c.self.invariant.1,
+)
+
+pub invariant_of-self-2 : goal.invariant_of-self-2
+invariant_of-self-2 g c =
+    let old = c.self.inside.items in
+    let new = c.push_reserved.new.self in
+    let items : new.items ≡ old.items ++ c.args.choice ∷ [] = c.push_reserved.ensures.items ∙ ap (λ cs. cs ++ c.args.choice ∷ []) c.reserve.ensures.items in
+    let few : length old.items < MAX_CHOICES = search (rules, arith) in
+    let same : vec_len old ≡ length old.items = old.ok.0 in
+    let more : length new.items ≡ length old.items + 1 = ap length items ∙ length-append old.items (c.args.choice ∷ []) in
+    let within : length new.items ≤ MAX_CHOICES = omega (arith, few, more) in
+    let room : length new.items ≤ vec_capacity new = omega (arith, same, more, c.in_ok-reserve.ensures.ok, c.reserve.ensures.len, c.push_reserved.ensures.capacity) in
+    let grows : vec_capacity old ≤ vec_capacity new = omega (arith, c.reserve.ensures.capacity, c.push_reserved.ensures.capacity) in
+    rw c.in_ok-add.ensures.ok (
+      within,
+      held-with Added 1 old.items new.items c.self.inside.trail.undo (vec_capacity old) (vec_capacity new) (added_back _ _ c.args.choice items) (within, room) grows c.self.invariant.1,
+    )
+
+pub returns-clause-trail : goal.returns-clause-trail
+returns-clause-trail g c =
+    let items : c.push_reserved.new.self.items ≡ c.self.inside.items.items ++ c.args.choice ∷ [] =
+    c.push_reserved.ensures.items ∙ ap (λ cs. cs ++ c.args.choice ∷ []) c.reserve.ensures.items in
+    rw (← c.self.view_is) (trails-one choices_back Added 1 _ _ _ _ (omega arith) (added_back _ _ c.args.choice items) c.in_ok-add.ensures.ok c.add.ensures.room)
