@@ -86,6 +86,11 @@ module _ (o : Op) (vs : List Value) (below : ℕ) (enough : length vs ≡ below 
   pub asks : makes_text o (take (length xs - below) (drop below xs)) ≢ false → operator_asks o (taken (takes o) vs []) ≡ true
   asks h = ap (operator_asks o) operands ∙ true_from_ne_false _ h
 
+-- the last value in another's place
+pub last_put : (vs : List Value) (n : ℕ) (v : Value) → length vs ≡ suc n → slice_set vs n v ≡ take n vs ++ v ∷ []
+last_put vs n v long =
+    sym (take_all (suc n) (slice_set vs n v) (omega (arith, length-set vs n v, long))) ∙ take-suc-set vs n v (omega (arith, long))
+
 -- as many as an operator takes at the least and at the most
 pub takes_some : (o : Op) → 0 < takes o
 takes_some op.Negate = omega arith
@@ -102,3 +107,22 @@ takes_two op.Floor = omega arith
 takes_two op.Ceiling = omega arith
 takes_two op.Int = omega arith
 takes_two o = omega arith
+
+-- ---- another value in the place of the one on top
+
+with_top_under : (w v : Value) (r : Option (Value × List Value)) → with_top v (option_map (λ t. (t.0, w ∷ t.1)) r) ≡ option_map (λ us. w ∷ us) (with_top v r)
+with_top_under w v None = refl
+with_top_under w v (Some t) = refl
+
+pub top_set : (vs : List Value) (n : ℕ) (v : Value) → length vs ≡ suc n → Some (slice_set vs n v) ≡ with_top v (popped vs)
+top_set [] n v h = absurd (cc)
+top_set (w ∷ []) zero v h = refl
+top_set (w ∷ []) (suc n) v h = absurd (omega arith)
+top_set (w ∷ x ∷ vs) zero v h = absurd (omega arith)
+top_set (w ∷ x ∷ vs) (suc n) v h = ap (option_map (λ us. w ∷ us)) (top_set (x ∷ vs) n v (omega arith)) ∙ sym (with_top_under w v (popped (x ∷ vs)))
+
+pub last_set : (vs : List Value) (v : Value) → 0 < length vs → Some (slice_set vs (length vs - 1) v) ≡ with_top v (popped vs)
+last_set vs v h = top_set vs (length vs - 1) v (omega arith)
+
+pub top_put : (vs : List Value) (v : Value) → 0 < length vs → Some (take (length vs - 1) vs ++ v ∷ []) ≡ with_top v (popped vs)
+top_put vs v h = ap Some (sym (last_put vs (length vs - 1) v (omega arith))) ∙ last_set vs v h

@@ -1,17 +1,17 @@
 //! The evaluation stack.
 
-ghost use Rattle.std.specs.Prelude.{◌≡◌, ◌≢◌, ◌<◌, ◌≤◌, vec_len, vec_capacity, ◌↔◌, ◌⊎◌, [], ◌∷◌, ◌++◌, ◌+◌, true, Some, None, length, option_map, reverse, slice_get, take, ◌-◌, OnOk, OnErr, IfOk, IfErr, IsSome, MatchResult};
+ghost use Rattle.std.specs.Prelude.{◌≡◌, ◌<◌, ◌≤◌, vec_len, vec_capacity, ◌↔◌, ◌⊎◌, [], ◌∷◌, ◌++◌, ◌+◌, true, false, Some, None, is_some, length, option_map, unwrap_or, reverse, slice_get, take, ◌-◌, OnOk, OnErr, IfOk, IfErr, MatchResult};
 ghost use Rattle.ink_model.specs.Asks.{operator_asks};
 ghost use Rattle.ink_model.specs.Memory.{Leaves};
 ghost use Rattle.ink_model.specs.Operator as rules;
 ghost use Rattle.ink_model.specs.Stack.{applied, popped, taken};
 ghost use Rattle.ink_model.specs.Step.Host.{arguments_on};
-ghost use Rattle.ink_trail.specs.Undo.{Begins, Ends, HasRoom, KeepsTrail, LacksRoom, Trails, TrailsOrKeeps, stood, trail_of, writes_of};
+ghost use Rattle.ink_trail.specs.Undo.{Begins, Ends, KeepsTrail, Trails, TrailsOrKeeps, trail_of, writes_of};
 ghost use Rattle.ink_value.specs.Stack.{with_top};
-ghost use Rattle.ink_value.specs.Undo.{stack_back};
+ghost use Rattle.ink_value.specs.Undo.{stack_back, stack_spare, stack_stood};
 
 use crate::operate::apply;
-use crate::undo::{StackPair, drop_noted, put_back};
+use crate::undo::{StackPair, drop_noted, put_back, replace_noted};
 use ink_model::{Fault, MAX_STACK, Op, Value};
 use ink_trail::Trail;
 use std::alloc::{AllocError, Global};
@@ -39,31 +39,17 @@ impl Model for EvalStack {
     ghost invariant = { λ s. (vec_len s.items ≤ MAX_STACK) × StaysHeld (vec_capacity s.items) (trail_of s.trail.undo) s.items.items };
 }
 
+#[tactic(auto, unfolding(crate::specs::Undo::stack_stood, crate::specs::Undo::stack_spare, ink_trail::specs::Undo::stood_at, ink_trail::specs::Undo::spare))]
 impl EvalStack {
     /// An empty stack, which takes no memory.
     pub fn new(alloc: Global) -> EvalStack
         ensures items { result.items ≡ [] }
-        ensures undo { result.trail.undo ≡ None }
+        ensures stood { stack_stood result ≡ None }
     {
         EvalStack {
             items: Vec::new(alloc),
             trail: Trail::new(alloc),
         }
-    }
-
-    /// A copy with the same values. The one error is a refused request for memory, which an empty stack never makes.
-    pub fn clone_in(&self, alloc: Global) -> Result<EvalStack, AllocError>
-        ensures copy { IfOk result (λ copy. copy.items ≡ self.now.items) }
-        ensures memory { OnErr result (self.now.items ≢ []) }
-        ensures undo { IfOk result (λ copy. copy.trail.undo ≡ None) }
-    {
-        let mut items = Vec::new(alloc);
-        for value in &self.items {
-            let copy = value.clone_in(alloc)?;
-            items.push(copy)?;
-        }
-        let trail = Trail::new(alloc);
-        Ok(EvalStack { items, trail })
     }
 
     /// Puts a value on top, which is one change of a cell. `TooDeep` where 10,000 values are there; `OutOfMemory` for a refused
@@ -76,6 +62,8 @@ impl EvalStack {
         ensures faults { IfErr result (λ f. (f ≡ Fault.TooDeep) ⊎ (f ≡ Fault.OutOfMemory)) }
         ensures within { length self.new.items ≤ MAX_STACK }
         ensures trail { TrailsOrKeeps stack_back 1 self.old.items self.old.trail self.new.items self.new.trail result }
+        ensures stood { stack_stood self.new ≡ stack_stood self.old }
+        ensures spare { stack_spare self.old ≤ stack_spare self.new + 1 }
     {
         if self.items.len() >= MAX_STACK {
             return Err(Fault::TooDeep);
@@ -94,8 +82,10 @@ impl EvalStack {
         ensures err { OnErr result (self.new.items ≡ self.old.items) }
         ensures empty { (result ≡ Err Fault.StackEmpty) ↔ (self.old.items ≡ []) }
         ensures faults { IfErr result (λ f. (f ≡ Fault.StackEmpty) ⊎ (f ≡ Fault.OutOfMemory)) }
-        ensures memory { result ≡ Err Fault.OutOfMemory → IsSome self.old.trail.undo }
+        ensures memory { result ≡ Err Fault.OutOfMemory → is_some (stack_stood self.old) ≡ true }
         ensures trail { TrailsOrKeeps stack_back 1 self.old.items self.old.trail self.new.items self.new.trail result }
+        ensures stood { stack_stood self.new ≡ stack_stood self.old }
+        ensures spare { stack_spare self.old ≤ stack_spare self.new + 1 }
     {
         if self.trail.is_marked() {
             return self.pop_marked();
@@ -112,6 +102,8 @@ impl EvalStack {
         ensures empty { (result ≡ Err Fault.StackEmpty) ↔ (self.old.items ≡ []) }
         ensures faults { IfErr result (λ f. (f ≡ Fault.StackEmpty) ⊎ (f ≡ Fault.OutOfMemory)) }
         ensures trail { TrailsOrKeeps stack_back 1 self.old.items self.old.trail self.new.items self.new.trail result }
+        ensures stood { stack_stood self.new ≡ stack_stood self.old }
+        ensures spare { stack_spare self.old ≤ stack_spare self.new + 1 }
     {
         let Some(top) = self.items.last() else {
             return Err(Fault::StackEmpty);
@@ -128,19 +120,46 @@ impl EvalStack {
     /// Puts a value in the place of the one on top, which is one change of a cell, without memory. Where there is none nothing has
     /// changed, and the value is handed back.
     pub fn replace_top(&mut self, value: Value) -> Result<(), Value>
-        requires room { HasRoom 1 self.old.trail }
+        requires room { 1 ≤ stack_spare self.old }
         ensures ok { OnOk result (Some self.new.items ≡ with_top value (popped self.old.items)) }
         ensures err { OnErr result (popped self.old.items ≡ None) }
         ensures kept { OnErr result (self.new.items ≡ self.old.items) }
         ensures handed_back { IfErr result (λ handed_back. handed_back ≡ value) }
         ensures within { length self.new.items ≤ MAX_STACK }
         ensures trail { TrailsOrKeeps stack_back 1 self.old.items self.old.trail self.new.items self.new.trail result }
+        ensures stood { stack_stood self.new ≡ stack_stood self.old }
+        ensures spare { stack_spare self.old ≤ stack_spare self.new + 1 }
     {
-        let Some(before) = self.items.pop() else {
+        if self.trail.is_marked() {
+            return self.replace_marked(value);
+        }
+        match self.items.last_mut() {
+            Some(top) => {
+                *top = value;
+                Ok(())
+            }
+            None => Err(value),
+        }
+    }
+
+    // As `replace_top`, while a mark stands.
+    #[cold]
+    #[inline(never)]
+    fn replace_marked(&mut self, value: Value) -> Result<(), Value>
+        requires room { 1 ≤ stack_spare self.old }
+        ensures ok { OnOk result (Some self.new.items ≡ with_top value (popped self.old.items)) }
+        ensures err { OnErr result (popped self.old.items ≡ None) }
+        ensures kept { OnErr result (self.new.items ≡ self.old.items) }
+        ensures handed_back { IfErr result (λ handed_back. handed_back ≡ value) }
+        ensures within { length self.new.items ≤ MAX_STACK }
+        ensures trail { TrailsOrKeeps stack_back 1 self.old.items self.old.trail self.new.items self.new.trail result }
+        ensures stood { stack_stood self.new ≡ stack_stood self.old }
+        ensures spare { stack_spare self.old ≤ stack_spare self.new + 1 }
+    {
+        if self.items.is_empty() {
             return Err(value);
-        };
-        self.trail.note(StackPair::Replaced(before), 1);
-        self.items.push_reserved(value);
+        }
+        replace_noted(&mut self.items, &mut self.trail, value);
         Ok(())
     }
 
@@ -166,9 +185,11 @@ impl EvalStack {
     /// Takes away the values on top, so many of them, each of which is a change of a cell. Takes no memory.
     pub fn drop_top(&mut self, count: usize)
         requires there { count ≤ length self.old.items }
-        requires room { HasRoom count self.old.trail }
+        requires room { count ≤ stack_spare self.old }
         ensures items { option_map (λ arguments. arguments.1) (arguments_on count self.old.items) ≡ Some self.new.items }
         ensures trail { Trails stack_back count self.old.items self.old.trail self.new.items self.new.trail }
+        ensures stood { stack_stood self.new ≡ stack_stood self.old }
+        ensures spare { stack_spare self.old ≤ stack_spare self.new + count }
     {
         if self.trail.is_marked() {
             drop_noted(&mut self.items, &mut self.trail, count);
@@ -182,16 +203,21 @@ impl EvalStack {
     /// a text of them, and for a refused request for memory while a mark stands. On an error nothing has changed.
     pub fn apply_top(&mut self, alloc: Global, operator: Op) -> Result<(), Fault>
         ensures stack { Leaves (applied operator self.old.items) self.old.items self.new.items result }
-        ensures memory { result ≡ Err Fault.OutOfMemory → (operator_asks operator (taken (rules.takes operator) self.old.items []) ≡ true) ⊎ LacksRoom 2 self.old.trail }
+        ensures memory { result ≡ Err Fault.OutOfMemory → (operator_asks operator (taken (rules.takes operator) self.old.items []) ≡ true) ⊎ (stack_spare self.old < 2) }
         ensures trail { TrailsOrKeeps stack_back 2 self.old.items self.old.trail self.new.items self.new.trail result }
+        ensures stood { stack_stood self.new ≡ stack_stood self.old }
+        ensures spare { stack_spare self.old ≤ stack_spare self.new + 2 }
     {
         let Some(below) = self.items.len().checked_sub(takes(operator)) else {
             return Err(Fault::StackEmpty);
         };
         match apply(alloc, operator, &self.items[below..]) {
             Ok(value) => {
-                if self.trail.ready(2).is_err() {
-                    return Err(Fault::OutOfMemory);
+                if self.trail.is_marked() {
+                    return match self.leave_marked(below, value) {
+                        Ok(()) => Ok(()),
+                        Err(_) => Err(Fault::OutOfMemory),
+                    };
                 }
                 self.leave(below, value);
                 Ok(())
@@ -200,14 +226,14 @@ impl EvalStack {
         }
     }
 
-    // A value stands for the one or two on top, from an index on.
+    // A value stands for the one or two on top, from an index on, while no mark stands.
     #[inline(always)]
     fn leave(&mut self, below: usize, value: Value)
         requires there { below < length self.old.items }
         requires few { length self.old.items ≤ below + 2 }
-        requires room { HasRoom 2 self.old.trail }
+        requires unmarked { is_some self.old.trail.undo ≡ false }
         ensures items { self.new.items ≡ take below self.old.items ++ value ∷ [] }
-        ensures trail { Trails stack_back 2 self.old.items self.old.trail self.new.items self.new.trail }
+        ensures trail { self.new.trail ≡ self.old.trail }
     {
         if self.len() - below > 1 {
             self.drop_one();
@@ -217,33 +243,46 @@ impl EvalStack {
         }
     }
 
-    // The value on top goes.
+    // The value on top goes, while no mark stands.
     #[inline(always)]
     fn drop_one(&mut self)
         requires there { 0 < length self.old.items }
-        requires room { HasRoom 1 self.old.trail }
+        requires unmarked { is_some self.old.trail.undo ≡ false }
         ensures items { self.new.items ≡ take (length self.old.items - 1) self.old.items }
-        ensures trail { Trails stack_back 1 self.old.items self.old.trail self.new.items self.new.trail }
+        ensures trail { self.new.trail ≡ self.old.trail }
     {
-        let Some(value) = self.items.pop() else {
-            return;
-        };
-        self.trail.note(StackPair::Popped(value), 1);
+        self.items.pop();
     }
 
-    // Another value stands on top.
+    // Another value stands on top, while no mark stands.
     #[inline(always)]
     fn set_top(&mut self, value: Value)
         requires there { 0 < length self.old.items }
-        requires room { HasRoom 1 self.old.trail }
+        requires unmarked { is_some self.old.trail.undo ≡ false }
         ensures items { self.new.items ≡ take (length self.old.items - 1) self.old.items ++ value ∷ [] }
-        ensures trail { Trails stack_back 1 self.old.items self.old.trail self.new.items self.new.trail }
+        ensures trail { self.new.trail ≡ self.old.trail }
     {
-        let Some(before) = self.items.pop() else {
-            return;
-        };
-        self.trail.note(StackPair::Replaced(before), 1);
-        self.items.push_reserved(value);
+        let last = self.items.len() - 1;
+        self.items[last] = value;
+    }
+
+    // As `leave`, while a mark stands. The one error is a refused request for memory, and leaves all as it was.
+    #[cold]
+    #[inline(never)]
+    fn leave_marked(&mut self, below: usize, value: Value) -> Result<(), AllocError>
+        requires there { below < length self.old.items }
+        requires few { length self.old.items ≤ below + 2 }
+        ensures items { OnOk result (self.new.items ≡ take below self.old.items ++ value ∷ []) }
+        ensures memory { OnErr result (stack_spare self.old < 2) }
+        ensures trail { TrailsOrKeeps stack_back 2 self.old.items self.old.trail self.new.items self.new.trail result }
+        ensures stood { stack_stood self.new ≡ stack_stood self.old }
+        ensures spare { stack_spare self.old ≤ stack_spare self.new + 2 }
+    {
+        self.trail.ready(2)?;
+        let more = self.items.len() - below - 1;
+        drop_noted(&mut self.items, &mut self.trail, more);
+        replace_noted(&mut self.items, &mut self.trail, value);
+        Ok(())
     }
 
     /// How many values there are.
@@ -253,10 +292,18 @@ impl EvalStack {
         self.items.len()
     }
 
+    /// Whether a mark stands.
+    pub fn is_marked(&self) -> bool
+        ensures { result ≡ is_some (stack_stood self.now) }
+    {
+        self.trail.is_marked()
+    }
+
     /// Starts a mark with an empty trail, and forgets an older one. Takes no memory.
     pub fn mark(&mut self)
         ensures items { self.new.items ≡ self.old.items }
         ensures trail { Begins self.old.trail self.new.trail }
+        ensures stood { stack_stood self.new ≡ Some self.old.items }
     {
         self.trail.mark();
     }
@@ -271,8 +318,9 @@ impl EvalStack {
     /// Puts the values back as they stood at the mark, ends the mark, and answers how many pairs there were. Without a mark it
     /// changes nothing, and answers 0. Takes no memory.
     pub fn back(&mut self) -> u64
-        ensures items { self.new.items ≡ stood stack_back self.old.trail self.old.items }
+        ensures items { self.new.items ≡ unwrap_or (stack_stood self.old) self.old.items }
         ensures trail { Ends self.old.trail self.new.trail }
+        ensures stood { stack_stood self.new ≡ None }
         ensures len { result ≡ length (trail_of self.old.trail.undo) }
         ensures writes { result ≤ writes_of self.old.trail.undo }
     {
@@ -285,6 +333,7 @@ impl EvalStack {
     pub fn forget(&mut self)
         ensures items { self.new.items ≡ self.old.items }
         ensures trail { Ends self.old.trail self.new.trail }
+        ensures stood { stack_stood self.new ≡ None }
     {
         self.trail.forget();
     }
@@ -294,6 +343,8 @@ impl EvalStack {
     pub fn make_room(&mut self, count: usize) -> Result<(), AllocError>
         ensures items { self.new.items ≡ self.old.items }
         ensures kept { KeepsTrail self.old.trail self.new.trail }
+        ensures stood { stack_stood self.new ≡ stack_stood self.old }
+        ensures more { stack_spare self.old ≤ stack_spare self.new }
         ensures ok { OnOk result (count ≤ self.new.trail.room) }
         ensures memory { OnErr result (self.old.trail.room < count) }
     {
@@ -304,8 +355,10 @@ impl EvalStack {
     pub fn ready(&mut self, count: usize) -> Result<(), AllocError>
         ensures items { self.new.items ≡ self.old.items }
         ensures kept { KeepsTrail self.old.trail self.new.trail }
-        ensures ok { OnOk result (HasRoom count self.new.trail) }
-        ensures memory { OnErr result (LacksRoom count self.old.trail) }
+        ensures stood { stack_stood self.new ≡ stack_stood self.old }
+        ensures more { stack_spare self.old ≤ stack_spare self.new }
+        ensures ok { OnOk result (count ≤ stack_spare self.new) }
+        ensures memory { OnErr result ((is_some (stack_stood self.old) ≡ true) × (stack_spare self.old < count)) }
     {
         self.trail.ready(count)
     }

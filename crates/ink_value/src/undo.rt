@@ -1,7 +1,7 @@
 //! How changes of the evaluation stack are put back.
 
-ghost use Rattle.std.specs.Prelude.{◌≡◌, ◌≤◌, ◌-◌, length, take, vec_capacity, vec_len};
-ghost use Rattle.ink_trail.specs.Undo.{HasRoom, Trails, trail_of, undone, writes_of};
+ghost use Rattle.std.specs.Prelude.{◌≡◌, ◌≤◌, ◌<◌, ◌-◌, ◌++◌, [], ◌∷◌, length, take, vec_capacity, vec_len};
+ghost use Rattle.ink_trail.specs.Undo.{Trails, spare, trail_of, undone, writes_of};
 ghost use Rattle.ink_value.specs.Undo.{Held, StaysHeld, stack_back};
 
 use ink_model::Value;
@@ -53,7 +53,7 @@ fn put_one_back(items: &mut Vec<Value>, pair: StackPair)
 #[inline(never)]
 pub(crate) fn drop_noted(items: &mut Vec<Value>, trail: &mut Trail<StackPair>, count: usize)
     requires there { count ≤ vec_len items.old }
-    requires room { HasRoom count trail.old }
+    requires spare { count ≤ spare trail.old }
     requires held { StaysHeld (vec_capacity items.old) (trail_of trail.old.undo) items.old.items }
     ensures items { items.new.items ≡ take (vec_len items.old - count) items.old.items }
     ensures trail { Trails stack_back count items.old.items trail.old items.new.items trail.new }
@@ -65,4 +65,22 @@ pub(crate) fn drop_noted(items: &mut Vec<Value>, trail: &mut Trail<StackPair>, c
         };
         trail.note(StackPair::Popped(value), 1);
     }
+}
+
+/// Another value stands on top, and the one before goes into the trail.
+#[cold]
+#[inline(never)]
+pub(crate) fn replace_noted(items: &mut Vec<Value>, trail: &mut Trail<StackPair>, value: Value)
+    requires there { 0 < vec_len items.old }
+    requires spare { 1 ≤ spare trail.old }
+    requires held { StaysHeld (vec_capacity items.old) (trail_of trail.old.undo) items.old.items }
+    ensures items { items.new.items ≡ take (vec_len items.old - 1) items.old.items ++ value ∷ [] }
+    ensures trail { Trails stack_back 1 items.old.items trail.old items.new.items trail.new }
+    ensures held { StaysHeld (vec_capacity items.new) (trail_of trail.new.undo) items.new.items }
+{
+    let Some(before) = items.pop() else {
+        return;
+    };
+    trail.note(StackPair::Replaced(before), 1);
+    items.push_reserved(value);
 }

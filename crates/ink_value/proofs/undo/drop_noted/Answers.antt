@@ -1,6 +1,6 @@
 use Rattle.std.proofs.Common.{◌≡◌, ◌∙◌, ◌-◌, ◌+◌, ◌≤◌, [], ◌∷◌, ◌++◌, ap, arith, length, sym, take, vec_capacity, vec_len}
 use Rattle.std.proofs.lemmas.List.{length-append, take-take}
-use Rattle.ink_trail.proofs.Undoing.{room-after, trails-one, trails-trails}
+use Rattle.ink_trail.proofs.Undoing.{trails-one, trails-trails}
 use Rattle.ink_trail.specs.Undo.{trail_of}
 use Rattle.ink_value.specs.Undo.{Held, stack_back}
 use Rattle.ink_value.specs.declared.undo.StackPair.TheVariants.{Popped}
@@ -22,7 +22,7 @@ loop-preserved c =
       items = c.pop.ensures.rest ∙ ap (λ n. take n old.items) few ∙ ap (take (vec_len all - (k + 1))) inv.items
           ∙ take-take (vec_len all - (k + 1)) (vec_len all - k) all.items (omega arith);
       len = omega (arith, inv.len, more, old.ok.0, new.ok.0);
-      room = room-after (Popped c.in-Some.value) 1 (c.args.count - (k + 1)) (c.args.count - k) c.loop.trail c.note.new.self c.note.ensures.undo c.note.ensures.room (omega arith) inv.room;
+      spare = omega (arith, inv.spare, c.note.ensures.spare);
       trail = trails-trails stack_back k 1 _ old.items _ _ c.loop.trail _ inv.trail
           (trails-one stack_back (Popped c.in-Some.value) 1 _ _ _ _ (omega arith) (sym was) c.note.ensures.undo c.note.ensures.room);
       held = rw c.note.ensures.undo (held-with (Popped c.in-Some.value) 1 old.items new.items c.loop.trail.undo (vec_capacity old) (vec_capacity new) (sym was)

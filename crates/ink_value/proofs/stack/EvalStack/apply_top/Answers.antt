@@ -11,21 +11,29 @@ returns-in_default-clause-stack c =
     let few : length c.args.self.now.items < takes c.args.operator = search (rules, arith) in
     (inr (too_few c.args.operator c.args.self.now.items few), refl)
 
-pub returns-then-is_err-clause-stack : goal.returns-then-is_err-clause-stack
-returns-then-is_err-clause-stack c =
+pub returns-in-Ok-leave_marked-clause-stack : goal.returns-in-Ok-leave_marked-clause-stack
+returns-in-Ok-leave_marked-clause-stack c =
     let vs = c.args.self.now.items in
     let enough : length vs ≡ c.in-Some.below + takes c.args.operator = search (rules, arith) in
     let same : c.deref.result.now ≡ vs = search rules in
     let made : applied c.args.operator vs ≡ Ok (take c.in-Some.below vs ++ c.in-Ok.value ∷ []) = makes c.args.operator vs c.in-Some.below enough c.deref.result.now same c.in-Ok.value c.in-Ok.ensures.result in
-    (inl (refl, ap asks_for made), ap (λ s. s.items) c.self.view_is)
+    (made ∙ ap Ok (sym c.in-Ok-leave_marked.ensures.items), tt)
 
-pub returns-else-is_err-clause-stack : goal.returns-else-is_err-clause-stack
-returns-else-is_err-clause-stack c =
+pub returns-in-Err-leave_marked-clause-stack : goal.returns-in-Err-leave_marked-clause-stack
+returns-in-Err-leave_marked-clause-stack c =
     let vs = c.args.self.now.items in
     let enough : length vs ≡ c.in-Some.below + takes c.args.operator = search (rules, arith) in
     let same : c.deref.result.now ≡ vs = search rules in
     let made : applied c.args.operator vs ≡ Ok (take c.in-Some.below vs ++ c.in-Ok.value ∷ []) = makes c.args.operator vs c.in-Some.below enough c.deref.result.now same c.in-Ok.value c.in-Ok.ensures.result in
-    (made ∙ ap Ok (sym (c.leave.ensures.items ∙ ap (λ us. take c.in-Some.below us ++ c.in-Ok.value ∷ []) (ap (λ s. s.items) c.self.view_is))), tt)
+    (inl (refl, ap asks_for made), c.in-Err-leave_marked.ensures.trail.0)
+
+pub returns-else-is_marked-clause-stack : goal.returns-else-is_marked-clause-stack
+returns-else-is_marked-clause-stack c =
+    let vs = c.args.self.now.items in
+    let enough : length vs ≡ c.in-Some.below + takes c.args.operator = search (rules, arith) in
+    let same : c.deref.result.now ≡ vs = search rules in
+    let made : applied c.args.operator vs ≡ Ok (take c.in-Some.below vs ++ c.in-Ok.value ∷ []) = makes c.args.operator vs c.in-Some.below enough c.deref.result.now same c.in-Ok.value c.in-Ok.ensures.result in
+    (made ∙ ap Ok (sym c.leave.ensures.items), tt)
 
 pub returns-in-Err-clause-stack : goal.returns-in-Err-clause-stack
 returns-in-Err-clause-stack c =

@@ -1,8 +1,8 @@
 use Rattle.std.proofs.Common.{◌≡◌, ◌∙◌, ◌<◌, ◌+◌, ◌≤◌, ◌∷◌, ◌++◌, [], ap, arith, length, refl, rules, vec_capacity, vec_len}
 use Rattle.std.proofs.lemmas.List.{length-append}
 use Rattle.ink_model.specs.declared.limits.TheConstants.{MAX_STACK}
-use Rattle.ink_trail.proofs.Undoing.{trails-one}
-use Rattle.ink_value.specs.Undo.{stack_back}
+use Rattle.ink_trail.proofs.Undoing.{stood-trails, trails-one}
+use Rattle.ink_value.specs.Undo.{stack_back, stack_stood}
 use Rattle.ink_value.specs.declared.undo.StackPair.TheVariants.{Pushed}
 use Rattle.ink_value.proofs.Undoing.{held-as, held-with, pushed_back}
 use Rattle.ink_value.proofs.stack.EvalStack.push.Goals as goal
@@ -41,3 +41,7 @@ returns-clause-trail c =
     let items : c.push_reserved.new.self.items ≡ c.self.inside.items.items ++ c.args.value ∷ [] =
     c.push_reserved.ensures.items ∙ ap (λ vs. vs ++ c.args.value ∷ []) c.make_room.ensures.items in
     rw (← c.self.view_is) (trails-one stack_back Pushed 1 _ _ _ _ (omega arith) (pushed_back _ _ c.args.value items) c.in_ok-add.ensures.ok c.add.ensures.room)
+
+pub returns-clause-stood : goal.returns-clause-stood
+unfolding stack_stood
+returns-clause-stood c = stood-trails stack_back (returns-clause-trail c)
