@@ -121,11 +121,6 @@ module _ {P : Type 0} where
     pub some_shown : not x.hidden ≡ true → visible cs ≢ []
     some_shown h = any_visible cs i x inside (ap (λ c. c.hidden) (sym is) ∙ not-true x.hidden h)
 
-  -- a copy of the next one
-  pub copied_one : (cs done : List (ChoiceOf P)) (i : ℕ) (x y : ChoiceOf P) → i < length cs → x ≡ get_or cs i x → done ≡ take i cs → y ≡ x → done ++ y ∷ [] ≡ take (i + 1) cs
-  copied_one cs done i x y h is e made =
-      ap (λ xs. xs ++ y ∷ []) e ∙ ap (λ z. take i cs ++ z ∷ []) (made ∙ is) ∙ sym (take_more cs i x h)
-
   -- there is no room for one more
   pub full : (c : ChoiceOf P) (cs : List (ChoiceOf P)) → MAX_CHOICES ≤ length cs → Adds (added c cs) cs cs (Err TooDeep)
   full c cs h = rw (le-ltb (length cs) MAX_CHOICES h) (refl, refl)

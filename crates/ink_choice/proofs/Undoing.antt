@@ -1,5 +1,5 @@
 -- What is put back of choices, and that there is room for it.
-use Rattle.std.proofs.Common.{◌≡◌, ◌∙◌, ◌≤◌, ◌<◌, ◌+◌, ℕ, zero, suc, List, [], ◌∷◌, ◌++◌, Option, Some, None, false, is_some, ap, arith, drop, get_or, length, refl, subst, sym, take, vec_capacity}
+use Rattle.std.proofs.Common.{◌≡◌, ◌∙◌, ◌≤◌, ◌<◌, ℕ, zero, suc, List, [], ◌∷◌, ◌++◌, Option, Some, None, false, is_some, ap, arith, drop, get_or, length, subst, sym}
 use Rattle.std.specs.List.{insert, remove}
 use Rattle.std.proofs.lemmas.List.{drop_all, take_all}
 use Rattle.ink_model.specs.Configuration.{ChoiceOf}

@@ -1,9 +1,10 @@
 -- How changes of choices are put back (docs/CHOICES.md).
-use Rattle.std.specs.Prelude.{◌≤◌, ℕ, List, length, insert, vec_capacity}
+use Rattle.std.specs.Prelude.{◌≤◌, ℕ, List, Option, length, insert, vec_capacity}
 use Rattle.ink_model.specs.Configuration.{ChoiceOf}
 use Rattle.ink_model.specs.declared.limits.TheConstants.{MAX_CHOICES}
 use Rattle.ink_trail.specs.Stays.{Stays}
-use Rattle.ink_trail.specs.Undo.{but_last}
+use Rattle.ink_trail.specs.Undo.{but_last, spare, stood_at}
+use Rattle.ink_choice.specs.Choices.{ChoicesView}
 use Rattle.ink_choice.specs.declared.undo.ChoicePair.{ChoicePair}
 use Rattle.ink_choice.specs.declared.undo.ChoicePair.TheVariants.{Added, Taken, Cleared}
 
@@ -27,3 +28,11 @@ module _ {P : Type 0} where
   -- so they are while the trail is put back
   abbrev pub StaysHeld : ℕ → List (ChoicePair P) → List (ChoiceOf P) → Type 0
   StaysHeld room es cs = Stays choices_back room_of Held room es cs
+
+  -- the choices as they stood at the mark, where one stands
+  unfoldable pub choices_stood : ChoicesView P → Option (List (ChoiceOf P))
+  choices_stood v = stood_at choices_back v.trail v.items
+
+  -- how many changes more can be noted without memory
+  unfoldable pub choices_spare : ChoicesView P → ℕ
+  choices_spare v = spare v.trail

@@ -1,5 +1,5 @@
 -- What calls do, by what the rules give.
-use Rattle.std.specs.Prelude.{◌≡◌, ◌⊎◌, ℕ, ◌<◌, true, false, List, length, get_or, remove, reverse, drop, Bool, ◌||◌, Option, Some, None, Result, Ok, Err}
+use Rattle.std.specs.Prelude.{◌≡◌, ◌⊎◌, ℕ, ◌<◌, true, false, List, length, get_or, remove, reverse, drop, Bool, Option, Some, None, Result, Ok, Err}
 use Rattle.ink_model.specs.Bytes.{fits_text}
 use Rattle.ink_model.specs.Choices.{choice_asks, has_any, option_asks, taken_of}
 use Rattle.ink_model.specs.Configuration.{ChoiceOf}
@@ -19,12 +19,12 @@ module _ {P : Type 0} where
   Chooses c (Err f) = ((f ≡ TooDeep) × (fits_text c.text ≡ false)) ⊎ ((f ≡ OutOfMemory) × (fits_text c.text ≡ true) × (choice_asks c ≡ true))
 
   -- A call hands out what the rule makes and leaves the stack that it leaves, or gives the rule's fault. It may be refused
-  -- memory for a choice that asks for some, and while the stack has a mark. After an error nothing has changed.
-  abbrev pub Makes : Bool → Result (Option (ChoiceOf P) × List Value) Fault → List Value → List Value → Result (Option (ChoiceOf P)) Fault → Type 0
-  Makes marked (Ok r) old new (Ok made) = (made ≡ r.0) × (new ≡ r.1)
-  Makes marked (Ok r) old new (Err f) = (f ≡ OutOfMemory) × (option_asks r.0 || marked ≡ true) × (new ≡ old)
-  Makes marked (Err g) old new (Ok made) = ⊥
-  Makes marked (Err g) old new (Err f) = (f ≡ g) × (new ≡ old)
+  -- memory for a choice that asks for some, and where room for the changes is short. After an error nothing has changed.
+  abbrev pub Makes : Type 0 → Result (Option (ChoiceOf P) × List Value) Fault → List Value → List Value → Result (Option (ChoiceOf P)) Fault → Type 0
+  Makes short (Ok r) old new (Ok made) = (made ≡ r.0) × (new ≡ r.1)
+  Makes short (Ok r) old new (Err f) = (f ≡ OutOfMemory) × ((option_asks r.0 ≡ true) ⊎ short) × (new ≡ old)
+  Makes short (Err g) old new (Ok made) = ⊥
+  Makes short (Err g) old new (Err f) = (f ≡ g) × (new ≡ old)
 
   -- the same before anything is popped: how many of these values are to be, which are listed from the top down
   abbrev pub Finds : Result (Option (ChoiceOf P) × List Value) Fault → List Value → Result (Option (ChoiceOf P) × ℕ) Fault → Type 0

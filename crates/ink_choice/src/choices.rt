@@ -1,12 +1,12 @@
 //! The choices that are offered.
 
-ghost use Rattle.std.specs.Prelude.{◌≡◌, ◌≢◌, ◌≤◌, ◌<◌, ◌||◌, [], None, not, length, map, option_map, remove, slice_get, slice_index_or, IfOk, IsSome, OnOk, OnErr};
+ghost use Rattle.std.specs.Prelude.{◌≡◌, ◌≢◌, ◌≤◌, ◌<◌, ◌+◌, ◌||◌, [], None, Some, false, is_some, not, length, map, option_map, remove, slice_get, slice_index_or, true, unwrap_or, IfOk, OnOk, OnErr};
 ghost use Rattle.ink_model.specs.declared.limits.TheConstants.{MAX_CHOICES};
-ghost use Rattle.ink_choice.specs.Undo.{choices_back};
+ghost use Rattle.ink_choice.specs.Undo.{choices_back, choices_spare, choices_stood};
 ghost use Rattle.ink_choice.specs.Words.{Adds, FindsIndex, Takes};
 ghost use Rattle.ink_model.specs.Choices as rules;
 ghost use Rattle.ink_model.specs.Configuration.{unnumbered_choice};
-ghost use Rattle.ink_trail.specs.Undo.{Begins, Ends, HasRoom, KeepsTrail, Trails, TrailsOrKeeps, stood, trail_of, writes_of};
+ghost use Rattle.ink_trail.specs.Undo.{Begins, Ends, KeepsTrail, Trails, TrailsOrKeeps, trail_of, writes_of};
 
 use crate::choice::{Choice, copied_tags, copied_text};
 use crate::undo::{ChoicePair, put_back};
@@ -38,27 +38,17 @@ impl<P> Model for Choices<P> {
     ghost invariant = { λ c. (length c.items.items ≤ MAX_CHOICES) × StaysHeld (vec_capacity c.items) (trail_of c.trail.undo) c.items.items };
 }
 
+#[tactic(auto, unfolding(crate::specs::Undo::choices_stood, crate::specs::Undo::choices_spare, ink_trail::specs::Undo::stood_at, ink_trail::specs::Undo::spare))]
 impl<P: Copy> Choices<P> {
     /// No choices, which take no memory.
     pub fn new(alloc: Global) -> Choices<P>
         ensures items { result.items ≡ [] }
-        ensures undo { result.trail.undo ≡ None }
+        ensures stood { choices_stood result ≡ None }
     {
         Choices {
             items: Vec::new(alloc),
             trail: Trail::new(alloc),
         }
-    }
-
-    /// A copy. The one error is a refused request for memory, which no choices never make.
-    pub fn clone_in(&self, alloc: Global) -> Result<Choices<P>, AllocError>
-        ensures copy { IfOk result (λ copy. copy.items ≡ self.now.items) }
-        ensures memory { OnErr result (self.now.items ≢ []) }
-        ensures undo { IfOk result (λ copy. copy.trail.undo ≡ None) }
-    {
-        let items = copied_choices(alloc, self.items.as_slice())?;
-        let trail = Trail::new(alloc);
-        Ok(Choices { items, trail })
     }
 
     /// How many there are, the invisible ones counted: 1,000 at the most. Takes no memory.
@@ -71,10 +61,12 @@ impl<P: Copy> Choices<P> {
 
     /// Adds a choice behind the others, which is one change of a cell. `TooDeep` where there are 1,000; `OutOfMemory` for a refused
     /// request for memory. On an error nothing has changed (docs/CHOICES.md, "The list").
-    #[tactic(auto, using(crate::proofs::Lists::full))]
+    #[tactic(auto, using(crate::proofs::Lists::full), unfolding(crate::specs::Undo::choices_stood, crate::specs::Undo::choices_spare, ink_trail::specs::Undo::stood_at, ink_trail::specs::Undo::spare))]
     pub fn add(&mut self, choice: Choice<P>) -> Result<(), Fault>
         ensures items { Adds (rules.added choice self.old.items) self.old.items self.new.items result }
         ensures trail { TrailsOrKeeps choices_back 1 self.old.items self.old.trail self.new.items self.new.trail result }
+        ensures stood { choices_stood self.new ≡ choices_stood self.old }
+        ensures spare { choices_spare self.old ≤ choices_spare self.new + 1 }
     {
         if self.len() >= MAX_CHOICES {
             return Err(Fault::TooDeep);
@@ -133,8 +125,10 @@ impl<P: Copy> Choices<P> {
     /// choice").
     pub fn take(&mut self, number: usize) -> Result<Option<Choice<P>>, Fault>
         ensures items { Takes (rules.taken number self.old.items) self.old.items self.new.items result }
-        ensures memory { OnErr result (IsSome self.old.trail.undo) }
+        ensures memory { OnErr result (is_some (choices_stood self.old) ≡ true) }
         ensures trail { TrailsOrKeeps choices_back 1 self.old.items self.old.trail self.new.items self.new.trail result }
+        ensures stood { choices_stood self.new ≡ choices_stood self.old }
+        ensures spare { choices_spare self.old ≤ choices_spare self.new + 1 }
     {
         let any = none_visible(self.items.as_slice());
         match index_of(self.items.as_slice(), number, any) {
@@ -151,46 +145,87 @@ impl<P: Copy> Choices<P> {
         requires { index < length self.old.items }
         ensures choice { IfOk result (λ choice. choice ≡ slice_index_or self.old.items index choice) }
         ensures items { OnOk result (self.new.items ≡ remove self.old.items index) }
-        ensures memory { OnErr result (IsSome self.old.trail.undo) }
+        ensures memory { OnErr result (is_some (choices_stood self.old) ≡ true) }
         ensures trail { TrailsOrKeeps choices_back 1 self.old.items self.old.trail self.new.items self.new.trail result }
+        ensures stood { choices_stood self.new ≡ choices_stood self.old }
+        ensures spare { choices_spare self.old ≤ choices_spare self.new + 1 }
     {
         if self.trail.is_marked() {
-            let copy = self.items[index].clone_in(*self.items.allocator())?;
-            self.trail.ready(1)?;
-            let choice = self.items.remove(index);
-            self.trail.note(ChoicePair::Taken(index, choice), 1);
-            return Ok(copy);
+            return self.take_marked(index);
         }
         Ok(self.items.remove(index))
     }
 
+    // As `take_at`, while a mark stands: a copy is handed out, and the choice goes into the trail.
+    #[cold]
+    #[inline(never)]
+    fn take_marked(&mut self, index: usize) -> Result<Choice<P>, AllocError>
+        requires { index < length self.old.items }
+        ensures choice { IfOk result (λ choice. choice ≡ slice_index_or self.old.items index choice) }
+        ensures items { OnOk result (self.new.items ≡ remove self.old.items index) }
+        ensures trail { TrailsOrKeeps choices_back 1 self.old.items self.old.trail self.new.items self.new.trail result }
+        ensures stood { choices_stood self.new ≡ choices_stood self.old }
+        ensures spare { choices_spare self.old ≤ choices_spare self.new + 1 }
+    {
+        let copy = self.items[index].clone_in(*self.items.allocator())?;
+        self.trail.ready(1)?;
+        let choice = self.items.remove(index);
+        self.trail.note(ChoicePair::Taken(index, choice), 1);
+        Ok(copy)
+    }
+
     /// No frame of the choices' threads has the number of its mark any more. No mark may stand. Takes no memory.
     pub fn clear_numbers(&mut self)
-        requires unmarked { self.old.trail.undo ≡ None }
+        requires unmarked { choices_stood self.old ≡ None }
         ensures items { self.new.items ≡ map unnumbered_choice self.old.items }
         ensures trail { KeepsTrail self.old.trail self.new.trail }
+        ensures stood { choices_stood self.new ≡ choices_stood self.old }
+        ensures spare { choices_spare self.old ≤ choices_spare self.new }
     {
         clear_numbers_of(self.items.as_mut_slice());
     }
 
     /// All choices go, which is one change of a cell. Takes no memory.
     pub fn clear(&mut self)
-        requires room { HasRoom 1 self.old.trail }
+        requires room { 1 ≤ choices_spare self.old }
         ensures items { self.new.items ≡ [] }
         ensures trail { Trails choices_back 1 self.old.items self.old.trail self.new.items self.new.trail }
+        ensures stood { choices_stood self.new ≡ choices_stood self.old }
+        ensures spare { choices_spare self.old ≤ choices_spare self.new + 1 }
     {
         if self.trail.is_marked() {
-            let cleared = taken_whole(&mut self.items);
-            self.trail.note(ChoicePair::Cleared(cleared), 1);
+            self.clear_marked();
         } else {
             self.items.clear();
         }
+    }
+
+    // As `clear`, while a mark stands: the list goes into the trail.
+    #[cold]
+    #[inline(never)]
+    fn clear_marked(&mut self)
+        requires room { 1 ≤ choices_spare self.old }
+        ensures items { self.new.items ≡ [] }
+        ensures trail { Trails choices_back 1 self.old.items self.old.trail self.new.items self.new.trail }
+        ensures stood { choices_stood self.new ≡ choices_stood self.old }
+        ensures spare { choices_spare self.old ≤ choices_spare self.new + 1 }
+    {
+        let cleared = taken_whole(&mut self.items);
+        self.trail.note(ChoicePair::Cleared(cleared), 1);
+    }
+
+    /// Whether a mark stands.
+    pub fn is_marked(&self) -> bool
+        ensures { result ≡ is_some (choices_stood self.now) }
+    {
+        self.trail.is_marked()
     }
 
     /// Starts a mark with an empty trail, and forgets an older one. Takes no memory.
     pub fn mark(&mut self)
         ensures items { self.new.items ≡ self.old.items }
         ensures trail { Begins self.old.trail self.new.trail }
+        ensures stood { choices_stood self.new ≡ Some self.old.items }
     {
         self.trail.mark();
     }
@@ -205,8 +240,9 @@ impl<P: Copy> Choices<P> {
     /// Puts the choices back as they stood at the mark, ends the mark, and answers how many pairs there were. Without a mark it
     /// changes nothing, and answers 0. Takes no memory.
     pub fn back(&mut self) -> u64
-        ensures items { self.new.items ≡ stood choices_back self.old.trail self.old.items }
+        ensures items { self.new.items ≡ unwrap_or (choices_stood self.old) self.old.items }
         ensures trail { Ends self.old.trail self.new.trail }
+        ensures stood { choices_stood self.new ≡ None }
         ensures len { result ≡ length (trail_of self.old.trail.undo) }
         ensures writes { result ≤ writes_of self.old.trail.undo }
     {
@@ -219,6 +255,7 @@ impl<P: Copy> Choices<P> {
     pub fn forget(&mut self)
         ensures items { self.new.items ≡ self.old.items }
         ensures trail { Ends self.old.trail self.new.trail }
+        ensures stood { choices_stood self.new ≡ None }
     {
         self.trail.forget();
     }
@@ -228,10 +265,24 @@ impl<P: Copy> Choices<P> {
     pub fn make_room(&mut self, count: usize) -> Result<(), AllocError>
         ensures items { self.new.items ≡ self.old.items }
         ensures kept { KeepsTrail self.old.trail self.new.trail }
+        ensures stood { choices_stood self.new ≡ choices_stood self.old }
+        ensures more { choices_spare self.old ≤ choices_spare self.new }
         ensures ok { OnOk result (count ≤ self.new.trail.room) }
         ensures memory { OnErr result (self.old.trail.room < count) }
     {
         self.trail.make_room(count)
+    }
+
+    /// The same while a mark stands; without one it takes no memory.
+    pub fn ready(&mut self, count: usize) -> Result<(), AllocError>
+        ensures items { self.new.items ≡ self.old.items }
+        ensures kept { KeepsTrail self.old.trail self.new.trail }
+        ensures stood { choices_stood self.new ≡ choices_stood self.old }
+        ensures more { choices_spare self.old ≤ choices_spare self.new }
+        ensures ok { OnOk result (count ≤ choices_spare self.new) }
+        ensures memory { OnErr result ((is_some (choices_stood self.old) ≡ true) × (choices_spare self.old < count)) }
+    {
+        self.trail.ready(count)
     }
 
     /// How many changes can be noted without memory.
@@ -249,21 +300,6 @@ fn taken_whole<P: Copy>(items: &mut Vec<Choice<P>>) -> Vec<Choice<P>>
 {
     let empty = Vec::new(*items.allocator());
     mem::replace(items, empty)
-}
-
-// Copies of choices. The one error is a refused request for memory.
-fn copied_choices<P: Copy>(
-    alloc: Global,
-    choices: &[Choice<P>],
-) -> Result<Vec<Choice<P>>, AllocError>
-    ensures copy { IfOk result (λ copies. copies.items ≡ choices.now) }
-    ensures memory { OnErr result (choices.now ≢ []) }
-{
-    let mut copies = Vec::new(alloc);
-    for choice in choices {
-        copies.push(choice.clone_in(alloc)?)?;
-    }
-    Ok(copies)
 }
 
 // A choice as it is shown. The one error is a refused request for memory.

@@ -1,12 +1,12 @@
 //! What a choice point makes (docs/CHOICES.md, "What is made").
 
-ghost use Rattle.std.specs.Prelude.{◌≡◌, ◌-◌, is_some, length, true, reverse, IfOk, OnErr};
+ghost use Rattle.std.specs.Prelude.{◌≡◌, ◌-◌, ◌+◌, ◌<◌, ◌≤◌, length, true, reverse, IfOk, OnErr};
 ghost use Rattle.ink_choice.specs.Operands.{operands_of};
 ghost use Rattle.ink_choice.specs.Words.{Chooses, Finds, Makes};
 ghost use Rattle.ink_model.specs.Choices as rules;
 ghost use Rattle.ink_model.specs.Choices.{choice_tags, has_any};
 ghost use Rattle.ink_trail.specs.Undo.{TrailsOrKeeps};
-ghost use Rattle.ink_value.specs.Undo.{stack_back};
+ghost use Rattle.ink_value.specs.Undo.{stack_back, stack_spare, stack_stood};
 
 use crate::choice::Choice;
 use crate::operands::{Operands, find_operands, pop_all, push_tags};
@@ -34,8 +34,10 @@ pub fn make<P: Copy>(
     visited: bool,
     threads: &Threads<P>,
 ) -> Result<Option<Choice<P>>, Fault>
-    ensures made { Makes (is_some stack.old.trail.undo) (rules.make flags target visited threads.now.threads.thread stack.old.items) stack.old.items stack.new.items result }
+    ensures made { Makes (stack_spare stack.old < length stack.old.items) (rules.make flags target visited threads.now.threads.thread stack.old.items) stack.old.items stack.new.items result }
     ensures trail { TrailsOrKeeps stack_back (length stack.old.items - length stack.new.items) stack.old.items stack.old.trail stack.new.items stack.new.trail result }
+    ensures stood { stack_stood stack.new ≡ stack_stood stack.old }
+    ensures spare { stack_spare stack.old ≤ stack_spare stack.new + length stack.old.items }
 {
     match found(alloc, flags, target, stack, visited, threads) {
         Ok((choice, count)) => match pop_all(stack, count) {

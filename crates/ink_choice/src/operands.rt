@@ -1,11 +1,11 @@
 //! What a choice point is to pop, found on the stack before anything is popped (docs/CHOICES.md, "What is popped").
 
-ghost use Rattle.std.specs.Prelude.{◌≡◌, ◌≢◌, ◌<◌, ◌≤◌, ◌+◌, ◌-◌, ◌^◌, is_some, length, true, [], ◌∷◌, ◌++◌, Ok, Err, drop, reverse, IfSome, MatchOption, MatchResult, OnOk, OnErr};
+ghost use Rattle.std.specs.Prelude.{◌≡◌, ◌≢◌, ◌<◌, ◌≤◌, ◌+◌, ◌-◌, ◌^◌, length, [], ◌∷◌, ◌++◌, Ok, Err, drop, reverse, IfSome, MatchOption, MatchResult, OnOk, OnErr};
 ghost use Rattle.ink_choice.specs.Operands.{operands_of, words_of};
 ghost use Rattle.ink_model.specs.Choices as rules;
 ghost use Rattle.ink_model.specs.Choices.{tags_first};
 ghost use Rattle.ink_trail.specs.Undo.{TrailsOrKeeps};
-ghost use Rattle.ink_value.specs.Undo.{stack_back};
+ghost use Rattle.ink_value.specs.Undo.{stack_back, stack_spare, stack_stood};
 
 use ink_model::choice_flags::{has_choice_only_text, has_start_text, is_conditional};
 use ink_model::{Fault, Shared, Text, Value};
@@ -150,12 +150,14 @@ fn value_at<'s>(stack: &'s EvalStack, depth: usize) -> Option<&'s Value>
     }
 }
 
-/// Pops as many values, or all where there are not so many, each of which is a change of a cell. The one error is a refused
-/// request for memory while a mark stands, and leaves all as it was.
+/// Pops as many values, or all where there are not so many, each of which is a change of a cell. Room for the changes is made
+/// before. The one error is a refused request for memory while a mark stands, and leaves all as it was.
 pub(crate) fn pop_all(stack: &mut EvalStack, count: usize) -> Result<(), AllocError>
     ensures ok { OnOk result (reverse stack.new.items ≡ drop count (reverse stack.old.items)) }
-    ensures memory { OnErr result (is_some stack.old.trail.undo ≡ true) }
+    ensures memory { OnErr result (stack_spare stack.old < length stack.old.items) }
     ensures trail { TrailsOrKeeps stack_back (length stack.old.items - length stack.new.items) stack.old.items stack.old.trail stack.new.items stack.new.trail result }
+    ensures stood { stack_stood stack.new ≡ stack_stood stack.old }
+    ensures spare { stack_spare stack.old ≤ stack_spare stack.new + length stack.old.items }
 {
     let there = stack.len();
     if count < there {
@@ -170,8 +172,10 @@ fn pop_some(stack: &mut EvalStack, count: usize) -> Result<(), AllocError>
     requires { count ≤ length stack.old.items }
     ensures ok { OnOk result (reverse stack.new.items ≡ drop count (reverse stack.old.items)) }
     ensures count { OnOk result (count ≡ length stack.old.items - length stack.new.items) }
-    ensures memory { OnErr result (is_some stack.old.trail.undo ≡ true) }
+    ensures memory { OnErr result (stack_spare stack.old < count) }
     ensures trail { TrailsOrKeeps stack_back count stack.old.items stack.old.trail stack.new.items stack.new.trail result }
+    ensures stood { stack_stood stack.new ≡ stack_stood stack.old }
+    ensures spare { stack_spare stack.old ≤ stack_spare stack.new + count }
 {
     stack.ready(count)?;
     stack.drop_top(count);

@@ -16,10 +16,7 @@ pub enum ChoicePair<P> {
 }
 
 /// Puts each pair back, the last first, and answers how many there were.
-pub(crate) fn put_back<P: Copy>(
-    items: &mut Vec<Choice<P>>,
-    trail: &mut Trail<ChoicePair<P>>,
-) -> u64
+pub(crate) fn put_back<P: Copy>(items: &mut Vec<Choice<P>>, trail: &mut Trail<ChoicePair<P>>) -> u64
     requires held { StaysHeld (vec_capacity items.old) (trail_of trail.old.undo) items.old.items }
     ensures items { items.new.items ≡ undone choices_back (trail_of trail.old.undo) items.old.items }
     ensures held { Held (vec_capacity items.new) items.new.items }

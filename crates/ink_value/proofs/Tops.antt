@@ -1,7 +1,7 @@
 -- The values at the top of a stack.
-use Rattle.std.proofs.Common.{◌≡◌, ◌≢◌, ◌∙◌, slice_set, ℕ, zero, suc, ◌+◌, ◌-◌, ◌<◌, ◌≤◌, true, false, ap, sym, subst, refl, inl, inr, ◌⊎◌, List, [], ◌∷◌, ◌++◌, length, take, drop, Option, Some, None, option_map, option_and_then, Result, Ok, Err, arith}
+use Rattle.std.proofs.Common.{◌≡◌, ◌≢◌, ◌∙◌, slice_set, ℕ, zero, suc, ◌+◌, ◌-◌, ◌<◌, ◌≤◌, true, false, ap, sym, subst, refl, inl, inr, List, [], ◌∷◌, ◌++◌, length, take, drop, Option, Some, None, option_map, option_and_then, Result, Ok, Err, arith}
 use Rattle.std.proofs.Math.Seq.{append_snoc, drop-length, take-length, take-suc-set}
-use Rattle.std.proofs.lemmas.List.{append-nil, drop-append-le, length-drop, length-set, length-take-le, take-append-drop, take-append-le, take_all}
+use Rattle.std.proofs.lemmas.List.{append-nil, drop-append-le, length-drop, length-set, take-append-le, take_all}
 use Rattle.std.proofs.lemmas.Bool.{true_from_ne_false}
 use Rattle.ink_model.specs.Asks.{operator_asks}
 use Rattle.ink_model.specs.Joining.{makes_text}

@@ -1,12 +1,12 @@
 -- There is room for what is put back of the stack.
-use Rattle.std.proofs.Common.{◌≡◌, ◌∙◌, ◌≤◌, ◌<◌, ℕ, List, [], ◌∷◌, ◌++◌, Option, Some, None, false, is_some, ap, arith, length, subst, sym}
+use Rattle.std.proofs.Common.{◌≡◌, ◌∙◌, ◌≤◌, ℕ, List, [], ◌∷◌, ◌++◌, Option, Some, None, false, is_some, ap, arith, subst, sym}
 use Rattle.ink_model.specs.declared.value.Value.{Value}
 use Rattle.ink_trail.proofs.Ending.{but_last-snoc}
 use Rattle.ink_trail.proofs.Staying.{stays-more, stays-now, stays-with}
 use Rattle.ink_trail.specs.Undo.{Undo, but_last, trail_of, with_pair}
 use Rattle.ink_value.specs.Undo.{Held, StaysHeld, same_room, stack_back}
 use Rattle.ink_value.specs.declared.undo.StackPair.{StackPair}
-use Rattle.ink_value.specs.declared.undo.StackPair.TheVariants.{Popped, Pushed, Replaced}
+use Rattle.ink_value.specs.declared.undo.StackPair.TheVariants.{Pushed, Replaced}
 
 pub held-more : (r s : ℕ) (es : List StackPair) (vs : List Value) → r ≤ s → StaysHeld r es vs → StaysHeld s es vs
 held-more r s es vs more h =

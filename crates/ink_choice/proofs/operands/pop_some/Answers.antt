@@ -1,4 +1,4 @@
-use Rattle.std.proofs.Common.{◌≡◌, ◌∙◌, List, Some, ap, drop, option_map, reverse, subst, sym}
+use Rattle.std.proofs.Common.{◌∙◌, List, ap, option_map, subst, sym}
 use Rattle.ink_model.specs.Step.Host.{arguments_on}
 use Rattle.ink_model.specs.declared.value.Value.{Value}
 use Rattle.ink_trail.proofs.Undoing.{trails-after}

@@ -1,4 +1,4 @@
-use Rattle.std.proofs.Common.{◌≡◌, ◌∙◌, ◌-◌, ◌+◌, ◌≤◌, [], ◌∷◌, ◌++◌, ap, arith, length, sym, take, vec_capacity, vec_len}
+use Rattle.std.proofs.Common.{◌≡◌, ◌∙◌, ◌-◌, ◌+◌, [], ◌∷◌, ◌++◌, ap, arith, length, sym, take, vec_capacity, vec_len}
 use Rattle.std.proofs.lemmas.List.{length-append, take-take}
 use Rattle.ink_trail.proofs.Undoing.{trails-one, trails-trails}
 use Rattle.ink_trail.specs.Undo.{trail_of}

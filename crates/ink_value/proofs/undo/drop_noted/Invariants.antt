@@ -1,4 +1,4 @@
-use Rattle.std.proofs.Common.{◌≡◌, ◌-◌, ◌+◌, ◌≤◌, length, take, vec_capacity, vec_len}
+use Rattle.std.proofs.Common.{◌≡◌, ◌-◌, ◌+◌, ◌≤◌, take, vec_capacity, vec_len}
 use Rattle.ink_trail.specs.Undo.{Trails, spare, trail_of}
 use Rattle.ink_value.specs.Undo.{StaysHeld, stack_back}
 use Rattle.ink_value.proofs.undo.drop_noted.Given as goal

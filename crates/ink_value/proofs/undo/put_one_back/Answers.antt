@@ -1,4 +1,4 @@
-use Rattle.std.proofs.Common.{◌≡◌, ◌∙◌, ◌-◌, [], ◌∷◌, ◌++◌, ap, length, sym, take}
+use Rattle.std.proofs.Common.{◌≡◌, ◌∙◌, ◌-◌, [], ◌∷◌, ◌++◌, ap, sym, take}
 use Rattle.ink_trail.proofs.Ending.{but_last-take}
 use Rattle.ink_trail.specs.Undo.{but_last}
 use Rattle.ink_value.specs.Undo.{stack_back}

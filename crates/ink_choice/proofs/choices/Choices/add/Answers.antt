@@ -1,8 +1,8 @@
 use Rattle.std.proofs.Common.{◌≡◌, ◌∙◌, ◌<◌, ◌+◌, ◌≤◌, ◌∷◌, ◌++◌, [], ap, arith, length, refl, rules, vec_capacity, vec_len}
 use Rattle.std.proofs.lemmas.List.{length-append}
 use Rattle.ink_model.specs.declared.limits.TheConstants.{MAX_CHOICES}
-use Rattle.ink_trail.proofs.Undoing.{trails-one}
-use Rattle.ink_choice.specs.Undo.{choices_back}
+use Rattle.ink_trail.proofs.Undoing.{stood-trails, trails-one}
+use Rattle.ink_choice.specs.Undo.{choices_back, choices_stood}
 use Rattle.ink_choice.specs.declared.undo.ChoicePair.TheVariants.{Added}
 use Rattle.ink_choice.proofs.Undoing.{added_back, held-as, held-with}
 use Rattle.ink_choice.proofs.choices.Choices.add.Goals as goal
@@ -40,3 +40,7 @@ returns-clause-trail g c =
     let items : c.push_reserved.new.self.items ≡ c.self.inside.items.items ++ c.args.choice ∷ [] =
     c.push_reserved.ensures.items ∙ ap (λ cs. cs ++ c.args.choice ∷ []) c.reserve.ensures.items in
     rw (← c.self.view_is) (trails-one choices_back Added 1 _ _ _ _ (omega arith) (added_back _ _ c.args.choice items) c.in_ok-add.ensures.ok c.add.ensures.room)
+
+pub returns-clause-stood : goal.returns-clause-stood
+unfolding choices_stood
+returns-clause-stood g c = stood-trails choices_back (returns-clause-trail g c)

@@ -1,26 +1,7 @@
-use Rattle.std.proofs.Common.{◌∙◌, ap, arith, length, refl, sym, vec_capacity}
-use Rattle.ink_trail.proofs.Undoing.{trails-one, trails-unmarked}
+use Rattle.std.proofs.Common.{◌∙◌, arith, refl, sym}
+use Rattle.ink_trail.proofs.Undoing.{trails-unmarked}
 use Rattle.ink_choice.specs.Undo.{choices_back}
-use Rattle.ink_choice.specs.declared.undo.ChoicePair.TheVariants.{Cleared}
-use Rattle.ink_choice.proofs.Undoing.{held-with}
 use Rattle.ink_choice.proofs.choices.Choices.clear.Goals as goal
-
-pub invariant_of-self : goal.invariant_of-self
-invariant_of-self g c =
-    let old = c.self.inside.items in
-    let new = c.taken_whole-cleared.new.items in
-    let all = c.taken_whole-cleared.result in
-    let none = ap length c.taken_whole-cleared.ensures.empty in
-    rw c.note.ensures.undo (
-      omega (arith, none),
-      held-with (Cleared all) 1 old.items new.items c.self.inside.trail.undo (vec_capacity old) (vec_capacity new) (ap (λ v. v.items) c.taken_whole-cleared.ensures.whole)
-          (omega (arith, none), omega (arith, none)) (omega (arith, ap vec_capacity c.taken_whole-cleared.ensures.whole)) c.self.invariant.1,
-    )
-
-pub returns-then-is_marked-clause-trail : goal.returns-then-is_marked-clause-trail
-returns-then-is_marked-clause-trail g c =
-    rw (← c.self.view_is) (trails-one choices_back (Cleared c.taken_whole-cleared.result) 1 _ _ _ _ (omega arith) (ap (λ v. v.items) c.taken_whole-cleared.ensures.whole)
-    c.note.ensures.undo c.note.ensures.room)
 
 pub returns-else-is_marked-clause-trail : goal.returns-else-is_marked-clause-trail
 returns-else-is_marked-clause-trail g c =

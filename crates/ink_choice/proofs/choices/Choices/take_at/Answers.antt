@@ -1,41 +1,12 @@
-use Rattle.std.proofs.Common.{◌≡◌, ◌∙◌, ◌<◌, ap, arith, length, refl, sym, vec_capacity}
-use Rattle.std.specs.List.{insert}
-use Rattle.ink_trail.proofs.Undoing.{trails-after, trails-one, trails-unmarked}
+use Rattle.std.proofs.Common.{◌∙◌, arith, refl, sym, vec_capacity}
+use Rattle.ink_trail.proofs.Undoing.{stood-trails, trails-unmarked}
 use Rattle.ink_trail.specs.Undo.{trail_of}
-use Rattle.ink_choice.specs.Undo.{choices_back}
-use Rattle.ink_choice.specs.declared.undo.ChoicePair.TheVariants.{Taken}
-use Rattle.ink_choice.proofs.Undoing.{held-as, held-now, held-unmarked, held-with, taken_back}
+use Rattle.ink_choice.specs.Undo.{choices_back, choices_stood}
+use Rattle.ink_choice.proofs.Undoing.{held-now, held-unmarked}
 use Rattle.ink_choice.proofs.choices.Choices.take_at.Goals as goal
 
-pub invariant_of-self-then-is_marked : goal.invariant_of-self-then-is_marked
-invariant_of-self-then-is_marked g c =
-    let old = c.self.inside.items in
-    let new = c.remove-choice.new.self in
-    let choice = c.remove-choice.result in
-    let within : c.args.index < length old.items = omega (arith, c.requires, ap (λ s. length s.items) c.self.view_is) in
-    let back : choices_back (Taken c.args.index choice) new.items ≡ old.items =
-    ap (λ cs. insert cs c.args.index choice) c.remove-choice.ensures.items ∙ taken_back old.items c.args.index choice within c.remove-choice.ensures.value in
-    let held = held-now (vec_capacity old) (trail_of c.self.inside.trail.undo) old.items c.self.invariant.1 in
-    let room : vec_capacity new ≡ vec_capacity old = c.remove-choice.ensures.capacity in
-    rw c.note.ensures.undo (
-      omega (arith, c.self.invariant.0, c.remove-choice.ensures.len, old.ok.0, new.ok.0),
-      held-with (Taken c.args.index choice) 1 old.items new.items c.ready.new.self.undo (vec_capacity old) (vec_capacity new) back
-          (omega (arith, held.0, c.remove-choice.ensures.len, old.ok.0, new.ok.0), omega (arith, held.1, room, c.remove-choice.ensures.len, old.ok.0, new.ok.0)) (omega (arith, room))
-          (held-as _ _ c.self.inside.trail.undo _ old.items _ c.ready.ensures.kept.0 refl (omega arith) c.self.invariant.1),
-    )
-
-pub returns-then-is_marked-clause-trail : goal.returns-then-is_marked-clause-trail
-returns-then-is_marked-clause-trail g c =
-    let old = c.self.inside.items in
-    let choice = c.remove-choice.result in
-    let within : c.args.index < length old.items = omega (arith, c.requires, ap (λ s. length s.items) c.self.view_is) in
-    let back : choices_back (Taken c.args.index choice) c.remove-choice.new.self.items ≡ old.items =
-    ap (λ cs. insert cs c.args.index choice) c.remove-choice.ensures.items ∙ taken_back old.items c.args.index choice within c.remove-choice.ensures.value in
-    rw (← c.self.view_is) (trails-after choices_back 1 _ _ _ c.ready.new.self _ c.ready.ensures.kept
-    (trails-one choices_back (Taken c.args.index choice) 1 _ _ _ _ (omega arith) back c.note.ensures.undo c.note.ensures.room))
-
-pub invariant_of-self-2 : goal.invariant_of-self-2
-invariant_of-self-2 g c =
+pub invariant_of-self : goal.invariant_of-self
+invariant_of-self g c =
     let old = c.self.inside.items in
     let new = c.remove.new.self in
     let held = held-now (vec_capacity old) (trail_of c.self.inside.trail.undo) old.items c.self.invariant.1 in (
@@ -47,3 +18,7 @@ invariant_of-self-2 g c =
 pub returns-clause-trail : goal.returns-clause-trail
 returns-clause-trail g c =
     rw (← c.self.view_is) (trails-unmarked choices_back 1 _ _ c.self.inside.trail c.self.inside.trail (sym c.is_marked.ensures ∙ c.if-is_marked.false) (refl, omega arith))
+
+pub returns-clause-stood : goal.returns-clause-stood
+unfolding choices_stood
+returns-clause-stood g c = stood-trails choices_back (returns-clause-trail g c)

@@ -1,4 +1,4 @@
-use Rattle.std.proofs.Common.{◌≡◌, ◌∙◌, ◌-◌, [], ◌∷◌, ◌++◌, ap, arith, length, rules, suc, take}
+use Rattle.std.proofs.Common.{◌≡◌, ◌-◌, ap, arith, length, rules}
 use Rattle.ink_value.proofs.Tops.{last_put}
 use Rattle.ink_value.proofs.stack.EvalStack.set_top.Goals as goal
 
