@@ -2,7 +2,7 @@
 
 ghost use Rattle.std.specs.Prelude.{◌≡◌, ◌≤◌, ◌<◌, insert, length, vec_capacity, vec_len};
 ghost use Rattle.ink_choice.specs.Undo.{Held, StaysHeld, choices_back, room_of};
-ghost use Rattle.ink_trail.specs.Undo.{trail_of, undone, writes_of};
+ghost use Rattle.ink_trail.specs.Undo.{Ends, trail_of, undone, writes_of};
 
 use crate::choice::Choice;
 use ink_trail::Trail;
@@ -15,19 +15,20 @@ pub enum ChoicePair<P> {
     Cleared(Vec<Choice<P>>),
 }
 
-/// Puts each pair back, the last first, and answers how many there were.
+/// Puts each pair back, the last first, ends the mark, and answers how many there were.
 pub(crate) fn put_back<P: Copy>(items: &mut Vec<Choice<P>>, trail: &mut Trail<ChoicePair<P>>) -> u64
     requires held { StaysHeld (vec_capacity items.old) (trail_of trail.old.undo) items.old.items }
     ensures items { items.new.items ≡ undone choices_back (trail_of trail.old.undo) items.old.items }
+    ensures trail { Ends trail.old trail.new }
     ensures held { Held (vec_capacity items.new) items.new.items }
     ensures len { result ≡ length (trail_of trail.old.undo) }
     ensures writes { result ≤ writes_of trail.old.undo }
-    ensures room { trail.old.room ≤ trail.new.room }
 {
     let count = trail.len() as u64;
     while let Some(pair) = trail.take_last() {
         put_one_back(items, pair);
     }
+    trail.forget();
     count
 }
 

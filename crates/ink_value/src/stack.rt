@@ -324,9 +324,7 @@ impl EvalStack {
         ensures len { result ≡ length (trail_of self.old.trail.undo) }
         ensures writes { result ≤ writes_of self.old.trail.undo }
     {
-        let count = put_back(&mut self.items, &mut self.trail);
-        self.trail.forget();
-        count
+        put_back(&mut self.items, &mut self.trail)
     }
 
     /// Ends the mark, and changes nothing else. Takes no memory.

@@ -1,7 +1,7 @@
 //! How changes of the evaluation stack are put back.
 
 ghost use Rattle.std.specs.Prelude.{◌≡◌, ◌≤◌, ◌<◌, ◌-◌, ◌++◌, [], ◌∷◌, length, take, vec_capacity, vec_len};
-ghost use Rattle.ink_trail.specs.Undo.{Trails, spare, trail_of, undone, writes_of};
+ghost use Rattle.ink_trail.specs.Undo.{Ends, Trails, spare, trail_of, undone, writes_of};
 ghost use Rattle.ink_value.specs.Undo.{Held, StaysHeld, stack_back};
 
 use ink_model::Value;
@@ -15,19 +15,20 @@ pub enum StackPair {
     Replaced(Value),
 }
 
-/// Puts each pair back, the last first, and answers how many there were.
+/// Puts each pair back, the last first, ends the mark, and answers how many there were.
 pub(crate) fn put_back(items: &mut Vec<Value>, trail: &mut Trail<StackPair>) -> u64
     requires held { StaysHeld (vec_capacity items.old) (trail_of trail.old.undo) items.old.items }
     ensures items { items.new.items ≡ undone stack_back (trail_of trail.old.undo) items.old.items }
+    ensures trail { Ends trail.old trail.new }
     ensures held { Held (vec_capacity items.new) items.new.items }
     ensures len { result ≡ length (trail_of trail.old.undo) }
     ensures writes { result ≤ writes_of trail.old.undo }
-    ensures room { trail.old.room ≤ trail.new.room }
 {
     let count = trail.len() as u64;
     while let Some(pair) = trail.take_last() {
         put_one_back(items, pair);
     }
+    trail.forget();
     count
 }
 
