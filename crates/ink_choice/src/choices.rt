@@ -215,6 +215,7 @@ impl<P: Copy> Choices<P> {
     }
 
     /// Whether a mark stands.
+    #[inline(always)]
     pub fn is_marked(&self) -> bool
         ensures { result ≡ is_some (choices_stood self.now) }
     {
@@ -272,6 +273,7 @@ impl<P: Copy> Choices<P> {
     }
 
     /// The same while a mark stands; without one it takes no memory.
+    #[inline(always)]
     pub fn ready(&mut self, count: usize) -> Result<(), AllocError>
         ensures items { self.new.items ≡ self.old.items }
         ensures kept { KeepsTrail self.old.trail self.new.trail }

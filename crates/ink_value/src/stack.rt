@@ -293,6 +293,7 @@ impl EvalStack {
     }
 
     /// Whether a mark stands.
+    #[inline(always)]
     pub fn is_marked(&self) -> bool
         ensures { result ≡ is_some (stack_stood self.now) }
     {
@@ -350,6 +351,7 @@ impl EvalStack {
     }
 
     /// The same while a mark stands; without one it takes no memory.
+    #[inline(always)]
     pub fn ready(&mut self, count: usize) -> Result<(), AllocError>
         ensures items { self.new.items ≡ self.old.items }
         ensures kept { KeepsTrail self.old.trail self.new.trail }
