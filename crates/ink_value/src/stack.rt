@@ -285,9 +285,10 @@ impl EvalStack {
         Ok(())
     }
 
-    /// How many values there are.
+    /// How many values there are: 10,000 at the most.
     pub fn len(&self) -> usize
-        ensures { result ≡ length self.now.items }
+        ensures len { result ≡ length self.now.items }
+        ensures most { result ≤ MAX_STACK }
     {
         self.items.len()
     }

@@ -10,9 +10,9 @@ returns-then-count-there-clause-trail c =
 pub returns-else-count-there-clause-ok : goal.returns-else-count-there-clause-ok
 returns-else-count-there-clause-ok c =
     let old = c.args.stack.now.items in
-    let few : length old ≤ c.args.count = omega (arith, c.if-count-there.false, c.len-there.ensures) in
+    let few : length old ≤ c.args.count = omega (arith, c.if-count-there.false, c.len-there.ensures.len) in
     on_ok_weaker c.pop_some-else-count-there.result
-    (λ is. dropped_all old c.pop_some-else-count-there.new.stack.items c.args.count few (is ∙ ap (λ k. drop k (reverse old)) c.len-there.ensures)) c.pop_some-else-count-there.ensures.ok
+    (λ is. dropped_all old c.pop_some-else-count-there.new.stack.items c.args.count few (is ∙ ap (λ k. drop k (reverse old)) c.len-there.ensures.len)) c.pop_some-else-count-there.ensures.ok
 
 pub returns-else-count-there-clause-trail : goal.returns-else-count-there-clause-trail
 returns-else-count-there-clause-trail c =
