@@ -1,40 +1,14 @@
 //! Rows by number, which are kept in an array, so that each is found at once.
 
-ghost use Rattle.std.specs.Prelude.{◌≡◌, ◌≢◌, ◌<◌, ◌≤◌, ℕ, List, [], None, length, false, true, unwrap_or, IfOk, OnOk, OnErr, IfSome, if◌then◌else◌};
+ghost use Rattle.std.specs.Prelude.{◌≡◌, ◌<◌, ◌≤◌, ℕ, List, [], None, length, false, true, unwrap_or, OnOk, OnErr, IfSome, if◌then◌else◌};
 ghost use Rattle.std.specs.Ordering.{nat_cmp};
 ghost use Rattle.ink_model.specs.Counts.{one_more};
 ghost use Rattle.ink_model.specs.Rows.{row, with_row};
 ghost use Rattle.ink_model.specs.declared.limits.TheConstants.{MAX_COUNT};
-ghost use Rattle.ink_vars.specs.Slots.{AreCounts, Differs, rows_from};
+ghost use Rattle.ink_vars.specs.Slots.{AreCounts, Differs, rows_from, with_slot};
 
 use ink_model::MAX_COUNT;
-use std::alloc::{AllocError, Global};
-
-/// A copy of the rows, which takes memory only where there are some.
-pub(crate) fn copied(alloc: Global, slots: &[Option<u32>]) -> Result<Vec<Option<u32>>, AllocError>
-    ensures rows { IfOk result (λ copy. rows_from 0 copy.items ≡ rows_from 0 slots.now) }
-    ensures memory { OnErr result (rows_from 0 slots.now ≢ []) }
-    ensures counts { AreCounts slots.now → IfOk result (λ copy. AreCounts copy.items) }
-{
-    let mut copy = Vec::new(alloc);
-    if has_rows(slots) {
-        copy.extend_from_slice(slots)?;
-    }
-    Ok(copy)
-}
-
-// Whether there is a row.
-fn has_rows(slots: &[Option<u32>]) -> bool
-    ensures some { result ≡ true → rows_from 0 slots.now ≢ [] }
-    ensures none { result ≡ false → rows_from 0 slots.now ≡ [] }
-{
-    for count in slots {
-        if count.is_some() {
-            return true;
-        }
-    }
-    false
-}
+use std::alloc::AllocError;
 
 /// The row of a number.
 pub(crate) fn slot(slots: &[Option<u32>], number: usize) -> Option<u32>
@@ -59,6 +33,7 @@ pub(crate) fn make_room(
     ensures wanted { OnErr result (wanted ≡ true) }
     ensures memory { OnErr result (row nat_cmp number (rows_from 0 slots.old.items) ≡ None) }
     ensures counts { AreCounts slots.old.items → AreCounts slots.new.items }
+    ensures grows { length slots.old.items ≤ length slots.new.items }
 {
     if wanted {
         while slots.len() <= number {
@@ -103,6 +78,8 @@ pub(crate) fn put(slots: &mut [Option<u32>], number: usize, value: u32, wanted: 
 pub(crate) fn put_back(slots: &mut [Option<u32>], number: usize, before: Option<u32>)
     ensures rows { (rows : List (ℕ × ℕ)) → before ≡ row nat_cmp number rows → Differs number (rows_from 0 slots.old) rows → rows_from 0 slots.new ≡ rows }
     ensures counts { AreCounts slots.old → IfSome before (λ n. n ≤ MAX_COUNT) → AreCounts slots.new }
+    ensures undo { with_slot number (row nat_cmp number (rows_from 0 slots.old)) (rows_from 0 slots.new) ≡ rows_from 0 slots.old }
+    ensures past { length slots.old ≤ number → slots.new ≡ slots.old }
 {
     if number < slots.len() {
         slots[number] = before;
