@@ -1,7 +1,7 @@
 -- Laws of what is put back.
-use Rattle.std.proofs.Common.{◌≡◌, ◌∙◌, Bool, false, if◌then◌else◌, ◌≤◌, ◌<◌, ◌+◌, ◌^◌, ℕ, List, [], ◌∷◌, ◌++◌, length, true, is_some, IsSome, Option, Some, None, option_map, unwrap_or, Result, Ok, Err, ap, arith, refl, subst, sym}
+use Rattle.std.proofs.Common.{◌≡◌, ◌∙◌, Bool, false, if◌then◌else◌, ◌≤◌, ◌<◌, ◌+◌, ◌^◌, ℕ, List, [], ◌∷◌, ◌++◌, length, true, is_some, IsSome, Option, Some, None, unwrap_or, Result, Ok, Err, ap, arith, refl, subst, sym}
 use Rattle.std.proofs.lemmas.List.{append_assoc, length-append}
-use Rattle.ink_trail.specs.Undo.{Begins, HasRoom, KeepsTrail, LacksRoom, TrailView, Trails, TrailsOrKeeps, Undo, spare, spare_of, stood, stood_at, trail_of, undone, with_pair, writes_of}
+use Rattle.ink_trail.specs.Undo.{Begins, HasRoom, KeepsTrail, LacksRoom, TrailView, Trails, TrailsOrKeeps, Undo, spare, spare_of, stood, stood_at, stood_of, trail_of, undone, with_pair, writes_of}
 
 -- ---- how many pairs more fit
 
@@ -188,7 +188,7 @@ module _ {E D : Type 0} (back : E → D → D) where
 
   -- ---- the data at the mark, where one stands
 
-  marked_by : (u : Option (Undo E)) (d : D) → is_some (option_map (λ w. undone back w.trail d) u) ≡ is_some u
+  marked_by : (u : Option (Undo E)) (d : D) → is_some (stood_of back u d) ≡ is_some u
   marked_by None d = refl
   marked_by (Some u) d = refl
 
@@ -197,7 +197,7 @@ module _ {E D : Type 0} (back : E → D → D) where
   stood-marked t d = marked_by t.undo d
 
   same_by : (u v : Option (Undo E)) (a b : D) → is_some v ≡ is_some u → (is_some u ≡ true → undone back (trail_of v) b ≡ undone back (trail_of u) a)
-      → option_map (λ w. undone back w.trail b) v ≡ option_map (λ w. undone back w.trail a) u
+      → stood_of back v b ≡ stood_of back u a
   same_by None None a b same h = refl
   same_by None (Some v) a b same h = absurd (cc)
   same_by (Some u) None a b same h = absurd (cc)
@@ -230,7 +230,7 @@ module _ {E D : Type 0} (back : E → D → D) where
   unfolding stood_at
   stood-pair e n was is old new b undo = pair_by old.undo new.undo undo
     where
-      pair_by : (u v : Option (Undo E)) → v ≡ with_pair e n u → option_map (λ w. undone back w.trail is) v ≡ option_map (λ w. undone back w.trail was) u
+      pair_by : (u v : Option (Undo E)) → v ≡ with_pair e n u → stood_of back v is ≡ stood_of back u was
       pair_by None v h = rw h refl
       pair_by (Some u) v h = rw h (ap (λ d. Some (undone back u.trail d)) b)
 
@@ -256,7 +256,7 @@ module _ {E D : Type 0} (back : E → D → D) where
   unfolding stood_at
   stood-back t d = back_by t.undo
     where
-      back_by : (u : Option (Undo E)) → undone back (trail_of u) d ≡ unwrap_or (option_map (λ w. undone back w.trail d) u) d
+      back_by : (u : Option (Undo E)) → undone back (trail_of u) d ≡ unwrap_or (stood_of back u d) d
       back_by None = refl
       back_by (Some u) = refl
 

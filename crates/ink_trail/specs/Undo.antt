@@ -1,5 +1,5 @@
 -- What cells held before they were changed, and how it is put back.
-use Rattle.std.specs.Prelude.{◌≡◌, ◌≤◌, ◌<◌, ◌+◌, ◌-◌, ◌^◌, ℕ, min, List, [], ◌∷◌, ◌++◌, length, true, is_some, IsSome, Option, Some, None, option_map, Result, Ok, Err}
+use Rattle.std.specs.Prelude.{◌≡◌, ◌≤◌, ◌<◌, ◌+◌, ◌-◌, ◌^◌, ℕ, min, List, [], ◌∷◌, ◌++◌, length, true, is_some, IsSome, Option, Some, None, Result, Ok, Err}
 
 -- the pairs of a cell and what it held, the last first, and the changes of single cells that were counted, which stay at the most
 pub record Undo (E : Type 0) : Type 0 where
@@ -71,8 +71,12 @@ module _ {E D : Type 0} (back : E → D → D) where
   stood t d = undone back (trail_of t.undo) d
 
   -- the same where a mark stands
+  abbrev pub stood_of : Option (Undo E) → D → Option D
+  stood_of None d = None
+  stood_of (Some u) d = Some (undone back u.trail d)
+
   unfoldable pub stood_at : TrailView E → D → Option D
-  stood_at t d = option_map (λ u. undone back u.trail d) t.undo
+  stood_at t d = stood_of t.undo d
 
   -- A call changes the data, and leaves a trail of it while a mark stands: pairs that put it back, behind all that was noted
   -- before. It counts n changes of single cells at the most, as many as there are pairs at the least.

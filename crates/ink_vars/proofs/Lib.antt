@@ -1,5 +1,5 @@
 pub mod Chains
-pub mod Copying
+pub mod Naming
 pub mod Entries
 pub mod Numbered
 pub mod Restored

@@ -62,14 +62,6 @@ visit_trails b t n vm tm was is u w hv ht =
     (λ k. ap (with_slot n (row nat_cmp n was.turns)) ht ∙ slot_where n t (row nat_cmp n was.turns) tm was.turns refl)
     (λ k. hv ∙ ap (λ c. if c then with_row nat_cmp n vm was.visits else was.visits) k) (λ k. ht ∙ ap (λ c. if c then with_row nat_cmp n tm was.turns else was.turns) k)
 
--- nothing is noted while no mark stands
-pub rows_unmarked : (b t : Bool) (n : ℕ) (c : CountsOf ℕ) (u : Option (Undo CountPair)) → is_some u ≡ false → with_rows n b t c u ≡ u
-rows_unmarked true true n c None h = refl
-rows_unmarked true false n c None h = refl
-rows_unmarked false true n c None h = refl
-rows_unmarked false false n c None h = refl
-rows_unmarked b t n c (Some u) h = absurd (cc)
-
 -- ---- slots of what is noted
 
 counted : (n : ℕ) (slots : List (Option ℕ)) → AreCounts slots → IfSome (row nat_cmp n (rows_from 0 slots)) (λ v. v ≤ MAX_COUNT)
@@ -83,7 +75,17 @@ have_rows b t n vs ts u hv ht fv ft h =
     have_where t (length vs) (length ts) (Turn n (row nat_cmp n (rows_from 0 ts))) first (λ k. (ft k, counted n ts ht))
     (have_where b (length vs) (length ts) (Visits n (row nat_cmp n (rows_from 0 vs))) u (λ k. (fv k, counted n vs hv)) h)
 
+-- what is noted of two arrays is noted of those that equal them
+pub noted_slots : (n : ℕ) (vs ts us rs : List (Option ℕ)) (u w : Option (Undo CountPair)) → w ≡ with_rows n (nat_lt n (length vs)) (nat_lt n (length ts)) (rows_of vs ts) u
+    → vs ≡ us → ts ≡ rs → w ≡ with_rows n (nat_lt n (length us)) (nat_lt n (length rs)) (rows_of us rs) u
+noted_slots n vs ts us rs u w undo v t =
+    undo ∙ ap (λ s. with_rows n (nat_lt n (length s)) (nat_lt n (length ts)) (rows_of s ts) u) v
+    ∙ ap (λ s. with_rows n (nat_lt n (length us)) (nat_lt n (length s)) (rows_of us s) u) t
+
 -- ---- past the slots
+
+pub within : (a b : ℕ) → nat_lt a b ≡ true → a < b
+within a b h = grind (arith, nat_tests)
 
 past : (a b : ℕ) → nat_lt a b ≡ false → b ≤ a
 past a b h = grind (arith, nat_tests)

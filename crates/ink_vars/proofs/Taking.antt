@@ -7,6 +7,7 @@ use Rattle.ink_model.specs.Store.{Values, store, stored}
 use Rattle.ink_model.specs.declared.value.Value.{Value}
 use Rattle.ink_vars.specs.Changes.{number_of}
 use Rattle.ink_vars.specs.Globals.{values_of}
+use Rattle.ink_vars.proofs.Naming.{store_new}
 use Rattle.ink_vars.proofs.Numbers.{number_there}
 use Rattle.ink_trail.proofs.Ending.{but_last-snoc}
 use Rattle.ink_trail.specs.Undo.{but_last}
@@ -14,16 +15,7 @@ use Rattle.ink_trail.specs.Undo.{but_last}
 -- a new global comes last
 pub added : (name : List ℕ) (v : Value) (rows : Values) → stored name rows ≡ None → but_last (store name v rows) ≡ rows
 added name v [] h = refl
-added name v (e ∷ rows) h = ap but_last (new name v (e ∷ rows) h) ∙ but_last-snoc (e ∷ rows) (name, v)
-  where
-    new : (name : List ℕ) (v : Value) (vs : Values) → stored name vs ≡ None → store name v vs ≡ vs ++ (name, v) ∷ []
-    new name v [] h = refl
-    new name v (e ∷ es) h = by (bytes_eq name e.0) h (new name v es)
-      where
-        by : (b : Bool) → (if b then Some e.1 else stored name es) ≡ None → (stored name es ≡ None → store name v es ≡ es ++ (name, v) ∷ [])
-            → (if b then (e.0, v) ∷ es else e ∷ store name v es) ≡ e ∷ (es ++ (name, v) ∷ [])
-        by true k more = absurd (cc)
-        by false k more = ap (λ rest. e ∷ rest) (more k)
+added name v (e ∷ rows) h = ap but_last (store_new name v (e ∷ rows) h) ∙ but_last-snoc (e ∷ rows) (name, v)
 
 -- a value that is written at an index
 pub written : (es : List (String Global × Value)) (i : ℕ) (v : Value) → values_of (set_value_at es i v) ≡ set_value_at (values_of es) i v
@@ -48,16 +40,6 @@ popped (x ∷ old) new None h s =
     absurd (cc)
 popped [] [] None h s = refl
 popped [] (y ∷ new) None h s = absurd (cc)
-
--- a name that is there has an index
-pub index_there : (name : List ℕ) (es : List (String Global × Value)) → is_some (stored name (values_of es)) ≡ true → number_of name (values_of es) < length es
-index_there name [] h = absurd (cc)
-index_there name (e ∷ es) h = by (bytes_eq name (string_bytes e.0)) h (index_there name es)
-  where
-    by : (t : Bool) → is_some (if t then Some e.1 else stored name (values_of es)) ≡ true → (is_some (stored name (values_of es)) ≡ true → number_of name (values_of es) < length es)
-        → (if t then 0 else suc (number_of name (values_of es))) < suc (length es)
-    by true k on = omega arith
-    by false k on = omega (arith, on k)
 
 pub written_absent : (es : List (String Global × Value)) (i : ℕ) (v : Value) → (i < length es → false ≡ true) → set_value_at (values_of es) i v ≡ values_of es
 written_absent [] i v h = refl

@@ -57,6 +57,7 @@ impl Model for Noted {
     ghost invariant = { λ n. IfSome n.visits (λ v. v ≤ MAX_COUNT) × IfSome n.turn (λ t. t ≤ MAX_COUNT) };
 }
 
+#[tactic(auto, unfolding(crate::specs::Undo::counts_stood, crate::specs::Undo::counts_spare, ink_trail::specs::Undo::stood_at, ink_trail::specs::Undo::spare))]
 impl Counts {
     /// No container was visited, which takes no memory.
     pub fn new(alloc: Global) -> Counts

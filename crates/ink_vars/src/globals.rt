@@ -42,6 +42,7 @@ impl Model for Globals {
     ghost invariant = { λ g. Fits g.changes g.table × Covers g.changes (length g.table) (trail_of g.trail.undo) };
 }
 
+#[tactic(auto, unfolding(crate::specs::Undo::globals_stood, crate::specs::Undo::globals_spare, ink_trail::specs::Undo::stood_at, ink_trail::specs::Undo::spare))]
 impl Globals {
     /// No globals, which take no memory.
     pub fn new(alloc: Global) -> Globals

@@ -26,6 +26,7 @@ impl Turn {
 impl Counts {
     /// The counts of these: how often each container was visited, and in which turn it was entered last, by its number. Takes no
     /// memory.
+    #[tactic(auto, unfolding(crate::specs::Undo::counts_stood, ink_trail::specs::Undo::stood_at))]
     pub fn from_slots(visits: Vec<Option<u32>>, turns: Vec<Option<u32>>) -> Counts
         requires { AreCounts visits.items × AreCounts turns.items }
         ensures rows { result.rows ≡ record { visits = rows_from 0 visits.items; turns = rows_from 0 turns.items } }

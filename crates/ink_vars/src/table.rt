@@ -198,7 +198,12 @@ impl Table {
     }
 
     /// As `put_at`, of a global that is not there.
-    pub(crate) fn add_at(&mut self, name: &str, number: Option<usize>, value: Value) -> Result<(), AllocError>
+    pub(crate) fn add_at(
+        &mut self,
+        name: &str,
+        number: Option<usize>,
+        value: Value,
+    ) -> Result<(), AllocError>
         ensures ok { OnOk result (self.new ≡ store name.now value self.old) }
         ensures err { OnErr result (self.new ≡ self.old) }
     {

@@ -55,12 +55,7 @@ pub(crate) fn put_noted(
 }
 
 // Gives the global at an index a value, and notes the one before.
-fn change_noted(
-    table: &mut Table,
-    trail: &mut Trail<GlobalPair>,
-    index: usize,
-    value: Value,
-)
+fn change_noted(table: &mut Table, trail: &mut Trail<GlobalPair>, index: usize, value: Value)
     requires there { index < length table.old }
     requires room { 1 ≤ spare trail.old }
     ensures table { table.new ≡ set_value_at table.old index value }
@@ -149,7 +144,14 @@ pub(crate) fn note_slots(
     ensures room { trail.old.room ≤ trail.new.room + 2 }
 {
     if trail.is_marked() {
-        note_rows(trail, visits, turns, node, node < visits.len(), node < turns.len());
+        note_rows(
+            trail,
+            visits,
+            turns,
+            node,
+            node < visits.len(),
+            node < turns.len(),
+        );
     }
 }
 

@@ -1,7 +1,8 @@
 use Rattle.std.proofs.Common.{◌∙◌, ap, inl, length, sym}
 use Rattle.std.proofs.lemmas.Result.{on_err_weaker}
 use Rattle.ink_vars.specs.Changes.{Tracks, as_they_were}
-use Rattle.ink_vars.specs.Undo.{global_back}
+use Rattle.ink_trail.proofs.Undoing.{stood-or-kept}
+use Rattle.ink_vars.specs.Undo.{global_back, globals_stood}
 use Rattle.ink_vars.proofs.Covering.{covers_unmarked}
 use Rattle.ink_vars.proofs.Either.{either-unmarked}
 use Rattle.ink_vars.proofs.Fitting.{as_it_stood, fits_put, tracked}
@@ -28,3 +29,7 @@ returns-clause-memory c =
 pub returns-clause-trail : goal.returns-clause-trail
 returns-clause-trail c =
     rw (← c.self.view_is) (either-unmarked global_back c.put.result 1 _ _ c.self.inside.trail (sym c.is_marked.ensures ∙ c.if-is_marked.false) c.put.ensures.err)
+
+pub returns-then-is_marked-clause-stood : goal.returns-then-is_marked-clause-stood
+unfolding globals_stood
+returns-then-is_marked-clause-stood c = stood-or-kept global_back c.put_marked.result 1 _ _ _ _ c.put_marked.ensures.trail
