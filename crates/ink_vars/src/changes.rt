@@ -5,7 +5,7 @@ ghost use Rattle.std.specs.List.{IsDistinct};
 ghost use Rattle.std.specs.Option.{option_copied};
 ghost use Rattle.ink_model.specs.Store.{Values, store, stored};
 ghost use Rattle.ink_model.specs.declared.value.Value.{Value};
-ghost use Rattle.ink_trail.specs.Undo.{trail_of, undone, writes_of};
+ghost use Rattle.ink_trail.specs.Undo.{Ends, trail_of, undone, writes_of};
 ghost use Rattle.ink_vars.specs.Changes.{AnswersAs, Fits, Marks, Tracks, as_they_were, changed_numbers, changed_to, noted_at, number_of, with_noted};
 ghost use Rattle.ink_vars.specs.Undo.{Covers, global_back};
 
@@ -114,8 +114,8 @@ impl Changes {
         globals.put_at(name, number, value)
     }
 
-    /// Puts each pair of a trail back, the last first, and answers how many there were. What was noted of the globals fits them
-    /// then too. Takes no memory.
+    /// Puts each pair of a trail back, the last first, ends the mark, and answers how many pairs there were. What was noted of the
+    /// globals fits them then too. Takes no memory.
     pub(crate) fn put_back(&self, globals: &mut Table, trail: &mut Trail<GlobalPair>) -> u64
         requires fits { Fits self.now globals.old }
         requires covers { Covers self.now (length globals.old) (trail_of trail.old.undo) }
@@ -124,12 +124,13 @@ impl Changes {
         ensures start { as_they_were self.now 0 globals.new ≡ as_they_were self.now 0 globals.old }
         ensures len { result ≡ length (trail_of trail.old.undo) }
         ensures writes { result ≤ writes_of trail.old.undo }
-        ensures room { trail.old.room ≤ trail.new.room }
+        ensures trail { Ends trail.old trail.new }
     {
         let count = trail.len() as u64;
         while let Some(pair) = trail.take_last() {
             globals.put_one_back(pair);
         }
+        trail.forget();
         count
     }
 

@@ -195,13 +195,11 @@ impl Counts {
         ensures len { result ≡ length (trail_of self.old.trail.undo) }
         ensures writes { result ≤ writes_of self.old.trail.undo }
     {
-        let count = put_rows_back(
+        put_rows_back(
             self.visits.as_mut_slice(),
             self.turns.as_mut_slice(),
             &mut self.trail,
-        );
-        self.trail.forget();
-        count
+        )
     }
 
     /// Ends the mark, and changes nothing else. Takes no memory.

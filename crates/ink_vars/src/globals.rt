@@ -215,9 +215,7 @@ impl Globals {
         ensures len { result ≡ length (trail_of self.old.trail.undo) }
         ensures writes { result ≤ writes_of self.old.trail.undo }
     {
-        let count = self.changes.put_back(&mut self.table, &mut self.trail);
-        self.trail.forget();
-        count
+        self.changes.put_back(&mut self.table, &mut self.trail)
     }
 
     /// Ends the mark, and changes nothing else. Takes no memory.

@@ -3,7 +3,7 @@
 ghost use Rattle.std.specs.Prelude.{◌≡◌, ◌≤◌, ◌<◌, ◌+◌, None, List, OnOk, OnErr, is_some, length, nat_lt, true, false};
 ghost use Rattle.indexmap.specs.IndexMap.{set_value_at};
 ghost use Rattle.ink_model.specs.Store.{store, stored};
-ghost use Rattle.ink_trail.specs.Undo.{KeepsTrail, Trails, TrailsOrKeeps, spare, trail_of, undone, writes_of};
+ghost use Rattle.ink_trail.specs.Undo.{Ends, KeepsTrail, Trails, TrailsOrKeeps, spare, trail_of, undone, writes_of};
 ghost use Rattle.ink_vars.specs.Changes.{AreNew, noted_at, number_of};
 ghost use Rattle.ink_vars.specs.Slots.{AreCounts};
 ghost use Rattle.ink_vars.specs.Undo.{Covers, HasSlot, HaveSlots, counts_back, global_back, rows_of, with_rows, with_wanted};
@@ -111,6 +111,7 @@ pub(crate) fn add_rows(
     }
 }
 
+// The same, while a mark stands.
 #[cold]
 #[inline(never)]
 fn add_marked(
@@ -188,7 +189,7 @@ fn note_row(trail: &mut Trail<CountPair>, pair: CountPair, wanted: bool)
     }
 }
 
-/// Puts each row back, the last change first, and answers how many there were.
+/// Puts each row back, the last change first, ends the mark, and answers how many pairs there were. Takes no memory.
 pub(crate) fn put_rows_back(
     visits: &mut [Option<u32>],
     turns: &mut [Option<u32>],
@@ -200,12 +201,13 @@ pub(crate) fn put_rows_back(
     ensures turns { AreCounts turns.old → AreCounts turns.new }
     ensures len { result ≡ length (trail_of trail.old.undo) }
     ensures writes { result ≤ writes_of trail.old.undo }
-    ensures room { trail.old.room ≤ trail.new.room }
+    ensures trail { Ends trail.old trail.new }
 {
     let count = trail.len() as u64;
     while let Some(pair) = trail.take_last() {
         put_row_back(visits, turns, pair);
     }
+    trail.forget();
     count
 }
 
