@@ -1,5 +1,5 @@
 -- Rows of counts that are put back, and their slots.
-use Rattle.std.proofs.Common.{◌≡◌, ◌∙◌, ◌≤◌, ◌<◌, ◌+◌, ◌-◌, ℕ, List, [], ◌∷◌, Bool, true, false, IfSome, Option, None, Some, if◌then◌else◌, ap, arith, is_some, length, nat_lt, refl, subst, sym}
+use Rattle.std.proofs.Common.{◌≡◌, ◌∙◌, ◌≤◌, ◌<◌, ◌+◌, ◌-◌, ℕ, List, [], ◌∷◌, Bool, true, false, IfSome, Option, None, Some, if◌then◌else◌, ap, arith, length, nat_lt, refl, subst, sym}
 use Rattle.std.proofs.lemmas.Bool.Decides.{nat_tests}
 use Rattle.std.specs.Ordering.{nat_cmp}
 use Rattle.ink_model.specs.Counts.{CountsOf}

@@ -1,4 +1,4 @@
-use Rattle.std.proofs.Common.{◌≡◌, ◌∙◌, ap, length, subst, sym}
+use Rattle.std.proofs.Common.{◌∙◌, ap, length, subst, sym}
 use Rattle.ink_vars.specs.Undo.{HasSlot, counts_back, rows_of}
 use Rattle.ink_vars.specs.Slots.{rows_from}
 use Rattle.ink_vars.proofs.Restored.{count_back, slot_at}

@@ -1,4 +1,4 @@
-use Rattle.std.proofs.Common.{◌≡◌, ◌∙◌, ◌≤◌, ◌<◌, Option, ap, arith, if◌then◌else◌, length, subst, sym, true, unwrap_or}
+use Rattle.std.proofs.Common.{◌≡◌, ◌∙◌, Option, ap, arith, if◌then◌else◌, length, subst, sym, unwrap_or}
 use Rattle.std.proofs.lemmas.List.{with_items_is}
 use Rattle.std.specs.Ordering.{nat_cmp}
 use Rattle.ink_model.specs.Counts.{one_more}

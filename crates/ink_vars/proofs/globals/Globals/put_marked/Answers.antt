@@ -1,7 +1,7 @@
 use Rattle.std.proofs.Common.{◌≡◌, ◌∙◌, ap, inl, inr, is_some, length, subst, sym, true}
 use Rattle.std.proofs.lemmas.Result.{on_err_weaker}
 use Rattle.ink_trail.specs.Undo.{trail_of}
-use Rattle.ink_vars.specs.Changes.{AreNew, Tracks, as_they_were, noted_at, number_of}
+use Rattle.ink_vars.specs.Changes.{Tracks, as_they_were, noted_at, number_of}
 use Rattle.ink_vars.specs.Undo.{Covers, global_back}
 use Rattle.ink_vars.proofs.Covering.{covers_noted, is_noted}
 use Rattle.ink_vars.proofs.Either.{either-after}
