@@ -1,4 +1,4 @@
--- How changes of globals and counts are put back (docs/VARIABLES.md).
+-- How changes of globals and counts are put back.
 use Rattle.std.specs.Ordering.{nat_cmp}
 use Rattle.std.specs.Prelude.{◌≡◌, ◌≤◌, ◌<◌, ◌-◌, ⊤, ℕ, Bool, List, [], ◌∷◌, Option, None, is_some, IfSome, if◌then◌else◌, true}
 use Rattle.indexmap.specs.IndexMap.{set_value_at}

@@ -217,13 +217,14 @@ impl Counts {
         ensures rows { self.new.rows ≡ self.old.rows }
         ensures kept { KeepsTrail self.old.trail self.new.trail }
         ensures stood { counts_stood self.new ≡ counts_stood self.old }
+        ensures more { counts_spare self.old ≤ counts_spare self.new }
         ensures ok { OnOk result (count ≤ self.new.trail.room) }
         ensures memory { OnErr result (self.old.trail.room < count) }
     {
         self.trail.make_room(count)
     }
 
-    /// The same where a mark stands, and takes no memory else.
+    /// The same while a mark stands; without one it takes no memory.
     #[inline(always)]
     pub fn ready(&mut self, count: usize) -> Result<(), AllocError>
         ensures rows { self.new.rows ≡ self.old.rows }

@@ -56,7 +56,7 @@ impl Globals {
         }
     }
 
-    /// The moment is this one from now on, which no mark may stand for: going back leaves the moment where it is. Takes no memory.
+    /// The moment is this one from now on. No mark may stand, since going back leaves the moment where it is. Takes no memory.
     pub fn begin(&mut self)
         requires unmarked { globals_stood self.old ≡ None }
         ensures rows { self.new.rows ≡ self.old.rows }
@@ -108,7 +108,7 @@ impl Globals {
     }
 
     /// Gives a global that is there a value, without memory. Where there is none, the value is handed back. The moment is this
-    /// one then, which no mark may stand for.
+    /// one then, so no mark may stand.
     pub fn replace(&mut self, name: &str, value: Value) -> Result<(), Value>
         requires unmarked { globals_stood self.old ≡ None }
         ensures found { is_ok result ≡ is_some (stored name.now self.old.rows) }
@@ -235,13 +235,14 @@ impl Globals {
         ensures start { self.new.start ≡ self.old.start }
         ensures kept { KeepsTrail self.old.trail self.new.trail }
         ensures stood { globals_stood self.new ≡ globals_stood self.old }
+        ensures more { globals_spare self.old ≤ globals_spare self.new }
         ensures ok { OnOk result (count ≤ self.new.trail.room) }
         ensures memory { OnErr result (self.old.trail.room < count) }
     {
         self.trail.make_room(count)
     }
 
-    /// The same where a mark stands, and takes no memory else.
+    /// The same while a mark stands; without one it takes no memory.
     #[inline(always)]
     pub fn ready(&mut self, count: usize) -> Result<(), AllocError>
         ensures rows { self.new.rows ≡ self.old.rows }
