@@ -1,5 +1,5 @@
 -- Notes that fit the globals, also after one is stored.
-use Rattle.std.proofs.Common.{◌≡◌, ◌∙◌, ◌+◌, ◌⊎◌, ℕ, suc, Bool, true, false, bytes_eq, if◌then◌else◌, List, [], ◌∷◌, Option, Some, None, Result, OnErr, OnOk, ap, arith, inl, inr, is_some, length, refl, subst, sym}
+use Rattle.std.proofs.Common.{◌≡◌, ◌∙◌, ◌+◌, ◌⊎◌, ℕ, suc, Bool, true, false, bytes_eq, if◌then◌else◌, List, [], ◌∷◌, Option, Some, None, Result, OnErr, OnOk, ap, arith, inl, inr, is_some, refl, subst, sym}
 use Rattle.std.proofs.lemmas.Slice.Eq.{bytes_eq-Decides}
 use Rattle.ink_model.specs.Store.{Values, stored, store}
 use Rattle.ink_model.specs.declared.value.Value.{Value}
@@ -7,7 +7,7 @@ use Rattle.ink_vars.specs.Changes.{Fits, Tracks, as_it_was, as_they_were, noted_
 use Rattle.ink_vars.specs.Globals.{DifferInName}
 use Rattle.ink_vars.specs.declared.changes.Before.{Before}
 use Rattle.ink_vars.proofs.Changing.{absent_then}
-use Rattle.ink_vars.proofs.Copying.{other_way}
+use Rattle.ink_vars.proofs.Naming.{other_way}
 use Rattle.ink_vars.proofs.Noting.{either_way, none_noted, none_of}
 
 -- ---- names that differ
@@ -77,17 +77,3 @@ as_it_stood name noted now (inl none) = unnoted_was name noted 0 now (ap (λ k. 
 as_it_stood name noted now (inr absent) =
     let none : stored name now ≡ None = none_of (stored name now) absent in
     absent_then name noted 0 now none ∙ sym none
-
--- no globals were none
-pub none_were : (noted : List Before) (now : Values) → length now ≡ 0 → as_they_were noted 0 now ≡ []
-none_were noted [] none = refl
-none_were noted (e ∷ now) none = absurd (omega (arith, none))
-
-pub none_differ : (now : Values) → now ≡ [] → DifferInName now
-none_differ now none = subst DifferInName (sym none) tt
-
-pub fits_same : (noted other : List Before) (now table : Values) → other ≡ noted → table ≡ now → Fits noted now → Fits other table
-fits_same noted other now table n t h = subst (λ bs. Fits bs table) (sym n) (subst (λ es. Fits noted es) (sym t) h)
-
-pub were_same : (noted other : List Before) (now table : Values) → other ≡ noted → table ≡ now → as_they_were other 0 table ≡ as_they_were noted 0 now
-were_same noted other now table n t = ap (λ bs. as_they_were bs 0 table) n ∙ ap (as_they_were noted 0) t

@@ -1,5 +1,5 @@
 pub mod Chains
-pub mod Copying
+pub mod Naming
 pub mod Entries
 pub mod Numbered
 pub mod Restored
@@ -8,3 +8,7 @@ pub mod Numbers
 pub mod Noting
 pub mod Changing
 pub mod Fitting
+pub mod Slotting
+pub mod Taking
+pub mod Covering
+pub mod Either

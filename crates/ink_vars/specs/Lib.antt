@@ -3,3 +3,4 @@ pub mod Globals
 pub mod Slots
 pub mod Words
 pub mod Changes
+pub mod Undo

@@ -2,12 +2,17 @@
 use Rattle.std.specs.Prelude.{ℕ}
 use Rattle.ink_model.specs.Counts.{CountsOf}
 use Rattle.ink_model.specs.Store.{Values}
+use Rattle.ink_trail.specs.Undo.{TrailView}
+use Rattle.ink_vars.specs.declared.undo.CountPair.{CountPair}
+use Rattle.ink_vars.specs.declared.undo.GlobalPair.{GlobalPair}
 
--- the globals in order of declaration, and what they were at the moment that was begun last
+-- the globals in order of declaration, what they were at the moment that was begun last, and the trail of what they were
 pub record GlobalsView : Type 0 where
   pub rows : Values
   pub start : Values
+  pub trail : TrailView GlobalPair
 
--- the rows of visits and turns, by number
+-- the rows of visits and turns, by number, and the trail of what they were
 pub record CountsView : Type 0 where
   pub rows : CountsOf ℕ
+  pub trail : TrailView CountPair

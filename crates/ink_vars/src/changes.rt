@@ -1,14 +1,18 @@
 //! Which globals were assigned since a moment, and what they were then.
 
-ghost use Rattle.std.specs.Prelude.{◌≡◌, ◌≢◌, ◌<◌, ◌⊎◌, ◌++◌, ◌∷◌, ℕ, List, [], Bool, false, true, None, is_some, length, nat_eq, slice_get, slice_index_or, IfOk, OnOk, OnErr};
+ghost use Rattle.std.specs.Prelude.{◌≡◌, ◌≢◌, ◌≤◌, ◌<◌, ◌⊎◌, ◌++◌, ◌∷◌, ℕ, List, [], Bool, false, true, None, is_some, length, nat_eq, slice_get, slice_index_or, IfOk, OnOk, OnErr};
 ghost use Rattle.std.specs.List.{IsDistinct};
 ghost use Rattle.std.specs.Option.{option_copied};
 ghost use Rattle.ink_model.specs.Store.{Values, store, stored};
 ghost use Rattle.ink_model.specs.declared.value.Value.{Value};
-ghost use Rattle.ink_vars.specs.Changes.{AnswersAs, Marks, Tracks, changed_numbers, changed_to, noted_at, number_of, with_noted};
+ghost use Rattle.ink_trail.specs.Undo.{Ends, trail_of, undone, writes_of};
+ghost use Rattle.ink_vars.specs.Changes.{AnswersAs, Fits, Marks, Tracks, as_they_were, changed_numbers, changed_to, noted_at, number_of, with_noted};
+ghost use Rattle.ink_vars.specs.Undo.{Covers, global_back};
 
 use crate::table::Table;
+use crate::undo::GlobalPair;
 use ink_model::Value;
+use ink_trail::Trail;
 use ink_value::same_value;
 use std::alloc::{AllocError, Global};
 use std::marker::Model;
@@ -51,20 +55,6 @@ impl Changes {
             marked: Vec::new(alloc),
             alloc,
         }
-    }
-
-    /// A copy. The one error is a refused request for memory.
-    pub(crate) fn clone_in(&self, alloc: Global) -> Result<Changes, AllocError>
-        ensures { IfOk result (λ copy. copy ≡ self.now) }
-    {
-        let noted = copied_notes(alloc, self.noted.as_slice())?;
-        let mut marked = Vec::new(alloc);
-        marked.extend_from_slice(self.marked.as_slice())?;
-        Ok(Changes {
-            noted,
-            marked,
-            alloc,
-        })
     }
 
     /// Forgets all: from now on, changes are those since this moment. Takes no memory.
@@ -124,6 +114,26 @@ impl Changes {
         globals.put_at(name, number, value)
     }
 
+    /// Puts each pair of a trail back, the last first, ends the mark, and answers how many pairs there were. What was noted of the
+    /// globals fits them then too. Takes no memory.
+    pub(crate) fn put_back(&self, globals: &mut Table, trail: &mut Trail<GlobalPair>) -> u64
+        requires fits { Fits self.now globals.old }
+        requires covers { Covers self.now (length globals.old) (trail_of trail.old.undo) }
+        ensures rows { globals.new ≡ undone global_back (trail_of trail.old.undo) globals.old }
+        ensures fits { Fits self.now globals.new }
+        ensures start { as_they_were self.now 0 globals.new ≡ as_they_were self.now 0 globals.old }
+        ensures len { result ≡ length (trail_of trail.old.undo) }
+        ensures writes { result ≤ writes_of trail.old.undo }
+        ensures trail { Ends trail.old trail.new }
+    {
+        let count = trail.len() as u64;
+        while let Some(pair) = trail.take_last() {
+            globals.put_one_back(pair);
+        }
+        trail.forget();
+        count
+    }
+
     // Notes what the global of a number was, which has no mark yet.
     fn add(&mut self, number: usize, value: Option<Value>) -> Result<(), AllocError>
         requires { noted_at number self.old ≡ None }
@@ -174,36 +184,6 @@ fn has_changed<F: Fn(&str) -> bool>(before: &Before, globals: &Table, is_wanted:
         None => true,
     };
     is_wanted(name) && is_other
-}
-
-// Copies of notes. The one error is a refused request for memory.
-fn copied_notes(alloc: Global, notes: &[Before]) -> Result<Vec<Before>, AllocError>
-    ensures { IfOk result (λ copies. copies.items ≡ notes.now) }
-{
-    let mut copies = Vec::new(alloc);
-    for note in notes {
-        copies.push(copied_note(alloc, note)?)?;
-    }
-    Ok(copies)
-}
-
-fn copied_note(alloc: Global, note: &Before) -> Result<Before, AllocError>
-    ensures { IfOk result (λ copy. copy ≡ note.now) }
-{
-    let number = note.number;
-    match &note.value {
-        Some(value) => {
-            let value = value.clone_in(alloc)?;
-            Ok(Before {
-                number,
-                value: Some(value),
-            })
-        }
-        None => Ok(Before {
-            number,
-            value: None,
-        }),
-    }
 }
 
 fn copied(alloc: Global, value: Option<&Value>) -> Result<Option<Value>, AllocError>

@@ -1,34 +1,42 @@
 //! Visits and turns of containers.
 
-ghost use Rattle.std.specs.Prelude.{◌≡◌, ◌≢◌, ℕ, Bool, [], true, ◌&&◌, IfOk, IfErr, OnOk, OnErr};
+ghost use Rattle.std.specs.Prelude.{◌≡◌, ◌≤◌, ◌<◌, ◌+◌, ◌⊎◌, ℕ, Bool, [], None, Some, is_some, length, true, unwrap_or, ◌&&◌, IfErr, OnOk, OnErr};
 ghost use Rattle.std.specs.Ordering.{nat_cmp};
 ghost use Rattle.ink_model.specs.Counts as rules;
 ghost use Rattle.ink_model.specs.Counts.{CountsOf};
 ghost use Rattle.ink_model.specs.Rows.{row};
+ghost use Rattle.ink_trail.specs.Undo.{Begins, Ends, KeepsTrail, Trails, TrailsOrKeeps, trail_of, writes_of};
+ghost use Rattle.ink_vars.specs.Undo.{counts_back, counts_spare, counts_stood};
 
-use crate::slots::{add_one, copied, make_room, put, put_back, slot};
+use crate::slots::{add_one, make_room, put, put_back, slot};
 use crate::turn::Turn;
+use crate::undo::{CountPair, add_rows, note_slots, put_rows_back};
 use ink_model::{Fault, flags};
+use ink_trail::Trail;
 use std::alloc::{AllocError, Global};
 use std::marker::Model;
 
-/// How often each container was visited, and in which turn last, by the container's number, and found at once by it. A
-/// contract sees two lists of rows, which rise by number.
+/// How often each container was visited, and in which turn last, by the container's number, and found at once by it; and while a
+/// mark stands the trail of what that was. A contract sees two lists of rows, which rise by number, and the trail.
 #[derive(Drop)]
 pub struct Counts {
     pub(crate) visits: Vec<Option<u32>>,
     pub(crate) turns: Vec<Option<u32>>,
+    pub(crate) trail: Trail<CountPair>,
 }
 
 impl Model for Counts {
+    ghost use Rattle.std.specs.Prelude.{length};
+    ghost use Rattle.ink_trail.specs.Undo.{trail_of};
     ghost use Rattle.ink_vars.specs.Slots.{AreCounts, rows_from};
+    ghost use Rattle.ink_vars.specs.Undo.{HaveSlots};
     ghost use Rattle.ink_vars.specs.Views.{CountsView};
 
     ghost Value = { CountsView };
 
-    ghost view = { λ c. record { rows = record { visits = rows_from 0 c.visits.items; turns = rows_from 0 c.turns.items } } };
+    ghost view = { λ c. record { rows = record { visits = rows_from 0 c.visits.items; turns = rows_from 0 c.turns.items }; trail = c.trail } };
 
-    ghost invariant = { λ c. AreCounts c.visits.items × AreCounts c.turns.items };
+    ghost invariant = { λ c. AreCounts c.visits.items × AreCounts c.turns.items × HaveSlots (length c.visits.items) (length c.turns.items) (trail_of c.trail.undo) };
 }
 
 /// What counts say of one container: how often it was visited, and in which turn last.
@@ -49,36 +57,32 @@ impl Model for Noted {
     ghost invariant = { λ n. IfSome n.visits (λ v. v ≤ MAX_COUNT) × IfSome n.turn (λ t. t ≤ MAX_COUNT) };
 }
 
+#[tactic(auto, unfolding(crate::specs::Undo::counts_stood, crate::specs::Undo::counts_spare, ink_trail::specs::Undo::stood_at, ink_trail::specs::Undo::spare))]
 impl Counts {
     /// No container was visited, which takes no memory.
     pub fn new(alloc: Global) -> Counts
-        ensures { result.rows ≡ record { visits = []; turns = [] } }
+        ensures rows { result.rows ≡ record { visits = []; turns = [] } }
+        ensures stood { counts_stood result ≡ None }
     {
         Counts {
             visits: Vec::new(alloc),
             turns: Vec::new(alloc),
+            trail: Trail::new(alloc),
         }
     }
 
-    /// A copy. The one error is a refused request for memory, which is made only where a container was counted.
-    pub fn clone_in(&self, alloc: Global) -> Result<Counts, AllocError>
-        ensures copy { IfOk result (λ copy. copy.rows ≡ self.now.rows) }
-        ensures memory { OnErr result (self.now.rows ≢ record { visits = []; turns = [] }) }
-    {
-        let visits = copied(alloc, self.visits.as_slice())?;
-        let turns = copied(alloc, self.turns.as_slice())?;
-        Ok(Counts { visits, turns })
-    }
-
     /// A container with these flags is entered in a turn, at its start or not: one more visit where flag 1 says so, which
-    /// stays at 2,147,483,647, and the turn is noted where flag 2 says so; where flag 4 is set, only at its start. The one
-    /// error is `OutOfMemory` for a refused request for memory, which is made only for a container that has no such row yet,
-    /// and leaves all as it was (docs/VARIABLES.md, "Counts").
+    /// stays at 2,147,483,647, and the turn is noted where flag 2 says so; where flag 4 is set, only at its start. These are two
+    /// changes of cells. The one error is `OutOfMemory` for a refused request for memory, which is made only for a container that
+    /// has no such row yet, and while a mark stands, and leaves all as it was (docs/VARIABLES.md, "Counts").
     pub fn visit(&mut self, node: usize, flags: u8, at_start: bool, turn: Turn) -> Result<(), Fault>
         ensures ok { OnOk result (self.new.rows ≡ rules.visited nat_cmp node flags at_start turn self.old.rows) }
         ensures fault { IfErr result (λ f. f ≡ Fault.OutOfMemory) }
         ensures kept { OnErr result (self.new.rows ≡ self.old.rows) }
-        ensures memory { OnErr result ((rules.counts flags at_start && rules.adds_row nat_cmp node flags self.old.rows) ≡ true) }
+        ensures memory { OnErr result (((rules.counts flags at_start && rules.adds_row nat_cmp node flags self.old.rows) ≡ true) ⊎ (counts_spare self.old < 2)) }
+        ensures trail { TrailsOrKeeps counts_back 2 self.old.rows self.old.trail self.new.rows self.new.trail result }
+        ensures stood { counts_stood self.new ≡ counts_stood self.old }
+        ensures spare { counts_spare self.old ≤ counts_spare self.new + 2 }
     {
         if !at_start && flags::counts_at_start(flags) {
             return Ok(());
@@ -87,6 +91,14 @@ impl Counts {
         let turns = flags::notes_turns(flags);
         make_room(&mut self.visits, node, visits)?;
         make_room(&mut self.turns, node, turns)?;
+        add_rows(
+            &mut self.trail,
+            self.visits.as_slice(),
+            self.turns.as_slice(),
+            node,
+            visits,
+            turns,
+        )?;
         add_one(self.visits.as_mut_slice(), node, visits);
         put(self.turns.as_mut_slice(), node, turn.number(), turns);
         Ok(())
@@ -116,12 +128,22 @@ impl Counts {
         }
     }
 
-    /// Takes the visit of a container back: all is as it was before, where what was known of the container is put back. Takes
-    /// no memory.
+    /// Takes the visit of a container back: all is as it was before, where what was known of the container is put back. These
+    /// are two changes of cells. Takes no memory.
     pub fn restore(&mut self, node: usize, noted: Noted)
-        ensures { (before : CountsOf ℕ) → noted ≡ (row nat_cmp node before.visits, row nat_cmp node before.turns)
+        requires room { 2 ≤ counts_spare self.old }
+        ensures restored { (before : CountsOf ℕ) → noted ≡ (row nat_cmp node before.visits, row nat_cmp node before.turns)
             → (flags : ℕ) (at_start : Bool) (turn : ℕ) → self.old.rows ≡ rules.visited nat_cmp node flags at_start turn before → self.new.rows ≡ before }
+        ensures trail { Trails counts_back 2 self.old.rows self.old.trail self.new.rows self.new.trail }
+        ensures stood { counts_stood self.new ≡ counts_stood self.old }
+        ensures spare { counts_spare self.old ≤ counts_spare self.new + 2 }
     {
+        note_slots(
+            &mut self.trail,
+            self.visits.as_slice(),
+            self.turns.as_slice(),
+            node,
+        );
         put_back(self.visits.as_mut_slice(), node, noted.visits);
         put_back(self.turns.as_mut_slice(), node, noted.turn);
     }
@@ -138,5 +160,87 @@ impl Counts {
             Some(noted) => Ok(turn.number() as i32 - noted as i32),
             None => Ok(-1),
         }
+    }
+
+    /// Whether a mark stands.
+    #[inline(always)]
+    pub fn is_marked(&self) -> bool
+        ensures { result ≡ is_some (counts_stood self.now) }
+    {
+        self.trail.is_marked()
+    }
+
+    /// Starts a mark with an empty trail, and forgets an older one. Takes no memory.
+    pub fn mark(&mut self)
+        ensures rows { self.new.rows ≡ self.old.rows }
+        ensures trail { Begins self.old.trail self.new.trail }
+        ensures stood { counts_stood self.new ≡ Some self.old.rows }
+    {
+        self.trail.mark();
+    }
+
+    /// How many changes of single cells there were since the mark, which stays at 2^64 - 1; 0 without one.
+    pub fn writes(&self) -> u64
+        ensures { result ≡ writes_of self.now.trail.undo }
+    {
+        self.trail.writes()
+    }
+
+    /// Puts all back as it stood at the mark, ends the mark, and answers how many pairs there were. Without a mark it changes
+    /// nothing, and answers 0. Takes no memory.
+    pub fn back(&mut self) -> u64
+        ensures rows { self.new.rows ≡ unwrap_or (counts_stood self.old) self.old.rows }
+        ensures trail { Ends self.old.trail self.new.trail }
+        ensures stood { counts_stood self.new ≡ None }
+        ensures len { result ≡ length (trail_of self.old.trail.undo) }
+        ensures writes { result ≤ writes_of self.old.trail.undo }
+    {
+        put_rows_back(
+            self.visits.as_mut_slice(),
+            self.turns.as_mut_slice(),
+            &mut self.trail,
+        )
+    }
+
+    /// Ends the mark, and changes nothing else. Takes no memory.
+    pub fn forget(&mut self)
+        ensures rows { self.new.rows ≡ self.old.rows }
+        ensures trail { Ends self.old.trail self.new.trail }
+        ensures stood { counts_stood self.new ≡ None }
+    {
+        self.trail.forget();
+    }
+
+    /// Makes room for so many changes to be noted without memory. The one error is a refused request for memory, and leaves all as
+    /// it was.
+    pub fn make_room(&mut self, count: usize) -> Result<(), AllocError>
+        ensures rows { self.new.rows ≡ self.old.rows }
+        ensures kept { KeepsTrail self.old.trail self.new.trail }
+        ensures stood { counts_stood self.new ≡ counts_stood self.old }
+        ensures more { counts_spare self.old ≤ counts_spare self.new }
+        ensures ok { OnOk result (count ≤ self.new.trail.room) }
+        ensures memory { OnErr result (self.old.trail.room < count) }
+    {
+        self.trail.make_room(count)
+    }
+
+    /// The same while a mark stands; without one it takes no memory.
+    #[inline(always)]
+    pub fn ready(&mut self, count: usize) -> Result<(), AllocError>
+        ensures rows { self.new.rows ≡ self.old.rows }
+        ensures kept { KeepsTrail self.old.trail self.new.trail }
+        ensures stood { counts_stood self.new ≡ counts_stood self.old }
+        ensures more { counts_spare self.old ≤ counts_spare self.new }
+        ensures ok { OnOk result (count ≤ counts_spare self.new) }
+        ensures memory { OnErr result ((is_some (counts_stood self.old) ≡ true) × (counts_spare self.old < count)) }
+    {
+        self.trail.ready(count)
+    }
+
+    /// How many changes can be noted without memory.
+    pub fn room(&self) -> usize
+        ensures { result ≡ self.now.trail.room }
+    {
+        self.trail.room()
     }
 }

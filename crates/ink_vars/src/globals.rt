@@ -1,19 +1,23 @@
 //! The globals of a running story, and what they were at a moment.
 
-ghost use Rattle.std.specs.Prelude.{◌≡◌, ◌≢◌, ℕ, List, [], Bool, is_ok, is_some, length, nat_eq, option_map, slice_get, IfOk, IfErr, OnOk, OnErr};
+ghost use Rattle.std.specs.Prelude.{◌≡◌, ◌≢◌, ◌≤◌, ◌<◌, ◌+◌, ◌⊎◌, ℕ, List, [], Bool, None, Some, is_ok, is_some, length, nat_eq, option_map, slice_get, true, unwrap_or, IfOk, IfErr, OnOk, OnErr};
 ghost use Rattle.std.specs.List.{IsDistinct};
 ghost use Rattle.ink_model.specs.Store.{stored, store};
+ghost use Rattle.ink_trail.specs.Undo.{Begins, Ends, KeepsTrail, TrailsOrKeeps, trail_of, writes_of};
 ghost use Rattle.ink_vars.specs.Changes.{AnswersAs, changed_numbers};
 ghost use Rattle.ink_vars.specs.Globals.{DifferInName};
+ghost use Rattle.ink_vars.specs.Undo.{global_back, globals_spare, globals_stood};
 
 use crate::changes::{Changes, changed};
 use crate::table::Table;
+use crate::undo::{GlobalPair, put_noted};
 use ink_model::Value;
+use ink_trail::Trail;
 use std::alloc::{AllocError, Global};
 use std::marker::Model;
 
-/// Values by name, in the order in which they were declared; and what they were at a moment, which `begin` sets. A contract sees
-/// both lists.
+/// Values by name, in the order in which they were declared; what they were at a moment, which `begin` sets; and while a mark
+/// stands the trail of what they were. A contract sees both lists and the trail.
 ///
 /// What they were is found by notes of those that were put since, which fit the globals at all times. So a new moment costs what
 /// was noted since the last, however many globals there are.
@@ -21,51 +25,45 @@ use std::marker::Model;
 pub struct Globals {
     table: Table,
     changes: Changes,
+    trail: Trail<GlobalPair>,
 }
 
 impl Model for Globals {
+    ghost use Rattle.std.specs.Prelude.{length};
+    ghost use Rattle.ink_trail.specs.Undo.{trail_of};
     ghost use Rattle.ink_vars.specs.Changes.{Fits, as_they_were};
+    ghost use Rattle.ink_vars.specs.Undo.{Covers};
     ghost use Rattle.ink_vars.specs.Views.{GlobalsView};
 
     ghost Value = { GlobalsView };
 
-    ghost view = { λ g. record { rows = g.table; start = as_they_were g.changes 0 g.table } };
+    ghost view = { λ g. record { rows = g.table; start = as_they_were g.changes 0 g.table; trail = g.trail } };
 
-    ghost invariant = { λ g. Fits g.changes g.table };
+    ghost invariant = { λ g. Fits g.changes g.table × Covers g.changes (length g.table) (trail_of g.trail.undo) };
 }
 
+#[tactic(auto, unfolding(crate::specs::Undo::globals_stood, crate::specs::Undo::globals_spare, ink_trail::specs::Undo::stood_at, ink_trail::specs::Undo::spare))]
 impl Globals {
     /// No globals, which take no memory.
     pub fn new(alloc: Global) -> Globals
-        ensures { result.rows ≡ [] }
+        ensures rows { result.rows ≡ [] }
+        ensures stood { globals_stood result ≡ None }
     {
         Globals {
             table: Table::new(alloc),
             changes: Changes::new(alloc),
+            trail: Trail::new(alloc),
         }
     }
 
-    /// A copy, with its moment. The one error is a refused request for memory, which no globals never make.
-    pub fn clone_in(&self, alloc: Global) -> Result<Globals, AllocError>
-        ensures copy { IfOk result (λ copy. copy.rows ≡ self.now.rows) }
-        ensures start { IfOk result (λ copy. copy.start ≡ self.now.start) }
-        ensures memory { OnErr result (self.now.rows ≢ []) }
-    {
-        if self.table.len() == 0 {
-            return Ok(Globals {
-                table: Table::new(alloc),
-                changes: Changes::new(alloc),
-            });
-        }
-        let table = self.table.clone_in(alloc)?;
-        let changes = self.changes.clone_in(alloc)?;
-        Ok(Globals { table, changes })
-    }
-
-    /// The moment is this one from now on. Takes no memory.
+    /// The moment is this one from now on. No mark may stand, since going back leaves the moment where it is. Takes no memory.
     pub fn begin(&mut self)
+        requires unmarked { globals_stood self.old ≡ None }
         ensures rows { self.new.rows ≡ self.old.rows }
         ensures start { self.new.start ≡ self.old.rows }
+        ensures trail { KeepsTrail self.old.trail self.new.trail }
+        ensures stood { globals_stood self.new ≡ globals_stood self.old }
+        ensures spare { globals_spare self.old ≤ globals_spare self.new }
     {
         self.changes.start();
     }
@@ -110,29 +108,61 @@ impl Globals {
     }
 
     /// Gives a global that is there a value, without memory. Where there is none, the value is handed back. The moment is this
-    /// one then.
+    /// one then, so no mark may stand.
     pub fn replace(&mut self, name: &str, value: Value) -> Result<(), Value>
+        requires unmarked { globals_stood self.old ≡ None }
         ensures found { is_ok result ≡ is_some (stored name.now self.old.rows) }
         ensures ok { OnOk result (self.new.rows ≡ store name.now value self.old.rows) }
         ensures err { IfErr result (λ handed_back. handed_back ≡ value) }
         ensures kept { OnErr result (self.new.rows ≡ self.old.rows) }
         ensures start { self.new.start ≡ self.new.rows }
+        ensures trail { KeepsTrail self.old.trail self.new.trail }
+        ensures stood { globals_stood self.new ≡ globals_stood self.old }
+        ensures spare { globals_spare self.old ≤ globals_spare self.new }
     {
         self.changes.start();
         self.table.replace(name, value)
     }
 
-    /// Gives the global of a name, which may have a number, a value: one that is there keeps its place, and a new one comes last.
-    /// What the globals were at the moment stays known. The one error is a refused request for memory, which is made only where
-    /// the global is as it was at the moment, and leaves all as it was.
+    /// Gives the global of a name, which may have a number, a value, which is one change of a cell: one that is there keeps its
+    /// place, and a new one comes last. What the globals were at the moment stays known. The one error is a refused request for
+    /// memory, which is made only where the global is as it was at the moment, and while a mark stands, and leaves all as it was.
     #[inline(always)]
     pub fn put(&mut self, name: &str, number: Option<usize>, value: Value) -> Result<(), AllocError>
         ensures ok { OnOk result (self.new.rows ≡ store name.now value self.old.rows) }
         ensures err { OnErr result (self.new.rows ≡ self.old.rows) }
         ensures start { self.new.start ≡ self.old.start }
-        ensures memory { OnErr result (stored name.now self.old.start ≡ stored name.now self.old.rows) }
+        ensures memory { OnErr result ((stored name.now self.old.start ≡ stored name.now self.old.rows) ⊎ (globals_spare self.old < 1)) }
+        ensures trail { TrailsOrKeeps global_back 1 self.old.rows self.old.trail self.new.rows self.new.trail result }
+        ensures stood { globals_stood self.new ≡ globals_stood self.old }
+        ensures spare { globals_spare self.old ≤ globals_spare self.new + 1 }
     {
+        if self.trail.is_marked() {
+            return self.put_marked(name, number, value);
+        }
         self.changes.put(&mut self.table, name, number, value)
+    }
+
+    // As `put`, while a mark stands.
+    #[cold]
+    #[inline(never)]
+    fn put_marked(
+        &mut self,
+        name: &str,
+        number: Option<usize>,
+        value: Value,
+    ) -> Result<(), AllocError>
+        ensures ok { OnOk result (self.new.rows ≡ store name.now value self.old.rows) }
+        ensures err { OnErr result (self.new.rows ≡ self.old.rows) }
+        ensures start { self.new.start ≡ self.old.start }
+        ensures memory { OnErr result ((stored name.now self.old.start ≡ stored name.now self.old.rows) ⊎ (globals_spare self.old < 1)) }
+        ensures trail { TrailsOrKeeps global_back 1 self.old.rows self.old.trail self.new.rows self.new.trail result }
+    {
+        self.trail.ready(1)?;
+        match self.changes.note(&self.table, name, number) {
+            Ok(()) => put_noted(&mut self.table, &mut self.trail, name, number, value),
+            Err(error) => Err(error),
+        }
     }
 
     /// The numbers of the globals that are wanted, by their names, and were not there at the moment, or had another value, in order
@@ -148,5 +178,88 @@ impl Globals {
         ensures memory { (wanted : List ℕ → Bool) → AnswersAs (F.post is_wanted) wanted → OnErr result (changed_numbers wanted self.now.start self.now.rows ≢ []) }
     {
         changed(alloc, &self.changes, &self.table, is_wanted)
+    }
+
+    /// Whether a mark stands.
+    #[inline(always)]
+    pub fn is_marked(&self) -> bool
+        ensures { result ≡ is_some (globals_stood self.now) }
+    {
+        self.trail.is_marked()
+    }
+
+    /// Starts a mark with an empty trail, and forgets an older one. Takes no memory.
+    pub fn mark(&mut self)
+        ensures rows { self.new.rows ≡ self.old.rows }
+        ensures start { self.new.start ≡ self.old.start }
+        ensures trail { Begins self.old.trail self.new.trail }
+        ensures stood { globals_stood self.new ≡ Some self.old.rows }
+    {
+        self.trail.mark();
+    }
+
+    /// How many changes of single cells there were since the mark, which stays at 2^64 - 1; 0 without one.
+    pub fn writes(&self) -> u64
+        ensures { result ≡ writes_of self.now.trail.undo }
+    {
+        self.trail.writes()
+    }
+
+    /// Puts all back as it stood at the mark, ends the mark, and answers how many pairs there were. Without a mark it changes
+    /// nothing, and answers 0. The moment stays in any case. Takes no memory.
+    pub fn back(&mut self) -> u64
+        ensures rows { self.new.rows ≡ unwrap_or (globals_stood self.old) self.old.rows }
+        ensures start { self.new.start ≡ self.old.start }
+        ensures trail { Ends self.old.trail self.new.trail }
+        ensures stood { globals_stood self.new ≡ None }
+        ensures len { result ≡ length (trail_of self.old.trail.undo) }
+        ensures writes { result ≤ writes_of self.old.trail.undo }
+    {
+        self.changes.put_back(&mut self.table, &mut self.trail)
+    }
+
+    /// Ends the mark, and changes nothing else. Takes no memory.
+    pub fn forget(&mut self)
+        ensures rows { self.new.rows ≡ self.old.rows }
+        ensures start { self.new.start ≡ self.old.start }
+        ensures trail { Ends self.old.trail self.new.trail }
+        ensures stood { globals_stood self.new ≡ None }
+    {
+        self.trail.forget();
+    }
+
+    /// Makes room for so many changes to be noted without memory. The one error is a refused request for memory, and leaves all as
+    /// it was.
+    pub fn make_room(&mut self, count: usize) -> Result<(), AllocError>
+        ensures rows { self.new.rows ≡ self.old.rows }
+        ensures start { self.new.start ≡ self.old.start }
+        ensures kept { KeepsTrail self.old.trail self.new.trail }
+        ensures stood { globals_stood self.new ≡ globals_stood self.old }
+        ensures more { globals_spare self.old ≤ globals_spare self.new }
+        ensures ok { OnOk result (count ≤ self.new.trail.room) }
+        ensures memory { OnErr result (self.old.trail.room < count) }
+    {
+        self.trail.make_room(count)
+    }
+
+    /// The same while a mark stands; without one it takes no memory.
+    #[inline(always)]
+    pub fn ready(&mut self, count: usize) -> Result<(), AllocError>
+        ensures rows { self.new.rows ≡ self.old.rows }
+        ensures start { self.new.start ≡ self.old.start }
+        ensures kept { KeepsTrail self.old.trail self.new.trail }
+        ensures stood { globals_stood self.new ≡ globals_stood self.old }
+        ensures more { globals_spare self.old ≤ globals_spare self.new }
+        ensures ok { OnOk result (count ≤ globals_spare self.new) }
+        ensures memory { OnErr result ((is_some (globals_stood self.old) ≡ true) × (globals_spare self.old < count)) }
+    {
+        self.trail.ready(count)
+    }
+
+    /// How many changes can be noted without memory.
+    pub fn room(&self) -> usize
+        ensures { result ≡ self.now.trail.room }
+    {
+        self.trail.room()
     }
 }

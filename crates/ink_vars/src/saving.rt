@@ -3,10 +3,12 @@
 ghost use Rattle.std.specs.Prelude.{◌≡◌, Some, None, nat_le, if◌then◌else◌};
 ghost use Rattle.ink_model.specs.declared.limits.TheConstants.{MAX_COUNT};
 ghost use Rattle.ink_vars.specs.Slots.{AreCounts, rows_from};
+ghost use Rattle.ink_vars.specs.Undo.{counts_stood};
 
 use crate::counts::Counts;
 use crate::turn::Turn;
 use ink_model::MAX_COUNT;
+use ink_trail::Trail;
 
 impl Turn {
     /// The turn of a number; none above 2,147,483,647.
@@ -24,11 +26,18 @@ impl Turn {
 impl Counts {
     /// The counts of these: how often each container was visited, and in which turn it was entered last, by its number. Takes no
     /// memory.
+    #[tactic(auto, unfolding(crate::specs::Undo::counts_stood, ink_trail::specs::Undo::stood_at))]
     pub fn from_slots(visits: Vec<Option<u32>>, turns: Vec<Option<u32>>) -> Counts
         requires { AreCounts visits.items × AreCounts turns.items }
-        ensures { result.rows ≡ record { visits = rows_from 0 visits.items; turns = rows_from 0 turns.items } }
+        ensures rows { result.rows ≡ record { visits = rows_from 0 visits.items; turns = rows_from 0 turns.items } }
+        ensures stood { counts_stood result ≡ None }
     {
-        Counts { visits, turns }
+        let trail = Trail::new(*visits.allocator());
+        Counts {
+            visits,
+            turns,
+            trail,
+        }
     }
 
     /// How often each container was visited, by its number; none where it never was.

@@ -1,14 +1,18 @@
 //! Values by name, in order, found by hash and by number.
 
-ghost use Rattle.std.specs.Prelude.{◌≡◌, ◌≢◌, ◌<◌, [], false, true, is_some, is_ok, length, option_map, slice_get, IfOk, IfErr, IfSome, OnOk, OnErr, Some};
+ghost use Rattle.std.specs.Prelude.{◌≡◌, ◌<◌, [], false, true, is_some, is_ok, length, option_map, slice_get, IfErr, IfSome, OnOk, OnErr, Some};
 ghost use Rattle.ink_model.specs.Store.{stored, store};
 ghost use Rattle.ink_vars.specs.Changes.{number_of};
-ghost use Rattle.ink_vars.specs.Globals.{DifferInName};
+ghost use Rattle.indexmap.specs.IndexMap.{index_map_len, set_value_at};
+ghost use Rattle.ink_vars.specs.Globals.{DifferInName, values_of};
+ghost use Rattle.ink_vars.specs.Undo.{global_back};
 
+use crate::undo::GlobalPair;
 use indexmap::IndexMap;
 use ink_model::Value;
 use std::alloc::{AllocError, Global};
 use std::marker::Model;
+use std::mem;
 
 /// The values of globals by name, found by hash, in the order in which they were declared. A contract sees the list of them.
 ///
@@ -40,24 +44,6 @@ impl Table {
             slots: Vec::new(alloc),
             alloc,
         }
-    }
-
-    /// A copy. The one error is a refused request for memory, which no globals never make.
-    pub(crate) fn clone_in(&self, alloc: Global) -> Result<Table, AllocError>
-        ensures copy { IfOk result (λ copy. copy ≡ self.now) }
-        ensures memory { OnErr result (self.now ≢ []) }
-    {
-        let mut copy = Table::new(alloc);
-        for index in 0..self.values.len() {
-            if let Some((name, value)) = self.values.get_index(index) {
-                let value = value.clone_in(alloc)?;
-                copy.add(name.as_str(), value)?;
-            }
-        }
-        if !self.values.is_empty() {
-            copy.slots.extend_from_slice(self.slots.as_slice())?;
-        }
-        Ok(copy)
     }
 
     /// The value of a global, none where there is no such global.
@@ -211,8 +197,13 @@ impl Table {
         self.put_at(name, number, value)
     }
 
-    // As `add`, and the slot of the number leads there.
-    fn add_at(&mut self, name: &str, number: Option<usize>, value: Value) -> Result<(), AllocError>
+    /// As `put_at`, of a global that is not there.
+    pub(crate) fn add_at(
+        &mut self,
+        name: &str,
+        number: Option<usize>,
+        value: Value,
+    ) -> Result<(), AllocError>
         ensures ok { OnOk result (self.new ≡ store name.now value self.old) }
         ensures err { OnErr result (self.new ≡ self.old) }
     {
@@ -224,6 +215,22 @@ impl Table {
         self.add(name, value)
     }
 
+    /// Gives the global at an index a value, and hands out the one before. Takes no memory.
+    pub(crate) fn swap_at(&mut self, index: usize, value: Value) -> Value
+        requires { index < length self.old }
+        ensures written { self.new ≡ set_value_at self.old index value }
+        ensures before { set_value_at self.new index result ≡ self.old }
+    {
+        swap_at(&mut self.values, index, value)
+    }
+
+    /// Puts what a global held back. Takes no memory.
+    pub(crate) fn put_one_back(&mut self, pair: GlobalPair)
+        ensures { self.new ≡ global_back pair self.old }
+    {
+        put_one_back(&mut self.values, pair);
+    }
+
     // As `put_at`, without a slot, and with a copy of the name.
     fn add(&mut self, name: &str, value: Value) -> Result<(), AllocError>
         ensures ok { OnOk result (self.new ≡ store name.now value self.old) }
@@ -232,6 +239,33 @@ impl Table {
         let key = String::from_str(self.alloc, name)?;
         self.values.insert(key, value)?;
         Ok(())
+    }
+}
+
+// Gives the global at an index a value, and hands out the one before.
+#[tactic(auto, using(crate::proofs::Taking::swapped))]
+#[inline(always)]
+fn swap_at(values: &mut IndexMap<String, Value>, index: usize, value: Value) -> Value
+    requires { index < index_map_len values.old }
+    ensures entries { values.new.entries ≡ set_value_at values.old.entries index value }
+    ensures before { set_value_at values.new.entries index result ≡ values.old.entries }
+{
+    mem::replace(values.get_index_mut(index).unwrap(), value)
+}
+
+// Puts what a global held back.
+fn put_one_back(values: &mut IndexMap<String, Value>, pair: GlobalPair)
+    ensures { values_of values.new.entries ≡ global_back pair (values_of values.old.entries) }
+{
+    match pair {
+        GlobalPair::Added => {
+            let _added = values.pop();
+        }
+        GlobalPair::Changed(index, value) => {
+            if let Some(place) = values.get_index_mut(index) {
+                *place = value;
+            }
+        }
     }
 }
 

@@ -1,6 +1,6 @@
 use Rattle.std.proofs.Common.{subst}
 use Rattle.ink_vars.specs.Globals.{DifferInName}
-use Rattle.ink_vars.proofs.Copying.{differ_in_name}
+use Rattle.ink_vars.proofs.Naming.{differ_in_name}
 use Rattle.ink_vars.proofs.table.Table.len.Goals as goal
 
 pub returns-clause-names : goal.returns-clause-names

@@ -3,7 +3,7 @@ use Rattle.indexmap.specs.IndexMap.{set_value_at}
 use Rattle.ink_model.specs.Store.{stored, store}
 use Rattle.ink_vars.specs.Changes.{number_of}
 use Rattle.ink_vars.specs.Globals.{values_of}
-use Rattle.ink_vars.proofs.Copying.{written_at}
+use Rattle.ink_vars.proofs.Naming.{written_at}
 use Rattle.ink_vars.proofs.table.Table.put_over.Goals as goal
 
 pub returns-in-Some-clause-ok : goal.returns-in-Some-clause-ok
