@@ -62,6 +62,7 @@ noted_back s m page next is = by (is_crowded (m ∷ []) page) is
   where
     same : (p q : Page) → okay p ≡ okay q → p ≡ q
     same p q h = cc
+
     by : (b : Bool) → cond b (Err TooDeep) (okay (noted (m ∷ []) page)) ≡ okay next → output_back (Wrote s) next ≡ page
     by true h = absurd (cc)
     by false h =

@@ -140,17 +140,11 @@ impl Output {
         ensures stood { output_stood self.new ≡ output_stood self.old }
         ensures spare { output_spare self.old ≤ output_spare self.new + 1 }
     {
-        let line = &mut self.line;
         if fresh {
+            let _unchanged = &mut self.line;
             return Ok(());
         }
-        note_in(
-            line,
-            &mut self.sections,
-            &mut self.trail,
-            Mark::Newline,
-            1,
-        )
+        self.note(Mark::Newline)
     }
 
     /// Writes glue (docs/TEXT.md, "What is shown"). `TooDeep` for more than 100,000 marks in the line, which is found before
@@ -162,13 +156,7 @@ impl Output {
         ensures stood { output_stood self.new ≡ output_stood self.old }
         ensures spare { output_spare self.old ≤ output_spare self.new + 1 }
     {
-        note_in(
-            &mut self.line,
-            &mut self.sections,
-            &mut self.trail,
-            Mark::Glue,
-            1,
-        )
+        self.note(Mark::Glue)
     }
 
     /// A function begins. Answers its number: Enters are numbered upwards. `TooDeep` for more than 100,000 marks in the line
@@ -184,13 +172,8 @@ impl Output {
     {
         let number = self.next_enter;
         let next = number.checked_add(1).ok_or(Fault::TooDeep)?;
-        note_in(
-            &mut self.line,
-            &mut self.sections,
-            &mut self.trail,
-            Mark::Enter(number),
-            2,
-        )?;
+        let mark = Mark::Enter(number);
+        note_in(&mut self.line, &mut self.sections, &mut self.trail, mark, 2)?;
         self.trail.note(OutputPair::Numbered(number), 1);
         self.next_enter = next;
         Ok(number)
@@ -205,13 +188,17 @@ impl Output {
         ensures stood { output_stood self.new ≡ output_stood self.old }
         ensures spare { output_spare self.old ≤ output_spare self.new + 1 }
     {
-        note_in(
-            &mut self.line,
-            &mut self.sections,
-            &mut self.trail,
-            Mark::Leave(number),
-            1,
-        )
+        self.note(Mark::Leave(number))
+    }
+
+    // Writes a mark into what is open, as those calls do.
+    #[inline(always)]
+    fn note(&mut self, mark: Mark) -> Result<(), Fault>
+        ensures page { Leaves (writes_marks (mark ∷ []) self.old.page) self.old.page self.new.page result }
+        ensures limit { IfErr (writes_marks (mark ∷ []) self.old.page) (λ f. result ≡ Err f) }
+        ensures trail { TrailsOrKeeps output_back 1 self.old.page self.old.trail self.new.page self.new.trail result }
+    {
+        note_in(&mut self.line, &mut self.sections, &mut self.trail, mark, 1)
     }
 
     /// Opens a string. `TooDeep` where 1,000 strings and tags are open, which is found before memory is asked for,
@@ -347,18 +334,18 @@ impl Output {
         ensures trail { TrailsOrKeeps output_back 2 self.old.page self.old.trail self.new.page self.new.trail result }
     {
         self.trail.ready(2)?;
-        let Some(opened) = self.sections.pop() else {
+        let Some(top) = self.sections.pop() else {
             return Err(Fault::BadMode);
         };
         let state = open_state(&self.line, &self.sections);
         match note(&mut self.line, &mut self.sections, mark) {
             Ok(()) => {
-                self.trail.note(OutputPair::Closed(opened), 1);
+                self.trail.note(OutputPair::Closed(top), 1);
                 self.trail.note(OutputPair::Wrote(state), 1);
                 Ok(())
             }
             Err(fault) => {
-                self.sections.push_reserved(opened);
+                self.sections.push_reserved(top);
                 Err(fault)
             }
         }
@@ -478,8 +465,8 @@ impl Output {
         let sections = mem::replace(&mut self.sections, Vec::new(self.alloc));
         self.trail.note(OutputPair::Sections(sections), 1);
         let line = mem::replace(&mut self.line, Section::new(self.alloc));
-        self.trail.note(OutputPair::Line(line, self.next_enter), 1);
-        self.next_enter = 0;
+        let number = mem::replace(&mut self.next_enter, 0);
+        self.trail.note(OutputPair::Line(line, number), 1);
     }
 
     /// Whether a mark stands.
@@ -515,14 +502,12 @@ impl Output {
         ensures len { result ≡ length (trail_of self.old.trail.undo) }
         ensures writes { result ≤ writes_of self.old.trail.undo }
     {
-        let count = put_back(
+        put_back(
             &mut self.line,
             &mut self.sections,
             &mut self.next_enter,
             &mut self.trail,
-        );
-        self.trail.forget();
-        count
+        )
     }
 
     /// Ends the mark, and changes nothing else. Takes no memory.

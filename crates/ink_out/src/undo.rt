@@ -4,7 +4,7 @@ ghost use Rattle.std.specs.Prelude.{ℕ, ◌≡◌, ◌≤◌, length, vec_capac
 ghost use Rattle.ink_out.specs.Stands.{IsStateOf};
 ghost use Rattle.ink_out.specs.Undo.{GoesBack, Held, Keeps, open_marks, output_back, room_of, with_open};
 ghost use Rattle.ink_out.specs.Writing.{page_of};
-ghost use Rattle.ink_trail.specs.Undo.{but_last, trail_of, undone, writes_of};
+ghost use Rattle.ink_trail.specs.Undo.{Ends, but_last, trail_of, undone, writes_of};
 
 use crate::opened::Opened;
 use crate::section::Section;
@@ -23,7 +23,7 @@ pub(crate) enum OutputPair {
     Sections(Vec<Opened>),
 }
 
-/// Puts each pair back, the last first, and answers how many there were.
+/// Puts each pair back, the last first, ends the mark, and answers how many there were.
 pub(crate) fn put_back(
     line: &mut Section,
     sections: &mut Vec<Opened>,
@@ -35,12 +35,13 @@ pub(crate) fn put_back(
     ensures held { Held (vec_capacity sections.new) (page_of line.new sections.new.items next_enter.new) }
     ensures len { result ≡ length (trail_of trail.old.undo) }
     ensures writes { result ≤ writes_of trail.old.undo }
-    ensures room { trail.old.room ≤ trail.new.room }
+    ensures trail { Ends trail.old trail.new }
 {
     let count = trail.len() as u64;
     while let Some(pair) = trail.take_last() {
         put_one_back(line, sections, next_enter, pair);
     }
+    trail.forget();
     count
 }
 

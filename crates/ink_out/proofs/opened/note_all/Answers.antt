@@ -65,7 +65,7 @@ pub returns-in_err-extend-in-0-clause-trail : goal.returns-in_err-extend-in-0-cl
 returns-in_err-extend-in-0-clause-trail c = λ n.
     let failed = c.in_err-extend-in-0.ensures in
     or_keeps c.from_residual.result _ (length c.args.pieces.items) _ _ _ _ c.from_residual.ensures.1 (ap (λ line. page_of line c.args.sections.now n) failed.err)
-        (failed.trail (page_of c.args.line.now c.args.sections.now n)).1
+    (failed.trail (page_of c.args.line.now c.args.sections.now n)).1
 
 pub returns-in_err-extend-in-0-clause-back : goal.returns-in_err-extend-in-0-clause-back
 returns-in_err-extend-in-0-clause-back c = λ n room went.
@@ -77,12 +77,12 @@ returns-in_err-extend-in_default-clause-trail c = λ n.
     let some : 0 < length c.args.sections.now = grind arith in
     let failed = c.in_err-extend-in_default.ensures in
     or_keeps c.from_residual-in_err-extend-in_default.result _ (length c.args.pieces.items) _ _ _ _ c.from_residual-in_err-extend-in_default.ensures.1
-        (same_set c.args.line.now c.args.sections.now n c.index-sections-open.result c.extend-in_default.new.self some failed.err)
-        (failed.trail (page_of c.args.line.now c.args.sections.now n)).1
+    (same_set c.args.line.now c.args.sections.now n c.index-sections-open.result c.extend-in_default.new.self some failed.err)
+    (failed.trail (page_of c.args.line.now c.args.sections.now n)).1
 
 pub returns-in_err-extend-in_default-clause-back : goal.returns-in_err-extend-in_default-clause-back
 returns-in_err-extend-in_default-clause-back c = λ n room went.
     let some : 0 < length c.args.sections.now = grind arith in
     let failed = c.in_err-extend-in_default.ensures in
     goes-as room room _ _ _ _ (failed.trail (page_of c.args.line.now c.args.sections.now n)).1.0
-        (same_set c.args.line.now c.args.sections.now n c.index-sections-open.result c.extend-in_default.new.self some failed.err) (omega arith) went
+    (same_set c.args.line.now c.args.sections.now n c.index-sections-open.result c.extend-in_default.new.self some failed.err) (omega arith) went

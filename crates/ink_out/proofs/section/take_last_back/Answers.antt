@@ -12,4 +12,4 @@ returns-clause-marks c =
 pub returns-clause-sees : goal.returns-clause-sees
 returns-clause-sees c = λ state next waits fits sees.
     sees_less c.args.marks.now.items c.pop.new.self.items c.in-Some.mark c.args.settled.now.items c.unsettle.new.settled.items state next c.args.enters.now c.forget.new.self c.in-Some.ensures.items
-        fits (subst (λ w. (before : List ℕ) → reverse c.args.settled.now.items ≡ settled_after c.in-Some.mark w before → reverse c.unsettle.new.settled.items ≡ before) (sym waits) c.unsettle.ensures) c.forget.ensures sees
+    fits (subst (λ w. (before : List ℕ) → reverse c.args.settled.now.items ≡ settled_after c.in-Some.mark w before → reverse c.unsettle.new.settled.items ≡ before) (sym waits) c.unsettle.ensures) c.forget.ensures sees

@@ -14,7 +14,7 @@ invariant_of-self-in-Ok c =
     let s = c.self.inside in
     let n = s.next_enter in
     let popped = c.pop.new.self in
-    let opened = c.in-Some.opened in
+    let opened = c.in-Some.top in
     let state = c.open_state-state.result in
     let below = page_of s.line popped.items n in
     let lent : c.deref_mut.result.now ≡ popped.items = c.deref_mut.ensures.value in
@@ -28,14 +28,14 @@ invariant_of-self-in-Ok c =
     rw whole (
       c.in-Ok.ensures.within c.self.invariant.0,
       rw c.note-in-Ok-2.ensures.undo
-      (goes-with (Wrote state) 1 below (page_of c.note.new.line c.note.new.sections n) c.note-in-Ok.new.self.undo (vec_capacity popped) (vec_capacity popped)
-      (noted_back state c.args.mark below (page_of c.note.new.line c.note.new.sections n) written)
-      (held_page (vec_capacity popped) s.line c.note.new.line popped.items c.note.new.sections n c.in-Ok.ensures.within same held)
-      (rw c.deref.ensures.value at (c.open_state-state.ensures n)) (omega arith)
-      (rw c.note-in-Ok.ensures.undo
-      (goes-with (Closed opened) 1 (page_of s.line s.sections.items n) below c.ready.new.self.undo (vec_capacity s.sections) (vec_capacity popped)
-      (closed_back s.line popped.items s.sections.items n opened c.in-Some.ensures.items) held tt (omega (arith, c.pop.ensures.capacity))
-      (goes-as _ _ s.trail.undo _ _ _ c.ready.ensures.kept.0 refl (omega arith) c.self.invariant.1)))),
+          (goes-with (Wrote state) 1 below (page_of c.note.new.line c.note.new.sections n) c.note-in-Ok.new.self.undo (vec_capacity popped) (vec_capacity popped)
+          (noted_back state c.args.mark below (page_of c.note.new.line c.note.new.sections n) written)
+          (held_page (vec_capacity popped) s.line c.note.new.line popped.items c.note.new.sections n c.in-Ok.ensures.within same held)
+          (rw c.deref.ensures.value at (c.open_state-state.ensures n)) (omega arith)
+          (rw c.note-in-Ok.ensures.undo
+          (goes-with (Closed opened) 1 (page_of s.line s.sections.items n) below c.ready.new.self.undo (vec_capacity s.sections) (vec_capacity popped)
+          (closed_back s.line popped.items s.sections.items n opened c.in-Some.ensures.items) held tt (omega (arith, c.pop.ensures.capacity))
+          (goes-as _ _ s.trail.undo _ _ _ c.ready.ensures.kept.0 refl (omega arith) c.self.invariant.1)))),
     )
 
 pub returns-in-Ok-clause-trail : goal.returns-in-Ok-clause-trail
@@ -43,7 +43,7 @@ returns-in-Ok-clause-trail c =
     let s = c.self.inside in
     let n = s.next_enter in
     let popped = c.pop.new.self in
-    let opened = c.in-Some.opened in
+    let opened = c.in-Some.top in
     let state = c.open_state-state.result in
     let below = page_of s.line popped.items n in
     let lent : c.deref_mut.result.now ≡ popped.items = c.deref_mut.ensures.value in

@@ -17,17 +17,10 @@ returns-then-fresh-clause-limit c =
     let written = nothing_written c.self.inside.line c.self.inside.sections.items c.self.inside.next_enter c.self.invariant.0 in
     rw (c.if-fresh.true, ← c.self.view_is, written) tt
 
-pub returns-clause-trail : goal.returns-clause-trail
-returns-clause-trail c =
-    let s = c.self.inside in
-    let lent : c.deref_mut.result.now ≡ s.sections.items = c.deref_mut.ensures.value in
-    let kept = refilled s.sections.items c.note_in.new.sections s.sections.len (sym s.sections.ok.0) (c.note_in.auto.sections ∙ ap (λ (sections : List Section). length sections) lent) in
-    rw (← c.self.view_is, kept) (rw lent at (c.note_in.ensures.trail s.next_enter))
-
 pub returns-clause-stood : goal.returns-clause-stood
 unfolding output_stood
-returns-clause-stood c = stood-or-kept output_back c.note_in.result 1 _ _ _ _ (returns-clause-trail c)
+returns-clause-stood c = stood-or-kept output_back c.note.result 1 _ _ _ _ c.note.ensures.trail
 
 pub returns-clause-spare : goal.returns-clause-spare
 unfolding output_spare
-returns-clause-spare c = spare-or-kept output_back c.note_in.result 1 _ _ _ _ (returns-clause-trail c)
+returns-clause-spare c = spare-or-kept output_back c.note.result 1 _ _ _ _ c.note.ensures.trail
