@@ -1,8 +1,8 @@
 -- Where functions' texts start among marks, and which newlines were settled before the last mark.
-use Rattle.std.proofs.Common.{◌≡◌, ◌∙◌, ℕ, Bool, true, false, not, ◌&&◌, ◌||◌, cond, eqb, List, [], ◌∷◌, ◌++◌, drop, length, reverse, if◌then◌else◌, Option, None, Some, is_some, refl, sym, ap, subst}
+use Rattle.std.proofs.Common.{◌≡◌, ◌∙◌, ℕ, Bool, true, false, not, ◌&&◌, ◌||◌, cond, eqb, List, [], ◌∷◌, ◌++◌, drop, length, reverse, if◌then◌else◌, Option, None, Some, refl, sym, ap, subst}
 use Rattle.std.proofs.Math.Seq.{drop-append_seam}
 use Rattle.std.proofs.lemmas.List.{nil_from_length, reverse-append}
-use Rattle.ink_model.specs.Shown.{clear, covered, ends, newline_shown, newlines_before, some}
+use Rattle.ink_model.specs.Shown.{clear, ends, newlines_before, some}
 use Rattle.ink_model.specs.declared.mark.Mark.{Mark}
 use Rattle.ink_model.specs.declared.mark.Mark.TheVariants.{Text, Blank, Newline, Glue, Tag, Enter, Leave}
 use Rattle.ink_out.specs.declared.enters.Enters.{Enters}
@@ -12,7 +12,7 @@ use Rattle.ink_out.specs.declared.tracker.Hides.TheVariants.{Near, Any, Never}
 use Rattle.ink_out.specs.declared.tracker.Tracker.{Tracker}
 use Rattle.ink_out.specs.declared.tracker.Waiting.{Waiting}
 use Rattle.ink_out.specs.Stands.{IsStateOf, Knows, Sees, Stands, started, starts_of}
-use Rattle.ink_out.specs.Tracks.{Tracks, enter_at, hidden_by, settled_after, settled_by, since, waiting, waiting_at, waits}
+use Rattle.ink_out.specs.Tracks.{Tracks, enter_at, hidden_by, settled_after, settled_by, waiting, waiting_at, waits}
 
 pub started_at : (n : ℕ) (before : List Mark) → started n (starts_of before) ≡ enter_at n before
 started_at n [] = refl

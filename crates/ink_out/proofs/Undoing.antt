@@ -1,14 +1,13 @@
 -- What is put back of the text being written.
-use Rattle.std.proofs.Common.{◌≡◌, ◌∙◌, ◌≤◌, ◌<◌, ◌+◌, ◌-◌, ℕ, Bool, true, false, List, [], ◌∷◌, ◌++◌, Option, None, Some, Result, Ok, Err, OnOk, ◌^◌, ap, arith, cond, drop, get_or, is_some, length, refl, reverse, set, subst, sym, take}
+use Rattle.std.proofs.Common.{◌≡◌, ◌∙◌, ◌≤◌, ◌<◌, ◌-◌, ℕ, Bool, true, false, List, [], ◌∷◌, ◌++◌, Option, None, Some, Result, Ok, Err, OnOk, ◌^◌, ap, arith, cond, get_or, is_some, length, refl, reverse, set, subst, sym, take}
 use Rattle.std.specs.Result.{IsErrAnd}
-use Rattle.std.proofs.lemmas.List.{length-append, length-reverse, reverse-append}
+use Rattle.std.proofs.lemmas.List.{length-reverse, reverse-append}
 use Rattle.ink_model.specs.Configuration.{Page, Section}
 use Rattle.ink_model.specs.Output.{is_crowded, noted, writes_marks}
 use Rattle.ink_model.specs.declared.fault.Fault.{Fault}
 use Rattle.ink_model.specs.declared.fault.Fault.TheVariants.{TooDeep}
 use Rattle.ink_model.specs.declared.limits.TheConstants.{MAX_MARKS}
 use Rattle.ink_model.specs.declared.mark.Mark.{Mark}
-use Rattle.ink_out.specs.Stands.{IsStateOf}
 use Rattle.ink_out.specs.Undo.{GoesBack, Held, Keeps, open_in, open_marks, output_back, room_of, with_open, with_open_in}
 use Rattle.ink_out.specs.Writing.{page_of}
 use Rattle.ink_out.specs.declared.state.State.{State}

@@ -1,4 +1,4 @@
-use Rattle.std.proofs.Common.{◌≡◌, ◌∙◌, arith, inr, refl}
+use Rattle.std.proofs.Common.{◌∙◌, arith, inr, refl}
 use Rattle.ink_out.specs.Undo.{output_back}
 use Rattle.ink_out.specs.declared.undo.OutputPair.TheVariants.{Wrote}
 use Rattle.ink_out.proofs.Undoing.{goes-as, goes-now, goes-with, held_page, noted_back}

@@ -1,8 +1,7 @@
-use Rattle.std.proofs.Common.{◌≡◌, ◌≤◌, ◌+◌, ◌-◌, ℕ, [], ◌∷◌, ◌++◌, length, map, reverse, refl, subst, sym, ◌∙◌, ap, arith, rules}
+use Rattle.std.proofs.Common.{◌≡◌, ◌≤◌, ◌+◌, ◌-◌, [], ◌∷◌, ◌++◌, length, map, reverse, subst, sym, ◌∙◌, ap, arith, rules}
 use Rattle.std.proofs.lemmas.Grind.{common_steps}
 use Rattle.std.proofs.lemmas.List.{length-append, length-reverse}
 use Rattle.std.specs.Vec.Iter.{into_iter_items}
-use Rattle.ink_model.specs.Configuration.{Page}
 use Rattle.ink_out.specs.Cutting.{piece_mark}
 use Rattle.ink_out.specs.Stands.{IsStateOf, Knows}
 use Rattle.ink_out.specs.Undo.{Held, output_back, with_open}

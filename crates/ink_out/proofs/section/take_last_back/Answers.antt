@@ -1,4 +1,4 @@
-use Rattle.std.proofs.Common.{◌≡◌, ◌∙◌, ℕ, List, [], ◌∷◌, ap, reverse, subst, sym}
+use Rattle.std.proofs.Common.{◌≡◌, ◌∙◌, ℕ, List, ap, reverse, subst, sym}
 use Rattle.ink_out.specs.Tracks.{settled_after}
 use Rattle.ink_trail.specs.Undo.{but_last}
 use Rattle.ink_trail.proofs.Ending.{but_last-snoc}

@@ -1,4 +1,3 @@
-use Rattle.std.proofs.Common.{arith}
 use Rattle.ink_out.specs.Undo.{output_back, output_spare, output_stood}
 use Rattle.ink_out.proofs.output.Output.close_string.Goals as goal
 use Rattle.ink_trail.proofs.Undoing.{spare-or-kept, stood-or-kept}

@@ -1,7 +1,4 @@
-use Rattle.std.proofs.Common.{◌≡◌, ◌∙◌, List, ap, length, sym}
-use Rattle.ink_model.specs.Configuration.{Section}
 use Rattle.ink_out.specs.Undo.{output_back, output_spare, output_stood}
-use Rattle.ink_out.proofs.Closing.{refilled}
 use Rattle.ink_out.proofs.output.Output.newline.Goals as goal
 use Rattle.ink_trail.proofs.Undoing.{spare-or-kept, stood-or-kept}
 use Rattle.std.proofs.Common.{refl}

@@ -1,6 +1,5 @@
 use Rattle.std.proofs.Common.{◌≡◌, ◌∙◌, List, ap, length, sym}
 use Rattle.ink_model.specs.Configuration.{Section}
-use Rattle.ink_out.specs.Undo.{output_back}
 use Rattle.ink_out.proofs.Closing.{refilled}
 use Rattle.ink_out.proofs.output.Output.note.Goals as goal
 
