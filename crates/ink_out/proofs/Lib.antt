@@ -3,9 +3,11 @@ pub mod Lines
 pub mod Covers
 pub mod Tracking
 pub mod Standing
+pub mod Starting
 pub mod Opens
 pub mod Answering
 pub mod Blanks
 pub mod Walking
 pub mod Noting
 pub mod Closing
+pub mod Undoing

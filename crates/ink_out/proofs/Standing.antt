@@ -83,9 +83,9 @@ among_here xs end i n some fits f at =
 -- ---- a section
 
 pub knows_piece : (p : Piece) (enters : Enters) (before : List Mark) → Knows enters before → Knows enters (piece_mark p ∷ before)
-knows_piece (pieces.Text t) enters before k = record { at = k.at }
-knows_piece (pieces.Blank t) enters before k = record { at = k.at }
-knows_piece pieces.Newline enters before k = record { at = k.at }
+knows_piece (pieces.Text t) enters before k = record { starts = k.starts }
+knows_piece (pieces.Blank t) enters before k = record { starts = k.starts }
+knows_piece pieces.Newline enters before k = record { starts = k.starts }
 
 pub sees_more : (marks : List Mark) (settled next_settled : List ℕ) (state next : State) (enters noted : Enters) (m : Mark) → reverse next_settled ≡ settled_after m state.tracker.newline (reverse settled) → (Stands (reverse marks) (reverse settled) state → Stands (m ∷ reverse marks) (settled_after m state.tracker.newline (reverse settled)) next) → Knows noted (m ∷ reverse marks) → Sees marks settled state enters → Sees (marks ++ m ∷ []) next_settled next noted
 sees_more marks settled next_settled state next enters noted m same stands knows h =

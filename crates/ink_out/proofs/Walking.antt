@@ -287,12 +287,12 @@ walk_blank before w next at text here tracks k =
       sym (pile_over m before after w.tracker.newline next.newline w.held (smooth_blank text.now before)
           (λ at l. ap (is_among at) (same_waiting m before after w.tracker next k.settled refl k.tracks t')) k.falls),
     ) refl in
-    rw here (walk_held m before w next (Blank (length before) w.tracker.broken text) refl refl record { at = k.knows.at } k.settled t' (λ after. refl) piles k)
+    rw here (walk_held m before w next (Blank (length before) w.tracker.broken text) refl refl record { starts = k.knows.starts } k.settled t' (λ after. refl) piles k)
 
 pub walk_newline : {cleans : Bool} → (before : List Mark) (w : Walk) (next : Tracker) (at : ℕ) → at ≡ length before → ((settled : List ℕ) → Tracks before w.tracker settled → Tracks (kinds.Newline ∷ before) next settled) → Walks cleans before w → Walks cleans (kinds.Newline ∷ before) record { tracker = next; enters = w.enters; glue = w.glue; held = Newline at ∷ w.held; shown = w.shown }
 walk_newline before w next at here tracks k =
     let t' = tracks k.settled k.tracks in
-    rw here (walk_held kinds.Newline before w next (Newline (length before)) refl refl record { at = k.knows.at } k.settled t' (λ after. refl)
+    rw here (walk_held kinds.Newline before w next (Newline (length before)) refl refl record { starts = k.knows.starts } k.settled t' (λ after. refl)
     (λ after. pile_newline before after w.tracker next k.settled w.held k.tracks t' k.falls) k)
 
 pub walk_leave : {cleans : Bool} → (n : Option ℕ) (before : List Mark) (w : Walk) (next : Tracker) (reach : Option ℕ) → reach ≡ reach_of n before → ((settled : List ℕ) → Tracks before w.tracker settled → Tracks (kinds.Leave n ∷ before) next settled) → Walks cleans before w → Walks cleans (kinds.Leave n ∷ before) record { tracker = next; enters = w.enters; glue = w.glue; held = left_pile reach w.held; shown = w.shown }
@@ -305,7 +305,7 @@ walk_leave n before w next reach e tracks k =
       written = k.written;
       holds = k.holds;
       tracks = t';
-      knows = record { at = k.knows.at };
+      knows = record { starts = k.knows.starts };
       glue = k.glue;
       falls = falls_less (length before) (suc (length before)) (left_pile (reach_of n before) w.held) (omega arith) (left_falls (reach_of n before) (length before) w.held k.falls);
       text = λ after.
@@ -323,7 +323,7 @@ walk_text before w shown next text holds tracks k =
       written = written;
       holds = holds k.written k.holds;
       tracks = tracks k.settled k.tracks;
-      knows = record { at = k.knows.at };
+      knows = record { starts = k.knows.starts };
       glue = refl;
       falls = tt;
       text = λ after.

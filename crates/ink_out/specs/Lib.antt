@@ -6,3 +6,4 @@ pub mod Opened
 pub mod Writing
 pub mod Stands
 pub mod Walks
+pub mod Undo

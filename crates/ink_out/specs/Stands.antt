@@ -1,11 +1,11 @@
 -- What is known of the marks of a section.
 use Rattle.std.specs.Prelude.{◌≡◌, ℕ, ◌<◌, nat_le, List, [], ◌∷◌, length, reverse, Option, None, Some, Bool, false, ◌==◌, if◌then◌else◌}
 use Rattle.ink_model.specs.declared.mark.Mark.{Mark}
-use Rattle.ink_model.specs.declared.mark.Mark.TheVariants.{Text, Tag}
+use Rattle.ink_model.specs.declared.mark.Mark.TheVariants.{Text, Tag, Enter}
 use Rattle.ink_out.specs.declared.enters.Enters.{Enters}
 use Rattle.ink_out.specs.declared.enters.Start.{Start}
 use Rattle.ink_out.specs.declared.state.State.{State}
-use Rattle.ink_out.specs.Tracks.{Tracks, enter_at}
+use Rattle.ink_out.specs.Tracks.{Tracks}
 
 -- Marks before are listed nearest first.
 
@@ -35,11 +35,21 @@ abbrev pub started : ℕ → List Start → Option ℕ
 started n [] = None
 started n (s ∷ starts) = if n == s.number then Some s.at else started n starts
 
+-- the starts, the nearest first
+abbrev pub starts_of : List Mark → List Start
+starts_of [] = []
+starts_of (Enter k ∷ before) = record { number = k; at = length before } ∷ starts_of before
+starts_of (m ∷ before) = starts_of before
+
 -- the numbers entered
 pub record Knows (enters : Enters) (before : List Mark) : Type 0 where
-  pub at : (n : ℕ) → started n (reverse enters.starts.items) ≡ enter_at n before
+  pub starts : reverse enters.starts.items ≡ starts_of before
 
 -- a section's marks and its settled newlines, both the oldest first
 pub record Sees (marks : List Mark) (settled : List ℕ) (state : State) (enters : Enters) : Type 0 where
   pub stands : Stands (reverse marks) (reverse settled) state
   pub knows : Knows enters (reverse marks)
+
+-- the state after these marks
+abbrev pub IsStateOf : List Mark → State → Type 0
+IsStateOf marks state = (settled : List ℕ) × Stands (reverse marks) settled state

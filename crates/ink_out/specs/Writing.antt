@@ -1,15 +1,25 @@
 -- The text being written, as contracts see it.
-use Rattle.std.specs.Prelude.{ℕ, List, [], Bool, true, false, drop, reverse, Result}
+use Rattle.std.specs.Prelude.{ℕ, List, [], Bool, true, false, drop, length, reverse, Result, Ok, Err}
 use Rattle.ink_model.specs.Configuration.{Page, Section}
 use Rattle.ink_model.specs.Memory.{Leaves}
-use Rattle.ink_model.specs.Output.{writes_marks}
+use Rattle.ink_model.specs.Mark.{cut}
+use Rattle.ink_model.specs.Output.{let_through, writes_marks}
 use Rattle.ink_model.specs.declared.fault.Fault.{Fault}
 use Rattle.ink_model.specs.declared.mark.Mark.{Mark}
 use Rattle.ink_model.specs.declared.value.Value.{Value}
 use Rattle.ink_model.specs.declared.value.Value.TheVariants.{Void, Text}
+use Rattle.ink_out.specs.declared.undo.OutputPair.{OutputPair}
+use Rattle.ink_trail.specs.Undo.{TrailView}
 
+-- the page, and the trail of what it was
 pub record Writing : Type 0 where
   pub page : Page
+  pub trail : TrailView OutputPair
+
+-- how many marks are written of a value, by its printed text
+abbrev pub marks_of : Bool → Result (List ℕ) Fault → ℕ
+marks_of fresh (Ok t) = length (let_through fresh (cut t))
+marks_of fresh (Err f) = 0
 
 -- a value that prints nothing: void, and a text without bytes
 abbrev pub prints_nothing : Value → Bool

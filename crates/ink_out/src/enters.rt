@@ -61,6 +61,15 @@ impl Enters {
         Ok(())
     }
 
+    /// Forgets the last mark that was noted. Takes no memory.
+    pub(crate) fn forget(&mut self, mark: &Mark)
+        ensures { (before : List Mark) → Knows self.old (mark.now ∷ before) → Knows self.new before }
+    {
+        if let Mark::Enter(_) = mark {
+            let _start = self.starts.pop();
+        }
+    }
+
     /// How far back the end of a function's text reaches: to the start of its number, and past all marks where there is
     /// none.
     #[inline(always)]

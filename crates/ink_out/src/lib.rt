@@ -2,7 +2,6 @@
 #![tactic(auto)]
 
 mod cleaning;
-mod copying;
 mod cutting;
 mod enters;
 mod opened;
@@ -12,6 +11,7 @@ mod section;
 mod state;
 mod tags;
 mod tracker;
+mod undo;
 mod walk;
 
 pub use output::Output;

@@ -1,6 +1,6 @@
 //! The text being written (docs/TEXT.md, "Sections").
 
-ghost use Rattle.std.specs.Prelude.{◌≡◌, ◌<◌, ◌≤◌, ◌&&◌, [], ◌∷◌, Err, length, map, reverse, true, ◌≢◌, IfErr, IfOk, IsOk, IsTrue, OnErr};
+ghost use Rattle.std.specs.Prelude.{ℕ, ◌≡◌, ◌<◌, ◌≤◌, ◌+◌, ◌&&◌, [], ◌∷◌, Err, Ok, None, Some, is_some, length, map, reverse, true, unwrap_or, ◌≢◌, IfErr, IfOk, IsOk, IsTrue, OnErr, OnOk};
 ghost use Rattle.std.specs.List.{list_any};
 ghost use Rattle.ink_model.specs.Asks.{prints_bytes};
 ghost use Rattle.ink_model.specs.Clean.{clean};
@@ -15,18 +15,23 @@ ghost use Rattle.ink_model.specs.Step.Text.{in_string, in_tag};
 ghost use Rattle.ink_model.specs.Value.{printed};
 ghost use Rattle.ink_out.specs.Cutting.{piece_mark};
 ghost use Rattle.ink_out.specs.Opened.{section_kind};
-ghost use Rattle.ink_out.specs.Writing.{Notes, closed, prints_nothing};
+ghost use Rattle.ink_out.specs.Undo.{GoesBack, output_back, output_spare, output_stood};
+ghost use Rattle.ink_out.specs.Writing.{Notes, closed, marks_of, page_of, prints_nothing};
+ghost use Rattle.ink_trail.specs.Undo.{Begins, Ends, KeepsTrail, Trails, TrailsOrKeeps, trail_of, writes_of};
 
 use crate::cutting::{Piece, cut_text, is_cut};
-use crate::opened::{Kind, Opened, copied_sections, note, note_all, note_below};
+use crate::opened::{Kind, Opened, note, note_all, note_below, note_in, open_state};
 use crate::section::Section;
+use crate::undo::{OutputPair, put_back};
 use ink_model::{Fault, MAX_SECTIONS, MAX_TEXT, Mark, Seq, Shared, Text, Value};
+use ink_trail::Trail;
 use ink_value::printed;
 use std::alloc::{AllocError, Global};
 use std::marker::Model;
+use std::mem;
 
 /// The text being written: the marks of the line, and the string and tag sections that are open on it. A contract sees the
-/// page.
+/// page and the trail of what it was while a mark stands.
 #[derive(Drop)]
 pub struct Output {
     line: Section,
@@ -34,48 +39,39 @@ pub struct Output {
     next_enter: u64,
     /// One that was closed, to be opened again without a request for memory.
     spare: Option<Opened>,
+    trail: Trail<OutputPair>,
     alloc: Global,
 }
 
 impl Model for Output {
-    ghost use Rattle.std.specs.Prelude.{length, ◌≤◌};
+    ghost use Rattle.std.specs.Prelude.{length, vec_capacity, ◌≤◌};
     ghost use Rattle.ink_model.specs.declared.limits.TheConstants.{MAX_MARKS};
+    ghost use Rattle.ink_out.specs.Undo.{GoesBack};
     ghost use Rattle.ink_out.specs.Writing.{Writing, page_of};
+    ghost use Rattle.ink_trail.specs.Undo.{trail_of};
 
     ghost Value = { Writing };
 
-    ghost view = { λ o. record { page = page_of o.line o.sections.items o.next_enter } };
+    ghost view = { λ o. record { page = page_of o.line o.sections.items o.next_enter; trail = o.trail } };
 
-    ghost invariant = { λ o. length o.line ≤ MAX_MARKS };
+    ghost invariant = { λ o. (length o.line ≤ MAX_MARKS) × GoesBack (vec_capacity o.sections) (trail_of o.trail.undo) (page_of o.line o.sections.items o.next_enter) };
 }
 
+#[tactic(auto, unfolding(crate::specs::Undo::output_stood, crate::specs::Undo::output_spare, ink_trail::specs::Undo::stood_at, ink_trail::specs::Undo::spare))]
 impl Output {
     /// An empty line, which takes no memory.
     pub fn new(alloc: Global) -> Output
-        ensures { result.page ≡ empty_page }
+        ensures page { result.page ≡ empty_page }
+        ensures stood { output_stood result ≡ None }
     {
         Output {
             line: Section::new(alloc),
             sections: Vec::new(alloc),
             next_enter: 0,
             spare: None,
+            trail: Trail::new(alloc),
             alloc,
         }
-    }
-
-    /// A copy, to go on from what is written so far. The one error is a refused request for memory.
-    pub fn clone_in(&self, alloc: Global) -> Result<Output, AllocError>
-        ensures { IfOk result (λ copy. copy.page ≡ self.now.page) }
-    {
-        let line = self.line.clone_in(alloc)?;
-        let sections = copied_sections(alloc, &self.sections)?;
-        Ok(Output {
-            line,
-            sections,
-            next_enter: self.next_enter,
-            spare: None,
-            alloc,
-        })
     }
 
     /// Writes the printed text of a value into the open section, cut into marks; `fresh` where the top frame is a function
@@ -90,6 +86,8 @@ impl Output {
         ensures text { IfOk result (λ has_text. has_text ≡ prints_text (printed value.now)) }
         ensures nothing { IsTrue (prints_nothing value.now) → IsOk result }
         ensures memory { result ≡ Err Fault.OutOfMemory → prints_bytes value.now ≡ true }
+        ensures trail { TrailsOrKeeps output_back (marks_of fresh (printed value.now)) self.old.page self.old.trail self.new.page self.new.trail result }
+        ensures stood { output_stood self.new ≡ output_stood self.old }
     {
         let alloc = self.alloc;
         match value {
@@ -109,6 +107,8 @@ impl Output {
         ensures page { Leaves (writes_text fresh text.now self.old.page) self.old.page self.new.page result }
         ensures text { IfOk result (λ has_text. has_text ≡ list_any is_text (cut text.now)) }
         ensures nothing { text.now ≡ [] → IsOk result }
+        ensures trail { TrailsOrKeeps output_back (length (let_through fresh (cut text.now))) self.old.page self.old.trail self.new.page self.new.trail result }
+        ensures stood { output_stood self.new ≡ output_stood self.old }
     {
         let line = &mut self.line;
         let written = text.get().as_str();
@@ -116,9 +116,16 @@ impl Output {
             return Ok(false);
         }
         if is_cut(written) {
-            note_cut(self.alloc, line, &mut self.sections, written, fresh)
+            note_cut(
+                self.alloc,
+                line,
+                &mut self.sections,
+                &mut self.trail,
+                written,
+                fresh,
+            )
         } else {
-            note_piece(line, &mut self.sections, text)
+            note_piece(line, &mut self.sections, &mut self.trail, text)
         }
     }
 
@@ -129,12 +136,15 @@ impl Output {
         ensures page { Leaves (writes_newline fresh self.old.page) self.old.page self.new.page result }
         ensures limit { IfErr (writes_newline fresh self.old.page) (λ f. result ≡ Err f) }
         ensures nothing { IsTrue fresh → IsOk result }
+        ensures trail { TrailsOrKeeps output_back 1 self.old.page self.old.trail self.new.page self.new.trail result }
+        ensures stood { output_stood self.new ≡ output_stood self.old }
+        ensures spare { output_spare self.old ≤ output_spare self.new + 1 }
     {
-        let line = &mut self.line;
         if fresh {
+            let _unchanged = &mut self.line;
             return Ok(());
         }
-        note(line, &mut self.sections, Mark::Newline)
+        self.note(Mark::Newline)
     }
 
     /// Writes glue (docs/TEXT.md, "What is shown"). `TooDeep` for more than 100,000 marks in the line, which is found before
@@ -142,8 +152,11 @@ impl Output {
     pub fn glue(&mut self) -> Result<(), Fault>
         ensures page { Leaves (writes_glue self.old.page) self.old.page self.new.page result }
         ensures limit { IfErr (writes_glue self.old.page) (λ f. result ≡ Err f) }
+        ensures trail { TrailsOrKeeps output_back 1 self.old.page self.old.trail self.new.page self.new.trail result }
+        ensures stood { output_stood self.new ≡ output_stood self.old }
+        ensures spare { output_spare self.old ≤ output_spare self.new + 1 }
     {
-        note(&mut self.line, &mut self.sections, Mark::Glue)
+        self.note(Mark::Glue)
     }
 
     /// A function begins. Answers its number: Enters are numbered upwards. `TooDeep` for more than 100,000 marks in the line
@@ -153,10 +166,15 @@ impl Output {
         ensures page { Leaves (begins_function self.old.page) self.old.page self.new.page result }
         ensures number { IfOk result (λ n. n ≡ self.old.page.next_enter) }
         ensures limit { IfErr (begins_function self.old.page) (λ f. result ≡ Err f) }
+        ensures trail { TrailsOrKeeps output_back 2 self.old.page self.old.trail self.new.page self.new.trail result }
+        ensures stood { output_stood self.new ≡ output_stood self.old }
+        ensures spare { output_spare self.old ≤ output_spare self.new + 2 }
     {
         let number = self.next_enter;
         let next = number.checked_add(1).ok_or(Fault::TooDeep)?;
-        note(&mut self.line, &mut self.sections, Mark::Enter(number))?;
+        let mark = Mark::Enter(number);
+        note_in(&mut self.line, &mut self.sections, &mut self.trail, mark, 2)?;
+        self.trail.note(OutputPair::Numbered(number), 1);
         self.next_enter = next;
         Ok(number)
     }
@@ -166,8 +184,21 @@ impl Output {
     pub fn leave(&mut self, number: Option<u64>) -> Result<(), Fault>
         ensures page { Leaves (ends_function number self.old.page) self.old.page self.new.page result }
         ensures limit { IfErr (ends_function number self.old.page) (λ f. result ≡ Err f) }
+        ensures trail { TrailsOrKeeps output_back 1 self.old.page self.old.trail self.new.page self.new.trail result }
+        ensures stood { output_stood self.new ≡ output_stood self.old }
+        ensures spare { output_spare self.old ≤ output_spare self.new + 1 }
     {
-        note(&mut self.line, &mut self.sections, Mark::Leave(number))
+        self.note(Mark::Leave(number))
+    }
+
+    // Writes a mark into what is open, as those calls do.
+    #[inline(always)]
+    fn note(&mut self, mark: Mark) -> Result<(), Fault>
+        ensures page { Leaves (writes_marks (mark ∷ []) self.old.page) self.old.page self.new.page result }
+        ensures limit { IfErr (writes_marks (mark ∷ []) self.old.page) (λ f. result ≡ Err f) }
+        ensures trail { TrailsOrKeeps output_back 1 self.old.page self.old.trail self.new.page self.new.trail result }
+    {
+        note_in(&mut self.line, &mut self.sections, &mut self.trail, mark, 1)
     }
 
     /// Opens a string. `TooDeep` where 1,000 strings and tags are open, which is found before memory is asked for,
@@ -175,6 +206,9 @@ impl Output {
     pub fn open_string(&mut self) -> Result<(), Fault>
         ensures page { Leaves (opens string_section self.old.page) self.old.page self.new.page result }
         ensures limit { IfErr (opens string_section self.old.page) (λ f. result ≡ Err f) }
+        ensures trail { TrailsOrKeeps output_back 1 self.old.page self.old.trail self.new.page self.new.trail result }
+        ensures stood { output_stood self.new ≡ output_stood self.old }
+        ensures spare { output_spare self.old ≤ output_spare self.new + 1 }
     {
         self.open(Kind::String)
     }
@@ -184,6 +218,9 @@ impl Output {
     pub fn open_tag(&mut self) -> Result<(), Fault>
         ensures page { Leaves (opens tag_section self.old.page) self.old.page self.new.page result }
         ensures limit { IfErr (opens tag_section self.old.page) (λ f. result ≡ Err f) }
+        ensures trail { TrailsOrKeeps output_back 1 self.old.page self.old.trail self.new.page self.new.trail result }
+        ensures stood { output_stood self.new ≡ output_stood self.old }
+        ensures spare { output_spare self.old ≤ output_spare self.new + 1 }
     {
         self.open(Kind::Tag)
     }
@@ -191,27 +228,34 @@ impl Output {
     fn open(&mut self, kind: Kind) -> Result<(), Fault>
         ensures page { Leaves (opens (section_kind kind) self.old.page) self.old.page self.new.page result }
         ensures limit { IfErr (opens (section_kind kind) self.old.page) (λ f. result ≡ Err f) }
+        ensures trail { TrailsOrKeeps output_back 1 self.old.page self.old.trail self.new.page self.new.trail result }
+        ensures stood { output_stood self.new ≡ output_stood self.old }
+        ensures spare { output_spare self.old ≤ output_spare self.new + 1 }
     {
         if self.depth() >= MAX_SECTIONS {
             return Err(Fault::TooDeep);
         }
         self.sections.reserve(1)?;
+        self.trail.add(OutputPair::Began, 1)?;
         let opened = Opened::again(self.spare.take(), self.alloc, kind);
-        self.sections.push(opened).unwrap();
+        self.sections.push_reserved(opened);
         Ok(())
     }
 
     /// Closes the open string and hands its text out as it is shown, uncleaned. `BadMode` where no string is open on top,
     /// `TooDeep` for a text over 1 MiB, `OutOfMemory` for a refused request for memory; nothing has changed then.
     pub fn close_string(&mut self) -> Result<Shared<Text>, Fault>
-        ensures { Hands (closes_string self.old.page) self.old.page self.new.page result }
+        ensures page { Hands (closes_string self.old.page) self.old.page self.new.page result }
+        ensures trail { TrailsOrKeeps output_back 1 self.old.page self.old.trail self.new.page self.new.trail result }
+        ensures stood { output_stood self.new ≡ output_stood self.old }
+        ensures spare { output_spare self.old ≤ output_spare self.new + 1 }
     {
         let opened = self.sections.last().ok_or(Fault::BadMode)?;
         if !opened.is_string() {
             return Err(Fault::BadMode);
         }
         let text = within(self.alloc, opened.raw_text(self.alloc)?)?;
-        self.spare = self.sections.pop();
+        self.close()?;
         Ok(text)
     }
 
@@ -219,7 +263,10 @@ impl Output {
     /// tag is open on top, `TooDeep` for a text over 1 MiB or more than 100,000 marks in the line, `OutOfMemory` for a
     /// refused request for memory; nothing has changed then.
     pub fn close_tag(&mut self) -> Result<Option<Shared<Text>>, Fault>
-        ensures { Hands (closes_tag self.old.page) self.old.page self.new.page result }
+        ensures page { Hands (closes_tag self.old.page) self.old.page self.new.page result }
+        ensures trail { TrailsOrKeeps output_back 2 self.old.page self.old.trail self.new.page self.new.trail result }
+        ensures stood { output_stood self.new ≡ output_stood self.old }
+        ensures spare { output_spare self.old ≤ output_spare self.new + 2 }
     {
         let opened = self.sections.last().ok_or(Fault::BadMode)?;
         if opened.is_string() {
@@ -228,22 +275,80 @@ impl Output {
         let text = within(self.alloc, opened.text(self.alloc)?)?;
         let below = self.depth() - 1;
         if has_string(&self.sections[..below]) {
-            self.spare = self.sections.pop();
+            self.close()?;
             return Ok(Some(text));
         }
         self.close_with(Mark::Tag(text))?;
         Ok(None)
     }
 
+    // Closes what is open on top. The one error is `OutOfMemory` for a refused request for memory, while a mark stands; nothing
+    // has changed then.
+    #[inline(always)]
+    fn close(&mut self) -> Result<(), Fault>
+        requires { 0 < length self.old.page.sections }
+        ensures page { Leaves (Ok (closed self.old.page)) self.old.page self.new.page result }
+        ensures trail { TrailsOrKeeps output_back 1 self.old.page self.old.trail self.new.page self.new.trail result }
+    {
+        if self.trail.is_marked() {
+            return self.close_marked();
+        }
+        self.spare = self.sections.pop();
+        Ok(())
+    }
+
+    #[cold]
+    #[inline(never)]
+    fn close_marked(&mut self) -> Result<(), Fault>
+        requires { 0 < length self.old.page.sections }
+        ensures page { Leaves (Ok (closed self.old.page)) self.old.page self.new.page result }
+        ensures trail { TrailsOrKeeps output_back 1 self.old.page self.old.trail self.new.page self.new.trail result }
+    {
+        self.trail.ready(1)?;
+        if let Some(opened) = self.sections.pop() {
+            self.trail.note(OutputPair::Closed(opened), 1);
+        }
+        Ok(())
+    }
+
     /// Closes what is open on top, and adds a mark to what is open then. `TooDeep` for more than 100,000 marks in the line,
     /// `OutOfMemory` for a refused request for memory; nothing has changed then.
     fn close_with(&mut self, mark: Mark) -> Result<(), Fault>
         requires { 0 < length self.old.page.sections }
-        ensures { Leaves (writes_marks (mark ∷ []) (closed self.old.page)) self.old.page self.new.page result }
+        ensures page { Leaves (writes_marks (mark ∷ []) (closed self.old.page)) self.old.page self.new.page result }
+        ensures trail { TrailsOrKeeps output_back 2 self.old.page self.old.trail self.new.page self.new.trail result }
     {
+        if self.trail.is_marked() {
+            return self.close_with_marked(mark);
+        }
         note_below(&mut self.line, &mut self.sections, mark)?;
         self.spare = self.sections.pop();
         Ok(())
+    }
+
+    #[cold]
+    #[inline(never)]
+    fn close_with_marked(&mut self, mark: Mark) -> Result<(), Fault>
+        requires { 0 < length self.old.page.sections }
+        ensures page { Leaves (writes_marks (mark ∷ []) (closed self.old.page)) self.old.page self.new.page result }
+        ensures trail { TrailsOrKeeps output_back 2 self.old.page self.old.trail self.new.page self.new.trail result }
+    {
+        self.trail.ready(2)?;
+        let Some(top) = self.sections.pop() else {
+            return Err(Fault::BadMode);
+        };
+        let state = open_state(&self.line, &self.sections);
+        match note(&mut self.line, &mut self.sections, mark) {
+            Ok(()) => {
+                self.trail.note(OutputPair::Closed(top), 1);
+                self.trail.note(OutputPair::Wrote(state), 1);
+                Ok(())
+            }
+            Err(fault) => {
+                self.sections.push_reserved(top);
+                Err(fault)
+            }
+        }
     }
 
     /// How many strings and tags are open.
@@ -333,13 +438,117 @@ impl Output {
         self.line.tags(self.alloc)
     }
 
-    /// Takes all away: marks, open sections and numbers. Takes no memory.
+    /// Takes all away: marks, open sections and numbers, which is two changes of cells. Takes no memory.
     pub fn clear(&mut self)
-        ensures { self.new.page ≡ empty_page }
+        requires room { 2 ≤ output_spare self.old }
+        ensures page { self.new.page ≡ empty_page }
+        ensures trail { Trails output_back 2 self.old.page self.old.trail self.new.page self.new.trail }
+        ensures stood { output_stood self.new ≡ output_stood self.old }
+        ensures spare { output_spare self.old ≤ output_spare self.new + 2 }
     {
+        if self.trail.is_marked() {
+            self.clear_marked();
+            return;
+        }
         self.line.clear();
         self.sections.clear();
         self.next_enter = 0;
+    }
+
+    #[cold]
+    #[inline(never)]
+    fn clear_marked(&mut self)
+        requires room { 2 ≤ output_spare self.old }
+        ensures page { self.new.page ≡ empty_page }
+        ensures trail { Trails output_back 2 self.old.page self.old.trail self.new.page self.new.trail }
+    {
+        let sections = mem::replace(&mut self.sections, Vec::new(self.alloc));
+        self.trail.note(OutputPair::Sections(sections), 1);
+        let line = mem::replace(&mut self.line, Section::new(self.alloc));
+        let number = mem::replace(&mut self.next_enter, 0);
+        self.trail.note(OutputPair::Line(line, number), 1);
+    }
+
+    /// Whether a mark stands.
+    #[inline(always)]
+    pub fn is_marked(&self) -> bool
+        ensures { result ≡ is_some (output_stood self.now) }
+    {
+        self.trail.is_marked()
+    }
+
+    /// Starts a mark with an empty trail, and forgets an older one. Takes no memory.
+    pub fn mark(&mut self)
+        ensures page { self.new.page ≡ self.old.page }
+        ensures trail { Begins self.old.trail self.new.trail }
+        ensures stood { output_stood self.new ≡ Some self.old.page }
+    {
+        self.trail.mark();
+    }
+
+    /// How many changes of single cells there were since the mark, which stays at 2^64 - 1; 0 without one.
+    pub fn writes(&self) -> u64
+        ensures { result ≡ writes_of self.now.trail.undo }
+    {
+        self.trail.writes()
+    }
+
+    /// Puts all back as it stood at the mark, ends the mark, and answers how many pairs there were. Without a mark it changes
+    /// nothing, and answers 0. Takes no memory.
+    pub fn back(&mut self) -> u64
+        ensures page { self.new.page ≡ unwrap_or (output_stood self.old) self.old.page }
+        ensures trail { Ends self.old.trail self.new.trail }
+        ensures stood { output_stood self.new ≡ None }
+        ensures len { result ≡ length (trail_of self.old.trail.undo) }
+        ensures writes { result ≤ writes_of self.old.trail.undo }
+    {
+        put_back(
+            &mut self.line,
+            &mut self.sections,
+            &mut self.next_enter,
+            &mut self.trail,
+        )
+    }
+
+    /// Ends the mark, and changes nothing else. Takes no memory.
+    pub fn forget(&mut self)
+        ensures page { self.new.page ≡ self.old.page }
+        ensures trail { Ends self.old.trail self.new.trail }
+        ensures stood { output_stood self.new ≡ None }
+    {
+        self.trail.forget();
+    }
+
+    /// Makes room for so many changes to be noted without memory. The one error is a refused request for memory, and leaves all as
+    /// it was.
+    pub fn make_room(&mut self, count: usize) -> Result<(), AllocError>
+        ensures page { self.new.page ≡ self.old.page }
+        ensures trail { KeepsTrail self.old.trail self.new.trail }
+        ensures stood { output_stood self.new ≡ output_stood self.old }
+        ensures more { output_spare self.old ≤ output_spare self.new }
+        ensures ok { OnOk result (count ≤ self.new.trail.room) }
+        ensures memory { OnErr result (self.old.trail.room < count) }
+    {
+        self.trail.make_room(count)
+    }
+
+    /// The same while a mark stands; without one it takes no memory.
+    #[inline(always)]
+    pub fn ready(&mut self, count: usize) -> Result<(), AllocError>
+        ensures page { self.new.page ≡ self.old.page }
+        ensures stood { output_stood self.new ≡ output_stood self.old }
+        ensures more { output_spare self.old ≤ output_spare self.new }
+        ensures ok { OnOk result (count ≤ output_spare self.new) }
+        ensures memory { OnErr result ((is_some (output_stood self.old) ≡ true) × (output_spare self.old < count)) }
+    {
+        self.trail.ready(count)
+    }
+
+    /// How many changes can be noted without memory.
+    pub fn room(&self) -> usize
+        ensures { result ≡ self.now.trail.room }
+    {
+        self.trail.room()
     }
 }
 
@@ -365,17 +574,20 @@ fn note_cut(
     alloc: Global,
     line: &mut Section,
     sections: &mut [Opened],
+    trail: &mut Trail<OutputPair>,
     text: &str,
     fresh: bool,
 ) -> Result<bool, Fault>
     ensures page { Notes (let_through fresh (cut text.now)) line.old sections.old line.new sections.new result }
     ensures text { IfOk result (λ has_text. has_text ≡ list_any is_text (cut text.now)) }
     ensures within { length line.old ≤ MAX_MARKS → length line.new ≤ MAX_MARKS }
+    ensures trail { (n : ℕ) → TrailsOrKeeps output_back (length (let_through fresh (cut text.now))) (page_of line.old sections.old n) trail.old (page_of line.new sections.new n) trail.new result }
+    ensures back { (n room : ℕ) → GoesBack room (trail_of trail.old.undo) (page_of line.old sections.old n) → GoesBack room (trail_of trail.new.undo) (page_of line.new sections.new n) }
 {
     let pieces = cut_text(alloc, text)?;
     let has_text = has_text(&pieces);
     let pieces = let_through(alloc, pieces, fresh)?;
-    note_all(line, sections, pieces)?;
+    note_all(line, sections, trail, pieces)?;
     Ok(has_text)
 }
 
@@ -384,16 +596,19 @@ fn note_cut(
 fn note_piece(
     line: &mut Section,
     sections: &mut [Opened],
+    trail: &mut Trail<OutputPair>,
     text: &Shared<Text>,
 ) -> Result<bool, Fault>
     requires { text.now ≢ [] }
     ensures page { Notes (piece text.now) line.old sections.old line.new sections.new result }
     ensures text { IfOk result (λ has_text. has_text ≡ list_any is_text (piece text.now)) }
     ensures within { length line.old ≤ MAX_MARKS → length line.new ≤ MAX_MARKS }
+    ensures trail { (n : ℕ) → TrailsOrKeeps output_back 1 (page_of line.old sections.old n) trail.old (page_of line.new sections.new n) trail.new result }
+    ensures back { (n room : ℕ) → GoesBack room (trail_of trail.old.undo) (page_of line.old sections.old n) → GoesBack room (trail_of trail.new.undo) (page_of line.new sections.new n) }
 {
     let piece = Piece::whole(text)?;
     let has_text = piece.is_text();
-    note(line, sections, piece.into_mark())?;
+    note_in(line, sections, trail, piece.into_mark(), 1)?;
     Ok(has_text)
 }
 

@@ -1,20 +1,26 @@
 //! A section of marks.
 
-ghost use Rattle.std.specs.Prelude.{◌≡◌, ◌≤◌, ◌+◌, [], ◌∷◌, ◌++◌, length, map, true, vec_len, vec_capacity, IfOk, IsOk, OnOk, OnErr};
+ghost use Rattle.std.specs.Prelude.{ℕ, ◌≡◌, ◌≤◌, ◌+◌, [], ◌∷◌, ◌++◌, length, map, true, vec_len, vec_capacity, IfOk, IsOk, OnOk, OnErr};
 ghost use Rattle.std.specs.List.{list_any};
 ghost use Rattle.ink_model.specs.Clean.{clean};
+ghost use Rattle.ink_model.specs.Configuration.{Page};
 ghost use Rattle.ink_model.specs.Mark.{tags};
 ghost use Rattle.ink_model.specs.Shown.{is_filled_blank, is_shown, more_from, open_newline, shown_text, shows_more};
 ghost use Rattle.ink_out.specs.Cutting.{piece_mark};
-ghost use Rattle.ink_out.specs.Stands.{Sees, is_past};
+ghost use Rattle.ink_out.specs.declared.state.State.{State};
+ghost use Rattle.ink_out.specs.Stands.{IsStateOf, Sees, is_past};
+ghost use Rattle.ink_out.specs.Undo.{GoesBack, Held, output_back, with_open};
+ghost use Rattle.ink_trail.specs.Undo.{Trails, TrailsOrKeeps, but_last, spare, trail_of};
 
-use crate::copying::copied_mark;
 use crate::cutting::{Piece, has_words};
 use crate::enters::Enters;
-use crate::state::{State, is_settled, make_room, settle};
+use crate::state::{State, is_settled, make_room, settle, unsettle};
 use crate::tags::tag_texts;
+use crate::tracker::Waiting;
+use crate::undo::OutputPair;
 use crate::walk::shown_text;
 use ink_model::{Mark, Seq, Shared, Text};
+use ink_trail::Trail;
 use std::alloc::{AllocError, Global};
 use std::marker::Model;
 
@@ -53,13 +59,6 @@ impl Section {
         }
     }
 
-    /// A copy. The one error is a refused request for memory.
-    pub(crate) fn clone_in(&self, alloc: Global) -> Result<Section, AllocError>
-        ensures { IfOk result (λ copy. copy ≡ self.now) }
-    {
-        section_of(alloc, self.marks.as_slice())
-    }
-
     /// Adds a mark. The one error is a refused request for memory, and leaves the section as it was.
     pub(crate) fn add(&mut self, mark: Mark) -> Result<(), AllocError>
         ensures ok { OnOk result (self.new ≡ self.old ++ mark ∷ []) }
@@ -76,11 +75,19 @@ impl Section {
         Ok(())
     }
 
-    /// Adds the marks of pieces. The one error is a refused request for memory, and leaves the section as it was.
-    pub(crate) fn extend(&mut self, pieces: Vec<Piece>) -> Result<(), AllocError>
+    /// Adds the marks of pieces; while a mark of the trail stands, each is noted in it. The one error is a refused request for
+    /// memory, and leaves the section as it was. The contract speaks of each page where this section is open.
+    pub(crate) fn extend(
+        &mut self,
+        trail: &mut Trail<OutputPair>,
+        pieces: Vec<Piece>,
+    ) -> Result<(), AllocError>
         ensures ok { OnOk result (self.new ≡ self.old ++ map piece_mark pieces.items) }
         ensures err { OnErr result (self.new ≡ self.old) }
+        ensures trail { (page : Page) → TrailsOrKeeps output_back (length pieces.items) (with_open self.old page) trail.old (with_open self.new page) trail.new result }
+        ensures back { (page : Page) (room : ℕ) → Held room (with_open self.new page) → GoesBack room (trail_of trail.old.undo) (with_open self.old page) → GoesBack room (trail_of trail.new.undo) (with_open self.new page) }
     {
+        trail.ready(pieces.len())?;
         self.marks.reserve(pieces.len())?;
         self.settled.reserve(pieces.len())?;
         append(
@@ -88,9 +95,32 @@ impl Section {
             &mut self.settled,
             &mut self.state,
             &self.enters,
+            trail,
             pieces,
         );
         Ok(())
+    }
+
+    /// What is known after the marks so far.
+    #[inline(always)]
+    pub(crate) fn state(&self) -> State
+        ensures { IsStateOf self.now result }
+    {
+        self.state
+    }
+
+    /// Takes the last mark back, by the state before it. Takes no memory.
+    pub(crate) fn take_back(&mut self, state: State)
+        requires { IsStateOf (but_last self.old) state }
+        ensures { self.new ≡ but_last self.old }
+    {
+        take_last_back(
+            &mut self.marks,
+            &mut self.settled,
+            &mut self.enters,
+            state.tracker.newline,
+        );
+        self.state = state;
     }
 
     /// How many marks there are.
@@ -195,36 +225,47 @@ fn is_filled_blank(mark: &Mark) -> bool
     }
 }
 
-// A section of copies of these marks. The one error is a refused request for memory.
-fn section_of(alloc: Global, marks: &[Mark]) -> Result<Section, AllocError>
-    ensures { IfOk result (λ copy. copy ≡ marks.now) }
-{
-    let mut copy = Section::new(alloc);
-    for mark in marks {
-        copy.add(copied_mark(mark)?)?;
-    }
-    Ok(copy)
-}
-
 // Adds the marks of pieces, where there is room.
 fn append(
     marks: &mut Vec<Mark>,
     settled: &mut Vec<usize>,
     state: &mut State,
     enters: &Enters,
+    trail: &mut Trail<OutputPair>,
     pieces: Vec<Piece>,
 )
     requires marks { vec_len marks.old + length pieces.items ≤ vec_capacity marks.old }
     requires settled { vec_len settled.old + length pieces.items ≤ vec_capacity settled.old }
+    requires spare { length pieces.items ≤ spare trail.old }
     ensures marks { marks.new.items ≡ marks.old.items ++ map piece_mark pieces.items }
     ensures sees { Sees marks.old.items settled.old.items state.old enters.now → Sees marks.new.items settled.new.items state.new enters.now }
+    ensures trail { (page : Page) → Trails output_back (length pieces.items) (with_open marks.old.items page) trail.old (with_open marks.new.items page) trail.new }
+    ensures back { Sees marks.old.items settled.old.items state.old enters.now → (page : Page) (room : ℕ) → Held room (with_open marks.new.items page) → GoesBack room (trail_of trail.old.undo) (with_open marks.old.items page) → GoesBack room (trail_of trail.new.undo) (with_open marks.new.items page) }
 {
     for piece in pieces {
         let mark = piece.into_mark();
+        trail.note(OutputPair::Wrote(*state), 1);
         settle(settled, &mark, state.tracker.newline);
         state.add(&mark, marks.len(), enters);
         marks.push(mark).unwrap();
     }
+}
+
+// Takes the last mark back, by the newline that waited before it.
+fn take_last_back(
+    marks: &mut Vec<Mark>,
+    settled: &mut Vec<usize>,
+    enters: &mut Enters,
+    newline: Option<Waiting>,
+)
+    ensures marks { marks.new.items ≡ but_last marks.old.items }
+    ensures sees { (state next : State) → state.tracker.newline ≡ newline → IsStateOf marks.new.items state → Sees marks.old.items settled.old.items next enters.old → Sees marks.new.items settled.new.items state enters.new }
+{
+    let Some(mark) = marks.pop() else {
+        return;
+    };
+    enters.forget(&mark);
+    unsettle(settled, &mark, newline);
 }
 
 // The index of the last text or tag, if there is one, is past an index or the same.

@@ -73,6 +73,18 @@ pub(crate) fn settle(settled: &mut Vec<usize>, mark: &Mark, newline: Option<Wait
     }
 }
 
+/// Takes back what `settle` did.
+pub(crate) fn unsettle(settled: &mut Vec<usize>, mark: &Mark, newline: Option<Waiting>)
+    ensures { (before : List ℕ) → reverse settled.old.items ≡ settled_after mark.now newline before → reverse settled.new.items ≡ before }
+{
+    match (mark, newline) {
+        (Mark::Text(_), Some(_)) => {
+            let _settled = settled.pop();
+        }
+        _ => {}
+    }
+}
+
 /// A newline at an index is among the settled ones.
 pub(crate) fn is_settled(settled: &[usize], index: usize) -> bool
     ensures { (n : ℕ) → Falling n (reverse settled.now) → result ≡ is_among index (reverse settled.now) }

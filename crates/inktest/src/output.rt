@@ -10,8 +10,8 @@ use std::alloc::{AllocError, Global};
 ///
 /// `t:TEXT` and `v:VALUE` write, `f:TEXT` and `w:VALUE` in a fresh function; `n` and `N` are newlines, `N` in a fresh
 /// function; `g` is glue; `e` and `l` begin and end a function, `l:NUMBER` one that the mark of this number begins; `s` and
-/// `#` open a string and a tag, `/s` and `/#` close one; `c` clears; `copy` goes on with a copy; `shown:INDEX`, `more:INDEX`,
-/// `len`, `depth`, `newline` and `ends` ask. Behind `=` stands what the call answers, else it may be anything but a fault.
+/// `#` open a string and a tag, `/s` and `/#` close one; `c` clears; `mark` starts a mark, `back` goes back to it and answers how
+/// many changes were noted, `forget` ends it; `shown:INDEX`, `more:INDEX`, `len`, `depth`, `newline`, `ends` and `writes` ask. Behind `=` stands what the call answers, else it may be anything but a fault.
 pub(crate) fn answer(alloc: Global, row: &str) -> Answer {
     let mut output = Output::new(alloc);
     for call in row.split_whitespace() {
@@ -70,7 +70,9 @@ fn plainly_called(alloc: Global, output: &mut Output, call: &str) -> Answer {
         "e" => entered(alloc, output),
         "/s" => closed_string(alloc, output),
         "/#" => closed_tag(alloc, output),
-        "copy" => copied(alloc, output),
+        "mark" => marked(alloc, output),
+        "back" => gone_back(alloc, output),
+        "forget" => forgotten(alloc, output),
         _ => asked(alloc, output, call),
     }
 }
@@ -97,19 +99,34 @@ fn closed_tag(alloc: Global, output: &mut Output) -> Answer {
     }
 }
 
-fn copied(alloc: Global, output: &mut Output) -> Answer {
-    *output = output.clone_in(alloc)?;
+fn marked(alloc: Global, output: &mut Output) -> Answer {
+    output.mark();
+    text(alloc, "ok")
+}
+
+fn gone_back(alloc: Global, output: &mut Output) -> Answer {
+    let count = output.back();
+    Ok(format!(in alloc; "{count}")?)
+}
+
+fn forgotten(alloc: Global, output: &mut Output) -> Answer {
+    output.forget();
     text(alloc, "ok")
 }
 
 fn asked(alloc: Global, output: &mut Output, call: &str) -> Answer {
     match call {
         "c" => {
+            output.ready(2)?;
             output.clear();
             text(alloc, "ok")
         }
         "len" => counted(alloc, output.len()),
         "depth" => counted(alloc, output.depth()),
+        "writes" => {
+            let writes = output.writes();
+            Ok(format!(in alloc; "{writes}")?)
+        }
         "ends" => text(alloc, ending(output)),
         "newline" => open_newline(alloc, output),
         _ => Err(NoAnswer::NoQuestion),

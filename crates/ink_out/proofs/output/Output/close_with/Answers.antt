@@ -12,13 +12,13 @@ some_open o w is some =
     let kept = length-reverse o.sections.items in
     omega (arith, same, kept)
 
-pub returns-in_err-note_below : goal.returns-in_err-note_below
-returns-in_err-note_below c =
+pub returns-in_err-note_below-clause-page : goal.returns-in_err-note_below-clause-page
+returns-in_err-note_below-clause-page c =
     let some : 0 < length c.self.inside.sections.items = some_open c.self.inside c.args.self.now c.self.view_is c.requires in
     rw (← c.self.view_is) (closed_err (c.args.mark ∷ []) c.self.inside.line c.note_below.new.line c.self.inside.sections.items c.deref_mut.result.now c.note_below.new.sections c.self.inside.sections.len c.self.inside.next_enter c.in_err-note_below.field-0.0 c.from_residual.result c.deref_mut.ensures.value c.self.inside.sections.ok.0 some c.note_below.auto.sections c.in_err-note_below.ensures.err c.from_residual.ensures.1 (c.in_err-note_below.ensures.page c.self.inside.next_enter))
 
-pub returns : goal.returns
-returns c =
+pub returns-clause-page : goal.returns-clause-page
+returns-clause-page c =
     let some : 0 < length c.self.inside.sections.items = some_open c.self.inside c.args.self.now c.self.view_is c.requires in
     let written = closed_ok (c.args.mark ∷ []) c.self.inside.line c.note_below.new.line c.self.inside.sections.items c.deref_mut.result.now c.note_below.new.sections c.pop.new.self.items c.self.inside.sections.len c.self.inside.next_enter c.deref_mut.ensures.value c.self.inside.sections.ok.0 some c.note_below.auto.sections c.pop.ensures.rest (c.in_ok-note_below.ensures.page c.self.inside.next_enter) in
     rw (← c.self.view_is, written) (refl, tt)

@@ -1,13 +1,23 @@
+use Rattle.ink_out.specs.Undo.{output_back, output_spare, output_stood}
+use Rattle.ink_out.proofs.output.Output.newline.Goals as goal
+use Rattle.ink_trail.proofs.Undoing.{spare-or-kept, stood-or-kept}
 use Rattle.std.proofs.Common.{refl}
 use Rattle.ink_out.proofs.Noting.{nothing_written}
-use Rattle.ink_out.proofs.output.Output.newline.Goals as goal
 
 pub returns-then-fresh-clause-page : goal.returns-then-fresh-clause-page
 returns-then-fresh-clause-page c =
-    let written = nothing_written c.self.inside.line c.self.inside.sections.items c.self.inside.next_enter c.self.invariant in
+    let written = nothing_written c.self.inside.line c.self.inside.sections.items c.self.inside.next_enter c.self.invariant.0 in
     rw (c.if-fresh.true, ← c.self.view_is, written) (refl, tt)
 
 pub returns-then-fresh-clause-limit : goal.returns-then-fresh-clause-limit
 returns-then-fresh-clause-limit c =
-    let written = nothing_written c.self.inside.line c.self.inside.sections.items c.self.inside.next_enter c.self.invariant in
+    let written = nothing_written c.self.inside.line c.self.inside.sections.items c.self.inside.next_enter c.self.invariant.0 in
     rw (c.if-fresh.true, ← c.self.view_is, written) tt
+
+pub returns-clause-stood : goal.returns-clause-stood
+unfolding output_stood
+returns-clause-stood c = stood-or-kept output_back c.note.result 1 _ _ _ _ c.note.ensures.trail
+
+pub returns-clause-spare : goal.returns-clause-spare
+unfolding output_spare
+returns-clause-spare c = spare-or-kept output_back c.note.result 1 _ _ _ _ c.note.ensures.trail

@@ -1,15 +1,20 @@
-use Rattle.std.proofs.Common.{◌≡◌, List, length, refl, sym, ap, ◌∙◌, arith, rules}
+use Rattle.std.proofs.Common.{◌≡◌, ◌≢◌, ℕ, true, false, not, cond, List, [], ◌∷◌, length, refl, sym, ap, ◌∙◌, arith, rules}
+use Rattle.std.specs.List.{list_any}
 use Rattle.std.proofs.lemmas.List.{nil_from_length}
-use Rattle.ink_model.specs.Mark.{cut}
+use Rattle.ink_model.specs.Bytes.{is_blank}
+use Rattle.ink_model.specs.Mark.{cut, piece}
+use Rattle.ink_model.specs.declared.mark.Mark.TheVariants.{Blank, Text}
 use Rattle.ink_model.specs.Configuration.{Section}
+use Rattle.ink_out.specs.Undo.{output_back, output_stood}
 use Rattle.ink_out.proofs.Closing.{refilled}
 use Rattle.ink_out.proofs.Noting.{empty_text, whole_cut, let_through-piece}
 use Rattle.ink_out.proofs.output.Output.write_text.Goals as goal
+use Rattle.ink_trail.proofs.Undoing.{stood-or-kept}
 
 pub returns-then-is_empty-clause-page : goal.returns-then-is_empty-clause-page
 returns-then-is_empty-clause-page c =
     let len : length c.args.text.now ≡ 0 = grind arith in
-    let written = empty_text c.args.fresh c.args.text.now c.self.inside.line c.self.inside.sections.items c.self.inside.next_enter (nil_from_length c.args.text.now len) c.self.invariant in
+    let written = empty_text c.args.fresh c.args.text.now c.self.inside.line c.self.inside.sections.items c.self.inside.next_enter (nil_from_length c.args.text.now len) c.self.invariant.0 in
     rw (← c.self.view_is, written) (refl, tt)
 
 pub returns-then-is_empty-clause-text : goal.returns-then-is_empty-clause-text
@@ -28,3 +33,31 @@ returns-else-is_cut-clause-page c =
 
 pub returns-else-is_cut-clause-text : goal.returns-else-is_cut-clause-text
 returns-else-is_cut-clause-text c = rw (whole_cut c.args.text.now (search rules)) c.note_piece.ensures.text
+
+pub returns-then-is_cut-clause-trail : goal.returns-then-is_cut-clause-trail
+returns-then-is_cut-clause-trail c =
+    let s = c.self.inside in
+    let lent : c.deref_mut.result.now ≡ s.sections.items = c.deref_mut.ensures.value in
+    let kept = refilled s.sections.items c.note_cut.new.sections s.sections.len (sym s.sections.ok.0) (c.note_cut.auto.sections ∙ ap (λ (sections : List Section). length sections) lent) in
+    rw (← c.self.view_is, kept) (rw (lent, c.as_str-written.ensures, c.get.ensures) at (c.note_cut.ensures.trail s.next_enter))
+
+pub returns-then-is_cut-clause-stood : goal.returns-then-is_cut-clause-stood
+unfolding output_stood
+returns-then-is_cut-clause-stood c = stood-or-kept output_back c.note_cut.result _ _ _ _ _ (returns-then-is_cut-clause-trail c)
+
+one_piece : (cs : List ℕ) → cs ≢ [] → 1 ≡ length (piece cs)
+one_piece [] some = absurd (some refl)
+one_piece (c ∷ cs) some =
+    elim (list_any (λ x. not (is_blank x)) (c ∷ cs)) as (λ b. 1 ≡ length (cond b (Text (c ∷ cs) ∷ []) (Blank (c ∷ cs) ∷ []))) [ true ↦ refl | false ↦ refl ]
+
+pub returns-else-is_cut-clause-trail : goal.returns-else-is_cut-clause-trail
+returns-else-is_cut-clause-trail c =
+    let s = c.self.inside in
+    let lent : c.deref_mut-else-is_cut.result.now ≡ s.sections.items = c.deref_mut-else-is_cut.ensures.value in
+    let kept = refilled s.sections.items c.note_piece.new.sections s.sections.len (sym s.sections.ok.0) (c.note_piece.auto.sections ∙ ap (λ (sections : List Section). length sections) lent) in
+    let trail = rw lent at (c.note_piece.ensures.trail s.next_enter) in
+    rw (← c.self.view_is, whole_cut c.args.text.now (search rules), let_through-piece c.args.fresh c.args.text.now, ← one_piece c.args.text.now (search rules), kept) trail
+
+pub returns-else-is_cut-clause-stood : goal.returns-else-is_cut-clause-stood
+unfolding output_stood
+returns-else-is_cut-clause-stood c = stood-or-kept output_back c.note_piece.result _ _ _ _ _ (returns-else-is_cut-clause-trail c)

@@ -25,7 +25,7 @@ returns-in-Enter c before settled at knows t = rw c.in-Enter.is (c.enter.ensures
 
 -- an end adds no start
 started : (n : Option ℕ) (enters : Enters) (before : List Mark) → Knows enters (Leave n ∷ before) → Knows enters before
-started n enters before k = record { at = k.at }
+started n enters before k = record { starts = k.starts }
 
 pub returns-in-Leave : goal.returns-in-Leave
 returns-in-Leave c before settled at knows t =

@@ -9,4 +9,4 @@ pub returns : goal.returns
 returns c cleans before at k =
     let w = c.args.self.now in
     walk_plain kinds.Glue before w c.glue.new.self w.enters c.args.at (smooth_glue before) (λ after. refl) (λ after. append-nil (text_before before (kinds.Glue ∷ after))) (λ _. at)
-    record { at = k.knows.at } (c.glue.ensures before) k
+    record { starts = k.knows.starts } (c.glue.ensures before) k

@@ -9,4 +9,4 @@ pub returns : goal.returns
 returns c cleans before text k =
     let w = c.args.self.now in
     walk_plain (kinds.Tag text) before w c.tag.new.self w.enters w.glue (smooth_tag text before) (λ after. refl) (λ after. append-nil (text_before before (kinds.Tag text ∷ after))) (λ g. g)
-    record { at = k.knows.at } (c.tag.ensures before text) k
+    record { starts = k.knows.starts } (c.tag.ensures before text) k

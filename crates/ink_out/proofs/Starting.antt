@@ -1,0 +1,103 @@
+-- Where functions' texts start among marks, and which newlines were settled before the last mark.
+use Rattle.std.proofs.Common.{◌≡◌, ◌∙◌, ℕ, Bool, true, false, not, ◌&&◌, ◌||◌, cond, eqb, List, [], ◌∷◌, ◌++◌, drop, length, reverse, if◌then◌else◌, Option, None, Some, refl, sym, ap, subst}
+use Rattle.std.proofs.Math.Seq.{drop-append_seam}
+use Rattle.std.proofs.lemmas.List.{nil_from_length, reverse-append}
+use Rattle.ink_model.specs.Shown.{clear, ends, newlines_before, some}
+use Rattle.ink_model.specs.declared.mark.Mark.{Mark}
+use Rattle.ink_model.specs.declared.mark.Mark.TheVariants.{Text, Blank, Newline, Glue, Tag, Enter, Leave}
+use Rattle.ink_out.specs.declared.enters.Enters.{Enters}
+use Rattle.ink_out.specs.declared.state.State.{State}
+use Rattle.ink_out.specs.declared.tracker.Hides.{Hides}
+use Rattle.ink_out.specs.declared.tracker.Hides.TheVariants.{Near, Any, Never}
+use Rattle.ink_out.specs.declared.tracker.Tracker.{Tracker}
+use Rattle.ink_out.specs.declared.tracker.Waiting.{Waiting}
+use Rattle.ink_out.specs.Stands.{IsStateOf, Knows, Sees, Stands, started, starts_of}
+use Rattle.ink_out.specs.Tracks.{Tracks, enter_at, hidden_by, settled_after, settled_by, waiting, waiting_at, waits}
+
+pub started_at : (n : ℕ) (before : List Mark) → started n (starts_of before) ≡ enter_at n before
+started_at n [] = refl
+started_at n (Enter k ∷ before) = ap (λ rest. if eqb n k then Some (length before) else rest) (started_at n before)
+started_at n (Text t ∷ before) = started_at n before
+started_at n (Blank t ∷ before) = started_at n before
+started_at n (Newline ∷ before) = started_at n before
+started_at n (Glue ∷ before) = started_at n before
+started_at n (Tag t ∷ before) = started_at n before
+started_at n (Leave k ∷ before) = started_at n before
+
+-- ---- the newlines that were settled before a mark
+
+one_if : Bool → ℕ
+one_if b = cond b 1 0
+
+counted : (before : List Mark) (w : Option Waiting) (after : List Mark) → length (waiting_at before w after) ≡ one_if (waiting before w after)
+unfolding one_if
+counted before None after = refl
+counted before (Some w) after = elim (waits before w after) as (λ b. length (cond b (w.at ∷ []) []) ≡ one_if b) [ true ↦ refl | false ↦ refl ]
+
+-- behind lists of one length
+rest_same : (ws vs xs ys : List ℕ) → length ws ≡ length vs → ws ++ xs ≡ vs ++ ys → xs ≡ ys
+rest_same ws vs xs ys same h = sym (drop-append_seam ws xs) ∙ ap (drop (length ws)) h ∙ ap (λ n. drop n (vs ++ ys)) same ∙ drop-append_seam vs ys
+
+rest_by : (B C : List Mark) (w v : Option Waiting) (A D : List Mark) (xs ys : List ℕ) → waiting B w A ≡ waiting C v D → waiting_at B w A ++ xs ≡ waiting_at C v D ++ ys → ys ≡ xs
+rest_by B C w v A D xs ys same h = sym (rest_same (waiting_at B w A) (waiting_at C v D) xs ys (counted B w A ∙ ap one_if same ∙ sym (counted C v D)) h)
+
+-- a text leaves what waits
+unhidden : (h : Hides) (t : List ℕ) → hidden_by h (Text t ∷ []) ≡ false
+unhidden Near t = refl
+unhidden Any t = refl
+unhidden Never t = refl
+
+by_text : (before : List Mark) (w : Option Waiting) (t xs : List ℕ) → waiting_at before w (Text t ∷ []) ++ xs ≡ settled_by w xs
+by_text before None t xs = refl
+by_text before (Some w) t xs = rw (unhidden w.hides t) refl
+
+none_waits : (B : List Mark) (w : Option Waiting) (A : List Mark) (ys : List ℕ) → waiting B w A ≡ false → waiting_at B w A ++ ys ≡ ys
+none_waits B None A ys h = refl
+none_waits B (Some w) A ys h = ap (λ b. (if b then w.at ∷ [] else []) ++ ys) h
+
+-- one more newline
+by_newline : (c x e : Bool) (at : ℕ) (news ws vs xs ys : List ℕ) → length ws ≡ one_if e → length vs ≡ one_if ((c && x) || e) → news ≡ ws ++ xs
+    → (if c && (x && not e) then at ∷ news else news) ≡ vs ++ ys → ys ≡ xs
+unfolding one_if
+by_newline true true true at news ws vs xs ys one other is h = sym (rest_same ws vs xs ys (one ∙ sym other) (sym is ∙ h))
+by_newline true false true at news ws vs xs ys one other is h = sym (rest_same ws vs xs ys (one ∙ sym other) (sym is ∙ h))
+by_newline false x true at news ws vs xs ys one other is h = sym (rest_same ws vs xs ys (one ∙ sym other) (sym is ∙ h))
+by_newline true true false at news ws vs xs ys one other is h =
+    let all : news ≡ xs = is ∙ ap (λ zs. zs ++ xs) (nil_from_length ws one) in
+    sym (rest_same (at ∷ []) vs xs ys (sym other) (ap (λ zs. at ∷ zs) (sym all) ∙ h))
+by_newline true false false at news ws vs xs ys one other is h = sym (rest_same ws vs xs ys (one ∙ sym other) (sym is ∙ h))
+by_newline false x false at news ws vs xs ys one other is h = sym (rest_same ws vs xs ys (one ∙ sym other) (sym is ∙ h))
+
+pub settled_back : (m : Mark) (before : List Mark) (s t : Tracker) (xs ys : List ℕ) → Tracks before s xs → Tracks (m ∷ before) t ys → ys ≡ settled_after m s.newline xs
+settled_back (Text u) before s t xs ys p q =
+    sym (none_waits (Text u ∷ before) t.newline [] ys (sym (q.ends []))) ∙ sym (q.newlines []) ∙ p.newlines (Text u ∷ []) ∙ by_text before s.newline u xs
+settled_back Newline before s t xs ys p q =
+    by_newline (clear before []) (some before (Newline ∷ [])) (ends before (Newline ∷ [])) (length before) (newlines_before before (Newline ∷ []))
+    (waiting_at before s.newline (Newline ∷ [])) (waiting_at (Newline ∷ before) t.newline []) xs ys
+    (counted before s.newline (Newline ∷ []) ∙ ap one_if (sym (p.ends (Newline ∷ []))))
+    (counted (Newline ∷ before) t.newline [] ∙ ap one_if (sym (q.ends [])))
+    (p.newlines (Newline ∷ [])) (q.newlines [])
+settled_back (Blank u) before s t xs ys p q = rest_by before (Blank u ∷ before) s.newline t.newline (Blank u ∷ []) [] xs ys (sym (p.ends (Blank u ∷ [])) ∙ q.ends []) (sym (p.newlines (Blank u ∷ [])) ∙ q.newlines [])
+settled_back Glue before s t xs ys p q = rest_by before (Glue ∷ before) s.newline t.newline (Glue ∷ []) [] xs ys (sym (p.ends (Glue ∷ [])) ∙ q.ends []) (sym (p.newlines (Glue ∷ [])) ∙ q.newlines [])
+settled_back (Tag u) before s t xs ys p q = rest_by before (Tag u ∷ before) s.newline t.newline (Tag u ∷ []) [] xs ys (sym (p.ends (Tag u ∷ [])) ∙ q.ends []) (sym (p.newlines (Tag u ∷ [])) ∙ q.newlines [])
+settled_back (Enter n) before s t xs ys p q = rest_by before (Enter n ∷ before) s.newline t.newline (Enter n ∷ []) [] xs ys (sym (p.ends (Enter n ∷ [])) ∙ q.ends []) (sym (p.newlines (Enter n ∷ [])) ∙ q.newlines [])
+settled_back (Leave n) before s t xs ys p q = rest_by before (Leave n ∷ before) s.newline t.newline (Leave n ∷ []) [] xs ys (sym (p.ends (Leave n ∷ [])) ∙ q.ends []) (sym (p.newlines (Leave n ∷ [])) ∙ q.newlines [])
+
+-- ---- the last mark is taken back
+
+-- the rest of a list, from its end
+pub turned_rest : {A : Type 0} (xs ys : List A) (x : A) → xs ≡ ys ++ x ∷ [] → reverse xs ≡ x ∷ reverse ys
+turned_rest xs ys x is = ap reverse is ∙ reverse-append ys (x ∷ [])
+
+pub sees_less : (marks rest : List Mark) (m : Mark) (settled left : List ℕ) (state next : State) (enters fewer : Enters) → marks ≡ rest ++ m ∷ [] → IsStateOf rest state
+    → ((before : List ℕ) → reverse settled ≡ settled_after m state.tracker.newline before → reverse left ≡ before)
+    → ((before : List Mark) → Knows enters (m ∷ before) → Knows fewer before)
+    → Sees marks settled next enters → Sees rest left state fewer
+sees_less marks rest m settled left state next enters fewer is fits unsettled forgot h =
+    let ms : reverse marks ≡ m ∷ reverse rest = turned_rest marks rest m is in
+    let stands : Stands (m ∷ reverse rest) (reverse settled) next = subst (λ before. Stands before (reverse settled) next) ms h.stands in
+    let same : reverse left ≡ fits.0 = unsettled fits.0 (settled_back m (reverse rest) state.tracker next.tracker fits.0 (reverse settled) fits.1.tracks stands.tracks) in
+    record {
+      stands = subst (λ left. Stands (reverse rest) left state) (sym same) fits.1;
+      knows = forgot (reverse rest) (subst (λ before. Knows enters before) ms h.knows);
+    }

@@ -1,0 +1,8 @@
+use Rattle.std.proofs.Common.{◌∙◌, arith, sym}
+use Rattle.ink_out.proofs.Undoing.{on_ok, unmarked_spare}
+use Rattle.ink_out.proofs.opened.note_in.Goals as goal
+
+pub returns-clause-spare : goal.returns-clause-spare
+returns-clause-spare c =
+    let room = unmarked_spare c.args.trail.now c.args.count (sym c.is_marked.ensures ∙ c.if-is_marked.false) (omega (arith, c.ranges.count.fits)) in
+    on_ok c.note.result (omega (arith, room))

@@ -1,0 +1,58 @@
+use Rattle.std.proofs.Common.{◌≡◌, ◌∙◌, ◌≤◌, [], ◌∷◌, ◌++◌, ap, arith, vec_capacity}
+use Rattle.std.proofs.lemmas.List.{length-reverse}
+use Rattle.ink_out.specs.Undo.{output_back, output_spare, output_stood}
+use Rattle.ink_out.specs.Writing.{page_of}
+use Rattle.ink_out.specs.declared.undo.OutputPair.TheVariants.{Began}
+use Rattle.ink_out.proofs.Undoing.{began_back, goes-as, goes-with}
+use Rattle.ink_out.proofs.output.Output.open.Goals as goal
+use Rattle.ink_trail.proofs.Undoing.{spare-kept, spare-trails, stood-kept, stood-trails, trails-one}
+
+pub invariant_of-self-in_err-add : goal.invariant_of-self-in_err-add
+invariant_of-self-in_err-add c =
+    let s = c.self.inside in (
+      c.self.invariant.0,
+      goes-as (vec_capacity s.sections) (vec_capacity c.reserve.new.self) s.trail.undo _ _ _ c.in_err-add.ensures.err.0 (ap (λ xs. page_of s.line xs s.next_enter) c.reserve.ensures.items) c.reserve.ensures.capacity c.self.invariant.1,
+    )
+
+pub returns-in_err-add-clause-stood : goal.returns-in_err-add-clause-stood
+unfolding output_stood
+returns-in_err-add-clause-stood c =
+    let s = c.self.inside in
+    rw (← c.self.view_is) (stood-kept output_back _ _ _ _ (ap (λ xs. page_of s.line xs s.next_enter) c.reserve.ensures.items) c.in_err-add.ensures.err)
+
+pub returns-in_err-add-clause-spare : goal.returns-in_err-add-clause-spare
+unfolding output_spare
+returns-in_err-add-clause-spare c =
+    let more = spare-kept c.self.inside.trail c.add.new.self c.in_err-add.ensures.err in
+    rw (← c.self.view_is) (omega (arith, more))
+
+pub invariant_of-self-2 : goal.invariant_of-self-2
+invariant_of-self-2 c =
+    let s = c.self.inside in
+    let new = c.push_reserved.new.self in
+    let opened = c.again-opened.result in
+    let is : new.items ≡ s.sections.items ++ opened ∷ [] = c.push_reserved.ensures.items ∙ ap (λ xs. xs ++ opened ∷ []) c.reserve.ensures.items in
+    let more : vec_capacity s.sections ≤ vec_capacity new = omega (arith, c.reserve.ensures.capacity, c.push_reserved.ensures.capacity) in
+    let turned = length-reverse new.items in
+    let len = new.ok.0 in
+    let cap = new.ok.1 in
+    rw c.in_ok-add.ensures.ok (
+      c.self.invariant.0,
+      goes-with Began 1 _ _ s.trail.undo (vec_capacity s.sections) (vec_capacity new) (began_back s.line s.sections.items new.items s.next_enter opened is) (c.self.invariant.0, omega (arith, turned, len, cap)) tt more c.self.invariant.1,
+    )
+
+pub returns-clause-trail : goal.returns-clause-trail
+returns-clause-trail c =
+    let s = c.self.inside in
+    let new = c.push_reserved.new.self in
+    let opened = c.again-opened.result in
+    let is : new.items ≡ s.sections.items ++ opened ∷ [] = c.push_reserved.ensures.items ∙ ap (λ xs. xs ++ opened ∷ []) c.reserve.ensures.items in
+    rw (← c.self.view_is) (trails-one output_back Began 1 _ _ _ _ (omega arith) (began_back s.line s.sections.items new.items s.next_enter opened is) c.in_ok-add.ensures.ok c.add.ensures.room)
+
+pub returns-clause-stood : goal.returns-clause-stood
+unfolding output_stood
+returns-clause-stood c = stood-trails output_back (returns-clause-trail c)
+
+pub returns-clause-spare : goal.returns-clause-spare
+unfolding output_spare
+returns-clause-spare c = spare-trails output_back (returns-clause-trail c)

@@ -1,0 +1,11 @@
+use Rattle.std.proofs.Common.{◌∙◌, length, subst}
+use Rattle.ink_out.specs.Undo.{output_back, with_open}
+use Rattle.ink_out.proofs.section.Section.extend.Goals as goal
+use Rattle.ink_trail.proofs.Undoing.{trails-after}
+use Rattle.ink_trail.specs.Undo.{Trails}
+
+pub returns-clause-trail : goal.returns-clause-trail
+returns-clause-trail c = λ page.
+    trails-after output_back (length c.args.pieces.items) _ _ _ c.ready.new.self _ c.ready.ensures.kept
+    (subst (λ ms. Trails output_back (length c.args.pieces.items) (with_open ms page) c.ready.new.self (with_open c.append.new.marks.items page) c.append.new.trail) (c.reserve.ensures.items ∙ c.self.view_is)
+    (c.append.ensures.trail page))

@@ -1,0 +1,83 @@
+//! How changes of the text being written are put back.
+
+ghost use Rattle.std.specs.Prelude.{ℕ, ◌≡◌, ◌≤◌, length, vec_capacity};
+ghost use Rattle.ink_out.specs.Stands.{IsStateOf};
+ghost use Rattle.ink_out.specs.Undo.{GoesBack, Held, Keeps, open_marks, output_back, room_of, with_open};
+ghost use Rattle.ink_out.specs.Writing.{page_of};
+ghost use Rattle.ink_trail.specs.Undo.{Ends, but_last, trail_of, undone, writes_of};
+
+use crate::opened::Opened;
+use crate::section::Section;
+use crate::state::State;
+use ink_trail::Trail;
+
+/// A cell of the text, and what it held: a mark was written into what is open, where this was known before it; a section was
+/// opened, or closed; there was another next number; or the line went with its next number, or all sections.
+#[derive(Drop)]
+pub(crate) enum OutputPair {
+    Wrote(State),
+    Began,
+    Closed(Opened),
+    Numbered(u64),
+    Line(Section, u64),
+    Sections(Vec<Opened>),
+}
+
+/// Puts each pair back, the last first, ends the mark, and answers how many there were.
+pub(crate) fn put_back(
+    line: &mut Section,
+    sections: &mut Vec<Opened>,
+    next_enter: &mut u64,
+    trail: &mut Trail<OutputPair>,
+) -> u64
+    requires back { GoesBack (vec_capacity sections.old) (trail_of trail.old.undo) (page_of line.old sections.old.items next_enter.old) }
+    ensures page { page_of line.new sections.new.items next_enter.new ≡ undone output_back (trail_of trail.old.undo) (page_of line.old sections.old.items next_enter.old) }
+    ensures held { Held (vec_capacity sections.new) (page_of line.new sections.new.items next_enter.new) }
+    ensures len { result ≡ length (trail_of trail.old.undo) }
+    ensures writes { result ≤ writes_of trail.old.undo }
+    ensures trail { Ends trail.old trail.new }
+{
+    let count = trail.len() as u64;
+    while let Some(pair) = trail.take_last() {
+        put_one_back(line, sections, next_enter, pair);
+    }
+    trail.forget();
+    count
+}
+
+fn put_one_back(
+    line: &mut Section,
+    sections: &mut Vec<Opened>,
+    next_enter: &mut u64,
+    pair: OutputPair,
+)
+    requires keeps { Keeps pair (output_back pair (page_of line.old sections.old.items next_enter.old)) }
+    requires held { Held (room_of pair (vec_capacity sections.old)) (output_back pair (page_of line.old sections.old.items next_enter.old)) }
+    ensures page { page_of line.new sections.new.items next_enter.new ≡ output_back pair (page_of line.old sections.old.items next_enter.old) }
+    ensures room { room_of pair (vec_capacity sections.old) ≤ vec_capacity sections.new }
+{
+    match pair {
+        OutputPair::Wrote(state) => unwrite(line, sections, state),
+        OutputPair::Began => {
+            let _opened = sections.pop();
+        }
+        OutputPair::Closed(opened) => sections.push_reserved(opened),
+        OutputPair::Numbered(number) => *next_enter = number,
+        OutputPair::Line(marks, number) => {
+            *line = marks;
+            *next_enter = number;
+        }
+        OutputPair::Sections(list) => *sections = list,
+    }
+}
+
+// Takes the last mark of what is open back, by the state before it.
+fn unwrite(line: &mut Section, sections: &mut [Opened], state: State)
+    requires { (n : ℕ) → IsStateOf (but_last (open_marks (page_of line.old sections.old n))) state }
+    ensures { (n : ℕ) → page_of line.new sections.new n ≡ with_open (but_last (open_marks (page_of line.old sections.old n))) (page_of line.old sections.old n) }
+{
+    match sections.len() {
+        0 => line.take_back(state),
+        open => sections[open - 1].take_back(state),
+    }
+}
