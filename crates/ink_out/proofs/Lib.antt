@@ -11,3 +11,4 @@ pub mod Walking
 pub mod Noting
 pub mod Closing
 pub mod Undoing
+pub mod Marks

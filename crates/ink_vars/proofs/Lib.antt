@@ -12,3 +12,4 @@ pub mod Slotting
 pub mod Taking
 pub mod Covering
 pub mod Either
+pub mod Marks
