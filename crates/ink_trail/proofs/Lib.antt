@@ -1,0 +1,3 @@
+pub mod Undoing
+pub mod Staying
+pub mod Ending

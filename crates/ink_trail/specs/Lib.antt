@@ -1,0 +1,2 @@
+pub mod Undo
+pub mod Stays
