@@ -29,15 +29,13 @@ module _ {P : Type 0} where
   numbered-back ts n o is = ap (λ x. on_top (number_back x) ts) is
 
   -- flow goes: the previous place comes first, and then the place
-  pub going : ThreadsOf P → ThreadsOf P
+  abbrev pub going : ThreadsOf P → ThreadsOf P
   going ts = on_top (previous_back ts.thread.frame.place) ts
 
   pub went-back : (ts : ThreadsOf P) (p : Option P) → p ≡ ts.thread.previous → threads_back (Previous p) (going ts) ≡ ts
-  unfolding going
   went-back ts p is = ap (λ x. on_top (previous_back x) ts) is
 
   pub gone-back : (ts : ThreadsOf P) (p q : Option P) → q ≡ ts.thread.frame.place → threads_back (Placed q) (on_top (gone p) ts) ≡ going ts
-  unfolding going
   gone-back ts p q is = ap (λ x. on_top (put_in x) (on_top (previous_back ts.thread.frame.place) ts)) is
 
   -- ---- frames
@@ -86,3 +84,12 @@ module _ {P : Type 0} where
   pub spare-of : (n : ℕ) (old new : ThreadsView P) → Trails threads_back n old.threads old.trail new.threads new.trail → threads_spare old ≤ threads_spare new + n
   unfolding threads_spare
   spare-of n old new p = spare-trails threads_back p
+
+-- ---- an error changes nothing
+
+pub changed-kept : {S U : Type 0} (r : Result S Fault) (old new : S) (x : Result U Fault) (f : Fault) → x ≡ Err f → Changes r old new x → new ≡ old
+changed-kept r old new x f is h = by r (subst (λ y. Changes r old new y) is h)
+  where
+    by : (r : Result S Fault) → Changes r old new (Err {T = U} f) → new ≡ old
+    by (Ok s) h = absurd h
+    by (Err g) h = h.1

@@ -221,6 +221,7 @@ impl<P: Copy> Threads<P> {
             return end_freshness(&mut self.running, &self.below, &mut self.trail, depth);
         }
         self.running.end_freshness(depth);
+        self.running.within();
     }
 
     /// No frame has the number of its mark any more. No mark may stand.
@@ -232,6 +233,7 @@ impl<P: Copy> Threads<P> {
         ensures spare { threads_spare self.old ≤ threads_spare self.new }
     {
         self.running.clear_numbers();
+        self.running.within();
         clear_numbers_of(self.below.as_mut_slice());
     }
 
@@ -247,7 +249,9 @@ impl<P: Copy> Threads<P> {
         if self.trail.is_marked() {
             return self.push_frame_marked(kind, depth);
         }
-        self.running.push(kind, depth)
+        let pushed = self.running.push(kind, depth);
+        self.running.within();
+        pushed
     }
 
     // As `push_frame`, while a mark stands.
@@ -259,7 +263,9 @@ impl<P: Copy> Threads<P> {
         ensures stood { threads_stood self.new ≡ threads_stood self.old }
         ensures spare { threads_spare self.old ≤ threads_spare self.new + 1 }
     {
-        if let Err(fault) = self.running.push(kind, depth) {
+        let pushed = self.running.push(kind, depth);
+        self.running.within();
+        if let Err(fault) = pushed {
             return Err(fault);
         }
         if self.trail.add(ThreadsPair::FramePushed, 1).is_err() {
@@ -282,10 +288,13 @@ impl<P: Copy> Threads<P> {
         if self.trail.is_marked() {
             return self.pop_frame_marked(kind, depth);
         }
-        match self.running.pop(kind, depth) {
-            Ok(_frame) => Ok(()),
-            Err(fault) => Err(fault),
+        let popped = self.running.pop(kind, depth);
+        self.running.within();
+        match popped {
+            Ok(_frame) => {}
+            Err(fault) => return Err(fault),
         }
+        Ok(())
     }
 
     // As `pop_frame`, while a mark stands.
@@ -298,13 +307,13 @@ impl<P: Copy> Threads<P> {
         ensures stood { threads_stood self.new ≡ threads_stood self.old }
         ensures spare { threads_spare self.old ≤ threads_spare self.new + 1 }
     {
-        match self.running.pop(kind, depth) {
-            Ok(frame) => {
-                self.trail.note(ThreadsPair::FramePopped(frame), 1);
-                Ok(())
-            }
-            Err(fault) => Err(fault),
+        let popped = self.running.pop(kind, depth);
+        self.running.within();
+        match popped {
+            Ok(frame) => self.trail.note(ThreadsPair::FramePopped(frame), 1),
+            Err(fault) => return Err(fault),
         }
+        Ok(())
     }
 
     /// Puts a copy of the top thread on top. `TooDeep` where there are 100 threads; `OutOfMemory` for a refused request for
@@ -398,10 +407,12 @@ impl<P: Copy> Threads<P> {
         if self.trail.is_marked() {
             return self.set_temp_marked(frame, name, value);
         }
-        match self.running.set_temp(frame, name, value) {
-            Ok(_was) => Ok(()),
-            Err(_) => Err(Fault::OutOfMemory),
+        let set = self.running.set_temp(frame, name, value);
+        self.running.within();
+        if set.is_err() {
+            return Err(Fault::OutOfMemory);
         }
+        Ok(())
     }
 
     // As `set_temp`, while a mark stands.
@@ -421,13 +432,13 @@ impl<P: Copy> Threads<P> {
         if self.trail.ready(1).is_err() {
             return Err(Fault::OutOfMemory);
         }
-        match self.running.set_temp(frame, name, value) {
-            Ok((index, was)) => {
-                self.trail.note(ThreadsPair::Temp(frame, index, was), 1);
-                Ok(())
-            }
-            Err(_) => Err(Fault::OutOfMemory),
-        }
+        let set = self.running.set_temp(frame, name, value);
+        self.running.within();
+        let Ok((index, was)) = set else {
+            return Err(Fault::OutOfMemory);
+        };
+        self.trail.note(ThreadsPair::Temp(frame, index, was), 1);
+        Ok(())
     }
 
     /// This thread becomes the only one. Takes no memory.
