@@ -1,13 +1,14 @@
 -- What each change of frames and threads puts back.
-use Rattle.std.proofs.Common.{◌≡◌, ◌∙◌, ◌≤◌, ◌+◌, arith, ℕ, List, [], ◌∷◌, ◌++◌, Bool, true, false, Option, Result, Ok, Err, ap, if◌then◌else◌, nat_eq, nat_lt, refl, reverse, sym}
+use Rattle.std.proofs.Common.{◌≡◌, ◌∙◌, ◌≤◌, ◌+◌, arith, ℕ, List, [], ◌∷◌, ◌++◌, Bool, true, false, Option, None, Result, Ok, Err, ap, if◌then◌else◌, nat_eq, nat_lt, refl, reverse, subst, sym}
 use Rattle.std.proofs.lemmas.List.{reverse-append}
 use Rattle.ink_model.specs.Frames.{FrameOf, ThreadOf, ThreadsOf, gone, mode_in, on_top, put_in}
 use Rattle.ink_model.specs.Threads.{back_to, doubled, frame_count, new_frame, number_in, popped, pushed, same_kind, thread_count}
-use Rattle.ink_model.specs.declared.fault.Fault.TheVariants.{BadMode, BadPop, TooDeep}
+use Rattle.ink_model.specs.declared.fault.Fault.{Fault}
+use Rattle.ink_model.specs.declared.fault.Fault.TheVariants.{BadMode, BadPop, OutOfMemory, TooDeep}
 use Rattle.ink_model.specs.declared.frame.FrameKind.{FrameKind}
 use Rattle.ink_model.specs.declared.limits.TheConstants.{MAX_FRAMES, MAX_THREADS}
-use Rattle.ink_trail.proofs.Undoing.{spare-trails, stood-trails, trails-one, trails-trails}
-use Rattle.ink_trail.specs.Undo.{TrailView, Trails, with_pair}
+use Rattle.ink_trail.proofs.Undoing.{none-stood, spare-trails, stood-kept, stood-none, stood-trails}
+use Rattle.ink_trail.specs.Undo.{KeepsTrail, Trails}
 use Rattle.ink_stack.specs.Cells.{number_back, previous_back, unpopped, unpushed}
 use Rattle.ink_stack.specs.Running.{RunningView, threads_in}
 use Rattle.ink_stack.specs.Threads.{ThreadsView}
@@ -40,15 +41,15 @@ module _ {P : Type 0} where
 
   -- ---- frames
 
-  pub unpushed-grown : (k : FrameKind) (d : ℕ) (t new : ThreadOf P) {U : Type 0} (u : U) → Grows (pushed k d t) t new (Ok u) → unpushed new ≡ t
-  unpushed-grown k d t new u h = by (nat_lt (frame_count t) MAX_FRAMES) h
+  pub unpushed-grown : (k : FrameKind) (d : ℕ) (t new : ThreadOf P) {U : Type 0} (x : Result U Fault) (u : U) → x ≡ Ok u → Grows (pushed k d t) t new x → unpushed new ≡ t
+  unpushed-grown k d t new x u is h = by (nat_lt (frame_count t) MAX_FRAMES) (subst (λ y. Grows (pushed k d t) t new y) is h)
     where
       by : (b : Bool) → Grows (if b then Ok (record t { frame = new_frame k t.frame.place d; below = t.frame ∷ t.below }) else Err TooDeep) t new (Ok u) → unpushed new ≡ t
       by true is = ap unpushed is
       by false is = absurd is
 
-  pub unpopped-changed : (k : FrameKind) (d : ℕ) (t new : ThreadOf P) {U : Type 0} (u : U) → Changes (popped k d t) t new (Ok u) → unpopped t.frame new ≡ t
-  unpopped-changed k d t new u h = by (same_kind t.frame.kind k) h
+  pub unpopped-changed : (k : FrameKind) (d : ℕ) (t new : ThreadOf P) {U : Type 0} (x : Result U Fault) (u : U) → x ≡ Ok u → Changes (popped k d t) t new x → unpopped t.frame new ≡ t
+  unpopped-changed k d t new x u is h = by (same_kind t.frame.kind k) (subst (λ y. Changes (popped k d t) t new y) is h)
     where
       to : (f : FrameOf P) (fs : List (FrameOf P)) → f ∷ fs ≡ t.below → (b : Bool) → Changes (if b then Ok (record t { frame = f; below = fs }) else Err BadMode) t new (Ok u) → unpopped t.frame new ≡ t
       to f fs is true h = ap (unpopped t.frame) h ∙ ap (λ gs. record t { below = gs }) is
@@ -85,11 +86,52 @@ module _ {P : Type 0} where
   unfolding threads_spare
   spare-of n old new p = spare-trails threads_back p
 
--- ---- an error changes nothing
+  pub stood-same : (old new : ThreadsView P) → (new.threads ≡ old.threads) × KeepsTrail old.trail new.trail → threads_stood new ≡ threads_stood old
+  unfolding threads_stood
+  stood-same old new h = stood-kept threads_back old.threads new.threads old.trail new.trail h.0 h.1
 
+  -- without a mark
+  pub stood-unmarked : (old new : ThreadsView P) → threads_stood old ≡ None → new.trail.undo ≡ old.trail.undo → threads_stood new ≡ threads_stood old
+  unfolding threads_stood
+  stood-unmarked old new none same =
+      stood-none threads_back new.trail new.threads (same ∙ none-stood threads_back old.trail old.threads none) ∙ sym none
+
+-- ---- what a call did, by its result
+
+kept_by : {S : Type 0} (U : Type 0) (r : Result S Fault) (old new : S) (f : Fault) → Changes {U = U} r old new (Err f) → new ≡ old
+kept_by U (Ok s) old new f h = absurd h
+kept_by U (Err g) old new f h = h.1
+
+-- an error changes nothing
 pub changed-kept : {S U : Type 0} (r : Result S Fault) (old new : S) (x : Result U Fault) (f : Fault) → x ≡ Err f → Changes r old new x → new ≡ old
-changed-kept r old new x f is h = by r (subst (λ y. Changes r old new y) is h)
-  where
-    by : (r : Result S Fault) → Changes r old new (Err {T = U} f) → new ≡ old
-    by (Ok s) h = absurd h
-    by (Err g) h = h.1
+changed-kept {U = U} r old new x f is h = kept_by U r old new f (subst (λ y. Changes r old new y) is h)
+
+grown_by : {S : Type 0} (U : Type 0) (r : Result S Fault) (old new : S) (f : Fault) → Grows {U = U} r old new (Err f) → new ≡ old
+grown_by U (Ok s) old new f h = h.1
+grown_by U (Err g) old new f h = h.1
+
+pub grown-kept : {S U : Type 0} (r : Result S Fault) (old new : S) (x : Result U Fault) (f : Fault) → x ≡ Err f → Grows r old new x → new ≡ old
+grown-kept {U = U} r old new x f is h = grown_by U r old new f (subst (λ y. Grows r old new y) is h)
+
+refused_by : {S U : Type 0} (r : Result S Fault) (old mid new : S) (u : U) → new ≡ old → Grows r old mid (Ok u) → Grows {U = U} r old new (Err OutOfMemory)
+refused_by (Ok s) old mid new u same h = (refl, same)
+refused_by (Err g) old mid new u same h = absurd h
+
+-- what was done is taken back for want of memory
+pub grown-refused : {S U : Type 0} (r : Result S Fault) (old mid new : S) (x : Result U Fault) (u : U) → x ≡ Ok u → new ≡ old → Grows r old mid x → Grows {U = U} r old new (Err OutOfMemory)
+grown-refused r old mid new x u is same h = refused_by r old mid new u same (subst (λ y. Grows r old mid y) is h)
+
+ok_by : {S U V : Type 0} (r : Result S Fault) (old new : S) (u : U) (v : V) → Changes r old new (Ok u) → Changes r old new (Ok v)
+ok_by (Ok s) old new u v h = h
+ok_by (Err g) old new u v h = absurd h
+
+-- the same where another value is handed out
+pub changed-ok : {S U V : Type 0} (r : Result S Fault) (old new : S) (x : Result U Fault) (u : U) (v : V) → x ≡ Ok u → Changes r old new x → Changes r old new (Ok v)
+changed-ok r old new x u v is h = ok_by r old new u v (subst (λ y. Changes r old new y) is h)
+
+err_by : {S : Type 0} (U V : Type 0) (r : Result S Fault) (old new : S) (f : Fault) → Changes {U = U} r old new (Err f) → Changes {U = V} r old new (Err f)
+err_by U V (Ok s) old new f h = absurd h
+err_by U V (Err g) old new f h = h
+
+pub changed-err : {S U : Type 0} (V : Type 0) (r : Result S Fault) (old new : S) (x : Result U Fault) (f : Fault) → x ≡ Err f → Changes r old new x → Changes {U = V} r old new (Err f)
+changed-err {U = U} V r old new x f is h = err_by U V r old new f (subst (λ y. Changes r old new y) is h)

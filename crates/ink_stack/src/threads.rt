@@ -268,10 +268,10 @@ impl<P: Copy> Threads<P> {
         if let Err(fault) = pushed {
             return Err(fault);
         }
-        if self.trail.add(ThreadsPair::FramePushed, 1).is_err() {
+        let Ok(_) = self.trail.add(ThreadsPair::FramePushed, 1) else {
             self.running.unpush();
             return Err(Fault::OutOfMemory);
-        }
+        };
         Ok(())
     }
 
