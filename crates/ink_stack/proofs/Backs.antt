@@ -1,5 +1,5 @@
 -- What each change of frames and threads puts back.
-use Rattle.std.proofs.Common.{◌≡◌, ◌∙◌, ◌≤◌, ◌+◌, arith, ℕ, List, [], ◌∷◌, ◌++◌, Bool, true, false, Option, None, Result, Ok, Err, ap, if◌then◌else◌, nat_eq, nat_lt, refl, reverse, subst, sym}
+use Rattle.std.proofs.Common.{◌≡◌, ◌∙◌, ◌≤◌, ◌+◌, arith, ℕ, List, [], ◌∷◌, ◌++◌, Bool, true, false, Option, None, Result, Ok, Err, ap, if◌then◌else◌, is_some, nat_eq, nat_lt, refl, reverse, subst, sym}
 use Rattle.std.proofs.lemmas.List.{reverse-append}
 use Rattle.ink_model.specs.Frames.{FrameOf, ThreadOf, ThreadsOf, gone, mode_in, on_top, put_in}
 use Rattle.ink_model.specs.Threads.{back_to, doubled, frame_count, new_frame, number_in, popped, pushed, same_kind, thread_count}
@@ -95,6 +95,10 @@ module _ {P : Type 0} where
   unfolding threads_stood
   stood-unmarked old new none same =
       stood-none threads_back new.trail new.threads (same ∙ none-stood threads_back old.trail old.threads none) ∙ sym none
+
+  pub unmarked-stood : (v : ThreadsView P) → threads_stood v ≡ None → is_some v.trail.undo ≡ false
+  unfolding threads_stood
+  unmarked-stood v none = ap is_some (none-stood threads_back v.trail v.threads none)
 
 -- ---- what a call did, by its result
 
