@@ -327,15 +327,15 @@ impl<P: Copy> Threads<P> {
         if self.below.len() >= MAX_THREADS - 1 {
             return Err(Fault::TooDeep);
         }
-        if self.trail.ready(1).is_err() {
+        let Ok(_) = self.trail.ready(1) else {
             return Err(Fault::OutOfMemory);
-        }
+        };
         let Ok(copy) = self.running.clone_in(self.alloc) else {
             return Err(Fault::OutOfMemory);
         };
-        if self.below.push(Thread { running: copy }).is_err() {
+        let Ok(_) = self.below.push(Thread { running: copy }) else {
             return Err(Fault::OutOfMemory);
-        }
+        };
         self.trail.note(ThreadsPair::ThreadPushed, 1);
         Ok(())
     }
@@ -409,9 +409,9 @@ impl<P: Copy> Threads<P> {
         }
         let set = self.running.set_temp(frame, name, value);
         self.running.within();
-        if set.is_err() {
+        let Ok(_was) = set else {
             return Err(Fault::OutOfMemory);
-        }
+        };
         Ok(())
     }
 
@@ -429,9 +429,9 @@ impl<P: Copy> Threads<P> {
         ensures stood { threads_stood self.new ≡ threads_stood self.old }
         ensures spare { threads_spare self.old ≤ threads_spare self.new + 1 }
     {
-        if self.trail.ready(1).is_err() {
+        let Ok(_) = self.trail.ready(1) else {
             return Err(Fault::OutOfMemory);
-        }
+        };
         let set = self.running.set_temp(frame, name, value);
         self.running.within();
         let Ok((index, was)) = set else {
