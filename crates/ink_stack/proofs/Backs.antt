@@ -1,6 +1,6 @@
 -- What each change of frames and threads puts back.
-use Rattle.std.proofs.Common.{◌≡◌, ◌∙◌, ◌≤◌, ◌+◌, arith, ℕ, List, [], ◌∷◌, ◌++◌, Bool, true, false, Option, None, Result, Ok, Err, ap, if◌then◌else◌, is_some, nat_eq, nat_lt, refl, reverse, subst, sym}
-use Rattle.std.proofs.lemmas.List.{reverse-append}
+use Rattle.std.proofs.Common.{◌≡◌, ◌∙◌, ◌≤◌, ◌+◌, MatchOption, arith, drop, length, option_to_list, ℕ, List, [], ◌∷◌, ◌++◌, Bool, true, false, Option, Some, None, Result, Ok, Err, ap, if◌then◌else◌, is_some, nat_eq, nat_lt, refl, reverse, subst, sym}
+use Rattle.std.proofs.lemmas.List.{length-append, reverse-append}
 use Rattle.ink_model.specs.Frames.{FrameOf, ThreadOf, ThreadsOf, gone, mode_in, on_top, put_in}
 use Rattle.ink_model.specs.Threads.{back_to, doubled, frame_count, new_frame, number_in, popped, pushed, same_kind, thread_count}
 use Rattle.ink_model.specs.declared.fault.Fault.{Fault}
@@ -16,6 +16,13 @@ use Rattle.ink_stack.specs.Undo.{threads_back, threads_spare, threads_stood}
 use Rattle.ink_stack.specs.Words.{Changes, Grows}
 use Rattle.ink_stack.specs.declared.undo.ThreadsPair.{ThreadsPair}
 use Rattle.ink_stack.specs.declared.undo.ThreadsPair.TheVariants.{Placed, Previous, Evaluating, Numbered, FramePushed, FramePopped, ThreadPushed, ThreadPopped}
+
+-- a list without its last item, seen from its end
+pub popped-drop : {X : Type 0} (xs rest : List X) (o : Option X) (n m : ℕ) → xs ≡ rest ++ option_to_list o → MatchOption o ((n ≡ 0) × (m ≡ 0)) (λ x. m + 1 ≡ n) → n ≡ length xs
+    → reverse rest ≡ drop 1 (reverse xs)
+popped-drop xs rest (Some x) n m is cases len = sym (ap (λ ys. drop 1 (reverse ys)) is ∙ ap (drop 1) (reverse-append rest (x ∷ [])))
+popped-drop xs [] None n m is cases len = sym (ap (λ ys. drop 1 (reverse ys)) is)
+popped-drop xs (y ∷ ys) None n m is cases len = absurd (omega (arith, cases.0, len, ap length is, length-append (y ∷ ys) []))
 
 module _ {P : Type 0} where
   -- ---- fields of the top frame
@@ -63,8 +70,8 @@ module _ {P : Type 0} where
 
   -- ---- threads
 
-  pub doubled-back : (ts new : ThreadsOf P) {U : Type 0} (u : U) → Grows (doubled ts) ts new (Ok u) → threads_back ThreadPushed new ≡ ts
-  doubled-back ts new u h = by (nat_lt (thread_count ts) MAX_THREADS) h
+  pub doubled-back : (ts new : ThreadsOf P) {U : Type 0} (x : Result U Fault) (u : U) → x ≡ Ok u → Grows (doubled ts) ts new x → threads_back ThreadPushed new ≡ ts
+  doubled-back ts new x u is h = by (nat_lt (thread_count ts) MAX_THREADS) (subst (λ y. Grows (doubled ts) ts new y) is h)
     where
       by : (b : Bool) → Grows (if b then Ok (record ts { below = ts.thread ∷ ts.below }) else Err TooDeep) ts new (Ok u) → threads_back ThreadPushed new ≡ ts
       by true is = ap (threads_back ThreadPushed) is

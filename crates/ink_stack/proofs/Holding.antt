@@ -1,11 +1,13 @@
 -- There is room for what is put back of frames and threads.
-use Rattle.std.proofs.Common.{◌≡◌, ◌≤◌, ℕ, List, Bool, true, false, Option, Some, None, ap, arith, is_some, length, refl, subst, sym}
+use Rattle.std.proofs.Common.{◌≡◌, ◌∙◌, ◌+◌, ◌≤◌, ℕ, List, [], ◌∷◌, ◌++◌, Bool, true, false, Option, Some, None, ap, arith, is_some, length, refl, subst, sym}
+use Rattle.std.proofs.lemmas.List.{length-append, length-reverse}
 use Rattle.ink_model.specs.Bases.{BaseFirst}
 use Rattle.ink_model.specs.Frames.{ThreadOf, ThreadsOf, on_top}
 use Rattle.ink_trail.proofs.Staying.{stays-more, stays-now, stays-with}
 use Rattle.ink_trail.specs.Undo.{Undo, trail_of, with_pair}
 use Rattle.ink_stack.proofs.Bases.{base_same}
 use Rattle.ink_stack.specs.Cells.{Within}
+use Rattle.ink_stack.specs.Running.{RunningView, threads_in}
 use Rattle.ink_stack.specs.Undo.{Held, More, Rooms, StaysHeld, rooms_of, threads_back}
 use Rattle.ink_stack.specs.declared.undo.ThreadsPair.{ThreadsPair}
 use Rattle.ink_stack.specs.declared.undo.ThreadsPair.TheVariants.{Placed, Previous, Evaluating, Numbered, Fresh, Temp, FramePushed, FramePopped, ThreadPushed, ThreadPopped, Replaced}
@@ -69,6 +71,17 @@ module _ {P : Type 0} where
   pub held-unmarked : (u : Option (Undo (ThreadsPair P))) (r : Rooms) (ts : ThreadsOf P) → is_some u ≡ false → Held r ts → StaysHeld r (trail_of u) ts
   held-unmarked None r ts none h = h
   held-unmarked (Some u) r ts none h = absurd (cc)
+
+  -- the thread below comes on top
+  pub held-next : (r : Rooms) (t v : RunningView P) (next : ThreadOf P) (rest items : List (ThreadOf P)) (room : ℕ) → items ≡ rest ++ next ∷ [] → Within v.room v.thread
+      → r.threads ≤ room → Held r (threads_in t items) → Held (record { frames = v.room; threads = room }) (threads_in v rest)
+  held-next r t v next rest items room whole within more h =
+      let fewer = ap length whole ∙ length-append rest (next ∷ []) in
+      record {
+        thread = within;
+        few = omega (arith, fewer, length-reverse rest, length-reverse items, h.few);
+        fit = omega (arith, fewer, length-reverse rest, length-reverse items, h.fit, more);
+      }
 
   -- what becomes of the trail and of the rooms, where the threads stay
   pub held-as : (u v : Option (Undo (ThreadsPair P))) (r s : Rooms) (ts us : ThreadsOf P) → v ≡ u → us ≡ ts → More r s → StaysHeld r (trail_of u) ts → StaysHeld s (trail_of v) us

@@ -1,11 +1,12 @@
 //! The threads of a running story.
 
-ghost use Rattle.std.specs.Prelude.{◌≡◌, ◌≢◌, ◌⊎◌, ◌<◌, ◌≤◌, ◌+◌, [], None, Some, is_some, length, map, option_map, reverse, true, unwrap_or, IfOk, IfErr, OnOk, OnErr};
+ghost use Rattle.std.specs.Prelude.{◌≡◌, ◌≢◌, ◌⊎◌, ◌<◌, ◌≤◌, ◌+◌, [], None, Some, is_some, length, map, option_map, reverse, true, unwrap_or, vec_capacity, IfOk, IfErr, OnOk, OnErr};
 ghost use Rattle.ink_model.specs.Flow.{is_last};
 ghost use Rattle.ink_model.specs.Frames.{base_threads, fresh_depth, gone, mode_in, on_top, place_in, put_in, unnumbered_thread, unnumbered_threads};
 ghost use Rattle.ink_model.specs.Threads.{alone, doubled, dropped, frame_count, number_in, popped, pushed, staled, temp_in, thread_count, top_result, with_temp};
 ghost use Rattle.ink_model.specs.declared.limits.TheConstants.{MAX_THREADS};
 ghost use Rattle.ink_stack.specs.Calls.{frame_kind};
+ghost use Rattle.ink_stack.specs.Running.{threads_in};
 ghost use Rattle.ink_stack.specs.Undo.{threads_back, threads_spare, threads_stood};
 ghost use Rattle.ink_stack.specs.Words.{Changes, Grows};
 ghost use Rattle.ink_trail.specs.Undo.{Begins, Ends, KeepsTrail, Trails, TrailsOrKeeps, trail_of, writes_of};
@@ -324,19 +325,28 @@ impl<P: Copy> Threads<P> {
         ensures stood { threads_stood self.new ≡ threads_stood self.old }
         ensures spare { threads_spare self.old ≤ threads_spare self.new + 1 }
     {
-        if self.below.len() >= MAX_THREADS - 1 {
-            return Err(Fault::TooDeep);
+        if self.trail.is_marked() {
+            return self.push_thread_marked();
         }
-        let Ok(_) = self.trail.ready(1) else {
+        push_copy(self.alloc, &self.running, &mut self.below)
+    }
+
+    // As `push_thread`, while a mark stands.
+    #[cold]
+    #[inline(never)]
+    fn push_thread_marked(&mut self) -> Result<(), Fault>
+        ensures threads { Grows (doubled self.old.threads) self.old.threads self.new.threads result }
+        ensures trail { TrailsOrKeeps threads_back 1 self.old.threads self.old.trail self.new.threads self.new.trail result }
+        ensures stood { threads_stood self.new ≡ threads_stood self.old }
+        ensures spare { threads_spare self.old ≤ threads_spare self.new + 1 }
+    {
+        if let Err(fault) = push_copy(self.alloc, &self.running, &mut self.below) {
+            return Err(fault);
+        }
+        let Ok(_) = self.trail.add(ThreadsPair::ThreadPushed, 1) else {
+            let _copy = self.below.pop();
             return Err(Fault::OutOfMemory);
         };
-        let Ok(copy) = self.running.clone_in(self.alloc) else {
-            return Err(Fault::OutOfMemory);
-        };
-        let Ok(_) = self.below.push(Thread { running: copy }) else {
-            return Err(Fault::OutOfMemory);
-        };
-        self.trail.note(ThreadsPair::ThreadPushed, 1);
         Ok(())
     }
 
@@ -350,16 +360,32 @@ impl<P: Copy> Threads<P> {
         ensures stood { threads_stood self.new ≡ threads_stood self.old }
         ensures spare { threads_spare self.old ≤ threads_spare self.new + 1 }
     {
+        if self.trail.is_marked() {
+            return self.pop_thread_marked();
+        }
         let Some(next) = self.below.pop() else {
             return false;
         };
-        let next = next.run();
-        if self.trail.is_marked() {
-            let top = mem::replace(&mut self.running, next);
-            self.trail.note(ThreadsPair::ThreadPopped(top), 1);
-            return true;
-        }
-        self.running = next;
+        self.running = next.run();
+        true
+    }
+
+    // As `pop_thread`, while a mark stands.
+    #[cold]
+    #[inline(never)]
+    fn pop_thread_marked(&mut self) -> bool
+        requires room { 1 ≤ threads_spare self.old }
+        ensures dropped { result ≡ is_some (dropped self.old.threads) }
+        ensures new { self.new.threads ≡ unwrap_or (dropped self.old.threads) self.old.threads }
+        ensures trail { Trails threads_back 1 self.old.threads self.old.trail self.new.threads self.new.trail }
+        ensures stood { threads_stood self.new ≡ threads_stood self.old }
+        ensures spare { threads_spare self.old ≤ threads_spare self.new + 1 }
+    {
+        let Some(next) = self.below.pop() else {
+            return false;
+        };
+        let top = mem::replace(&mut self.running, next.run());
+        self.trail.note(ThreadsPair::ThreadPopped(top), 1);
         true
     }
 
@@ -472,15 +498,28 @@ impl<P: Copy> Threads<P> {
         ensures stood { threads_stood self.new ≡ threads_stood self.old }
         ensures spare { threads_spare self.old ≤ threads_spare self.new + 1 }
     {
-        running.within();
         if self.trail.is_marked() {
-            let top = mem::replace(&mut self.running, running);
-            let below = mem::replace(&mut self.below, Vec::new(self.alloc));
-            self.trail.note(ThreadsPair::Replaced(top, below), 1);
-            return;
+            return self.replace_by_marked(running);
         }
+        running.within();
         self.running = running;
         self.below.clear();
+    }
+
+    // As `replace_by`, while a mark stands.
+    #[cold]
+    #[inline(never)]
+    fn replace_by_marked(&mut self, running: Running<P>)
+        requires room { 1 ≤ threads_spare self.old }
+        ensures threads { self.new.threads ≡ alone running.thread }
+        ensures trail { Trails threads_back 1 self.old.threads self.old.trail self.new.threads self.new.trail }
+        ensures stood { threads_stood self.new ≡ threads_stood self.old }
+        ensures spare { threads_spare self.old ≤ threads_spare self.new + 1 }
+    {
+        running.within();
+        let top = mem::replace(&mut self.running, running);
+        let below = mem::replace(&mut self.below, Vec::new(self.alloc));
+        self.trail.note(ThreadsPair::Replaced(top, below), 1);
     }
 
     // ---- marks
@@ -545,6 +584,7 @@ impl<P: Copy> Threads<P> {
     }
 
     /// The same where a mark stands; else it takes no memory.
+    #[inline(always)]
     pub fn ready(&mut self, count: usize) -> Result<(), AllocError>
         ensures threads { self.new.threads ≡ self.old.threads }
         ensures stood { threads_stood self.new ≡ threads_stood self.old }
@@ -570,4 +610,28 @@ fn clear_numbers_of<P: Copy>(threads: &mut [Thread<P>])
     for thread in threads {
         thread.clear_numbers();
     }
+}
+
+/// Puts a copy of the thread that runs on top of those below it. `TooDeep` where there are 100 threads; `OutOfMemory` for a
+/// refused request for memory.
+fn push_copy<P: Copy>(
+    alloc: Global,
+    running: &Running<P>,
+    below: &mut Vec<Thread<P>>,
+) -> Result<(), Fault>
+    requires { length below.old.items < MAX_THREADS }
+    ensures threads { Grows (doubled (threads_in running.now below.old.items)) (threads_in running.now below.old.items) (threads_in running.now below.new.items) result }
+    ensures few { length below.new.items < MAX_THREADS }
+    ensures room { vec_capacity below.old ≤ vec_capacity below.new }
+{
+    if below.len() >= MAX_THREADS - 1 {
+        return Err(Fault::TooDeep);
+    }
+    let Ok(copy) = running.clone_in(alloc) else {
+        return Err(Fault::OutOfMemory);
+    };
+    let Ok(_) = below.push(Thread { running: copy }) else {
+        return Err(Fault::OutOfMemory);
+    };
+    Ok(())
 }
