@@ -60,12 +60,12 @@ module _ {P : Type 0} where
         | false ↦ (h.0, base_changed name v n f.kind fs h.1)
       ]
 
-  module _ {E : Type 0} (r : Result Unit E) (name : List ℕ) (v : Value) where
+  module _ {U E : Type 0} (r : Result U E) (name : List ℕ) (v : Value) where
     -- after a call that gives a frame a temporary
     pub kind_along : (f g : FrameOf P) → OnOk r (g ≡ with_row_in name v f) → OnErr r (g ≡ f) → g.kind ≡ f.kind
     kind_along f g ok err = by r ok err
       where
-        by : (r : Result Unit E) → OnOk r (g ≡ with_row_in name v f) → OnErr r (g ≡ f) → g.kind ≡ f.kind
+        by : (r : Result U E) → OnOk r (g ≡ with_row_in name v f) → OnErr r (g ≡ f) → g.kind ≡ f.kind
         by (Ok u) made kept = ap (λ h. h.kind) made
         by (Err e) made kept = ap (λ h. h.kind) kept
 
@@ -75,7 +75,7 @@ module _ {P : Type 0} where
         → BaseFirst k (reverse fs) → BaseFirst k (reverse (set fs (n - 1) g))
     base_along k fs n d g above within ok err h = by r ok err
       where
-        by : (r : Result Unit E) → OnOk r (g ≡ with_row_in name v (get_or fs (n - 1) d)) → OnErr r (g ≡ get_or fs (n - 1) d) → BaseFirst k (reverse (set fs (n - 1) g))
+        by : (r : Result U E) → OnOk r (g ≡ with_row_in name v (get_or fs (n - 1) d)) → OnErr r (g ≡ get_or fs (n - 1) d) → BaseFirst k (reverse (set fs (n - 1) g))
         by (Ok u) made kept =
             subst (λ gs. BaseFirst k gs) (sym (ap (λ x. reverse (set fs (n - 1) x)) made ∙ changed_is (with_row_in name v) fs n d above within))
             (base_changed name v n k (reverse fs) h)

@@ -8,3 +8,8 @@ pub mod Numbers
 pub mod Bases
 pub mod Rising
 pub mod BaseTests
+pub mod Cells
+pub mod Framing
+pub mod Staling
+pub mod Holding
+pub mod Backs

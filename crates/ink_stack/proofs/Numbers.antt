@@ -9,13 +9,13 @@ use Rattle.ink_model.specs.Threads.{changed, temp_in, with_row_in, with_temp}
 use Rattle.ink_model.specs.declared.value.Value.{Value}
 use Rattle.ink_stack.specs.Quiet.{is_quiet}
 
-same_number : (n : ℕ) → nat_eq n n ≡ true
+pub same_number : (n : ℕ) → nat_eq n n ≡ true
 same_number n = grind (arith, nat_tests)
 
-other_number : (m n : ℕ) → m < n → nat_eq m n ≡ false
+pub other_number : (m n : ℕ) → m < n → nat_eq m n ≡ false
 other_number m n h = grind (arith, nat_tests)
 
-other_number_above : (m n : ℕ) → n < m → nat_eq m n ≡ false
+pub other_number_above : (m n : ℕ) → n < m → nat_eq m n ≡ false
 other_number_above m n h = grind (arith, nat_tests)
 
 reverse_around : {X : Type 0} (before after : List X) (x : X) → reverse (before ++ x ∷ after) ≡ reverse after ++ x ∷ reverse before
@@ -23,12 +23,12 @@ reverse_around before after x =
     reverse-append before (x ∷ after) ∙ ap (λ r. r ++ reverse before) (reverse-append (x ∷ []) after)
     ∙ append_assoc (reverse after) (x ∷ []) (reverse before)
 
-split_at : {X : Type 0} (xs : List X) (i : ℕ) (d : X) → i < length xs → reverse xs ≡ reverse (drop (i + 1) xs) ++ get_or xs i d ∷ reverse (take i xs)
+pub split_at : {X : Type 0} (xs : List X) (i : ℕ) (d : X) → i < length xs → reverse xs ≡ reverse (drop (i + 1) xs) ++ get_or xs i d ∷ reverse (take i xs)
 split_at xs i d h =
     ap reverse (sym (take-append-drop i xs) ∙ ap (λ ys. take i xs ++ ys) (drop_more xs i d h))
     ∙ reverse_around (take i xs) (drop (i + 1) xs) (get_or xs i d)
 
-split_set : {X : Type 0} (xs : List X) (i : ℕ) (y : X) → i < length xs → reverse (set xs i y) ≡ reverse (drop (i + 1) xs) ++ y ∷ reverse (take i xs)
+pub split_set : {X : Type 0} (xs : List X) (i : ℕ) (y : X) → i < length xs → reverse (set xs i y) ≡ reverse (drop (i + 1) xs) ++ y ∷ reverse (take i xs)
 split_set xs i y h =
     let parts : set xs i y ≡ take i xs ++ y ∷ drop (i + 1) xs = rw add-one (set_split xs i y h) in
     ap reverse parts ∙ reverse_around (take i xs) (drop (i + 1) xs) y
@@ -92,7 +92,7 @@ module _ {P : Type 0} where
       rw (other_number n (length (reverse fs) + 1) (omega (arith, length-reverse fs))) (numbered_is fs n d above within)
 
   -- the frames after a call that gives one of them a temporary
-  pub quiet_along : {E : Type 0} (r : Result Unit E) (fs : List (FrameOf P)) (n : ℕ) (d f : FrameOf P) (name : List ℕ) (v : Value) → 0 < n → n ≤ length fs
+  pub quiet_along : {U E : Type 0} (r : Result U E) (fs : List (FrameOf P)) (n : ℕ) (d f : FrameOf P) (name : List ℕ) (v : Value) → 0 < n → n ≤ length fs
       → OnOk r (f ≡ with_row_in name v (get_or fs (n - 1) d)) → OnErr r (f ≡ get_or fs (n - 1) d)
       → is_quiet (reverse (set fs (n - 1) f)) ≡ is_quiet (reverse fs)
   quiet_along (Ok u) fs n d f name v above within ok err =
@@ -100,7 +100,7 @@ module _ {P : Type 0} where
       ∙ quiet_changed name v n (reverse fs)
   quiet_along (Err e) fs n d f name v above within ok err = ap (λ g. is_quiet (reverse (set fs (n - 1) g))) err ∙ ap (λ gs. is_quiet (reverse gs)) (set-get_or fs (n - 1) d)
 
-  module _ {E : Type 0} (r : Result Unit E) (f : FrameOf P) (fs : List (FrameOf P)) (previous : Option P) (n : ℕ) (d : FrameOf P) (name : List ℕ)
+  module _ {U E : Type 0} (r : Result U E) (f : FrameOf P) (fs : List (FrameOf P)) (previous : Option P) (n : ℕ) (d : FrameOf P) (name : List ℕ)
       (above : 0 < n) (within : n ≤ length fs) where
     -- the thread of these frames
     abbrev thread_of : List (FrameOf P) → ThreadOf P

@@ -1,6 +1,9 @@
+pub mod Running
 pub mod Threads
 pub mod Words
 pub mod Calls
 pub mod Quiet
 pub mod Rows
 pub mod Saving
+pub mod Cells
+pub mod Undo

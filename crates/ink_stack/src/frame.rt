@@ -1,10 +1,12 @@
 //! Frames.
 
-ghost use Rattle.std.specs.Prelude.{◌≡◌, ◌≢◌, [], None, option_map, IfOk, OnOk, OnErr};
+ghost use Rattle.std.specs.Prelude.{◌≡◌, ◌≢◌, [], None, true, option_map, IfOk, OnOk, OnErr};
+ghost use Rattle.std.specs.Bool.{OnTrue, OnFalse};
 ghost use Rattle.ink_model.specs.Frames.{fresh_depth, is_function};
 ghost use Rattle.ink_model.specs.Rows.{name_order, row};
 ghost use Rattle.ink_model.specs.Threads.{new_frame, same_kind, stale, with_row_in};
 ghost use Rattle.ink_stack.specs.Calls.{frame_kind};
+ghost use Rattle.ink_stack.specs.Cells.{temp_back, with_fresh};
 
 use crate::temps::Temps;
 use ink_model::{FrameKind, Value};
@@ -184,13 +186,45 @@ impl<P: Copy> Frame<P> {
         self.temps.get(name)
     }
 
-    /// Gives a temporary a value. The one error is a refused request for memory, which is made only for a new name, and
-    /// leaves all as it was.
-    pub(crate) fn set_temp(&mut self, name: &str, value: Value) -> Result<(), AllocError>
+    /// Gives a temporary a value, and answers the index of its row and what that held; none where it is new. The one error is a
+    /// refused request for memory, which is made only for a new name, and leaves all as it was.
+    pub(crate) fn set_temp(
+        &mut self,
+        name: &str,
+        value: Value,
+    ) -> Result<(usize, Option<Value>), AllocError>
         ensures ok { OnOk result (self.new ≡ with_row_in name.now value self.old) }
         ensures err { OnErr result (self.new ≡ self.old) }
         ensures memory { OnErr result (row name_order name.now self.old.temps ≡ None) }
+        ensures back { IfOk result (λ was. temp_back was.0 was.1 self.new ≡ self.old) }
     {
         self.temps.set(name, value)
+    }
+
+    // ---- what a mark needs
+
+    /// The same as `end_freshness`, and whether it was fresh until then.
+    pub(crate) fn end_one(&mut self, depth: usize) -> bool
+        ensures frame { self.new ≡ stale depth self.old }
+        ensures ended { OnTrue result (with_fresh true self.new ≡ self.old) }
+        ensures kept { OnFalse result (self.new ≡ self.old) }
+    {
+        if self.fresh && self.depth == depth {
+            self.fresh = false;
+            return true;
+        }
+        false
+    }
+
+    pub(crate) fn freshen(&mut self)
+        ensures { self.new ≡ with_fresh true self.old }
+    {
+        self.fresh = true;
+    }
+
+    pub(crate) fn put_temp_back(&mut self, index: usize, was: Option<Value>)
+        ensures { self.new ≡ temp_back index was self.old }
+    {
+        self.temps.put_back(index, was);
     }
 }

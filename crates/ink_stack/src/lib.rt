@@ -2,11 +2,15 @@
 #![tactic(auto)]
 
 mod frame;
+mod running;
 mod saving;
 mod temps;
 mod thread;
 mod threads;
+mod undo;
 
 pub use frame::{CallKind, Frame};
+pub use running::Running;
 pub use thread::Thread;
 pub use threads::Threads;
+pub use undo::ThreadsPair;

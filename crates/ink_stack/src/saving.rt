@@ -1,16 +1,19 @@
 //! Frames and threads as a save lends and gives them.
 
-ghost use Rattle.std.specs.Prelude.{◌≡◌, ◌≤◌, true, length, option_map, reverse, Some, None, if◌then◌else◌};
+ghost use Rattle.std.specs.Prelude.{◌≡◌, ◌≤◌, true, length, option_map, reverse, IfSome, Some, None, if◌then◌else◌};
 ghost use Rattle.std.specs.List.{list_all};
 ghost use Rattle.ink_model.specs.Rows.{name_order, rows_rise};
 ghost use Rattle.ink_model.specs.declared.limits.TheConstants.{MAX_FRAMES, MAX_THREADS};
 ghost use Rattle.ink_stack.specs.Saving.{base_first, is_after, is_call, rise_after, thread_from, thread_with, threads_from, threads_with};
+ghost use Rattle.ink_stack.specs.Undo.{threads_stood};
 
 use crate::frame::Frame;
+use crate::running::Running;
 use crate::temps::Temps;
 use crate::thread::Thread;
 use crate::threads::Threads;
 use ink_model::{FrameKind, MAX_FRAMES, MAX_THREADS, Shared, Text, Value};
+use ink_trail::Trail;
 use std::alloc::Global;
 use std::cmp::Ordering;
 
@@ -96,25 +99,42 @@ impl<P: Copy> Thread<P> {
     {
         let mut below = frames;
         let frame = below.pop()?;
-        Some(Thread {
+        let running = Running {
             frame,
             below,
             previous,
             quiet: false,
             alloc,
-        })
+        };
+        Some(Thread { running })
     }
 
     /// The top frame.
     pub fn top(&self) -> &Frame<P>
         ensures { result.now ≡ self.now.frame }
     {
-        &self.frame
+        self.running.top()
     }
 
     /// The frames below the top one, the bottom one first.
     pub fn below(&self) -> &[Frame<P>]
         ensures { reverse result.now ≡ self.now.below }
+    {
+        self.running.below()
+    }
+}
+
+impl<P: Copy> Running<P> {
+    /// The top frame.
+    pub fn top(&self) -> &Frame<P>
+        ensures { result.now ≡ self.now.thread.frame }
+    {
+        &self.frame
+    }
+
+    /// The frames below the top one, the bottom one first.
+    pub fn below(&self) -> &[Frame<P>]
+        ensures { reverse result.now ≡ self.now.thread.below }
     {
         self.below.as_slice()
     }
@@ -123,7 +143,8 @@ impl<P: Copy> Thread<P> {
 impl<P: Copy> Threads<P> {
     /// These threads, the bottom one first; none where there is none, or there are more than 100. Takes no memory.
     pub fn from_threads(alloc: Global, threads: Vec<Thread<P>>) -> Option<Threads<P>>
-        ensures { option_map (λ made. made.threads) result ≡ threads_from threads.items }
+        ensures threads { option_map (λ made. made.threads) result ≡ threads_from threads.items }
+        ensures stood { IfSome result (λ made. threads_stood made ≡ None) }
     {
         if threads.len() <= MAX_THREADS {
             Threads::with(alloc, threads)
@@ -135,13 +156,16 @@ impl<P: Copy> Threads<P> {
     // The same of threads that are within their limit.
     fn with(alloc: Global, threads: Vec<Thread<P>>) -> Option<Threads<P>>
         requires { length threads.items ≤ MAX_THREADS }
-        ensures { option_map (λ made. made.threads) result ≡ threads_with (reverse threads.items) }
+        ensures threads { option_map (λ made. made.threads) result ≡ threads_with (reverse threads.items) }
+        ensures stood { IfSome result (λ made. threads_stood made ≡ None) }
     {
         let mut below = threads;
         let thread = below.pop()?;
+        let running = thread.run();
         Some(Threads {
-            thread,
+            running,
             below,
+            trail: Trail::new(alloc),
             alloc,
         })
     }

@@ -1,13 +1,15 @@
 //! The temporaries of a frame.
 
-ghost use Rattle.std.specs.Prelude.{◌≡◌, ◌≢◌, [], None, option_map, IfOk, OnOk, OnErr};
+ghost use Rattle.std.specs.Prelude.{◌≡◌, ◌≢◌, [], None, option_map, remove, IfOk, OnOk, OnErr};
 ghost use Rattle.ink_model.specs.Rows.{name_order, row, with_row};
+ghost use Rattle.ink_stack.specs.Cells.{temps_back, value_at};
 ghost use Rattle.ink_stack.specs.Rows.{FindsName};
 
 use ink_model::{Shared, Text, Value};
 use std::alloc::{AllocError, Global};
 use std::cmp::Ordering;
 use std::marker::Model;
+use std::mem;
 
 /// Values by name, in the order of the names. The copies of a frame share the names. A contract sees the rows.
 #[derive(Drop)]
@@ -63,24 +65,63 @@ impl Temps {
         }
     }
 
-    /// Gives a name a value. The one error is a refused request for memory, which is made only for a new name, and leaves
-    /// all as it was.
-    pub(crate) fn set(&mut self, name: &str, value: Value) -> Result<(), AllocError>
+    /// Gives a name a value, and answers the index of its row and what that held; none where it is new. The one error is a
+    /// refused request for memory, which is made only for a new name, and leaves all as it was.
+    pub(crate) fn set(
+        &mut self,
+        name: &str,
+        value: Value,
+    ) -> Result<(usize, Option<Value>), AllocError>
         ensures ok { OnOk result (self.new ≡ with_row name_order name.now value self.old) }
         ensures err { OnErr result (self.new ≡ self.old) }
         ensures memory { OnErr result (row name_order name.now self.old ≡ None) }
+        ensures back { IfOk result (λ was. temps_back was.0 was.1 self.new ≡ self.old) }
     {
         match find(self.rows.as_slice(), name) {
             Ok(index) => {
-                self.rows[index].1 = value;
-                Ok(())
+                let was = mem::replace(&mut self.rows[index].1, value);
+                Ok((index, Some(was)))
             }
             Err(index) => {
                 let name = Shared::new(self.alloc, Text::from_str(self.alloc, name)?)?;
                 self.rows.insert(index, (name, value))?;
-                Ok(())
+                Ok((index, None))
             }
         }
+    }
+
+    /// The row at an index holds what it held; where that was nothing it goes. Takes no memory.
+    pub(crate) fn put_back(&mut self, index: usize, was: Option<Value>)
+        ensures { self.new ≡ temps_back index was self.old }
+    {
+        match was {
+            Some(value) => {
+                let _now = self.swap(index, value);
+            }
+            None => {
+                let _new = self.take(index);
+            }
+        }
+    }
+
+    // Another value in the row at an index, where there is one.
+    fn swap(&mut self, index: usize, value: Value) -> Value
+        ensures { self.new ≡ value_at index value self.old }
+    {
+        if index >= self.rows.len() {
+            return value;
+        }
+        mem::replace(&mut self.rows[index].1, value)
+    }
+
+    // Takes the row at an index out, where there is one.
+    fn take(&mut self, index: usize) -> Option<(Shared<Text>, Value)>
+        ensures { self.new ≡ remove self.old index }
+    {
+        if index >= self.rows.len() {
+            return None;
+        }
+        Some(self.rows.remove(index))
     }
 }
 

@@ -1,85 +1,86 @@
 //! The threads of a running story.
 
-ghost use Rattle.std.specs.Prelude.{◌≡◌, ◌≢◌, ◌⊎◌, ◌<◌, ◌≤◌, [], None, is_some, map, option_map, unwrap_or, IfOk, IfErr, OnOk, OnErr};
+ghost use Rattle.std.specs.Prelude.{◌≡◌, ◌≢◌, ◌⊎◌, ◌<◌, ◌≤◌, ◌+◌, [], None, Some, is_some, length, map, option_map, reverse, true, unwrap_or, vec_capacity, IfOk, IfErr, OnOk, OnErr};
 ghost use Rattle.ink_model.specs.Flow.{is_last};
 ghost use Rattle.ink_model.specs.Frames.{base_threads, fresh_depth, gone, mode_in, on_top, place_in, put_in, unnumbered_thread, unnumbered_threads};
 ghost use Rattle.ink_model.specs.Threads.{alone, doubled, dropped, frame_count, number_in, popped, pushed, staled, temp_in, thread_count, top_result, with_temp};
 ghost use Rattle.ink_model.specs.declared.limits.TheConstants.{MAX_THREADS};
 ghost use Rattle.ink_stack.specs.Calls.{frame_kind};
+ghost use Rattle.ink_stack.specs.Running.{threads_in};
+ghost use Rattle.ink_stack.specs.Undo.{threads_back, threads_spare, threads_stood};
 ghost use Rattle.ink_stack.specs.Words.{Changes, Grows};
+ghost use Rattle.ink_trail.specs.Undo.{Begins, Ends, KeepsTrail, Trails, TrailsOrKeeps, trail_of, writes_of};
 
 use crate::frame::CallKind;
+use crate::running::Running;
 use crate::thread::Thread;
+use crate::undo::{ThreadsPair, end_freshness, put_back};
 use ink_model::{Fault, FrameKind, MAX_THREADS, Value};
+use ink_trail::Trail;
 use std::alloc::{AllocError, Global};
 use std::marker::Model;
+use std::mem;
 
-/// Where flow is: threads, of which there is always one on top, 100 at the most. A contract sees those below it with the
-/// nearest first.
+/// Where flow is: threads, of which there is always one on top, 100 at the most; and while a mark stands, the trail of what they
+/// were. A contract sees those below the top one with the nearest first.
 #[derive(Drop)]
 pub struct Threads<P> {
-    pub(crate) thread: Thread<P>,
+    pub(crate) running: Running<P>,
     pub(crate) below: Vec<Thread<P>>,
+    pub(crate) trail: Trail<ThreadsPair<P>>,
     pub(crate) alloc: Global,
 }
 
 impl<P> Model for Threads<P> {
-    ghost use Rattle.std.specs.Prelude.{reverse, ◌<◌, length};
+    ghost use Rattle.std.specs.Prelude.{◌<◌, length, vec_capacity};
     ghost use Rattle.ink_model.specs.declared.limits.TheConstants.{MAX_THREADS};
+    ghost use Rattle.ink_stack.specs.Running.{threads_in};
     ghost use Rattle.ink_stack.specs.Threads.{ThreadsView};
+    ghost use Rattle.ink_stack.specs.Undo.{StaysHeld};
+    ghost use Rattle.ink_trail.specs.Undo.{trail_of};
 
     ghost Value = { ThreadsView P };
 
-    ghost view = { λ ts. record { threads = record { thread = ts.thread; below = reverse ts.below.items } } };
+    ghost view = { λ ts. record { threads = threads_in ts.running ts.below.items; trail = ts.trail } };
 
-    ghost invariant = { λ ts. length ts.below.items < MAX_THREADS };
+    ghost invariant = { λ ts. (length ts.below.items < MAX_THREADS)
+        × StaysHeld (record { frames = ts.running.room; threads = vec_capacity ts.below }) (trail_of ts.trail.undo) (threads_in ts.running ts.below.items) };
 }
 
+#[tactic(auto, unfolding(crate::specs::Undo::threads_stood, crate::specs::Undo::threads_spare, ink_trail::specs::Undo::stood_at, ink_trail::specs::Undo::spare))]
 impl<P: Copy> Threads<P> {
     /// One thread of one base frame, outside evaluation mode, which takes no memory.
     pub fn new(alloc: Global, place: Option<P>) -> Threads<P>
-        ensures { result.threads ≡ base_threads place }
+        ensures threads { result.threads ≡ base_threads place }
+        ensures stood { threads_stood result ≡ None }
     {
         Threads {
-            thread: Thread::new(alloc, place),
+            running: Running::new(alloc, place),
             below: Vec::new(alloc),
+            trail: Trail::new(alloc),
             alloc,
         }
     }
 
-    /// A copy. The one error is a refused request for memory, which one thread of one frame without temporaries never makes.
-    pub fn clone_in(&self, alloc: Global) -> Result<Threads<P>, AllocError>
-        ensures copy { IfOk result (λ copy. copy.threads ≡ self.now.threads) }
-        ensures memory { OnErr result (((self.now.threads.thread.frame.temps ≢ []) ⊎ (self.now.threads.thread.below ≢ [])) ⊎ (self.now.threads.below ≢ [])) }
-    {
-        let thread = self.thread.clone_in(alloc)?;
-        let below = copied_threads(alloc, self.below.as_slice())?;
-        Ok(Threads {
-            thread,
-            below,
-            alloc,
-        })
-    }
-
     /// The top thread.
-    pub fn top(&self) -> &Thread<P>
-        ensures { result.now ≡ self.now.threads.thread }
+    pub fn top(&self) -> &Running<P>
+        ensures { result.now.thread ≡ self.now.threads.thread }
     {
-        &self.thread
+        &self.running
     }
 
     /// Where flow is; none where it has stopped.
     pub fn place(&self) -> Option<P>
         ensures { result ≡ place_in self.now.threads }
     {
-        self.thread.place()
+        self.running.place()
     }
 
     /// Whether the top frame is in evaluation mode.
     pub fn is_evaluating(&self) -> bool
         ensures { result ≡ self.now.threads.thread.frame.evaluating }
     {
-        self.thread.is_evaluating()
+        self.running.is_evaluating()
     }
 
     /// How many sections are open below the one in which the top frame is a fresh function; none where it is no such
@@ -87,50 +88,153 @@ impl<P: Copy> Threads<P> {
     pub fn fresh_depth(&self) -> Option<usize>
         ensures { result ≡ fresh_depth self.now.threads.thread.frame }
     {
-        self.thread.fresh_depth()
+        self.running.fresh_depth()
     }
 
     /// Flow goes to a place, or to none. The one that it leaves becomes the previous one.
     pub fn go(&mut self, place: Option<P>)
-        ensures { self.new.threads ≡ on_top (gone place) self.old.threads }
+        requires room { 2 ≤ threads_spare self.old }
+        ensures threads { self.new.threads ≡ on_top (gone place) self.old.threads }
+        ensures trail { Trails threads_back 2 self.old.threads self.old.trail self.new.threads self.new.trail }
+        ensures stood { threads_stood self.new ≡ threads_stood self.old }
+        ensures spare { threads_spare self.old ≤ threads_spare self.new + 2 }
     {
-        self.thread.go(place);
+        if self.trail.is_marked() {
+            return self.go_marked(place);
+        }
+        self.running.go(place);
+    }
+
+    // As `go`, while a mark stands.
+    #[cold]
+    #[inline(never)]
+    fn go_marked(&mut self, place: Option<P>)
+        requires room { 2 ≤ threads_spare self.old }
+        ensures threads { self.new.threads ≡ on_top (gone place) self.old.threads }
+        ensures trail { Trails threads_back 2 self.old.threads self.old.trail self.new.threads self.new.trail }
+        ensures stood { threads_stood self.new ≡ threads_stood self.old }
+        ensures spare { threads_spare self.old ≤ threads_spare self.new + 2 }
+    {
+        let previous = self.running.previous();
+        let left = self.running.place();
+        self.trail.note(ThreadsPair::Previous(previous), 1);
+        self.trail.note(ThreadsPair::Placed(left), 1);
+        self.running.go(place);
     }
 
     /// Puts the top frame at a place, or at none. The previous place stays.
     pub fn put(&mut self, place: Option<P>)
-        ensures { self.new.threads ≡ on_top (put_in place) self.old.threads }
+        requires room { 1 ≤ threads_spare self.old }
+        ensures threads { self.new.threads ≡ on_top (put_in place) self.old.threads }
+        ensures trail { Trails threads_back 1 self.old.threads self.old.trail self.new.threads self.new.trail }
+        ensures stood { threads_stood self.new ≡ threads_stood self.old }
+        ensures spare { threads_spare self.old ≤ threads_spare self.new + 1 }
     {
-        self.thread.put(place);
+        if self.trail.is_marked() {
+            return self.put_marked(place);
+        }
+        self.running.put(place);
+    }
+
+    // As `put`, while a mark stands.
+    #[cold]
+    #[inline(never)]
+    fn put_marked(&mut self, place: Option<P>)
+        requires room { 1 ≤ threads_spare self.old }
+        ensures threads { self.new.threads ≡ on_top (put_in place) self.old.threads }
+        ensures trail { Trails threads_back 1 self.old.threads self.old.trail self.new.threads self.new.trail }
+        ensures stood { threads_stood self.new ≡ threads_stood self.old }
+        ensures spare { threads_spare self.old ≤ threads_spare self.new + 1 }
+    {
+        let left = self.running.place();
+        self.trail.note(ThreadsPair::Placed(left), 1);
+        self.running.put(place);
     }
 
     /// Evaluation mode begins or ends in the top frame.
     pub fn set_mode(&mut self, evaluating: bool)
-        ensures { self.new.threads ≡ on_top (mode_in evaluating) self.old.threads }
+        requires room { 1 ≤ threads_spare self.old }
+        ensures threads { self.new.threads ≡ on_top (mode_in evaluating) self.old.threads }
+        ensures trail { Trails threads_back 1 self.old.threads self.old.trail self.new.threads self.new.trail }
+        ensures stood { threads_stood self.new ≡ threads_stood self.old }
+        ensures spare { threads_spare self.old ≤ threads_spare self.new + 1 }
     {
-        self.thread.set_mode(evaluating);
+        if self.trail.is_marked() {
+            return self.set_mode_marked(evaluating);
+        }
+        self.running.set_mode(evaluating);
+    }
+
+    // As `set_mode`, while a mark stands.
+    #[cold]
+    #[inline(never)]
+    fn set_mode_marked(&mut self, evaluating: bool)
+        requires room { 1 ≤ threads_spare self.old }
+        ensures threads { self.new.threads ≡ on_top (mode_in evaluating) self.old.threads }
+        ensures trail { Trails threads_back 1 self.old.threads self.old.trail self.new.threads self.new.trail }
+        ensures stood { threads_stood self.new ≡ threads_stood self.old }
+        ensures spare { threads_spare self.old ≤ threads_spare self.new + 1 }
+    {
+        let was = self.running.is_evaluating();
+        self.trail.note(ThreadsPair::Evaluating(was), 1);
+        self.running.set_mode(evaluating);
     }
 
     /// The top frame has this number of its mark on the line.
     pub fn set_number(&mut self, number: u64)
-        ensures { self.new.threads ≡ on_top (number_in number) self.old.threads }
+        requires room { 1 ≤ threads_spare self.old }
+        ensures threads { self.new.threads ≡ on_top (number_in number) self.old.threads }
+        ensures trail { Trails threads_back 1 self.old.threads self.old.trail self.new.threads self.new.trail }
+        ensures stood { threads_stood self.new ≡ threads_stood self.old }
+        ensures spare { threads_spare self.old ≤ threads_spare self.new + 1 }
     {
-        self.thread.set_number(number);
+        if self.trail.is_marked() {
+            return self.set_number_marked(number);
+        }
+        self.running.set_number(number);
+    }
+
+    // As `set_number`, while a mark stands.
+    #[cold]
+    #[inline(never)]
+    fn set_number_marked(&mut self, number: u64)
+        requires room { 1 ≤ threads_spare self.old }
+        ensures threads { self.new.threads ≡ on_top (number_in number) self.old.threads }
+        ensures trail { Trails threads_back 1 self.old.threads self.old.trail self.new.threads self.new.trail }
+        ensures stood { threads_stood self.new ≡ threads_stood self.old }
+        ensures spare { threads_spare self.old ≤ threads_spare self.new + 1 }
+    {
+        let was = self.running.number();
+        self.trail.note(ThreadsPair::Numbered(was), 1);
+        self.running.set_number(number);
     }
 
     /// A text was written where so many sections are open: the top frame is a fresh function no more, and neither are the
     /// function frames directly below it, of all these the ones that were pushed there (docs/FRAMES.md, "Freshness").
     pub fn end_freshness(&mut self, depth: usize)
-        ensures { self.new.threads ≡ on_top (staled depth) self.old.threads }
+        requires room { frame_count self.old.threads.thread ≤ threads_spare self.old }
+        ensures threads { self.new.threads ≡ on_top (staled depth) self.old.threads }
+        ensures trail { Trails threads_back (frame_count self.old.threads.thread) self.old.threads self.old.trail self.new.threads self.new.trail }
+        ensures stood { threads_stood self.new ≡ threads_stood self.old }
+        ensures spare { threads_spare self.old ≤ threads_spare self.new + frame_count self.old.threads.thread }
     {
-        self.thread.end_freshness(depth);
+        if self.trail.is_marked() {
+            return end_freshness(&mut self.running, &self.below, &mut self.trail, depth);
+        }
+        self.running.end_freshness(depth);
+        self.running.within();
     }
 
-    /// No frame has the number of its mark any more.
+    /// No frame has the number of its mark any more. No mark may stand.
     pub fn clear_numbers(&mut self)
-        ensures { self.new.threads ≡ unnumbered_threads self.old.threads }
+        requires unmarked { threads_stood self.old ≡ None }
+        ensures threads { self.new.threads ≡ unnumbered_threads self.old.threads }
+        ensures trail { KeepsTrail self.old.trail self.new.trail }
+        ensures stood { threads_stood self.new ≡ threads_stood self.old }
+        ensures spare { threads_spare self.old ≤ threads_spare self.new }
     {
-        self.thread.clear_numbers();
+        self.running.clear_numbers();
+        self.running.within();
         clear_numbers_of(self.below.as_mut_slice());
     }
 
@@ -138,47 +242,150 @@ impl<P: Copy> Threads<P> {
     /// `depth` says how many sections are open. `TooDeep` where the thread has 1,000 frames; `OutOfMemory` for a refused
     /// request for memory. On an error nothing has changed (docs/FRAMES.md, "Frames").
     pub fn push_frame(&mut self, kind: CallKind, depth: usize) -> Result<(), Fault>
-        ensures { Grows (top_result (pushed (frame_kind kind) depth self.old.threads.thread) self.old.threads) self.old.threads self.new.threads result }
+        ensures threads { Grows (top_result (pushed (frame_kind kind) depth self.old.threads.thread) self.old.threads) self.old.threads self.new.threads result }
+        ensures trail { TrailsOrKeeps threads_back 1 self.old.threads self.old.trail self.new.threads self.new.trail result }
+        ensures stood { threads_stood self.new ≡ threads_stood self.old }
+        ensures spare { threads_spare self.old ≤ threads_spare self.new + 1 }
     {
-        self.thread.push(kind, depth)
+        if self.trail.is_marked() {
+            return self.push_frame_marked(kind, depth);
+        }
+        let pushed = self.running.push(kind, depth);
+        self.running.within();
+        pushed
+    }
+
+    // As `push_frame`, while a mark stands.
+    #[cold]
+    #[inline(never)]
+    fn push_frame_marked(&mut self, kind: CallKind, depth: usize) -> Result<(), Fault>
+        ensures threads { Grows (top_result (pushed (frame_kind kind) depth self.old.threads.thread) self.old.threads) self.old.threads self.new.threads result }
+        ensures trail { TrailsOrKeeps threads_back 1 self.old.threads self.old.trail self.new.threads self.new.trail result }
+        ensures stood { threads_stood self.new ≡ threads_stood self.old }
+        ensures spare { threads_spare self.old ≤ threads_spare self.new + 1 }
+    {
+        let pushed = self.running.push(kind, depth);
+        self.running.within();
+        if let Err(fault) = pushed {
+            return Err(fault);
+        }
+        let Ok(_) = self.trail.add(ThreadsPair::FramePushed, 1) else {
+            self.running.unpush();
+            return Err(Fault::OutOfMemory);
+        };
+        Ok(())
     }
 
     /// Pops a frame of this kind. `BadPop` where the top frame is of another kind or the only one; else `BadMode` where
     /// another number of sections is open than at its push. On an error nothing has changed. Takes no memory
     /// (docs/FRAMES.md, "Frames").
     pub fn pop_frame(&mut self, kind: FrameKind, depth: usize) -> Result<(), Fault>
-        ensures { Changes (top_result (popped kind depth self.old.threads.thread) self.old.threads) self.old.threads self.new.threads result }
+        requires room { 1 ≤ threads_spare self.old }
+        ensures threads { Changes (top_result (popped kind depth self.old.threads.thread) self.old.threads) self.old.threads self.new.threads result }
+        ensures trail { TrailsOrKeeps threads_back 1 self.old.threads self.old.trail self.new.threads self.new.trail result }
+        ensures stood { threads_stood self.new ≡ threads_stood self.old }
+        ensures spare { threads_spare self.old ≤ threads_spare self.new + 1 }
     {
-        self.thread.pop(kind, depth)
+        if self.trail.is_marked() {
+            return self.pop_frame_marked(kind, depth);
+        }
+        let popped = self.running.pop(kind, depth);
+        self.running.within();
+        match popped {
+            Ok(_frame) => {}
+            Err(fault) => return Err(fault),
+        }
+        Ok(())
+    }
+
+    // As `pop_frame`, while a mark stands.
+    #[cold]
+    #[inline(never)]
+    fn pop_frame_marked(&mut self, kind: FrameKind, depth: usize) -> Result<(), Fault>
+        requires room { 1 ≤ threads_spare self.old }
+        ensures threads { Changes (top_result (popped kind depth self.old.threads.thread) self.old.threads) self.old.threads self.new.threads result }
+        ensures trail { TrailsOrKeeps threads_back 1 self.old.threads self.old.trail self.new.threads self.new.trail result }
+        ensures stood { threads_stood self.new ≡ threads_stood self.old }
+        ensures spare { threads_spare self.old ≤ threads_spare self.new + 1 }
+    {
+        let popped = self.running.pop(kind, depth);
+        self.running.within();
+        match popped {
+            Ok(frame) => self.trail.note(ThreadsPair::FramePopped(frame), 1),
+            Err(fault) => return Err(fault),
+        }
+        Ok(())
     }
 
     /// Puts a copy of the top thread on top. `TooDeep` where there are 100 threads; `OutOfMemory` for a refused request for
     /// memory. On an error nothing has changed (docs/FRAMES.md, "Threads").
     pub fn push_thread(&mut self) -> Result<(), Fault>
-        ensures { Grows (doubled self.old.threads) self.old.threads self.new.threads result }
+        ensures threads { Grows (doubled self.old.threads) self.old.threads self.new.threads result }
+        ensures trail { TrailsOrKeeps threads_back 1 self.old.threads self.old.trail self.new.threads self.new.trail result }
+        ensures stood { threads_stood self.new ≡ threads_stood self.old }
+        ensures spare { threads_spare self.old ≤ threads_spare self.new + 1 }
     {
-        if self.below.len() >= MAX_THREADS - 1 {
-            return Err(Fault::TooDeep);
+        if self.trail.is_marked() {
+            return self.push_thread_marked();
         }
-        let Ok(copy) = self.thread.clone_in(self.alloc) else {
+        push_copy(self.alloc, &self.running, &mut self.below)
+    }
+
+    // As `push_thread`, while a mark stands.
+    #[cold]
+    #[inline(never)]
+    fn push_thread_marked(&mut self) -> Result<(), Fault>
+        ensures threads { Grows (doubled self.old.threads) self.old.threads self.new.threads result }
+        ensures trail { TrailsOrKeeps threads_back 1 self.old.threads self.old.trail self.new.threads self.new.trail result }
+        ensures stood { threads_stood self.new ≡ threads_stood self.old }
+        ensures spare { threads_spare self.old ≤ threads_spare self.new + 1 }
+    {
+        if let Err(fault) = push_copy(self.alloc, &self.running, &mut self.below) {
+            return Err(fault);
+        }
+        let Ok(_) = self.trail.add(ThreadsPair::ThreadPushed, 1) else {
+            let _copy = self.below.pop();
             return Err(Fault::OutOfMemory);
         };
-        if self.below.push(copy).is_err() {
-            return Err(Fault::OutOfMemory);
-        }
         Ok(())
     }
 
     /// Drops the top thread. False where it is the last one, and then nothing has changed. Takes no memory (docs/FRAMES.md,
     /// "Threads").
     pub fn pop_thread(&mut self) -> bool
+        requires room { 1 ≤ threads_spare self.old }
         ensures dropped { result ≡ is_some (dropped self.old.threads) }
         ensures new { self.new.threads ≡ unwrap_or (dropped self.old.threads) self.old.threads }
+        ensures trail { Trails threads_back 1 self.old.threads self.old.trail self.new.threads self.new.trail }
+        ensures stood { threads_stood self.new ≡ threads_stood self.old }
+        ensures spare { threads_spare self.old ≤ threads_spare self.new + 1 }
+    {
+        if self.trail.is_marked() {
+            return self.pop_thread_marked();
+        }
+        let Some(next) = self.below.pop() else {
+            return false;
+        };
+        self.running = next.run();
+        true
+    }
+
+    // As `pop_thread`, while a mark stands.
+    #[cold]
+    #[inline(never)]
+    fn pop_thread_marked(&mut self) -> bool
+        requires room { 1 ≤ threads_spare self.old }
+        ensures dropped { result ≡ is_some (dropped self.old.threads) }
+        ensures new { self.new.threads ≡ unwrap_or (dropped self.old.threads) self.old.threads }
+        ensures trail { Trails threads_back 1 self.old.threads self.old.trail self.new.threads self.new.trail }
+        ensures stood { threads_stood self.new ≡ threads_stood self.old }
+        ensures spare { threads_spare self.old ≤ threads_spare self.new + 1 }
     {
         let Some(next) = self.below.pop() else {
             return false;
         };
-        self.thread = next;
+        let top = mem::replace(&mut self.running, next.run());
+        self.trail.note(ThreadsPair::ThreadPopped(top), 1);
         true
     }
 
@@ -197,8 +404,8 @@ impl<P: Copy> Threads<P> {
         ensures fault { IfErr result (λ f. f ≡ Fault.OutOfMemory) }
         ensures memory { OnErr result ((self.now.threads.thread.frame.temps ≢ []) ⊎ (self.now.threads.thread.below ≢ [])) }
     {
-        let copy = self.thread.clone_in(self.alloc)?;
-        Ok(copy)
+        let running = self.running.clone_in(self.alloc)?;
+        Ok(Thread { running })
     }
 
     /// What a frame of the top thread has by a name; none where there is no such frame, or the frame has no such name. The
@@ -206,37 +413,193 @@ impl<P: Copy> Threads<P> {
     pub fn temp(&self, frame: usize, name: &str) -> Option<&Value>
         ensures { option_map (λ value. value.now) result ≡ temp_in frame name.now self.now.threads.thread }
     {
-        self.thread.temp(frame, name)
+        self.running.temp(frame, name)
     }
 
     /// Gives a name a value in a frame of the top thread; there has to be that frame, and the bottom one has number 1. The
-    /// one error is `OutOfMemory` for a refused request for memory, which is made only where the frame lacks the name, and
-    /// leaves all as it was.
+    /// one error is `OutOfMemory` for a refused request for memory, which is made only where the frame lacks the name, or a
+    /// mark stands, and leaves all as it was.
     pub fn set_temp(&mut self, frame: usize, name: &str, value: Value) -> Result<(), Fault>
         requires from { 0 < frame }
         requires there { frame ≤ frame_count self.old.threads.thread }
         ensures ok { OnOk result (self.new.threads ≡ on_top (with_temp frame name.now value) self.old.threads) }
         ensures fault { IfErr result (λ f. f ≡ Fault.OutOfMemory) }
         ensures kept { OnErr result (self.new.threads ≡ self.old.threads) }
-        ensures memory { OnErr result (temp_in frame name.now self.old.threads.thread ≡ None) }
+        ensures memory { OnErr result ((temp_in frame name.now self.old.threads.thread ≡ None) ⊎ (threads_spare self.old < 1)) }
+        ensures trail { TrailsOrKeeps threads_back 1 self.old.threads self.old.trail self.new.threads self.new.trail result }
+        ensures stood { threads_stood self.new ≡ threads_stood self.old }
+        ensures spare { threads_spare self.old ≤ threads_spare self.new + 1 }
     {
-        self.thread.set_temp(frame, name, value)?;
+        if self.trail.is_marked() {
+            return self.set_temp_marked(frame, name, value);
+        }
+        let set = self.running.set_temp(frame, name, value);
+        self.running.within();
+        let Ok(_was) = set else {
+            return Err(Fault::OutOfMemory);
+        };
+        Ok(())
+    }
+
+    // As `set_temp`, while a mark stands.
+    #[cold]
+    #[inline(never)]
+    fn set_temp_marked(&mut self, frame: usize, name: &str, value: Value) -> Result<(), Fault>
+        requires from { 0 < frame }
+        requires there { frame ≤ frame_count self.old.threads.thread }
+        ensures ok { OnOk result (self.new.threads ≡ on_top (with_temp frame name.now value) self.old.threads) }
+        ensures fault { IfErr result (λ f. f ≡ Fault.OutOfMemory) }
+        ensures kept { OnErr result (self.new.threads ≡ self.old.threads) }
+        ensures memory { OnErr result ((temp_in frame name.now self.old.threads.thread ≡ None) ⊎ (threads_spare self.old < 1)) }
+        ensures trail { TrailsOrKeeps threads_back 1 self.old.threads self.old.trail self.new.threads self.new.trail result }
+        ensures stood { threads_stood self.new ≡ threads_stood self.old }
+        ensures spare { threads_spare self.old ≤ threads_spare self.new + 1 }
+    {
+        let Ok(_) = self.trail.ready(1) else {
+            return Err(Fault::OutOfMemory);
+        };
+        let set = self.running.set_temp(frame, name, value);
+        self.running.within();
+        let Ok((index, was)) = set else {
+            return Err(Fault::OutOfMemory);
+        };
+        self.trail.note(ThreadsPair::Temp(frame, index, was), 1);
         Ok(())
     }
 
     /// This thread becomes the only one. Takes no memory.
     pub fn replace(&mut self, thread: Thread<P>)
-        ensures { self.new.threads ≡ alone thread }
+        requires room { 1 ≤ threads_spare self.old }
+        ensures threads { self.new.threads ≡ alone thread }
+        ensures trail { Trails threads_back 1 self.old.threads self.old.trail self.new.threads self.new.trail }
+        ensures stood { threads_stood self.new ≡ threads_stood self.old }
+        ensures spare { threads_spare self.old ≤ threads_spare self.new + 1 }
     {
-        self.thread = thread;
-        self.below.clear();
+        self.replace_by(thread.run());
     }
 
     /// All threads go, and one base frame is left that stands nowhere. Takes no memory.
     pub fn reset(&mut self)
-        ensures { self.new.threads ≡ base_threads None }
+        requires room { 1 ≤ threads_spare self.old }
+        ensures threads { self.new.threads ≡ base_threads None }
+        ensures trail { Trails threads_back 1 self.old.threads self.old.trail self.new.threads self.new.trail }
+        ensures stood { threads_stood self.new ≡ threads_stood self.old }
+        ensures spare { threads_spare self.old ≤ threads_spare self.new + 1 }
     {
-        self.replace(Thread::new(self.alloc, None));
+        let alloc = self.alloc;
+        self.replace_by(Running::new(alloc, None));
+    }
+
+    // This thread becomes the only one.
+    fn replace_by(&mut self, running: Running<P>)
+        requires room { 1 ≤ threads_spare self.old }
+        ensures threads { self.new.threads ≡ alone running.thread }
+        ensures trail { Trails threads_back 1 self.old.threads self.old.trail self.new.threads self.new.trail }
+        ensures stood { threads_stood self.new ≡ threads_stood self.old }
+        ensures spare { threads_spare self.old ≤ threads_spare self.new + 1 }
+    {
+        if self.trail.is_marked() {
+            return self.replace_by_marked(running);
+        }
+        running.within();
+        self.running = running;
+        self.below.clear();
+    }
+
+    // As `replace_by`, while a mark stands.
+    #[cold]
+    #[inline(never)]
+    fn replace_by_marked(&mut self, running: Running<P>)
+        requires room { 1 ≤ threads_spare self.old }
+        ensures threads { self.new.threads ≡ alone running.thread }
+        ensures trail { Trails threads_back 1 self.old.threads self.old.trail self.new.threads self.new.trail }
+        ensures stood { threads_stood self.new ≡ threads_stood self.old }
+        ensures spare { threads_spare self.old ≤ threads_spare self.new + 1 }
+    {
+        running.within();
+        let top = mem::replace(&mut self.running, running);
+        let below = mem::replace(&mut self.below, Vec::new(self.alloc));
+        self.trail.note(ThreadsPair::Replaced(top, below), 1);
+    }
+
+    // ---- marks
+
+    /// Starts a mark with an empty trail, and forgets an older one. Takes no memory.
+    pub fn mark(&mut self)
+        ensures threads { self.new.threads ≡ self.old.threads }
+        ensures trail { Begins self.old.trail self.new.trail }
+        ensures stood { threads_stood self.new ≡ Some self.old.threads }
+    {
+        self.trail.mark();
+    }
+
+    /// Whether a mark stands.
+    #[inline(always)]
+    pub fn is_marked(&self) -> bool
+        ensures { result ≡ is_some (threads_stood self.now) }
+    {
+        self.trail.is_marked()
+    }
+
+    /// How many changes of single cells there were since the mark, which stays at 2^64 - 1; 0 without one.
+    pub fn writes(&self) -> u64
+        ensures { result ≡ writes_of self.now.trail.undo }
+    {
+        self.trail.writes()
+    }
+
+    /// Puts the threads back as they stood at the mark, ends the mark, and answers how many pairs there were. Without a mark it
+    /// changes nothing, and answers 0. Takes no memory.
+    pub fn back(&mut self) -> u64
+        ensures threads { self.new.threads ≡ unwrap_or (threads_stood self.old) self.old.threads }
+        ensures trail { Ends self.old.trail self.new.trail }
+        ensures stood { threads_stood self.new ≡ None }
+        ensures len { result ≡ length (trail_of self.old.trail.undo) }
+        ensures writes { result ≤ writes_of self.old.trail.undo }
+    {
+        let count = put_back(&mut self.running, &mut self.below, &mut self.trail);
+        self.trail.forget();
+        count
+    }
+
+    /// Ends the mark, and changes nothing else. Takes no memory.
+    pub fn forget(&mut self)
+        ensures threads { self.new.threads ≡ self.old.threads }
+        ensures trail { Ends self.old.trail self.new.trail }
+        ensures stood { threads_stood self.new ≡ None }
+    {
+        self.trail.forget();
+    }
+
+    /// Makes room for so many changes to be noted without memory. The one error is a refused request for memory, and leaves all as
+    /// it was.
+    pub fn make_room(&mut self, count: usize) -> Result<(), AllocError>
+        ensures threads { self.new.threads ≡ self.old.threads }
+        ensures kept { KeepsTrail self.old.trail self.new.trail }
+        ensures stood { threads_stood self.new ≡ threads_stood self.old }
+        ensures ok { OnOk result (count ≤ self.new.trail.room) }
+        ensures memory { OnErr result (self.old.trail.room < count) }
+    {
+        self.trail.make_room(count)
+    }
+
+    /// The same where a mark stands; else it takes no memory.
+    #[inline(always)]
+    pub fn ready(&mut self, count: usize) -> Result<(), AllocError>
+        ensures threads { self.new.threads ≡ self.old.threads }
+        ensures stood { threads_stood self.new ≡ threads_stood self.old }
+        ensures more { threads_spare self.old ≤ threads_spare self.new }
+        ensures ok { OnOk result (count ≤ threads_spare self.new) }
+        ensures memory { OnErr result ((is_some (threads_stood self.old) ≡ true) × (threads_spare self.old < count)) }
+    {
+        self.trail.ready(count)
+    }
+
+    /// How many changes can be noted without memory.
+    pub fn room(&self) -> usize
+        ensures { result ≡ self.now.trail.room }
+    {
+        self.trail.room()
     }
 }
 
@@ -249,17 +612,26 @@ fn clear_numbers_of<P: Copy>(threads: &mut [Thread<P>])
     }
 }
 
-/// Copies of threads. The one error is a refused request for memory.
-fn copied_threads<P: Copy>(
+/// Puts a copy of the thread that runs on top of those below it. `TooDeep` where there are 100 threads; `OutOfMemory` for a
+/// refused request for memory.
+fn push_copy<P: Copy>(
     alloc: Global,
-    threads: &[Thread<P>],
-) -> Result<Vec<Thread<P>>, AllocError>
-    ensures copy { IfOk result (λ copies. copies.items ≡ threads.now) }
-    ensures memory { OnErr result (threads.now ≢ []) }
+    running: &Running<P>,
+    below: &mut Vec<Thread<P>>,
+) -> Result<(), Fault>
+    requires { length below.old.items < MAX_THREADS }
+    ensures threads { Grows (doubled (threads_in running.now below.old.items)) (threads_in running.now below.old.items) (threads_in running.now below.new.items) result }
+    ensures few { length below.new.items < MAX_THREADS }
+    ensures room { vec_capacity below.old ≤ vec_capacity below.new }
 {
-    let mut copies = Vec::new(alloc);
-    for thread in threads {
-        copies.push(thread.clone_in(alloc)?)?;
+    if below.len() >= MAX_THREADS - 1 {
+        return Err(Fault::TooDeep);
     }
-    Ok(copies)
+    let Ok(copy) = running.clone_in(alloc) else {
+        return Err(Fault::OutOfMemory);
+    };
+    let Ok(_) = below.push(Thread { running: copy }) else {
+        return Err(Fault::OutOfMemory);
+    };
+    Ok(())
 }

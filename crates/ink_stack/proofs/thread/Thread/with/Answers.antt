@@ -4,8 +4,8 @@ use Rattle.ink_model.specs.declared.limits.TheConstants.{MAX_FRAMES}
 use Rattle.ink_stack.proofs.BaseTests.{bottom_base}
 use Rattle.ink_stack.proofs.thread.Thread.with.Goals as goal
 
-pub invariant_of-result : goal.invariant_of-result
-invariant_of-result g c =
+pub invariant_of-running : goal.invariant_of-running
+invariant_of-running g c =
     let below = c.pop.new.self.items in
     let whole : c.args.frames.items ≡ below ++ c.in_ok-frame.frame ∷ [] = c.in_ok-frame.ensures.items in
     let few : length below < MAX_FRAMES = omega (arith, ap length whole ∙ length-append below (c.in_ok-frame.frame ∷ []), c.requires.few) in

@@ -1,0 +1,148 @@
+-- What each change of frames and threads puts back.
+use Rattle.std.proofs.Common.{◌≡◌, ◌∙◌, ◌≤◌, ◌+◌, MatchOption, arith, drop, length, option_to_list, ℕ, List, [], ◌∷◌, ◌++◌, Bool, true, false, Option, Some, None, Result, Ok, Err, ap, if◌then◌else◌, is_some, nat_eq, nat_lt, refl, reverse, subst, sym}
+use Rattle.std.proofs.lemmas.List.{length-append, reverse-append}
+use Rattle.ink_model.specs.Frames.{FrameOf, ThreadOf, ThreadsOf, gone, mode_in, on_top, put_in}
+use Rattle.ink_model.specs.Threads.{back_to, doubled, frame_count, new_frame, number_in, popped, pushed, same_kind, thread_count}
+use Rattle.ink_model.specs.declared.fault.Fault.{Fault}
+use Rattle.ink_model.specs.declared.fault.Fault.TheVariants.{BadMode, BadPop, OutOfMemory, TooDeep}
+use Rattle.ink_model.specs.declared.frame.FrameKind.{FrameKind}
+use Rattle.ink_model.specs.declared.limits.TheConstants.{MAX_FRAMES, MAX_THREADS}
+use Rattle.ink_trail.proofs.Undoing.{none-stood, spare-trails, stood-kept, stood-none, stood-trails}
+use Rattle.ink_trail.specs.Undo.{KeepsTrail, Trails}
+use Rattle.ink_stack.specs.Cells.{number_back, previous_back, unpopped, unpushed}
+use Rattle.ink_stack.specs.Running.{RunningView, threads_in}
+use Rattle.ink_stack.specs.Threads.{ThreadsView}
+use Rattle.ink_stack.specs.Undo.{threads_back, threads_spare, threads_stood}
+use Rattle.ink_stack.specs.Words.{Changes, Grows}
+use Rattle.ink_stack.specs.declared.undo.ThreadsPair.{ThreadsPair}
+use Rattle.ink_stack.specs.declared.undo.ThreadsPair.TheVariants.{Placed, Previous, Evaluating, Numbered, FramePushed, FramePopped, ThreadPushed, ThreadPopped}
+
+-- a list without its last item, seen from its end
+pub popped-drop : {X : Type 0} (xs rest : List X) (o : Option X) (n m : ℕ) → xs ≡ rest ++ option_to_list o → MatchOption o ((n ≡ 0) × (m ≡ 0)) (λ x. m + 1 ≡ n) → n ≡ length xs
+    → reverse rest ≡ drop 1 (reverse xs)
+popped-drop xs rest (Some x) n m is cases len = sym (ap (λ ys. drop 1 (reverse ys)) is ∙ ap (drop 1) (reverse-append rest (x ∷ [])))
+popped-drop xs [] None n m is cases len = sym (ap (λ ys. drop 1 (reverse ys)) is)
+popped-drop xs (y ∷ ys) None n m is cases len = absurd (omega (arith, cases.0, len, ap length is, length-append (y ∷ ys) []))
+
+module _ {P : Type 0} where
+  -- ---- fields of the top frame
+
+  pub placed-back : (ts : ThreadsOf P) (p q : Option P) → q ≡ ts.thread.frame.place → threads_back (Placed q) (on_top (put_in p) ts) ≡ ts
+  placed-back ts p q is = ap (λ x. on_top (put_in x) ts) is
+
+  pub mode-back : (ts : ThreadsOf P) (b c : Bool) → c ≡ ts.thread.frame.evaluating → threads_back (Evaluating c) (on_top (mode_in b) ts) ≡ ts
+  mode-back ts b c is = ap (λ x. on_top (mode_in x) ts) is
+
+  pub numbered-back : (ts : ThreadsOf P) (n : ℕ) (o : Option ℕ) → o ≡ ts.thread.frame.enter → threads_back (Numbered o) (on_top (number_in n) ts) ≡ ts
+  numbered-back ts n o is = ap (λ x. on_top (number_back x) ts) is
+
+  -- flow goes: the previous place comes first, and then the place
+  abbrev pub going : ThreadsOf P → ThreadsOf P
+  going ts = on_top (previous_back ts.thread.frame.place) ts
+
+  pub went-back : (ts : ThreadsOf P) (p : Option P) → p ≡ ts.thread.previous → threads_back (Previous p) (going ts) ≡ ts
+  went-back ts p is = ap (λ x. on_top (previous_back x) ts) is
+
+  pub gone-back : (ts : ThreadsOf P) (p q : Option P) → q ≡ ts.thread.frame.place → threads_back (Placed q) (on_top (gone p) ts) ≡ going ts
+  gone-back ts p q is = ap (λ x. on_top (put_in x) (on_top (previous_back ts.thread.frame.place) ts)) is
+
+  -- ---- frames
+
+  pub unpushed-grown : (k : FrameKind) (d : ℕ) (t new : ThreadOf P) {U : Type 0} (x : Result U Fault) (u : U) → x ≡ Ok u → Grows (pushed k d t) t new x → unpushed new ≡ t
+  unpushed-grown k d t new x u is h = by (nat_lt (frame_count t) MAX_FRAMES) (subst (λ y. Grows (pushed k d t) t new y) is h)
+    where
+      by : (b : Bool) → Grows (if b then Ok (record t { frame = new_frame k t.frame.place d; below = t.frame ∷ t.below }) else Err TooDeep) t new (Ok u) → unpushed new ≡ t
+      by true is = ap unpushed is
+      by false is = absurd is
+
+  pub unpopped-changed : (k : FrameKind) (d : ℕ) (t new : ThreadOf P) {U : Type 0} (x : Result U Fault) (u : U) → x ≡ Ok u → Changes (popped k d t) t new x → unpopped t.frame new ≡ t
+  unpopped-changed k d t new x u is h = by (same_kind t.frame.kind k) (subst (λ y. Changes (popped k d t) t new y) is h)
+    where
+      to : (f : FrameOf P) (fs : List (FrameOf P)) → f ∷ fs ≡ t.below → (b : Bool) → Changes (if b then Ok (record t { frame = f; below = fs }) else Err BadMode) t new (Ok u) → unpopped t.frame new ≡ t
+      to f fs is true h = ap (unpopped t.frame) h ∙ ap (λ gs. record t { below = gs }) is
+      to f fs is false h = absurd h
+      with_below : (fs : List (FrameOf P)) → fs ≡ t.below → Changes (back_to fs d t) t new (Ok u) → unpopped t.frame new ≡ t
+      with_below [] is h = absurd h
+      with_below (f ∷ fs) is h = to f fs is (nat_eq t.frame.depth d) h
+      by : (b : Bool) → Changes (if b then back_to t.below d t else Err BadPop) t new (Ok u) → unpopped t.frame new ≡ t
+      by true h = with_below t.below refl h
+      by false h = absurd h
+
+  -- ---- threads
+
+  pub doubled-back : (ts new : ThreadsOf P) {U : Type 0} (x : Result U Fault) (u : U) → x ≡ Ok u → Grows (doubled ts) ts new x → threads_back ThreadPushed new ≡ ts
+  doubled-back ts new x u is h = by (nat_lt (thread_count ts) MAX_THREADS) (subst (λ y. Grows (doubled ts) ts new y) is h)
+    where
+      by : (b : Bool) → Grows (if b then Ok (record ts { below = ts.thread ∷ ts.below }) else Err TooDeep) ts new (Ok u) → threads_back ThreadPushed new ≡ ts
+      by true is = ap (threads_back ThreadPushed) is
+      by false is = absurd is
+
+  pub thread-popped-back : (top next : RunningView P) (t : ThreadOf P) (rest items : List (ThreadOf P)) → next.thread ≡ t → items ≡ rest ++ t ∷ []
+      → threads_back (ThreadPopped top) (threads_in next rest) ≡ threads_in top items
+  thread-popped-back top next t rest items same is =
+      ap (λ u. record { thread = top.thread; below = u ∷ reverse rest }) same
+      ∙ ap (λ us. record { thread = top.thread; below = us }) (sym (ap reverse is ∙ reverse-append rest (t ∷ [])))
+
+  -- ---- what a mark keeps
+
+  pub stood-of : (n : ℕ) (old new : ThreadsView P) → Trails threads_back n old.threads old.trail new.threads new.trail → threads_stood new ≡ threads_stood old
+  unfolding threads_stood
+  stood-of n old new p = stood-trails threads_back p
+
+  pub spare-of : (n : ℕ) (old new : ThreadsView P) → Trails threads_back n old.threads old.trail new.threads new.trail → threads_spare old ≤ threads_spare new + n
+  unfolding threads_spare
+  spare-of n old new p = spare-trails threads_back p
+
+  pub stood-same : (old new : ThreadsView P) → (new.threads ≡ old.threads) × KeepsTrail old.trail new.trail → threads_stood new ≡ threads_stood old
+  unfolding threads_stood
+  stood-same old new h = stood-kept threads_back old.threads new.threads old.trail new.trail h.0 h.1
+
+  -- without a mark
+  pub stood-unmarked : (old new : ThreadsView P) → threads_stood old ≡ None → new.trail.undo ≡ old.trail.undo → threads_stood new ≡ threads_stood old
+  unfolding threads_stood
+  stood-unmarked old new none same =
+      stood-none threads_back new.trail new.threads (same ∙ none-stood threads_back old.trail old.threads none) ∙ sym none
+
+  pub unmarked-stood : (v : ThreadsView P) → threads_stood v ≡ None → is_some v.trail.undo ≡ false
+  unfolding threads_stood
+  unmarked-stood v none = ap is_some (none-stood threads_back v.trail v.threads none)
+
+-- ---- what a call did, by its result
+
+kept_by : {S : Type 0} (U : Type 0) (r : Result S Fault) (old new : S) (f : Fault) → Changes {U = U} r old new (Err f) → new ≡ old
+kept_by U (Ok s) old new f h = absurd h
+kept_by U (Err g) old new f h = h.1
+
+-- an error changes nothing
+pub changed-kept : {S U : Type 0} (r : Result S Fault) (old new : S) (x : Result U Fault) (f : Fault) → x ≡ Err f → Changes r old new x → new ≡ old
+changed-kept {U = U} r old new x f is h = kept_by U r old new f (subst (λ y. Changes r old new y) is h)
+
+grown_by : {S : Type 0} (U : Type 0) (r : Result S Fault) (old new : S) (f : Fault) → Grows {U = U} r old new (Err f) → new ≡ old
+grown_by U (Ok s) old new f h = h.1
+grown_by U (Err g) old new f h = h.1
+
+pub grown-kept : {S U : Type 0} (r : Result S Fault) (old new : S) (x : Result U Fault) (f : Fault) → x ≡ Err f → Grows r old new x → new ≡ old
+grown-kept {U = U} r old new x f is h = grown_by U r old new f (subst (λ y. Grows r old new y) is h)
+
+refused_by : {S U : Type 0} (r : Result S Fault) (old mid new : S) (u : U) → new ≡ old → Grows r old mid (Ok u) → Grows {U = U} r old new (Err OutOfMemory)
+refused_by (Ok s) old mid new u same h = (refl, same)
+refused_by (Err g) old mid new u same h = absurd h
+
+-- what was done is taken back for want of memory
+pub grown-refused : {S U : Type 0} (r : Result S Fault) (old mid new : S) (x : Result U Fault) (u : U) → x ≡ Ok u → new ≡ old → Grows r old mid x → Grows {U = U} r old new (Err OutOfMemory)
+grown-refused r old mid new x u is same h = refused_by r old mid new u same (subst (λ y. Grows r old mid y) is h)
+
+ok_by : {S U V : Type 0} (r : Result S Fault) (old new : S) (u : U) (v : V) → Changes r old new (Ok u) → Changes r old new (Ok v)
+ok_by (Ok s) old new u v h = h
+ok_by (Err g) old new u v h = absurd h
+
+-- the same where another value is handed out
+pub changed-ok : {S U V : Type 0} (r : Result S Fault) (old new : S) (x : Result U Fault) (u : U) (v : V) → x ≡ Ok u → Changes r old new x → Changes r old new (Ok v)
+changed-ok r old new x u v is h = ok_by r old new u v (subst (λ y. Changes r old new y) is h)
+
+err_by : {S : Type 0} (U V : Type 0) (r : Result S Fault) (old new : S) (f : Fault) → Changes {U = U} r old new (Err f) → Changes {U = V} r old new (Err f)
+err_by U V (Ok s) old new f h = absurd h
+err_by U V (Err g) old new f h = h
+
+pub changed-err : {S U : Type 0} (V : Type 0) (r : Result S Fault) (old new : S) (x : Result U Fault) (f : Fault) → x ≡ Err f → Changes r old new x → Changes {U = V} r old new (Err f)
+changed-err {U = U} V r old new x f is h = err_by U V r old new f (subst (λ y. Changes r old new y) is h)

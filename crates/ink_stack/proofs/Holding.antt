@@ -1,0 +1,90 @@
+-- There is room for what is put back of frames and threads.
+use Rattle.std.proofs.Common.{◌≡◌, ◌∙◌, ◌+◌, ◌≤◌, ℕ, List, [], ◌∷◌, ◌++◌, Bool, true, false, Option, Some, None, ap, arith, is_some, length, refl, subst, sym}
+use Rattle.std.proofs.lemmas.List.{length-append, length-reverse}
+use Rattle.ink_model.specs.Bases.{BaseFirst}
+use Rattle.ink_model.specs.Frames.{ThreadOf, ThreadsOf, on_top}
+use Rattle.ink_trail.proofs.Staying.{stays-more, stays-now, stays-with}
+use Rattle.ink_trail.specs.Undo.{Undo, trail_of, with_pair}
+use Rattle.ink_stack.proofs.Bases.{base_same}
+use Rattle.ink_stack.specs.Cells.{Within}
+use Rattle.ink_stack.specs.Running.{RunningView, threads_in}
+use Rattle.ink_stack.specs.Undo.{Held, More, Rooms, StaysHeld, rooms_of, threads_back}
+use Rattle.ink_stack.specs.declared.undo.ThreadsPair.{ThreadsPair}
+use Rattle.ink_stack.specs.declared.undo.ThreadsPair.TheVariants.{Placed, Previous, Evaluating, Numbered, Fresh, Temp, FramePushed, FramePopped, ThreadPushed, ThreadPopped, Replaced}
+
+pub more-refl : (r : Rooms) → More r r
+more-refl r = record { frames = omega arith; threads = omega arith }
+
+module _ {P : Type 0} where
+  within-more : (r s : ℕ) (t : ThreadOf P) → r ≤ s → Within r t → Within s t
+  within-more r s t more h = record { few = h.few; fit = omega (arith, h.fit, more); base = h.base }
+
+  -- the frames below stay, and the top one's kind
+  pub within-same : (room : ℕ) (t s : ThreadOf P) → s.below ≡ t.below → s.frame.kind ≡ t.frame.kind → Within room t → Within room s
+  within-same room t s below kind h = record {
+    few = omega (arith, h.few, ap length below);
+    fit = omega (arith, h.fit, ap length below);
+    base = subst (λ fs. BaseFirst s.frame.kind fs) (sym below) (base_same t.frame.kind s.frame.kind t.below kind h.base);
+  }
+
+  held-more : (r s : Rooms) (ts : ThreadsOf P) → More r s → Held r ts → Held s ts
+  held-more r s ts more h = record {
+    thread = within-more r.frames s.frames ts.thread more.frames h.thread;
+    few = h.few;
+    fit = omega (arith, h.fit, more.threads);
+  }
+
+  rooms-more : (e : ThreadsPair P) (r s : Rooms) → More r s → More (rooms_of e r) (rooms_of e s)
+  rooms-more (Placed p) r s h = h
+  rooms-more (Previous p) r s h = h
+  rooms-more (Evaluating b) r s h = h
+  rooms-more (Numbered n) r s h = h
+  rooms-more (Fresh n) r s h = h
+  rooms-more (Temp n i o) r s h = h
+  rooms-more FramePushed r s h = h
+  rooms-more (FramePopped f) r s h = h
+  rooms-more ThreadPushed r s h = h
+  rooms-more (ThreadPopped t) r s h = record { frames = omega arith; threads = h.threads }
+  rooms-more (Replaced t below) r s h = record { frames = omega arith; threads = omega arith }
+
+  pub stays-roomy : (r s : Rooms) (es : List (ThreadsPair P)) (ts : ThreadsOf P) → More r s → StaysHeld r es ts → StaysHeld s es ts
+  stays-roomy r s es ts more h = stays-more threads_back rooms_of Held More held-more rooms-more r s es ts more h
+
+  pub held-now : (r : Rooms) (es : List (ThreadsPair P)) (ts : ThreadsOf P) → StaysHeld r es ts → Held r ts
+  held-now r es ts h = stays-now threads_back rooms_of Held r es ts h
+
+  -- with a pair more
+  pub held-with : (e : ThreadsPair P) (n : ℕ) (was is : ThreadsOf P) (u : Option (Undo (ThreadsPair P))) (r s : Rooms) → threads_back e is ≡ was → Held s is → More r (rooms_of e s)
+      → StaysHeld r (trail_of u) was → StaysHeld s (trail_of (with_pair e n u)) is
+  held-with e n was is u r s same held more h =
+      stays-with threads_back rooms_of Held e n was is u s same held (stays-roomy r (rooms_of e s) (trail_of u) was more h)
+
+  -- the same where the threads below stay, and all rooms
+  pub held-top : (e : ThreadsPair P) (n : ℕ) (t s : ThreadOf P) (below : List (ThreadOf P)) (u : Option (Undo (ThreadsPair P))) (r : Rooms)
+      → threads_back e (record { thread = s; below = below }) ≡ record { thread = t; below = below } → Within r.frames s → More r (rooms_of e r)
+      → StaysHeld r (trail_of u) (record { thread = t; below = below }) → StaysHeld r (trail_of (with_pair e n u)) (record { thread = s; below = below })
+  held-top e n t s below u r same within more h =
+      let now = held-now r (trail_of u) (record { thread = t; below = below }) h in
+      held-with e n (record { thread = t; below = below }) (record { thread = s; below = below }) u r r same (record { thread = within; few = now.few; fit = now.fit }) more h
+
+  -- without a mark
+  pub held-unmarked : (u : Option (Undo (ThreadsPair P))) (r : Rooms) (ts : ThreadsOf P) → is_some u ≡ false → Held r ts → StaysHeld r (trail_of u) ts
+  held-unmarked None r ts none h = h
+  held-unmarked (Some u) r ts none h = absurd (cc)
+
+  -- the thread below comes on top
+  pub held-next : (r : Rooms) (t v : RunningView P) (next : ThreadOf P) (rest items : List (ThreadOf P)) (room : ℕ) → items ≡ rest ++ next ∷ [] → Within v.room v.thread
+      → r.threads ≤ room → Held r (threads_in t items) → Held (record { frames = v.room; threads = room }) (threads_in v rest)
+  held-next r t v next rest items room whole within more h =
+      let fewer = ap length whole ∙ length-append rest (next ∷ []) in
+      record {
+        thread = within;
+        few = omega (arith, fewer, length-reverse rest, length-reverse items, h.few);
+        fit = omega (arith, fewer, length-reverse rest, length-reverse items, h.fit, more);
+      }
+
+  -- what becomes of the trail and of the rooms, where the threads stay
+  pub held-as : (u v : Option (Undo (ThreadsPair P))) (r s : Rooms) (ts us : ThreadsOf P) → v ≡ u → us ≡ ts → More r s → StaysHeld r (trail_of u) ts → StaysHeld s (trail_of v) us
+  held-as u v r s ts us undo same more h =
+      subst (λ (w : Option (Undo (ThreadsPair P))). StaysHeld s (trail_of w) us) (sym undo)
+      (subst (λ w. StaysHeld s (trail_of u) w) (sym same) (stays-roomy r s (trail_of u) ts more h))

@@ -1,0 +1,28 @@
+use Rattle.std.proofs.Common.{◌≡◌, ◌∙◌, ap, length, refl, reverse, subst, sym, vec_len}
+use Rattle.std.proofs.lemmas.List.{with_items_is}
+use Rattle.ink_model.specs.Bases.{BaseFirst}
+use Rattle.ink_model.specs.Threads.{stale_run}
+use Rattle.ink_stack.proofs.Bases.{base_same, base_stale, stale_kind}
+use Rattle.ink_stack.proofs.Quietness.{quiet_run}
+use Rattle.ink_stack.proofs.running.Running.end_freshness.Goals as goal
+
+pub returns-else-not-self : goal.returns-else-not-self
+returns-else-not-self g c =
+    let below = reverse c.self.inside.below.items in
+    rw (← c.self.view_is) (rw (c.end_freshness.ensures, quiet_run c.args.depth below (c.self.invariant.1 c.if-not-self.false)) refl)
+
+pub invariant_of-self : goal.invariant_of-self
+invariant_of-self g c =
+    let old = c.self.inside.below.items in
+    let new = c.end_freshness_of-self-inside.new.frames in
+    let top = c.end_freshness.new.self in
+    let run : reverse new ≡ stale_run c.args.depth (reverse old) = c.end_freshness_of-self-inside.ensures.run ∙ ap (λ fs. stale_run c.args.depth (reverse fs)) c.as_mut_slice.ensures.value in
+    let many : length new ≡ length old = c.end_freshness_of-self-inside.auto.frames ∙ ap length c.as_mut_slice.ensures.value in
+    let kept : length new ≡ vec_len c.self.inside.below = c.end_freshness_of-self-inside.auto.frames ∙ c.as_mut_slice.ensures.len in
+    let kind : top.kind ≡ c.self.inside.frame.kind = ap (λ f. f.kind) c.end_freshness.ensures ∙ stale_kind c.args.depth c.self.inside.frame in
+    rw (with_items_is c.self.inside.below new kept) (
+      rw many c.self.invariant.0,
+      λ quiet. sym c.end_freshness_of-self-inside.ensures.quiet ∙ quiet,
+      subst (λ fs. BaseFirst top.kind fs) (sym run)
+          (base_same c.self.inside.frame.kind top.kind (stale_run c.args.depth (reverse old)) kind (base_stale c.args.depth c.self.inside.frame.kind (reverse old) c.self.invariant.2)),
+    )

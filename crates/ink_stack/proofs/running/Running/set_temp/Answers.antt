@@ -1,0 +1,47 @@
+use Rattle.std.proofs.Common.{◌∙◌, ◌≤◌, ap, arith, length, length-set}
+use Rattle.std.proofs.lemmas.List.{length-reverse}
+use Rattle.std.proofs.lemmas.Result.{IfOk-weaker}
+use Rattle.ink_stack.specs.Cells.{temp_back}
+use Rattle.ink_stack.proofs.Bases.{base_along}
+use Rattle.ink_stack.proofs.Framing.{unframed_below}
+use Rattle.ink_stack.proofs.Numbers.{memory_along, quiet_along, temp_along}
+use Rattle.ink_stack.proofs.running.Running.set_temp.Goals as goal
+
+pub invariant_of-self-2 : goal.invariant_of-self-2
+invariant_of-self-2 g c =
+    let items = c.self.inside.below.items in
+    let within : c.args.frame ≤ length items = omega (arith, length-reverse items, ap (λ t. length t.thread.below) c.self.view_is) in (
+      rw length-set c.self.invariant.0,
+      λ quiet.
+          rw (quiet_along c.set_temp-2.result items c.args.frame c.index_mut.result.now c.set_temp-2.new.self c.args.name.now c.args.value c.requires.from within
+          (rw (← c.index_mut.ensures.value) c.set_temp-2.ensures.ok) (rw (← c.index_mut.ensures.value) c.set_temp-2.ensures.err)) (c.self.invariant.1 quiet),
+      base_along c.set_temp-2.result c.args.name.now c.args.value c.self.inside.frame.kind items c.args.frame c.index_mut.result.now c.set_temp-2.new.self c.requires.from within
+          (rw (← c.index_mut.ensures.value) c.set_temp-2.ensures.ok) (rw (← c.index_mut.ensures.value) c.set_temp-2.ensures.err) c.self.invariant.2,
+    )
+
+pub returns-clause-ok : goal.returns-clause-ok
+returns-clause-ok g c =
+    let items = c.self.inside.below.items in
+    let within : c.args.frame ≤ length items = omega (arith, length-reverse items, ap (λ t. length t.thread.below) c.self.view_is) in
+    rw (← c.self.view_is)
+    (temp_along c.set_temp-2.result c.self.inside.frame items c.self.inside.previous c.args.frame c.index_mut.result.now c.args.name.now c.requires.from within
+    c.args.value c.set_temp-2.new.self (rw (← c.index_mut.ensures.value) c.set_temp-2.ensures.ok))
+
+pub returns-clause-memory : goal.returns-clause-memory
+returns-clause-memory g c =
+    let items = c.self.inside.below.items in
+    let within : c.args.frame ≤ length items = omega (arith, length-reverse items, ap (λ t. length t.thread.below) c.self.view_is) in
+    rw (← c.self.view_is)
+    (memory_along c.set_temp-2.result c.self.inside.frame items c.self.inside.previous c.args.frame c.index_mut.result.now c.args.name.now c.requires.from within
+    (rw (← c.index_mut.ensures.value) c.set_temp-2.ensures.memory))
+
+pub returns-clause-back : goal.returns-clause-back
+returns-clause-back g c =
+    let items = c.self.inside.below.items in
+    let within : c.args.frame ≤ length items = omega (arith, length-reverse items, ap (λ t. length t.thread.below) c.self.view_is) in
+    rw (← c.self.view_is)
+    (IfOk-weaker c.set_temp-2.result _ _
+    (λ was back.
+    unframed_below (temp_back was.0 was.1) c.self.inside.frame items c.self.inside.previous c.args.frame c.index_mut.result.now c.set_temp-2.new.self c.requires.from within
+    (back ∙ c.index_mut.ensures.value))
+    c.set_temp-2.ensures.back)

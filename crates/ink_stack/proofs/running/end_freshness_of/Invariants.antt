@@ -1,0 +1,15 @@
+use Rattle.std.proofs.Common.{◌≡◌, ◌≤◌, length, reverse}
+use Rattle.ink_model.specs.Threads.{stale_run}
+use Rattle.ink_stack.proofs.Quietness.{QuietSoFar}
+use Rattle.ink_stack.proofs.Runs.{run_at}
+use Rattle.ink_stack.proofs.running.end_freshness_of.Given as goal
+
+abbrev pub invariant-loop-count : goal.invariant-loop-count
+invariant-loop-count g l = record {
+  within : l.count ≤ length l.frames;
+  run : run_at l.depth l.count l.frames ≡ stale_run l.depth (reverse l.initial.frames);
+  quiet : QuietSoFar l.count l.frames l.quiet;
+}
+
+abbrev pub decreases-loop-count : goal.decreases-loop-count
+decreases-loop-count g l = l.count

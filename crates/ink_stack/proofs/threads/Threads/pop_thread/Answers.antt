@@ -1,0 +1,28 @@
+use Rattle.std.proofs.Common.{◌≡◌, ◌∙◌, ◌+◌, ◌≤◌, [], ◌∷◌, ap, arith, length, refl, sym, vec_capacity}
+use Rattle.std.proofs.lemmas.List.{length-append}
+use Rattle.ink_trail.proofs.Undoing.{trails-unmarked}
+use Rattle.ink_trail.specs.Undo.{trail_of}
+use Rattle.ink_stack.specs.Running.{threads_in}
+use Rattle.ink_stack.specs.Undo.{Rooms, threads_back}
+use Rattle.ink_stack.proofs.Backs.{stood-of}
+use Rattle.ink_stack.proofs.Holding.{held-next, held-now, held-unmarked}
+use Rattle.ink_stack.proofs.threads.Threads.pop_thread.Goals as goal
+
+pub invariant_of-self-2 : goal.invariant_of-self-2
+invariant_of-self-2 g c =
+    let items = c.self.inside.below.items in
+    let rest = c.pop.new.self.items in
+    let r : Rooms = record { frames = c.self.inside.running.room; threads = vec_capacity c.self.inside.below } in
+    let now = held-now r (trail_of c.self.inside.trail.undo) (threads_in c.self.inside.running items) c.self.invariant.1 in
+    let whole = c.in-Some.ensures.items in
+    let fewer : length items ≡ length rest + 1 = ap length whole ∙ length-append rest (c.in-Some.next ∷ []) in
+    let more : vec_capacity c.self.inside.below ≤ vec_capacity c.pop.new.self = omega (arith, c.pop.ensures.capacity) in
+    let held = held-next r c.self.inside.running c.run.result c.in-Some.next rest items (vec_capacity c.pop.new.self) whole c.run.ensures.within more now in
+    let s : Rooms = record { frames = c.run.result.room; threads = vec_capacity c.pop.new.self } in
+    (omega (arith, fewer, c.self.invariant.0), held-unmarked c.self.inside.trail.undo s (threads_in c.run.result rest) (sym c.is_marked.ensures ∙ c.if-is_marked.false) held)
+
+pub returns-clause-trail : goal.returns-clause-trail
+returns-clause-trail g c = rw (← c.self.view_is) (trails-unmarked threads_back 1 _ _ _ _ (sym c.is_marked.ensures ∙ c.if-is_marked.false) (refl, omega arith))
+
+pub returns-clause-stood : goal.returns-clause-stood
+returns-clause-stood g c = stood-of 1 _ _ (returns-clause-trail g c)

@@ -1,0 +1,46 @@
+use Rattle.std.proofs.Common.{◌≡◌, ◌∙◌, ◌+◌, ◌≤◌, [], ◌∷◌, ap, arith, length, vec_capacity}
+use Rattle.std.proofs.lemmas.List.{length-append}
+use Rattle.ink_trail.proofs.Undoing.{trails-one}
+use Rattle.ink_trail.specs.Undo.{trail_of}
+use Rattle.ink_stack.specs.Running.{threads_in}
+use Rattle.ink_stack.specs.Undo.{Rooms, threads_back}
+use Rattle.ink_stack.specs.declared.undo.ThreadsPair.TheVariants.{ThreadPopped}
+use Rattle.ink_stack.proofs.Backs.{stood-of, thread-popped-back}
+use Rattle.ink_stack.proofs.Holding.{held-next, held-now, held-with}
+use Rattle.ink_stack.proofs.threads.Threads.pop_thread_marked.Given.{Over}
+use Rattle.ink_stack.proofs.threads.Threads.pop_thread_marked.Goals.{After-note}
+use Rattle.ink_stack.proofs.threads.Threads.pop_thread_marked.Goals as goal
+
+-- the top thread comes back, and the next one lies below it again
+back : (g : Over) (c : After-note g) → threads_back (ThreadPopped c.replace-top.result) (threads_in c.run.result c.pop.new.self.items)
+    ≡ threads_in c.self.inside.running c.self.inside.below.items
+back g c =
+    thread-popped-back c.replace-top.result c.run.result c.in-Some.next c.pop.new.self.items c.self.inside.below.items c.run.ensures.thread c.in-Some.ensures.items
+    ∙ ap (λ v. threads_in v c.self.inside.below.items) c.replace-top.ensures.value
+
+pub invariant_of-self-2 : goal.invariant_of-self-2
+invariant_of-self-2 g c =
+    let items = c.self.inside.below.items in
+    let rest = c.pop.new.self.items in
+    let r : Rooms = record { frames = c.self.inside.running.room; threads = vec_capacity c.self.inside.below } in
+    let now = held-now r (trail_of c.self.inside.trail.undo) (threads_in c.self.inside.running items) c.self.invariant.1 in
+    let whole = c.in-Some.ensures.items in
+    let fewer : length items ≡ length rest + 1 = ap length whole ∙ length-append rest (c.in-Some.next ∷ []) in
+    let more : vec_capacity c.self.inside.below ≤ vec_capacity c.pop.new.self = omega (arith, c.pop.ensures.capacity) in
+    let held = held-next r c.self.inside.running c.run.result c.in-Some.next rest items (vec_capacity c.pop.new.self) whole c.run.ensures.within more now in
+    let s : Rooms = record { frames = c.run.result.room; threads = vec_capacity c.pop.new.self } in
+    let frames : c.self.inside.running.room ≤ c.replace-top.result.room = omega (arith, ap (λ v. v.room) c.replace-top.ensures.value) in
+    rw (c.note.ensures.undo, c.replace-top.ensures.after) (
+      omega (arith, fewer, c.self.invariant.0),
+      held-with (ThreadPopped c.replace-top.result) 1 (threads_in c.self.inside.running items) (threads_in c.run.result rest) c.self.inside.trail.undo r s
+          (back g (goal.at.invariant_of-self-2 g c).After-note) held (record { frames = frames; threads = more }) c.self.invariant.1,
+    )
+
+pub returns-clause-trail : goal.returns-clause-trail
+returns-clause-trail g c =
+    rw (← c.self.view_is, c.replace-top.ensures.after)
+    (trails-one threads_back (ThreadPopped c.replace-top.result) 1 (threads_in c.self.inside.running c.self.inside.below.items) _ _ _ (omega arith)
+    (back g (goal.at.returns-clause-trail g c).After-note) c.note.ensures.undo c.note.ensures.room)
+
+pub returns-clause-stood : goal.returns-clause-stood
+returns-clause-stood g c = stood-of 1 _ _ (returns-clause-trail g c)

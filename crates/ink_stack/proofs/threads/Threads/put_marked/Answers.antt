@@ -1,0 +1,29 @@
+use Rattle.std.proofs.Common.{arith, reverse, vec_capacity, refl}
+use Rattle.ink_trail.proofs.Undoing.{trails-one}
+use Rattle.ink_trail.specs.Undo.{trail_of}
+use Rattle.ink_model.specs.Frames.{put_in}
+use Rattle.ink_stack.specs.Running.{threads_in}
+use Rattle.ink_stack.specs.Undo.{Rooms, threads_back}
+use Rattle.ink_stack.specs.declared.undo.ThreadsPair.TheVariants.{Placed}
+use Rattle.ink_stack.proofs.Backs.{placed-back}
+use Rattle.ink_stack.proofs.Holding.{held-now, held-top, more-refl, within-same}
+use Rattle.ink_stack.proofs.threads.Threads.put_marked.Goals as goal
+
+pub invariant_of-self : goal.invariant_of-self
+invariant_of-self g c =
+    let v = c.self.inside.running in
+    let ts = threads_in v c.self.inside.below.items in
+    let u = c.self.inside.trail.undo in
+    let r : Rooms = record { frames = v.room; threads = vec_capacity c.self.inside.below } in
+    let now = held-now r (trail_of u) ts c.self.invariant.1 in
+    rw (c.note.ensures.undo, c.put.ensures) (
+      c.self.invariant.0,
+      held-top (Placed c.place-left.result) 1 v.thread (put_in c.args.place v.thread) ts.below u r (placed-back ts c.args.place c.place-left.result c.place-left.ensures)
+          (within-same v.room v.thread (put_in c.args.place v.thread) refl refl now.thread) (more-refl r) c.self.invariant.1,
+    )
+
+pub returns-clause-trail : goal.returns-clause-trail
+returns-clause-trail g c =
+    let ts = threads_in c.self.inside.running c.self.inside.below.items in
+    rw (← c.self.view_is, c.put.ensures)
+    (trails-one threads_back (Placed c.place-left.result) 1 _ _ _ _ (omega arith) (placed-back ts c.args.place c.place-left.result c.place-left.ensures) c.note.ensures.undo c.note.ensures.room)

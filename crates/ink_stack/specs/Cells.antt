@@ -1,0 +1,64 @@
+-- What cells of a thread held, put back.
+use Rattle.std.specs.Prelude.{◌≤◌, ◌<◌, ◌+◌, ℕ, zero, suc, List, [], ◌∷◌, length, remove, nat_eq, Bool, true, false, if◌then◌else◌, Option, Some, None}
+use Rattle.ink_model.specs.Bases.{BaseFirst}
+use Rattle.ink_model.specs.Frames.{FrameOf, ThreadOf}
+use Rattle.ink_model.specs.Store.{Values}
+use Rattle.ink_model.specs.Threads.{changed, frame_count}
+use Rattle.ink_model.specs.declared.limits.TheConstants.{MAX_FRAMES}
+use Rattle.ink_model.specs.declared.value.Value.{Value}
+
+-- ---- temporaries
+
+-- another value in the row at an index
+abbrev pub value_at : ℕ → Value → Values → Values
+value_at i v [] = []
+value_at zero v (r ∷ rs) = (r.0, v) ∷ rs
+value_at (suc i) v (r ∷ rs) = r ∷ value_at i v rs
+
+-- the row at an index holds what it held; where that was nothing it goes
+abbrev pub temps_back : ℕ → Option Value → Values → Values
+temps_back i None rows = remove rows i
+temps_back i (Some v) rows = value_at i v rows
+
+module _ {P : Type 0} where
+  -- ---- frames
+
+  abbrev pub with_fresh : Bool → FrameOf P → FrameOf P
+  with_fresh b f = record f { fresh = b }
+
+  abbrev pub temp_back : ℕ → Option Value → FrameOf P → FrameOf P
+  temp_back i o f = record f { temps = temps_back i o f.temps }
+
+  -- a test of a frame that there may be
+  abbrev pub holds_of : (FrameOf P → Bool) → Option (FrameOf P) → Bool
+  holds_of test None = false
+  holds_of test (Some f) = test f
+
+  -- ---- a thread
+
+  -- with a change of the frame of a number, which the bottom one has as 1
+  abbrev pub with_frame : (FrameOf P → FrameOf P) → ℕ → ThreadOf P → ThreadOf P
+  with_frame change n t = if nat_eq n (frame_count t) then record t { frame = change t.frame } else record t { below = changed change n t.below }
+
+  abbrev pub previous_back : Option P → ThreadOf P → ThreadOf P
+  previous_back p t = record t { previous = p }
+
+  abbrev pub number_back : Option ℕ → ThreadOf P → ThreadOf P
+  number_back n t = record t { frame = record t.frame { enter = n } }
+
+  abbrev pub unpushed_to : List (FrameOf P) → ThreadOf P → ThreadOf P
+  unpushed_to [] t = t
+  unpushed_to (f ∷ fs) t = record t { frame = f; below = fs }
+
+  -- without the top frame, where there is one below
+  abbrev pub unpushed : ThreadOf P → ThreadOf P
+  unpushed t = unpushed_to t.below t
+
+  abbrev pub unpopped : FrameOf P → ThreadOf P → ThreadOf P
+  unpopped f t = record t { frame = f; below = t.frame ∷ t.below }
+
+  -- its frames are within their limit and within a room, and the bottom one alone is the base
+  pub record Within (room : ℕ) (t : ThreadOf P) : Type 0 where
+    pub few : length t.below < MAX_FRAMES
+    pub fit : length t.below ≤ room
+    pub base : BaseFirst t.frame.kind t.below

@@ -1,0 +1,13 @@
+-- The thread that runs, as contracts see it.
+use Rattle.std.specs.Prelude.{ℕ, List, reverse}
+use Rattle.ink_model.specs.Frames.{ThreadOf, ThreadsOf}
+
+-- its frames and its previous place, and how many frames below the top one fit without memory
+pub record RunningView (P : Type 0) : Type 0 where
+  pub thread : ThreadOf P
+  pub room : ℕ
+
+module _ {P : Type 0} where
+  -- it and those below it, which are listed with the nearest last
+  abbrev pub threads_in : RunningView P → List (ThreadOf P) → ThreadsOf P
+  threads_in t below = record { thread = t.thread; below = reverse below }

@@ -1,0 +1,393 @@
+//! The thread that runs.
+
+ghost use Rattle.std.specs.Prelude.{◌≡◌, ◌≢◌, ◌⊎◌, [], ◌∷◌, ◌<◌, ◌≤◌, ◌+◌, None, true, length, map, option_map, reverse, IfOk, OnOk, OnErr};
+ghost use Rattle.std.specs.Bool.{OnTrue, OnFalse};
+ghost use Rattle.ink_model.specs.Bases.{BaseFirst};
+ghost use Rattle.ink_model.specs.Frames.{base_frame, fresh_depth, frame_numbered, gone, is_function, mode_in, put_in, unnumbered_frame, unnumbered_thread};
+ghost use Rattle.ink_model.specs.declared.limits.TheConstants.{MAX_FRAMES};
+ghost use Rattle.ink_model.specs.Threads.{frame_count, number_in, popped, pushed, stale, stale_run, staled, temp_in, with_temp};
+ghost use Rattle.ink_stack.specs.Calls.{frame_kind};
+ghost use Rattle.ink_stack.specs.Cells.{Within, holds_of, number_back, previous_back, temp_back, unpopped, unpushed, with_frame, with_fresh};
+ghost use Rattle.ink_stack.specs.Quiet.{is_quiet};
+ghost use Rattle.ink_stack.specs.Words.{Changes, Grows};
+
+use crate::frame::{CallKind, Frame};
+use ink_model::{Fault, FrameKind, MAX_FRAMES, Value};
+use std::alloc::{AllocError, Global};
+use std::marker::Model;
+use std::mem;
+
+/// The thread that runs: frames, of which there is always one on top and the bottom one alone is the base, and the place from
+/// which flow last moved in it. A contract sees the thread, its frames below the top one with the nearest first, and how many
+/// such frames fit without memory.
+///
+/// `quiet` says that of the function frames that are nearest below the top one none is fresh, so that a text need not look at
+/// them.
+#[derive(Drop)]
+pub struct Running<P> {
+    pub(crate) frame: Frame<P>,
+    pub(crate) below: Vec<Frame<P>>,
+    pub(crate) previous: Option<P>,
+    pub(crate) quiet: bool,
+    pub(crate) alloc: Global,
+}
+
+impl<P> Model for Running<P> {
+    ghost use Rattle.std.specs.Prelude.{◌≡◌, reverse, ◌<◌, length, true, vec_capacity};
+    ghost use Rattle.ink_model.specs.Bases.{BaseFirst};
+    ghost use Rattle.ink_model.specs.declared.limits.TheConstants.{MAX_FRAMES};
+    ghost use Rattle.ink_stack.specs.Quiet.{is_quiet};
+    ghost use Rattle.ink_stack.specs.Running.{RunningView};
+
+    ghost Value = { RunningView P };
+
+    ghost view = { λ t. record {
+      thread = record { frame = t.frame; below = reverse t.below.items; previous = t.previous };
+      room = vec_capacity t.below;
+    } };
+
+    ghost invariant = { λ t. (length t.below.items < MAX_FRAMES) × (t.quiet ≡ true → is_quiet (reverse t.below.items) ≡ true) × BaseFirst t.frame.kind (reverse t.below.items) };
+}
+
+impl<P: Copy> Running<P> {
+    /// One base frame, which takes no memory.
+    pub(crate) fn new(alloc: Global, place: Option<P>) -> Running<P>
+        ensures { result.thread ≡ record { frame = base_frame place; below = []; previous = None } }
+    {
+        Running {
+            frame: Frame::new(alloc, FrameKind::Base, place, 0),
+            below: Vec::new(alloc),
+            previous: None,
+            quiet: true,
+            alloc,
+        }
+    }
+
+    /// How many frames there are, 1,000 at the most; the bottom one alone is the base.
+    pub fn frames(&self) -> usize
+        ensures count { result ≡ frame_count self.now.thread }
+        ensures most { result ≤ MAX_FRAMES }
+        ensures base { BaseFirst self.now.thread.frame.kind self.now.thread.below }
+    {
+        self.below.len() + 1
+    }
+
+    /// Where the top frame is; none where flow has stopped.
+    pub fn place(&self) -> Option<P>
+        ensures { result ≡ self.now.thread.frame.place }
+    {
+        self.frame.place()
+    }
+
+    /// The place from which flow last moved in this thread; none where it has not moved.
+    pub fn previous(&self) -> Option<P>
+        ensures { result ≡ self.now.thread.previous }
+    {
+        self.previous
+    }
+
+    /// What the top frame was pushed for.
+    pub fn kind(&self) -> FrameKind
+        ensures { result ≡ self.now.thread.frame.kind }
+    {
+        self.frame.kind()
+    }
+
+    /// Whether the top frame is in evaluation mode.
+    pub fn is_evaluating(&self) -> bool
+        ensures { result ≡ self.now.thread.frame.evaluating }
+    {
+        self.frame.is_evaluating()
+    }
+
+    /// The number of the top frame's mark on this line, where it has one.
+    pub fn number(&self) -> Option<u64>
+        ensures { result ≡ self.now.thread.frame.enter }
+    {
+        self.frame.number()
+    }
+
+    /// How many sections are open below the one in which the top frame is a fresh function; none where it is no such
+    /// function.
+    pub fn fresh_depth(&self) -> Option<usize>
+        ensures { result ≡ fresh_depth self.now.thread.frame }
+    {
+        self.frame.fresh_depth()
+    }
+
+    /// A copy. The one error is a refused request for memory, which a frame alone without temporaries never makes.
+    pub(crate) fn clone_in(&self, alloc: Global) -> Result<Running<P>, AllocError>
+        ensures copy { IfOk result (λ copy. copy.thread ≡ self.now.thread) }
+        ensures memory { OnErr result ((self.now.thread.frame.temps ≢ []) ⊎ (self.now.thread.below ≢ [])) }
+    {
+        let frame = self.frame.clone_in(alloc)?;
+        let below = copied_frames(alloc, self.below.as_slice())?;
+        Ok(Running {
+            frame,
+            below,
+            previous: self.previous,
+            quiet: self.quiet,
+            alloc,
+        })
+    }
+
+    pub(crate) fn go(&mut self, place: Option<P>)
+        ensures { self.new ≡ record self.old { thread = gone place self.old.thread } }
+    {
+        self.previous = self.frame.place();
+        self.frame.put(place);
+    }
+
+    pub(crate) fn put(&mut self, place: Option<P>)
+        ensures { self.new ≡ record self.old { thread = put_in place self.old.thread } }
+    {
+        self.frame.put(place);
+    }
+
+    pub(crate) fn set_mode(&mut self, evaluating: bool)
+        ensures { self.new ≡ record self.old { thread = mode_in evaluating self.old.thread } }
+    {
+        self.frame.set_mode(evaluating);
+    }
+
+    pub(crate) fn set_number(&mut self, number: u64)
+        ensures { self.new ≡ record self.old { thread = number_in number self.old.thread } }
+    {
+        self.frame.set_number(Some(number));
+    }
+
+    pub(crate) fn clear_numbers(&mut self)
+        ensures { self.new ≡ record self.old { thread = unnumbered_thread self.old.thread } }
+    {
+        self.frame.set_number(None);
+        clear_numbers_of(self.below.as_mut_slice());
+    }
+
+    pub(crate) fn end_freshness(&mut self, depth: usize)
+        ensures { self.new ≡ record self.old { thread = staled depth self.old.thread } }
+    {
+        self.frame.end_freshness(depth);
+        if !self.quiet {
+            self.quiet = end_freshness_of(self.below.as_mut_slice(), depth);
+        }
+    }
+
+    pub(crate) fn push(&mut self, kind: CallKind, depth: usize) -> Result<(), Fault>
+        ensures thread { Grows (pushed (frame_kind kind) depth self.old.thread) self.old.thread self.new.thread result }
+        ensures room { self.old.room ≤ self.new.room }
+    {
+        if self.frames() >= MAX_FRAMES {
+            return Err(Fault::TooDeep);
+        }
+        if self.below.reserve(1).is_err() {
+            return Err(Fault::OutOfMemory);
+        }
+        let frame = Frame::new(self.alloc, kind.frame_kind(), self.frame.place(), depth);
+        let caller = mem::replace(&mut self.frame, frame);
+        self.quiet = !caller.is_function() || !caller.is_fresh() && self.quiet;
+        self.below.push(caller).unwrap();
+        Ok(())
+    }
+
+    // Pops a frame, and hands it out.
+    pub(crate) fn pop(&mut self, kind: FrameKind, depth: usize) -> Result<Frame<P>, Fault>
+        ensures thread { Changes (popped kind depth self.old.thread) self.old.thread self.new.thread result }
+        ensures frame { IfOk result (λ frame. frame ≡ self.old.thread.frame) }
+        ensures room { self.new.room ≡ self.old.room }
+    {
+        if !self.frame.is(kind) || self.below.is_empty() {
+            return Err(Fault::BadPop);
+        }
+        if self.frame.depth() != depth {
+            return Err(Fault::BadMode);
+        }
+        match self.below.pop() {
+            Some(caller) => {
+                self.quiet = caller.is_function() && self.quiet;
+                Ok(mem::replace(&mut self.frame, caller))
+            }
+            None => Err(Fault::BadPop),
+        }
+    }
+
+    /// What a frame has by a name; none where there is no such frame or name.
+    pub(crate) fn temp(&self, frame: usize, name: &str) -> Option<&Value>
+        ensures { option_map (λ value. value.now) result ≡ temp_in frame name.now self.now.thread }
+    {
+        match self.frame_numbered(frame) {
+            Some(frame) => frame.temp(name),
+            None => None,
+        }
+    }
+
+    // A frame by its number, which the bottom one has as 1.
+    fn frame_numbered(&self, number: usize) -> Option<&Frame<P>>
+        ensures { option_map (λ frame. frame.now) result ≡ frame_numbered number (self.now.thread.frame ∷ self.now.thread.below) }
+    {
+        if number == self.frames() {
+            return Some(&self.frame);
+        }
+        if number == 0 || number > self.frames() {
+            return None;
+        }
+        Some(&self.below[number - 1])
+    }
+
+    // Gives a temporary a value, and answers the index of its row and what that held; none where it is new.
+    pub(crate) fn set_temp(
+        &mut self,
+        frame: usize,
+        name: &str,
+        value: Value,
+    ) -> Result<(usize, Option<Value>), AllocError>
+        requires from { 0 < frame }
+        requires there { frame ≤ frame_count self.old.thread }
+        ensures ok { OnOk result (self.new.thread ≡ with_temp frame name.now value self.old.thread) }
+        ensures err { OnErr result (self.new.thread ≡ self.old.thread) }
+        ensures room { self.new.room ≡ self.old.room }
+        ensures memory { OnErr result (temp_in frame name.now self.old.thread ≡ None) }
+        ensures back { IfOk result (λ was. with_frame (temp_back was.0 was.1) frame self.new.thread ≡ self.old.thread) }
+    {
+        if frame == self.frames() {
+            return self.frame.set_temp(name, value);
+        }
+        self.below[frame - 1].set_temp(name, value)
+    }
+
+    // ---- what a mark needs
+
+    // What is true of each.
+    #[inline(always)]
+    pub(crate) fn within(&self)
+        ensures { Within self.now.room self.now.thread }
+    {
+        let _ = &self.below;
+    }
+
+    // Whether the frame of a number is a function.
+    pub(crate) fn is_function(&self, number: usize) -> bool
+        ensures { result ≡ holds_of (λ f. is_function f.kind) (frame_numbered number (self.now.thread.frame ∷ self.now.thread.below)) }
+    {
+        match self.frame_numbered(number) {
+            Some(frame) => frame.is_function(),
+            None => false,
+        }
+    }
+
+    // A text is written where so many sections are open: the frame of a number is fresh no more if it was pushed there. Whether
+    // it was fresh until then.
+    pub(crate) fn end_one(&mut self, number: usize, depth: usize) -> bool
+        requires from { 0 < number }
+        requires there { number ≤ frame_count self.old.thread }
+        ensures running { self.new ≡ record self.old { thread = with_frame (stale depth) number self.old.thread } }
+        ensures ended { OnTrue result (with_frame (with_fresh true) number self.new.thread ≡ self.old.thread) }
+        ensures kept { OnFalse result (self.new.thread ≡ self.old.thread) }
+    {
+        self.quiet = false;
+        if number == self.below.len() + 1 {
+            return self.frame.end_one(depth);
+        }
+        self.below[number - 1].end_one(depth)
+    }
+
+    pub(crate) fn put_previous_back(&mut self, previous: Option<P>)
+        ensures { self.new ≡ record self.old { thread = previous_back previous self.old.thread } }
+    {
+        self.previous = previous;
+    }
+
+    pub(crate) fn put_number_back(&mut self, number: Option<u64>)
+        ensures { self.new ≡ record self.old { thread = number_back number self.old.thread } }
+    {
+        self.frame.set_number(number);
+    }
+
+    // The frame of a number is fresh again.
+    pub(crate) fn freshen(&mut self, number: usize)
+        ensures { self.new ≡ record self.old { thread = with_frame (with_fresh true) number self.old.thread } }
+    {
+        if number == self.below.len() + 1 {
+            self.frame.freshen();
+            return;
+        }
+        if 0 < number && number <= self.below.len() {
+            self.quiet = false;
+            self.below[number - 1].freshen();
+        }
+    }
+
+    // The row at an index of a frame's temporaries holds what it held; where that was nothing it goes.
+    pub(crate) fn put_temp_back(&mut self, number: usize, index: usize, was: Option<Value>)
+        ensures { self.new ≡ record self.old { thread = with_frame (temp_back index was) number self.old.thread } }
+    {
+        if number == self.below.len() + 1 {
+            self.frame.put_temp_back(index, was);
+            return;
+        }
+        if 0 < number && number <= self.below.len() {
+            self.quiet = false;
+            self.below[number - 1].put_temp_back(index, was);
+        }
+    }
+
+    // The frame that was pushed goes.
+    pub(crate) fn unpush(&mut self)
+        ensures { self.new ≡ record self.old { thread = unpushed self.old.thread } }
+    {
+        if let Some(caller) = self.below.pop() {
+            self.quiet = false;
+            self.frame = caller;
+        }
+    }
+
+    // The frame that was popped is on top again.
+    pub(crate) fn unpop(&mut self, frame: Frame<P>)
+        requires { Within self.old.room (unpopped frame self.old.thread) }
+        ensures { self.new ≡ record self.old { thread = unpopped frame self.old.thread } }
+    {
+        self.quiet = false;
+        let caller = mem::replace(&mut self.frame, frame);
+        self.below.push_reserved(caller);
+    }
+}
+
+/// Copies of frames. The one error is a refused request for memory.
+fn copied_frames<P: Copy>(alloc: Global, frames: &[Frame<P>]) -> Result<Vec<Frame<P>>, AllocError>
+    ensures copy { IfOk result (λ copies. copies.items ≡ frames.now) }
+    ensures memory { OnErr result (frames.now ≢ []) }
+{
+    let mut copies = Vec::new(alloc);
+    for frame in frames {
+        copies.push(frame.clone_in(alloc)?)?;
+    }
+    Ok(copies)
+}
+
+/// A text is written where so many sections are open: of the function frames that come last here, those that were pushed
+/// there are fresh no more. Whether none of them is fresh then.
+fn end_freshness_of<P: Copy>(frames: &mut [Frame<P>], depth: usize) -> bool
+    ensures run { reverse frames.new ≡ stale_run depth (reverse frames.old) }
+    ensures quiet { result ≡ is_quiet (reverse frames.new) }
+{
+    let mut quiet = true;
+    let mut count = frames.len();
+    while count > 0 {
+        count -= 1;
+        let frame = &mut frames[count];
+        if !frame.is_function() {
+            return quiet;
+        }
+        frame.end_freshness(depth);
+        quiet &= !frame.is_fresh();
+    }
+    quiet
+}
+
+/// No frame has the number of its mark any more.
+fn clear_numbers_of<P: Copy>(frames: &mut [Frame<P>])
+    ensures { frames.new ≡ map unnumbered_frame frames.old }
+{
+    for frame in frames {
+        frame.set_number(None);
+    }
+}

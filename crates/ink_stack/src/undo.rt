@@ -1,0 +1,136 @@
+//! How changes of frames and threads are put back.
+
+ghost use Rattle.std.specs.Prelude.{◌≡◌, ◌≤◌, ◌<◌, ◌+◌, length, vec_capacity};
+ghost use Rattle.ink_model.specs.Threads.{frame_count, stale, staled};
+ghost use Rattle.ink_stack.specs.Cells.{with_frame};
+ghost use Rattle.ink_stack.specs.Running.{threads_in};
+ghost use Rattle.ink_stack.specs.Undo.{Held, More, StaysHeld, rooms_of, threads_back};
+ghost use Rattle.ink_trail.specs.Undo.{Trails, spare, trail_of, undone, writes_of};
+
+use crate::frame::Frame;
+use crate::running::Running;
+use crate::thread::Thread;
+use ink_model::Value;
+use ink_trail::Trail;
+use std::mem;
+
+/// A cell of the frames and threads, and what it held. Where no frame is named it is the top one's.
+#[derive(Drop)]
+pub enum ThreadsPair<P> {
+    /// The place.
+    Placed(Option<P>),
+    /// The previous place.
+    Previous(Option<P>),
+    /// Whether the frame was in evaluation mode.
+    Evaluating(bool),
+    /// The number of the frame's mark.
+    Numbered(Option<u64>),
+    /// The frame of this number was fresh.
+    Fresh(usize),
+    /// In the frame of the first number the row at an index; none where it was new.
+    Temp(usize, usize, Option<Value>),
+    FramePushed,
+    FramePopped(Frame<P>),
+    ThreadPushed,
+    ThreadPopped(Running<P>),
+    /// All threads.
+    Replaced(Running<P>, Vec<Thread<P>>),
+}
+
+/// A text is written where so many sections are open, and each frame that is fresh no more is noted.
+#[cold]
+#[inline(never)]
+pub(crate) fn end_freshness<P: Copy>(
+    running: &mut Running<P>,
+    below: &Vec<Thread<P>>,
+    trail: &mut Trail<ThreadsPair<P>>,
+    depth: usize,
+)
+    requires spare { frame_count running.old.thread ≤ spare trail.old }
+    requires held { StaysHeld (record { frames = running.old.room; threads = vec_capacity below.now }) (trail_of trail.old.undo) (threads_in running.old below.now.items) }
+    ensures running { running.new ≡ record running.old { thread = staled depth running.old.thread } }
+    ensures trail { Trails threads_back (frame_count running.old.thread) (threads_in running.old below.now.items) trail.old (threads_in running.new below.now.items) trail.new }
+    ensures held { StaysHeld (record { frames = running.new.room; threads = vec_capacity below.now }) (trail_of trail.new.undo) (threads_in running.new below.now.items) }
+{
+    let mut number = running.frames();
+    end_one(running, below, trail, number, depth);
+    number -= 1;
+    while number > 0 && running.is_function(number) {
+        end_one(running, below, trail, number, depth);
+        number -= 1;
+    }
+}
+
+/// The same of the frame of a number alone.
+fn end_one<P: Copy>(
+    running: &mut Running<P>,
+    below: &Vec<Thread<P>>,
+    trail: &mut Trail<ThreadsPair<P>>,
+    number: usize,
+    depth: usize,
+)
+    requires from { 0 < number }
+    requires there { number ≤ frame_count running.old.thread }
+    requires spare { 1 ≤ spare trail.old }
+    requires held { StaysHeld (record { frames = running.old.room; threads = vec_capacity below.now }) (trail_of trail.old.undo) (threads_in running.old below.now.items) }
+    ensures running { running.new ≡ record running.old { thread = with_frame (stale depth) number running.old.thread } }
+    ensures trail { Trails threads_back 1 (threads_in running.old below.now.items) trail.old (threads_in running.new below.now.items) trail.new }
+    ensures spare { spare trail.old ≤ spare trail.new + 1 }
+    ensures held { StaysHeld (record { frames = running.new.room; threads = vec_capacity below.now }) (trail_of trail.new.undo) (threads_in running.new below.now.items) }
+{
+    if running.end_one(number, depth) {
+        trail.note(ThreadsPair::Fresh(number), 1);
+    }
+}
+
+/// Puts each pair back, the last first, and answers how many there were.
+pub(crate) fn put_back<P: Copy>(
+    running: &mut Running<P>,
+    below: &mut Vec<Thread<P>>,
+    trail: &mut Trail<ThreadsPair<P>>,
+) -> u64
+    requires held { StaysHeld (record { frames = running.old.room; threads = vec_capacity below.old }) (trail_of trail.old.undo) (threads_in running.old below.old.items) }
+    ensures threads { threads_in running.new below.new.items ≡ undone threads_back (trail_of trail.old.undo) (threads_in running.old below.old.items) }
+    ensures held { Held (record { frames = running.new.room; threads = vec_capacity below.new }) (threads_in running.new below.new.items) }
+    ensures len { result ≡ length (trail_of trail.old.undo) }
+    ensures writes { result ≤ writes_of trail.old.undo }
+    ensures room { trail.old.room ≤ trail.new.room }
+{
+    let count = trail.len() as u64;
+    while let Some(pair) = trail.take_last() {
+        put_one_back(running, below, pair);
+    }
+    count
+}
+
+fn put_one_back<P: Copy>(
+    running: &mut Running<P>,
+    below: &mut Vec<Thread<P>>,
+    pair: ThreadsPair<P>,
+)
+    requires { Held (rooms_of pair (record { frames = running.old.room; threads = vec_capacity below.old })) (threads_back pair (threads_in running.old below.old.items)) }
+    ensures threads { threads_in running.new below.new.items ≡ threads_back pair (threads_in running.old below.old.items) }
+    ensures room { More (rooms_of pair (record { frames = running.old.room; threads = vec_capacity below.old })) (record { frames = running.new.room; threads = vec_capacity below.new }) }
+{
+    match pair {
+        ThreadsPair::Placed(place) => running.put(place),
+        ThreadsPair::Previous(place) => running.put_previous_back(place),
+        ThreadsPair::Evaluating(evaluating) => running.set_mode(evaluating),
+        ThreadsPair::Numbered(number) => running.put_number_back(number),
+        ThreadsPair::Fresh(number) => running.freshen(number),
+        ThreadsPair::Temp(number, index, was) => running.put_temp_back(number, index, was),
+        ThreadsPair::FramePushed => running.unpush(),
+        ThreadsPair::FramePopped(frame) => running.unpop(frame),
+        ThreadsPair::ThreadPushed => {
+            let _copy = below.pop();
+        }
+        ThreadsPair::ThreadPopped(top) => {
+            let under = mem::replace(running, top);
+            below.push_reserved(Thread { running: under });
+        }
+        ThreadsPair::Replaced(top, threads) => {
+            *running = top;
+            *below = threads;
+        }
+    }
+}
