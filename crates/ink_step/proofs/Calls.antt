@@ -1,5 +1,5 @@
 -- Calls of external functions: what they ask, and what they come to.
-use Rattle.std.proofs.Common.{◌≡◌, ◌∙◌, ◌⊎◌, ◌&&◌, ap, sym, refl, subst, inl, inr, ℕ, List, [], ◌∷◌, Bool, true, false, not, if◌then◌else◌, Option, Some, None, option_map, Result, Ok, Err}
+use Rattle.std.proofs.Common.{◌≤◌, arith, length, ◌≡◌, ◌∙◌, ◌⊎◌, ◌&&◌, ap, sym, refl, subst, inl, inr, ℕ, List, [], ◌∷◌, Bool, true, false, not, if◌then◌else◌, Option, Some, None, option_map, Result, Ok, Err}
 use Rattle.std.proofs.lemmas.List.{append-nil}
 use Rattle.std.specs.List.{list_all}
 use Rattle.ink_host.specs.Desk.{DeskView, Grew, Rows, at, binding, bound_by, kind_of, pure_of}
@@ -15,6 +15,9 @@ use Rattle.ink_model.specs.Events.{calls}
 use Rattle.ink_model.specs.Host.{Binding, pure_function, shares, turn_function}
 use Rattle.ink_model.specs.Memory.{given_asks}
 use Rattle.ink_model.specs.Place.{knot, landed}
+use Rattle.ink_model.specs.Stack.{popped}
+use Rattle.ink_model.specs.Step.Diverts.{condition, leaving_fields, truth_on}
+use Rattle.ink_model.specs.Value.{is_true}
 use Rattle.ink_model.specs.Step.Host.{Acts, Asks, CallEffect, answering, arguments_of, arguments_on, arguments_taken, ask_pure, call_bound, fall_back, has_string, is_argument, or_fails}
 use Rattle.ink_model.specs.Tree.{StoryTree}
 use Rattle.ink_model.specs.declared.fault.Fault.{Fault}
@@ -124,6 +127,39 @@ module _ (s : StoryTree) (n : ℕ) (o : Option Binding) (name : List ℕ) (k : �
 
   pub where_fault : (f : Fault) (new : Fields) → Err f ≡ x → Conditional x [] new (Err f)
   where_fault f new wanted = subst (λ y. Conditional y [] new (Err f)) wanted (refl, inl refl)
+
+-- what is left where a value is popped is no longer
+Below : List Value → Option (Value × List Value) → Type 0
+Below vs None = Unit {0}
+Below vs (Some r) = length r.1 ≤ length vs
+
+popped_below : (vs : List Value) → Below vs (popped vs)
+unfolding Below
+popped_below [] = tt
+popped_below (v ∷ []) = omega arith
+popped_below (v ∷ w ∷ vs) = on (popped (w ∷ vs)) (popped_below (w ∷ vs))
+  where
+    on : (o : Option (Value × List Value)) → Below (w ∷ vs) o → Below (v ∷ w ∷ vs) (option_map (λ r. (r.0, v ∷ r.1)) o)
+    on None h = tt
+    on (Some r) h = omega (arith, h)
+
+ok_same : (x y : Bool × Fields) → ◌≡◌ {A = Result (Bool × Fields) Fault} (Ok x) (Ok y) → x ≡ y
+ok_same x y h = cc
+
+-- a condition leaves no more than there was
+pub condition_below : (conditional : Bool) (b : Bool) (f new : Fields) → Ok (b, new) ≡ condition conditional f → length new.stack ≤ length f.stack
+unfolding Below
+condition_below true b f new h = on (popped f.stack) (popped_below f.stack) h
+  where
+    known : (r : Value × List Value) (x : Result Bool Fault) → Ok (b, new) ≡ leaving_fields (record f { stack = r.1 }) x → new.stack ≡ r.1
+    known r (Ok t) h = ap (λ p. p.1.stack) (ok_same (b, new) (t, record f { stack = r.1 }) h)
+    known r (Err g) h = absurd (cc)
+
+    on : (o : Option (Value × List Value)) → Below f.stack o → Ok (b, new) ≡ truth_on o f → length new.stack ≤ length f.stack
+    on None k h = absurd (cc)
+    on (Some r) k h = omega (arith, k, ap length (known r (is_true r.0) h))
+condition_below false b f new h =
+    omega (arith, ap (λ p. length p.1.stack) (ok_same (b, new) (true, f) h))
 
 -- ---- calls of turn functions
 

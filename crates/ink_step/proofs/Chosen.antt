@@ -1,5 +1,5 @@
 -- Choices over spots and over places; where they lead.
-use Rattle.std.proofs.Common.{◌≡◌, ◌∙◌, ap, sym, refl, subst, ℕ, zero, suc, List, [], ◌∷◌, map, Bool, true, false, ◌&&◌, if◌then◌else◌, slice_get, Option, Some, None, option_map, Ok, Err}
+use Rattle.std.proofs.Common.{◌≡◌, ◌∙◌, ◌⊎◌, inl, inr, ap, sym, refl, subst, is_some, ℕ, zero, suc, List, [], ◌∷◌, map, Bool, true, false, ◌&&◌, ◌||◌, if◌then◌else◌, slice_get, Option, Some, None, option_map, Ok, Err}
 use Rattle.ink_choice.proofs.Nth.{taken_visible}
 use Rattle.ink_choice.specs.Words.{Takes}
 use Rattle.ink_model.specs.Choices.{none_visible, only_invisible, taken, visible}
@@ -13,30 +13,33 @@ use Rattle.ink_model.specs.declared.fault.Fault.{Fault}
 use Rattle.ink_model.specs.declared.fault.Fault.TheVariants.{OutOfMemory}
 use Rattle.ink_model.specs.declared.fault.Refusal.TheVariants as refusal
 use Rattle.ink_model.specs.declared.place.Part.{Part}
+use Rattle.ink_step.specs.Marks.{Stood, marked_in}
 use Rattle.ink_step.specs.Steps.{Chooses, StepEnds}
-use Rattle.ink_step.specs.Words.{config_of, counts_in}
-use Rattle.ink_step.specs.declared.machine.Machine.{Machine}
-use Rattle.ink_tree.specs.Nodes.{place_of}
-use Rattle.ink_tree.specs.declared.spot.Spot.{Spot}
+use Rattle.ink_step.proofs.Follows.{ends_short, or_first, or_more}
 use Rattle.ink_step.specs.declared.flow.StepEnd.TheVariants as ends
 
 -- ---- what is taken
 
 module _ {P : Type 0} where
-  takes_first : (r : Option (ChoiceOf P × List (ChoiceOf P))) (old new : List (ChoiceOf P)) (x : ChoiceOf P) → Takes r old new (Some x) → option_map (λ r. r.0) r ≡ Some x
+  takes_first : (r : Option (ChoiceOf P × List (ChoiceOf P))) (old new : List (ChoiceOf P)) (x : ChoiceOf P) → Takes r old new (Ok (Some x)) → option_map (λ r. r.0) r ≡ Some x
   takes_first None old new x h = absurd h
   takes_first (Some r) old new x h = ap Some (sym h.0)
 
-  takes_some : (r : Option (ChoiceOf P × List (ChoiceOf P))) (old new : List (ChoiceOf P)) (x : ChoiceOf P) → option_map (λ r. r.0) r ≡ Some x → Takes r old new None → ⊥
+  takes_some : (r : Option (ChoiceOf P × List (ChoiceOf P))) (old new : List (ChoiceOf P)) (x : ChoiceOf P) → option_map (λ r. r.0) r ≡ Some x → Takes r old new (Ok None) → ⊥
   takes_some None old new x h t = absurd (cc)
   takes_some (Some r) old new x h t = t
 
   -- where there is an n-th visible one, it is taken
-  pub takes_visible : (n : ℕ) (cs new : List (ChoiceOf P)) (x y : ChoiceOf P) → Some x ≡ slice_get (visible cs) n → Takes (taken n cs) cs new (Some y) → Some y ≡ slice_get (visible cs) n
+  pub takes_visible : (n : ℕ) (cs new : List (ChoiceOf P)) (x y : ChoiceOf P) → Some x ≡ slice_get (visible cs) n → Takes (taken n cs) cs new (Ok (Some y)) → Some y ≡ slice_get (visible cs) n
   takes_visible n cs new x y h t = sym (takes_first (taken n cs) cs new y t) ∙ taken_visible n cs x (sym h) ∙ h
 
-  pub takes_any : (n : ℕ) (cs new : List (ChoiceOf P)) (x : ChoiceOf P) → Some x ≡ slice_get (visible cs) n → Takes (taken n cs) cs new None → ⊥
+  pub takes_any : (n : ℕ) (cs new : List (ChoiceOf P)) (x : ChoiceOf P) → Some x ≡ slice_get (visible cs) n → Takes (taken n cs) cs new (Ok None) → ⊥
   takes_any n cs new x h = takes_some (taken n cs) cs new x (taken_visible n cs x (sym h))
+
+  -- where memory was refused, nothing was taken
+  pub takes_short : (r : Option (ChoiceOf P × List (ChoiceOf P))) (old new : List (ChoiceOf P)) (f : Fault) → Takes r old new (Err f) → f ≡ OutOfMemory
+  takes_short None old new f h = h.0
+  takes_short (Some r) old new f h = h.0
 
   -- where none is visible, the first is
   first_taken : (cs : List (ChoiceOf P)) → none_visible cs ≡ true → option_map (λ r. r.0) (taken 0 cs) ≡ slice_get cs 0
@@ -78,7 +81,7 @@ module _ {P Q : Type 0} (f : P → Q) where
   pub no_default : (cs : List (ChoiceOf P)) → only_invisible cs ≡ false → default_choice (map (map_choice f) cs) ≡ None
   no_default cs h = ap (λ b. if b then option_map (λ r. r.0) (taken 0 (map (map_choice f) cs)) else None) (only_alike cs ∙ h)
 
-  pub is_default : (cs new : List (ChoiceOf P)) (x : ChoiceOf P) → only_invisible cs ≡ true → Takes (taken 0 cs) cs new (Some x) → default_choice (map (map_choice f) cs) ≡ Some (map_choice f x)
+  pub is_default : (cs new : List (ChoiceOf P)) (x : ChoiceOf P) → only_invisible cs ≡ true → Takes (taken 0 cs) cs new (Ok (Some x)) → default_choice (map (map_choice f) cs) ≡ Some (map_choice f x)
   is_default cs new x h t =
       let first : slice_get cs 0 ≡ Some x = sym (first_taken cs (none_of cs h)) ∙ takes_first (taken 0 cs) cs new x t in
       ap (λ b. if b then option_map (λ r. r.0) (taken 0 (map (map_choice f) cs)) else None) (only_alike cs ∙ h)
@@ -87,44 +90,65 @@ module _ {P Q : Type 0} (f : P → Q) where
 
 -- ---- where flow stops
 
-module _ (s : StoryTree) (old new : Configuration) (d : Option (ChoiceOf (List Part))) where
-  pub stays_stopped : d ≡ None → new ≡ old → StepEnds (default_asks s d old) (stopped_by s d old) old.shared.globals new (Ok ends.Stopped)
-  stays_stopped none is = subst (λ o. StepEnds (default_asks s o old) (stopped_by s o old) old.shared.globals new (Ok ends.Stopped)) (sym none) is
+module _ (s : StoryTree) (marked : Bool) (old new : Configuration) (d : Option (ChoiceOf (List Part))) where
+  pub stays_stopped : d ≡ None → new ≡ old → StepEnds (marked || default_asks s d old) (stopped_by s d old) old.shared.globals new (Ok ends.Stopped)
+  stays_stopped none is = subst (λ o. StepEnds (marked || default_asks s o old) (stopped_by s o old) old.shared.globals new (Ok ends.Stopped)) (sym none) is
+
+  -- memory was refused to the mark
+  pub short_marked : (fault : Fault) → fault ≡ OutOfMemory → marked ≡ true → new.shared.globals ≡ old.shared.globals
+      → StepEnds (marked || default_asks s d old) (stopped_by s d old) old.shared.globals new (Err fault)
+  short_marked fault short is same = ends_short (marked || default_asks s d old) (stopped_by s d old) old.shared.globals new fault (short, or_first marked (default_asks s d old) is) same
 
   module _ (x : ChoiceOf (List Part)) (some : d ≡ Some x) where
-    pub follows_default : new ≡ entering_around s (taken_up x old) → StepEnds (default_asks s d old) (stopped_by s d old) old.shared.globals new (Ok ends.Went)
-    follows_default is = subst (λ o. StepEnds (default_asks s o old) (stopped_by s o old) old.shared.globals new (Ok ends.Went)) (sym some) is
+    pub follows_default : new ≡ entering_around s (taken_up x old) → StepEnds (marked || default_asks s d old) (stopped_by s d old) old.shared.globals new (Ok ends.Went)
+    follows_default is = subst (λ o. StepEnds (marked || default_asks s o old) (stopped_by s o old) old.shared.globals new (Ok ends.Went)) (sym some) is
 
-    pub short_of_default : (fault : Fault) → fault ≡ OutOfMemory → entering_asks s (taken_up x old) ≡ true → new.shared.globals ≡ old.shared.globals
-        → StepEnds (default_asks s d old) (stopped_by s d old) old.shared.globals new (Err fault)
+    pub short_of_default : (fault : Fault) → fault ≡ OutOfMemory → (marked || entering_asks s (taken_up x old)) ≡ true → new.shared.globals ≡ old.shared.globals
+        → StepEnds (marked || default_asks s d old) (stopped_by s d old) old.shared.globals new (Err fault)
     short_of_default fault short adds same =
-        subst (λ o. StepEnds (default_asks s o old) (stopped_by s o old) old.shared.globals new (Err fault)) (sym some) ((short, adds), same)
+        subst (λ o. StepEnds (marked || default_asks s o old) (stopped_by s o old) old.shared.globals new (Err fault)) (sym some) ((short, adds), same)
 
 -- ---- where a host chooses
 
-module _ (s : StoryTree) (n : ℕ) (old new : Configuration) (stopped : can_go_on old ≡ false) where
+module _ (s : StoryTree) (marked : Bool) (n : ℕ) (old new : Configuration) (stopped : can_go_on old ≡ false) where
   pub open_is : open_choice n old ≡ slice_get (visible old.flow.choices) n
   open_is = ap (λ b. if b then None else slice_get (visible old.flow.choices) n) stopped
 
-  pub chooses_none : slice_get (visible old.flow.choices) n ≡ None → new ≡ old → Chooses s (open_choice n old) old new (Err refusal.NotAChoice)
-  chooses_none none is = subst (λ o. Chooses s o old new (Err refusal.NotAChoice)) (sym (open_is ∙ none)) (refl, is)
+  pub chooses_none : slice_get (visible old.flow.choices) n ≡ None → new ≡ old → Chooses s marked (open_choice n old) old new (Err refusal.NotAChoice)
+  chooses_none none is = subst (λ o. Chooses s marked o old new (Err refusal.NotAChoice)) (sym (open_is ∙ none)) (refl, is)
 
   module _ (x : ChoiceOf (List Part)) (some : slice_get (visible old.flow.choices) n ≡ Some x) where
-    pub chooses_one : new ≡ entering_around s (chosen x old) → Chooses s (open_choice n old) old new (Ok (tt {0}))
-    chooses_one is = subst (λ o. Chooses s o old new (Ok (tt {0}))) (sym (open_is ∙ some)) is
+    pub chooses_one : new ≡ entering_around s (chosen x old) → Chooses s marked (open_choice n old) old new (Ok (tt {0}))
+    chooses_one is = subst (λ o. Chooses s marked o old new (Ok (tt {0}))) (sym (open_is ∙ some)) is
 
-    pub chooses_short : entering_asks s (chosen x old) ≡ true → new ≡ old → Chooses s (open_choice n old) old new (Err refusal.OutOfMemory)
-    chooses_short adds is = subst (λ o. Chooses s o old new (Err refusal.OutOfMemory)) (sym (open_is ∙ some)) (refl, adds, is)
+    pub chooses_short : (marked || entering_asks s (chosen x old)) ≡ true → new ≡ old → Chooses s marked (open_choice n old) old new (Err refusal.OutOfMemory)
+    chooses_short adds is = subst (λ o. Chooses s marked o old new (Err refusal.OutOfMemory)) (sym (open_is ∙ some)) (refl, adds, is)
 
--- the machine whose flow a choice took up, after the containers around had been entered in the next turn
-module _ (s : StoryTree) (m : Machine) (x : ChoiceOf Spot) (cs : List (ChoiceOf Spot)) (counts : CountsOf ℕ) (turn : ℕ) where
-  abbrev up_in : ℕ → CountsOf (List Part) → Configuration
-  up_in t cts = taken_up (map_choice (place_of s) x) (record (config_of s m) { shared = record { globals = m.shared.globals.rows; counts = cts; turn = t } })
+-- the configuration that a choice took up, after the containers around had been entered in the next turn
+module _ (s : StoryTree) (x : ChoiceOf (List Part)) (old mid : Configuration) (same : mid ≡ old) (counts : CountsOf (List Part)) (turn : ℕ) where
+  abbrev up_in : Configuration → ℕ → CountsOf (List Part) → Configuration
+  up_in c t cts = taken_up x (record c { shared = record c.shared { counts = cts; turn = t } })
 
   abbrev entered_by : List (List Part)
-  entered_by = entered_places s (option_map (place_of s) x.thread.previous) (place_of s x.target)
+  entered_by = entered_places s x.thread.previous x.target
 
-  pub chosen_lands : (new : Machine) → config_of s new ≡ taken_up (map_choice (place_of s) x) (config_of s (record m { flow = record m.flow { choices = record { items = cs } }; shared = record m.shared { counts = record { rows = counts }; turn = turn } }))
-      → turn ≡ one_more m.shared.turn → counts_in s counts ≡ all_visited s turn entered_by (counts_in s m.shared.counts.rows)
-      → config_of s new ≡ entering_around s (chosen (map_choice (place_of s) x) (config_of s m))
-  chosen_lands new is next entering = is ∙ ap (up_in turn) entering ∙ ap (λ t. up_in t (all_visited s t entered_by (counts_in s m.shared.counts.rows))) next
+  pub chosen_lands : (new : Configuration) → new ≡ up_in mid turn counts → turn ≡ one_more mid.shared.turn → counts ≡ all_visited s turn entered_by mid.shared.counts
+      → new ≡ entering_around s (chosen x old)
+  chosen_lands new is next entering =
+      is ∙ ap (up_in mid turn) entering ∙ ap (λ t. up_in mid t (all_visited s t entered_by mid.shared.counts)) next
+      ∙ ap (λ c. up_in c (one_more c.shared.turn) (all_visited s (one_more c.shared.turn) entered_by c.shared.counts)) same
+
+-- ---- a mark that stands
+
+sixth : (a b c d e f g : Bool) → f ≡ true → a || (b || (c || (d || (e || (f || g))))) ≡ true
+sixth a b c d e f g h =
+    or_more a (b || (c || (d || (e || (f || g))))) (or_more b (c || (d || (e || (f || g)))) (or_more c (d || (e || (f || g))) (or_more d (e || (f || g)) (or_more e (f || g) (or_first f g h)))))
+
+-- in the counts
+pub marked_by_counts : (m : Stood) → is_some m.counts ≡ true → marked_in m ≡ true
+marked_by_counts m h = sixth (is_some m.own) (is_some m.threads) (is_some m.stack) (is_some m.choices) (is_some m.globals) (is_some m.counts) (is_some m.page) h
+
+-- memory was refused for a row, or while a mark stands
+pub asks_or_marked : (old mid : Stood) (asking : Bool) → mid ≡ old → (asking ≡ true) ⊎ (is_some mid.counts ≡ true) → marked_in old || asking ≡ true
+asks_or_marked old mid asking same (inl h) = or_more (marked_in old) asking h
+asks_or_marked old mid asking same (inr h) = or_first (marked_in old) asking (subst (λ m. marked_in m ≡ true) same (marked_by_counts mid h))

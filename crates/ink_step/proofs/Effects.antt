@@ -1,5 +1,5 @@
 -- What performing does where a call of it fails.
-use Rattle.std.proofs.Common.{◌≡◌, ap, sym, refl, subst, inl, inr, Result, Ok, Err, Bool, true}
+use Rattle.std.proofs.Common.{◌≡◌, ap, sym, refl, subst, inl, inr, Result, Ok, Err, Bool, true, false, ◌||◌}
 use Rattle.ink_model.specs.Effect.{Fields, Effect, Moves, Stores, Fails, or_fault}
 use Rattle.ink_model.specs.Memory.{Gives, Leaves}
 use Rattle.ink_model.specs.Tree.{StoryTree}
@@ -35,3 +35,15 @@ performs_more s asks (Fails g) new (Err f) h = elim h [ inl is ↦ inl is | inr 
 performs_more s asks (Stores t f) new (Ok (transfer.Store a)) h = (h.0, refl)
 performs_more s asks e new (Err f) h = (h.0, refl)
 performs_more s asks e new r h = h
+
+-- or where something else asks for it too
+pub performs_or : (s : StoryTree) (more asks : Bool) (e : Effect) (new : Fields) (r : Result Transfer Fault) → Performs s asks e new r → Performs s (more || asks) e new r
+performs_or s true asks e new r h = performs_more s asks e new r h
+performs_or s false asks e new r h = h
+
+-- The same where that is so of one that asks for less.
+pub performs_where : (s : StoryTree) (a b : Bool) → (a ≡ true → b ≡ true) → (e : Effect) (new : Fields) (r : Result Transfer Fault) → Performs s a e new r → Performs s b e new r
+performs_where s a b allows (Fails g) new (Err f) h = elim h [ inl is ↦ inl is | inr refused ↦ inr (refused.0, allows refused.1) ]
+performs_where s a b allows (Stores t f) new (Ok (transfer.Store x)) h = (h.0, allows h.1)
+performs_where s a b allows e new (Err f) h = (h.0, allows h.1)
+performs_where s a b allows e new r h = h

@@ -22,7 +22,7 @@ use Rattle.ink_step.specs.declared.flow.StepEnd.{StepEnd}
 use Rattle.ink_step.specs.declared.flow.StepEnd.TheVariants as ends
 use Rattle.ink_step.specs.declared.machine.Machine.{Machine}
 use Rattle.ink_step.specs.declared.transfer.Transfer.TheVariants as transfer
-use Rattle.ink_step.proofs.Follows.{ends_after, ends_more, kept_stays, offered_stay}
+use Rattle.ink_step.proofs.Follows.{ends_after, ends_more, ends_where, kept_stays, offered_stay, or_between}
 use Rattle.ink_step.proofs.Goings.{is_in, stays_in}
 use Rattle.ink_step.proofs.Landed.{ends_performed, goes_on, performs_told}
 use Rattle.ink_step.proofs.Stopping.{ends_stored, stores_none}
@@ -49,7 +49,7 @@ module _ (s : StoryTree) (old mid new : Machine) (safely : mid.flow.safe ≡ old
       let after = config_of s new in
       let o = move s (unstored mid.shared.globals.rows e) during in
       let whole = (asking || move_asks s e during) || following_asks s o in
-      let goes = goes_on s asking during after (Ok ends.Went) e performs (kept_stays s e old.flow.threads.threads mid.flow.threads.threads keeps) (offered_stay s e old.flow.choices.items mid.flow.choices.items offers)
+      let goes = goes_on s false asking during after (Ok ends.Went) e performs (kept_stays s e old.flow.threads.threads mid.flow.threads.threads keeps) (offered_stay s e old.flow.choices.items mid.flow.choices.items offers)
       (ends_more asking _ (going (moved_on (next_place s)) during) _ after (Ok ends.Went) went) in
       let follows = follows_none s (asking || move_asks s e during) o mid.shared.globals.rows after goes in
       let stores = stores_none s asking whole (fields_of during) after (sym kept) e (following s o) ends.Went transfer.Next (λ a is. absurd cc) performs
@@ -67,21 +67,21 @@ leaf_there (Some (leaf k)) l h = (let is : k ≡ l = cc in ap (λ x. Some (leaf 
 leaf_there (Some (container name flags content named)) l h = absurd cc
 
 module _ (s : StoryTree) (b : Bound) (machine new : Machine) (place : Spot) (l : Leaf) (at_place : machine.flow.threads.threads.thread.frame.place ≡ Some place)
-    (stands : leaf_in (at s (place_of s place)) ≡ Some l) (other : call_at (Some (leaf l)) ≡ None) where
-  more : (r : Result StepEnd Fault) (adds asking : Bool) (o : Stepped) → EndsPlainly asking o machine.shared.globals.rows (config_of s new) r → EndsPlainly (adds || asking) o machine.shared.globals.rows (config_of s new) r
-  more r adds asking (Comes o) h = ends_more adds asking o machine.shared.globals.rows (config_of s new) r h
+    (stands : leaf_in (at s (place_of s place)) ≡ Some l) (other : call_at (Some (leaf l)) ≡ None) (marked : Bool) where
+  more : (r : Result StepEnd Fault) (adds asking : Bool) (o : Stepped) → EndsPlainly (marked || asking) o machine.shared.globals.rows (config_of s new) r → EndsPlainly (marked || (adds || asking)) o machine.shared.globals.rows (config_of s new) r
+  more r adds asking (Comes o) h = ends_where _ _ (or_between marked adds asking) o machine.shared.globals.rows (config_of s new) r h
   more r adds asking (Wants name arguments f c) h = absurd h
 
   -- what such content does is what the step comes to
   pub passed : (r : Result StepEnd Fault)
       → (let e = effect s (place_of s place) (Some (leaf l)) (context_of (config_of s machine)) (fields_of (config_of s machine)) in
-      StepEnds (acting_asks s (content_asks s (place_of s place) (Some (leaf l)) (context_of (config_of s machine)) (fields_of (config_of s machine))) e (config_of s machine)) (acted s e (config_of s machine))
+      StepEnds (marked || acting_asks s (content_asks s (place_of s place) (Some (leaf l)) (context_of (config_of s machine)) (fields_of (config_of s machine))) e (config_of s machine)) (acted s e (config_of s machine))
       machine.shared.globals.rows (config_of s new) r)
-      → EndsPlainly (asks s b (config_of s machine)) (step s b (config_of s machine)) machine.shared.globals.rows (config_of s new) r
+      → EndsPlainly (marked || asks s b (config_of s machine)) (step s b (config_of s machine)) machine.shared.globals.rows (config_of s new) r
   passed r acts =
       let p = place_of s place in
       let old = config_of s machine in
-      let Ending : Bool → Stepped → Type 0 = λ asking o. EndsPlainly asking o machine.shared.globals.rows (config_of s new) r in
+      let Ending : Bool → Stepped → Type 0 = λ asking o. EndsPlainly (marked || asking) o machine.shared.globals.rows (config_of s new) r in
       ends_performed s b p old (ap (option_map (place_of s)) at_place) Ending p (Some (leaf l)) old (stays_in s p l stands) (leaf_there (at s p) l stands)
       (is_in s p l stands machine place at_place refl) (more r (going_in_asks s p old)) (performs_told s b Ending p (Some (leaf l)) None old other acts)
 

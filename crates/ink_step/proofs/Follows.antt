@@ -1,18 +1,18 @@
 -- Where flow goes after a content, and so how a step ends.
-use Rattle.std.proofs.Common.{◌≡◌, ◌∙◌, ◌||◌, ap, sym, refl, subst, inl, inr, ℕ, List, map, Bool, true, false, Option, Some, None, Result, Ok, Err}
+use Rattle.std.proofs.Common.{◌≡◌, ◌∙◌, ◌||◌, ap, sym, refl, subst, inl, inr, ℕ, List, [], ◌∷◌, map, Bool, true, false, Option, Some, None, Result, Ok, Err}
 use Rattle.ink_model.specs.Choosing.{following, following_asks}
 use Rattle.ink_model.specs.Configuration.{ChoiceOf, Configuration, current_place, ended, map_choice, with_choices, with_threads}
 use Rattle.ink_model.specs.Counts.{CountsOf}
 use Rattle.ink_model.specs.Effect.{Fields, Effect, Moves, Stores, Offers, Lands, Calls, Returns, Forks, Done, Ends, Fails, fields_of, with_fields, with_thread}
-use Rattle.ink_model.specs.Flow.{Written, Reached, Reaches, Halts, Breaks, called, depth_of, forked, halt, moved_on, reach, returned}
-use Rattle.ink_model.specs.Frames.{ThreadOf, ThreadsOf, base_threads, map_threads, mode_in, on_top}
+use Rattle.ink_model.specs.Flow.{Written, Reached, Reaches, Halts, Breaks, called, depth_of, forked, halt, is_last, moved_on, reach, returned}
+use Rattle.ink_model.specs.Frames.{ThreadOf, ThreadsOf, base_threads, map_thread, map_threads, mode_in, on_top}
 use Rattle.ink_model.specs.Move.{Outcome, Next, Stop, Faults, end_all, finish, going, landing, may_enter, move, place_to, reached_in, with_flow, written_in}
-use Rattle.ink_model.specs.MoveMemory.{flow_asks, move_asks, moved_asks}
+use Rattle.ink_model.specs.MoveMemory.{dropped_asks, flow_asks, forked_asks, move_asks, moved_asks}
 use Rattle.ink_model.specs.Place.{next_place}
 use Rattle.ink_model.specs.Host.{Bound}
 use Rattle.ink_model.specs.Step.{Comes, step, step_at}
 use Rattle.ink_model.specs.Store.{Values}
-use Rattle.ink_model.specs.Threads.{staled}
+use Rattle.ink_model.specs.Threads.{dropped, staled}
 use Rattle.ink_model.specs.Tree.{StoryTree}
 use Rattle.ink_model.specs.declared.fault.Fault.{Fault}
 use Rattle.ink_model.specs.declared.fault.Fault.TheVariants.{OutOfMemory}
@@ -37,6 +37,34 @@ or_more false b h = h
 pub or_first : (a b : Bool) → a ≡ true → a || b ≡ true
 or_first a b h = subst (λ x. x || b ≡ true) (sym h) refl
 
+pub or_between : (a b x : Bool) → a || x ≡ true → a || (b || x) ≡ true
+or_between true b x h = refl
+or_between false b x h = or_more b x h
+
+pub or_wider : (a b x : Bool) → a || b ≡ true → a || (b || x) ≡ true
+or_wider true b x h = refl
+or_wider false b x h = or_first b x h
+
+pub or_neither : (a : Bool) → a || false ≡ true → a ≡ true
+or_neither true h = refl
+or_neither false h = h
+
+pub or_assoc : (a b x : Bool) → (a || b) || x ≡ a || (b || x)
+or_assoc true b x = refl
+or_assoc false b x = refl
+
+-- what asks for memory in a whole step while a mark stands
+pub or_whole : (m a b x : Bool) → ((m || a) || b) || x ≡ m || ((a || b) || x)
+or_whole true a b x = refl
+or_whole false a b x = refl
+
+pub or_twice : (m a b x : Bool) → m || (((m || a) || b) || x) ≡ m || ((a || b) || x)
+or_twice true a b x = refl
+or_twice false a b x = refl
+
+pub or_along : (a b x : Bool) → a ≡ b → a || x ≡ true → b || x ≡ true
+or_along a b x is h = subst (λ y. y || x ≡ true) is h
+
 -- no step ends so
 pub never_wants : (asking : Bool) (o : Outcome) (globals : Values) (d : Configuration) → StepEnds asking o globals d (Ok ends.WantsCall) → ⊥
 never_wants asking (Next c) globals d h = h
@@ -57,7 +85,30 @@ module _ (asking more : Bool) where
   ends_more o globals d (Err f) h = ((h.0.0, or_more asking more h.0.1), h.1)
   ends_more o globals d (Ok end) h = absurd h
 
+-- the same where that is so of one that asks for less
+pub ends_where : (asking more : Bool) → (asking ≡ true → more ≡ true) → (o : Outcome) (globals : Values) (d : Configuration) (r : Result StepEnd Fault)
+    → StepEnds asking o globals d r → StepEnds more o globals d r
+ends_where asking more allows (Next c) globals d (Ok ends.Went) h = h
+ends_where asking more allows (Stop c) globals d (Ok ends.Stopped) h = h
+ends_where asking more allows (Faults g) globals d (Err f) h = (elim h.0 [ inl is ↦ inl is | inr short ↦ inr (short.0, allows short.1) ], h.1)
+ends_where asking more allows o globals d (Err f) h = ((h.0.0, allows h.0.1), h.1)
+ends_where asking more allows o globals d (Ok end) h = absurd h
+
 -- ---- where flow went
+
+-- whatever asks for memory, where there was no fault
+pub reaches_any : {P : Type 0} → (asking more : Bool) (reached : Reached P) (ts : ThreadsOf P) (w : Written) (end : StepEnd) → ReachesAs asking reached ts w (Ok end) → ReachesAs more reached ts w (Ok end)
+reaches_any asking more (Reaches us v) ts w ends.Went h = h
+reaches_any asking more (Halts us v) ts w ends.Stopped h = h
+reaches_any asking more reached ts w end h = absurd h
+
+-- the last thread is so by places too
+pub last_alike : {P Q : Type 0} → (f : P → Q) (ts : ThreadsOf P) → is_last (map_threads f ts) ≡ is_last ts
+last_alike {P = P} f ts = by ts.below
+  where
+    by : (below : List (ThreadOf P)) → is_last (record { thread = map_thread f ts.thread; below = map (map_thread f) below }) ≡ is_last (record { thread = ts.thread; below = below })
+    by [] = refl
+    by (t ∷ below) = refl
 
 -- a fault on the way
 pub ends_broken : (asking : Bool) (c d : Configuration) (globals : Values) (reached : Reached (List Part)) (ts : ThreadsOf (List Part)) (w : Written) (f : Fault)
@@ -79,22 +130,32 @@ ends_reached asking c reached ts w (Err f) h = ends_broken asking c (with_flow t
 
 -- ---- flow goes where a content sends it
 
-module _ (s : StoryTree) (asking : Bool) (c d : Configuration) (r : Result StepEnd Fault) where
+module _ (s : StoryTree) (marked asking : Bool) (c d : Configuration) (r : Result StepEnd Fault) where
   abbrev Follows : Effect → Type 0
-  Follows e = StepEnds (asking || move_asks s e c) (move s (unstored c.shared.globals e) c) c.shared.globals d r
+  Follows e = StepEnds (marked || (asking || move_asks s e c)) (move s (unstored c.shared.globals e) c) c.shared.globals d r
 
   abbrev stale_now : Configuration
   stale_now = with_threads (on_top (staled (depth_of (written_in c))) c.flow.threads) c
 
   pub goes_after_text : (e : Effect) → Performs s asking e (fields_of c) (Ok transfer.Wrote)
       → StepEnds (moved_asks (next_place s) stale_now.flow.threads (written_in c)) (going (moved_on (next_place s)) stale_now) c.shared.globals d r → Follows e
-  goes_after_text (Moves f) h go = subst (λ g. Follows (Moves g)) (sym h) (ends_more asking _ _ _ _ r go)
+  goes_after_text (Moves f) h go = subst (λ g. Follows (Moves g)) (sym h) (ends_more marked _ _ _ _ r (ends_more asking _ _ _ _ r go))
   goes_after_text e h go = absurd h
 
   pub goes_nowhere : (e : Effect) → Performs s asking e (fields_of c) (Ok transfer.End)
       → StepEnds false (reached_in (ended c) (halt (base_threads None) (written_in c))) c.shared.globals d r → Follows e
-  goes_nowhere (Ends f) h go = subst (λ g. Follows (Ends g)) h (ends_more asking _ _ _ _ r go)
+  goes_nowhere (Ends f) h go = subst (λ g. Follows (Ends g)) h (ends_more marked _ _ _ _ r (ends_more asking _ _ _ _ r go))
   goes_nowhere e h go = absurd h
+
+  pub goes_forking : (e : Effect) → Performs s asking e (fields_of c) (Ok transfer.Fork)
+      → StepEnds (forked_asks (next_place s) c.flow.threads (written_in c)) (going (forked (next_place s)) c) c.shared.globals d r → Follows e
+  goes_forking (Forks f) h go = subst (λ g. Follows (Forks g)) h (ends_more marked _ _ _ _ r (ends_more asking _ _ _ _ r go))
+  goes_forking e h go = absurd h
+
+  pub goes_done : (e : Effect) → Performs s asking e (fields_of c) (Ok transfer.Done)
+      → StepEnds (dropped_asks (next_place s) (dropped c.flow.threads) (written_in c)) (finish s c) c.shared.globals d r → Follows e
+  goes_done (Done f) h go = subst (λ g. Follows (Done g)) h (ends_more marked _ _ _ _ r (ends_more asking _ _ _ _ r go))
+  goes_done e h go = absurd h
 
 -- ---- a step
 
@@ -202,3 +263,11 @@ offered_stay s e old new keeps = refl
 pub stands_still : (s : StoryTree) (b : Bound) (c : Configuration) → current_place c ≡ None → step s b c ≡ Comes (Stop c)
 unfolding step
 stands_still s b c no_place = ap (λ o. step_at s b o c) no_place
+
+-- room for a step changes nothing
+pub ready_alike : (s : StoryTree) (old new : Machine) → new ≡ record old { flow = record old.flow { threads = new.flow.threads; stack = new.flow.stack } } → new.flow.threads.threads ≡ old.flow.threads.threads
+    → new.flow.stack.items ≡ old.flow.stack.items → config_of s new ≡ config_of s old
+ready_alike s old new same threads items =
+    ap (config_of s) same
+    ∙ ap (λ ts. record (config_of s old) { flow = record (config_of s old).flow { threads = map_threads (place_of s) ts; stack = new.flow.stack.items } }) threads
+    ∙ ap (λ vs. record (config_of s old) { flow = record (config_of s old).flow { stack = vs } }) items

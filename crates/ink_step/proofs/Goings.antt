@@ -20,10 +20,10 @@ use Rattle.ink_tree.specs.declared.spot.Spot.{Spot}
 module _ (s : StoryTree) (p : List Part) (m : Machine) (here : Spot) (ts : ThreadsOf Spot) (is : ts ≡ on_top (put_in (Some here)) m.flow.threads.threads) where
   -- the containers on the way were entered, and flow is put at the first content
   pub went_in : (counts : CountsOf ℕ) → place_of s here ≡ entered s p → counts_in s counts ≡ all_visited s m.shared.turn (passed_places s p) (counts_in s m.shared.counts.rows)
-      → config_of s (record m { flow = record m.flow { threads = record { threads = ts } }; shared = record m.shared { counts = record { rows = counts } } }) ≡ gone_in s p (config_of s m)
+      → config_of s (record m { flow = record m.flow { threads = record m.flow.threads { threads = ts } }; shared = record m.shared { counts = record m.shared.counts { rows = counts } } }) ≡ gone_in s p (config_of s m)
   went_in counts at_place entering =
-      ap (λ t. config_of s (record m { flow = record m.flow { threads = record { threads = t } }; shared = record m.shared { counts = record { rows = counts } } })) is
-      ∙ ap (λ q. put_at (Some q) (config_of s (record m { shared = record m.shared { counts = record { rows = counts } } }))) at_place
+      ap (λ t. config_of s (record m { flow = record m.flow { threads = record m.flow.threads { threads = t } }; shared = record m.shared { counts = record m.shared.counts { rows = counts } } })) is
+      ∙ ap (λ q. put_at (Some q) (config_of s (record m { shared = record m.shared { counts = record m.shared.counts { rows = counts } } }))) at_place
       ∙ ap (λ cs. put_at (Some (entered s p)) (with_counts cs (config_of s m))) entering
 
 -- ---- where nothing stands

@@ -1,10 +1,10 @@
 -- Flow lands, and the containers around are entered; a step goes in before it performs.
-use Rattle.std.proofs.Common.{◌≡◌, ◌∙◌, ◌||◌, ◌&&◌, ap, sym, refl, subst, inl, inr, List, Bool, true, false, true≢false, cond, nat_lt, Option, Some, None, option_map, Result, Ok, Err}
+use Rattle.std.proofs.Common.{◌≡◌, ◌∙◌, ◌||◌, ◌&&◌, ap, sym, refl, subst, inl, inr, List, Bool, true, false, cond, nat_lt, Option, Some, None, option_map, Result, Ok, Err}
 use Rattle.ink_model.specs.Asks.{going_in_asks, performing_asks}
 use Rattle.ink_model.specs.Configuration.{Configuration, current_place, with_choices, with_threads}
-use Rattle.ink_model.specs.Effect.{Effect, Moves, Stores, Offers, Lands, Calls, Returns, fields_of}
-use Rattle.ink_model.specs.Flow.{Written, moved_on, Reached, Reaches, Halts, Breaks, called, reach, returned}
-use Rattle.ink_model.specs.Frames.{ThreadsOf, mode_in, on_top}
+use Rattle.ink_model.specs.Effect.{Effect, Landing as Goal, Moves, Stores, Offers, Lands, Calls, Returns, fields_of}
+use Rattle.ink_model.specs.Flow.{Written, moved_on, Reached, Reaches, Halts, Breaks, called, depth_of, enter_for, leave_for, number_for, or_breaks, reach, reach_or_on, returned}
+use Rattle.ink_model.specs.Frames.{ThreadOf, ThreadsOf, mode_in, on_top}
 use Rattle.ink_model.specs.Memory.{asks, asks_at}
 use Rattle.ink_model.specs.Move.{going, landed_in, landing, may_enter, move, place_to, with_flow, written_in}
 use Rattle.ink_model.specs.MoveMemory.{landed_asks, move_asks, moved_asks, returned_asks}
@@ -13,7 +13,7 @@ use Rattle.ink_model.specs.Host.{Bound}
 use Rattle.ink_model.specs.Step.{Stepped, gone_in, performed, step, step_at}
 use Rattle.ink_model.specs.Step.Host.{Call, call_at}
 use Rattle.ink_model.specs.Store.{Values}
-use Rattle.ink_model.specs.Threads.{frame_count}
+use Rattle.ink_model.specs.Threads.{frame_count, popped, pushed}
 use Rattle.ink_model.specs.Tree.{StoryTree, at, container, leaf}
 use Rattle.ink_model.specs.Visits.{adds_rows, around, entering_around}
 use Rattle.ink_model.specs.declared.fault.Fault.{Fault}
@@ -31,7 +31,7 @@ use Rattle.ink_step.specs.declared.flow.StepEnd.TheVariants as ends
 use Rattle.ink_step.specs.declared.transfer.Assignment.{Assignment}
 use Rattle.ink_step.specs.declared.transfer.Landing.{Landing}
 use Rattle.ink_step.specs.declared.transfer.Transfer.TheVariants as transfer
-use Rattle.ink_step.proofs.Follows.{ends_more, or_first, or_more}
+use Rattle.ink_step.proofs.Follows.{ends_short, ends_where, or_between, or_first, or_more, or_neither, or_wider}
 use Rattle.ink_tree.specs.Kept.{leaf_in}
 use Rattle.ink_tree.specs.Nodes.{place_of}
 
@@ -41,11 +41,33 @@ IsGoing (Reaches ts w) = Unit {0}
 IsGoing (Halts ts w) = ⊥
 IsGoing (Breaks f) = Unit {0}
 
+-- a call does not stop
+pub called_goes : {P : Type 0} → (k : FrameKind) (q : P) (ts : ThreadsOf P) (w : Written) → IsGoing (called k q ts w)
+called_goes {P = P} k q ts w = by (pushed k (depth_of w) ts.thread) (enter_for k w)
+  where
+    by : (r : Result (ThreadOf P) Fault) (e : Result Written Fault) → IsGoing (or_breaks r Breaks (λ t. or_breaks e Breaks (λ after. reach q (record ts { thread = number_for k w t }) after)))
+    by (Ok t) (Ok v) = tt
+    by (Ok t) (Err f) = tt
+    by (Err f) e = tt
+
+-- a return to a place does not
+pub returned_goes : {P : Type 0} → (after : P → Option P) (k : FrameKind) (q : P) (ts : ThreadsOf P) (w : Written) → IsGoing (returned after k (Some q) ts w)
+returned_goes {P = P} after k q ts w = by (popped k (depth_of w) ts.thread) (leave_for k ts.thread.frame.enter w)
+  where
+    by : (r : Result (ThreadOf P) Fault) (e : Result Written Fault) → IsGoing (or_breaks r Breaks (λ t. or_breaks e Breaks (λ left. reach_or_on after (Some q) (record ts { thread = t }) left)))
+    by (Ok t) (Ok v) = tt
+    by (Ok t) (Err f) = tt
+    by (Err f) e = tt
+
+pub returned_lands : (after : List Part → Option (List Part)) (k : FrameKind) (goal : Option Goal) (ts : ThreadsOf (List Part)) (w : Written) → may_enter goal ≡ true → IsGoing (returned after k (place_to goal) ts w)
+returned_lands after k None ts w h = absurd (cc)
+returned_lands after k (Some to) ts w h = returned_goes after k to.place ts w
+
 -- ---- what is around is entered where flow has landed
 
-module _ (s : StoryTree) (asking : Bool) (c d : Configuration) (globals : Values) (ts : ThreadsOf (List Part)) (w : Written) where
+module _ (s : StoryTree) (marked asking : Bool) (c d : Configuration) (globals : Values) (ts : ThreadsOf (List Part)) (w : Written) where
   abbrev Lands_as : Bool → Reached (List Part) → Result StepEnd Fault → Type 0
-  Lands_as enters reached r = StepEnds (asking || landed_asks s enters c.shared.counts reached) (landed_in s enters c reached) globals d r
+  Lands_as enters reached r = StepEnds (marked || (asking || landed_asks s enters c.shared.counts reached)) (landed_in s enters c reached) globals d r
 
   pub lands : (enters : Bool) (reached : Reached (List Part)) (end : StepEnd) → (enters ≡ true → IsGoing reached) → ReachesAs asking reached ts w (Ok end)
       → d ≡ cond enters (entering_around s (with_flow ts w c)) (with_flow ts w c) → Lands_as enters reached (Ok end)
@@ -58,24 +80,24 @@ module _ (s : StoryTree) (asking : Bool) (c d : Configuration) (globals : Values
   module _ (f : Fault) (same : d.shared.globals ≡ globals) where
     -- memory for a row was refused
     pub lands_short : (enters : Bool) (reached : Reached (List Part)) (end : StepEnd) → (enters ≡ true → IsGoing reached) → ReachesAs asking reached ts w (Ok end)
-        → f ≡ OutOfMemory → (enters && adds_rows s (around s ts) c.shared.counts) ≡ true → Lands_as enters reached (Err f)
+        → f ≡ OutOfMemory → (marked || (enters && adds_rows s (around s ts) c.shared.counts)) ≡ true → Lands_as enters reached (Err f)
     lands_short true (Reaches us v) ends.Went goes h short adds =
-        ((short, or_more asking _ (ap (λ t. adds_rows s (around s t) c.shared.counts) (sym h.0) ∙ adds)), same)
+        ((short, or_between marked asking _ (ap (λ t. marked || adds_rows s (around s t) c.shared.counts) (sym h.0) ∙ adds)), same)
     lands_short true (Halts us v) end goes h short adds = absurd (goes refl)
     lands_short true reached end goes h short adds = absurd h
-    lands_short false reached end goes h short adds = absurd (true≢false (sym adds))
+    lands_short false reached end goes h short adds = ends_short _ (landed_in s false c reached) globals d f (short, or_first marked _ (or_neither marked adds)) same
 
     -- a fault before
     pub lands_broken : (enters : Bool) (reached : Reached (List Part)) → ReachesAs asking reached ts w (Err f) → Lands_as enters reached (Err f)
-    lands_broken true (Breaks g) h = (elim h [ inl is ↦ inl is | inr short ↦ inr (short.0, or_first asking _ short.1) ], same)
-    lands_broken false (Breaks g) h = (elim h [ inl is ↦ inl is | inr short ↦ inr (short.0, or_first asking _ short.1) ], same)
-    lands_broken enters reached h = ((h.0, or_first asking _ h.1), same)
+    lands_broken true (Breaks g) h = (elim h [ inl is ↦ inl is | inr short ↦ inr (short.0, or_more marked _ (or_first asking _ short.1)) ], same)
+    lands_broken false (Breaks g) h = (elim h [ inl is ↦ inl is | inr short ↦ inr (short.0, or_more marked _ (or_first asking _ short.1)) ], same)
+    lands_broken enters reached h = ((h.0, or_more marked _ (or_first asking _ h.1)), same)
 
 -- ---- flow goes where a content sends it
 
-module _ (s : StoryTree) (asking : Bool) (c d : Configuration) (r : Result StepEnd Fault) where
+module _ (s : StoryTree) (marked asking : Bool) (c d : Configuration) (r : Result StepEnd Fault) where
   abbrev Follows : Effect → Type 0
-  Follows e = StepEnds (asking || move_asks s e c) (move s (unstored c.shared.globals e) c) c.shared.globals d r
+  Follows e = StepEnds (marked || (asking || move_asks s e c)) (move s (unstored c.shared.globals e) c) c.shared.globals d r
 
   -- the thread has the temporaries that the effect stores
   abbrev HasStored : Effect → Type 0
@@ -86,7 +108,7 @@ module _ (s : StoryTree) (asking : Bool) (c d : Configuration) (r : Result StepE
   HasOffered e = c.flow.choices ≡ offered_by e c.flow.choices
 
   abbrev GoesOn : Bool → Configuration → Type 0
-  GoesOn more from = StepEnds (more || moved_asks (next_place s) from.flow.threads (written_in from)) (going (moved_on (next_place s)) from) c.shared.globals d r
+  GoesOn more from = StepEnds (marked || (more || moved_asks (next_place s) from.flow.threads (written_in from))) (going (moved_on (next_place s)) from) c.shared.globals d r
 
   pub goes_on : (e : Effect) → Performs s asking e (fields_of c) (Ok transfer.Next) → HasStored e → HasOffered e → GoesOn asking c → Follows e
   goes_on (Moves f) h has offers go = subst (λ g. Follows (Moves g)) h go
@@ -101,28 +123,28 @@ module _ (s : StoryTree) (asking : Bool) (c d : Configuration) (r : Result StepE
     goes_storing e h has go = absurd h
 
   pub goes_there : (to : Landing) (e : Effect) → Performs s asking e (fields_of c) (Ok (transfer.Land to))
-      → StepEnds (landed_asks s to.enters c.shared.counts (reach (place_of s to.place) c.flow.threads (written_in c))) (landing s to.enters (reach (place_of s to.place)) c) c.shared.globals d r
+      → StepEnds (marked || landed_asks s to.enters c.shared.counts (reach (place_of s to.place) c.flow.threads (written_in c))) (landing s to.enters (reach (place_of s to.place)) c) c.shared.globals d r
       → Follows e
   goes_there to (Lands l f) h go = subst (λ q. Follows (Lands q f)) (sym h.0) (subst (λ g. Follows (Lands (landing_of s to) g)) h.1
-      (ends_more asking _ (landing s to.enters (reach (place_of s to.place)) c) _ d r go))
+      (ends_where _ _ (or_between marked asking _) (landing s to.enters (reach (place_of s to.place)) c) _ d r go))
   goes_there to e h go = absurd h
 
   pub goes_into : (kind : CallKind) (to : Landing) (e : Effect) → Performs s asking e (fields_of c) (Ok (transfer.Call kind to))
-      → StepEnds (nat_lt (frame_count c.flow.threads.thread) MAX_FRAMES || landed_asks s to.enters c.shared.counts (called (frame_kind kind) (place_of s to.place) c.flow.threads (written_in c)))
+      → StepEnds (marked || (nat_lt (frame_count c.flow.threads.thread) MAX_FRAMES || landed_asks s to.enters c.shared.counts (called (frame_kind kind) (place_of s to.place) c.flow.threads (written_in c))))
       (landing s to.enters (called (frame_kind kind) (place_of s to.place)) c) c.shared.globals d r
       → Follows e
   goes_into kind to (Calls k l f) h go = subst (λ x. Follows (Calls x l f)) (sym h.0) (subst (λ q. Follows (Calls (frame_kind kind) q f)) (sym h.1)
-      (subst (λ g. Follows (Calls (frame_kind kind) (landing_of s to) g)) h.2 (ends_more asking _ (landing s to.enters (called (frame_kind kind) (place_of s to.place)) c) _ d r go)))
+      (subst (λ g. Follows (Calls (frame_kind kind) (landing_of s to) g)) h.2 (ends_where _ _ (or_between marked asking _) (landing s to.enters (called (frame_kind kind) (place_of s to.place)) c) _ d r go)))
   goes_into kind to e h go = absurd h
 
   pub goes_back : (kind : FrameKind) (back : Option Landing) (e : Effect) → Performs s asking e (fields_of c) (Ok (transfer.Return kind back))
-      → StepEnds (returned_asks (next_place s) kind (place_to (option_map (landing_of s) back)) c.flow.threads (written_in c)
-      || landed_asks s (may_enter (option_map (landing_of s) back)) c.shared.counts (returned (next_place s) kind (place_to (option_map (landing_of s) back)) c.flow.threads (written_in c)))
+      → StepEnds (marked || (returned_asks (next_place s) kind (place_to (option_map (landing_of s) back)) c.flow.threads (written_in c)
+      || landed_asks s (may_enter (option_map (landing_of s) back)) c.shared.counts (returned (next_place s) kind (place_to (option_map (landing_of s) back)) c.flow.threads (written_in c))))
       (landing s (may_enter (option_map (landing_of s) back)) (returned (next_place s) kind (place_to (option_map (landing_of s) back))) c) c.shared.globals d r
       → Follows e
   goes_back kind back (Returns k l f) h go = subst (λ x. Follows (Returns x l f)) (sym h.0) (subst (λ o. Follows (Returns kind o f)) (sym h.1)
       (subst (λ g. Follows (Returns kind (option_map (landing_of s) back) g)) h.2
-      (ends_more asking _ (landing s (may_enter (option_map (landing_of s) back)) (returned (next_place s) kind (place_to (option_map (landing_of s) back))) c) _ d r go)))
+      (ends_where _ _ (or_between marked asking _) (landing s (may_enter (option_map (landing_of s) back)) (returned (next_place s) kind (place_to (option_map (landing_of s) back))) c) _ d r go)))
   goes_back kind back e h go = absurd h
 
 -- ---- a step
@@ -156,7 +178,7 @@ module _ (s : StoryTree) (b : Bound) (p : List Part) (old : Configuration) (at_p
       subst (λ o. Ending (asks_at s b o old) (step_at s b o old)) (sym at_p) (more _ _ entering)
 
   -- memory for a container on the way was refused
-  pub ends_outside : (new : Configuration) (f : Fault) → f ≡ OutOfMemory → going_in_asks s p old ≡ true → new.shared.globals ≡ old.shared.globals
-      → (f ≡ OutOfMemory) × (asks s b old ≡ true) × (new.shared.globals ≡ old.shared.globals)
+  pub ends_outside : (marked : Bool) (new : Configuration) (f : Fault) → f ≡ OutOfMemory → marked || going_in_asks s p old ≡ true → new.shared.globals ≡ old.shared.globals
+      → (f ≡ OutOfMemory) × ((marked || asks s b old) ≡ true) × (new.shared.globals ≡ old.shared.globals)
   unfolding asks
-  ends_outside new f short adds same = (short, subst (λ o. asks_at s b o old ≡ true) (sym at_p) (or_first (going_in_asks s p old) _ adds), same)
+  ends_outside marked new f short adds same = (short, subst (λ o. marked || asks_at s b o old ≡ true) (sym at_p) (or_wider marked (going_in_asks s p old) _ adds), same)

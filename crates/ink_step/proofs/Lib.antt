@@ -5,6 +5,7 @@ pub mod Landings
 pub mod Leading
 pub mod Staled
 pub mod Follows
+pub mod Marks
 pub mod Landed
 pub mod Stopping
 pub mod Moments

@@ -1,5 +1,5 @@
 -- Runs, moment by moment.
-use Rattle.std.proofs.Common.{◌≡◌, ◌∙◌, ◌⊎◌, ◌++◌, ◌∷◌, ℕ, zero, suc, Bool, true, List, Option, Some, None, Result, ◌+◌, ◌-◌, ◌≤◌, ◌<◌, ap, sym, refl, subst, inl, inr, [], Ok, Err, arith, append_assoc}
+use Rattle.std.proofs.Common.{◌≡◌, ◌∙◌, ◌⊎◌, ◌++◌, ◌∷◌, ◌||◌, ℕ, zero, suc, Bool, true, false, List, Option, Some, None, Result, ◌+◌, ◌-◌, ◌≤◌, ◌<◌, ap, sym, refl, subst, inl, inr, [], Ok, Err, arith, append_assoc}
 use Rattle.std.proofs.lemmas.List.{append-nil, map-append}
 use Rattle.ink_model.specs.Configuration.{Configuration}
 use Rattle.ink_model.specs.Effect.{Fields}
@@ -49,46 +49,52 @@ kept_globals asking globals new f o h = h.1
 
 -- ---- what a step did in a run
 
--- memory was refused before a call that the step wants, or for what came of its answer
-abbrev pub Short : StoryTree → Bound → Configuration → List Made → Type 0
-Short s b old more = ((more ≡ []) × (asks s b old ≡ true))
+-- memory was refused before a call that the step wants, or for what came of its answer; or anywhere, while a mark stands
+abbrev pub Short : StoryTree → Bound → Bool → Configuration → List Made → Type 0
+Short s b marked old more = (((more ≡ []) × (asks s b old ≡ true))
     ⊎ ((name : List ℕ) × (arguments : List Value) × (given : Given) × (f : Fields) × (d : Configuration)
-    × (step s b old ≡ Wants name arguments f d) × (more ≡ (record { name = name; arguments = arguments; gave = Some given }) ∷ []) × (answered_asks s arguments f d (Some given) ≡ true))
+    × (step s b old ≡ Wants name arguments f d) × (more ≡ (record { name = name; arguments = arguments; gave = Some given }) ∷ []) × (answered_asks s arguments f d (Some given) ≡ true)))
+    ⊎ (marked ≡ true)
 
 -- the moment after a step with these calls, by what it returned
-abbrev pub Ends : StoryTree → Bound → List Made → List Made → Configuration → Configuration → Result StepEnd Fault → Type 0
-Ends s b made more old new (Ok ends.Went) = (left : List (Option Given)) → came s old (step s b old) (answers_of more ++ left) made ≡ At new left (made ++ more)
-Ends s b made more old new (Ok ends.Stopped) = (left : List (Option Given)) → came s old (step s b old) (answers_of more ++ left) made ≡ Stopped new left (made ++ more)
-Ends s b made more old new (Ok ends.WantsCall) = ⊥
-Ends s b made more old new (Err f) = (new.shared.globals ≡ old.shared.globals)
-    × (((left : List (Option Given)) → came s old (step s b old) (answers_of more ++ left) made ≡ Faulted f old left (made ++ more)) ⊎ ((f ≡ OutOfMemory) × Short s b old more))
+abbrev pub Ends : StoryTree → Bound → Bool → List Made → List Made → Configuration → Configuration → Result StepEnd Fault → Type 0
+Ends s b marked made more old new (Ok ends.Went) = (left : List (Option Given)) → came s old (step s b old) (answers_of more ++ left) made ≡ At new left (made ++ more)
+Ends s b marked made more old new (Ok ends.Stopped) = (left : List (Option Given)) → came s old (step s b old) (answers_of more ++ left) made ≡ Stopped new left (made ++ more)
+Ends s b marked made more old new (Ok ends.WantsCall) = ⊥
+Ends s b marked made more old new (Err f) = (new.shared.globals ≡ old.shared.globals)
+    × (((left : List (Option Given)) → came s old (step s b old) (answers_of more ++ left) made ≡ Faulted f old left (made ++ more)) ⊎ ((f ≡ OutOfMemory) × Short s b marked old more))
 
-pub record Did (s : StoryTree) (b : Bound) (made : List Made) (n : ℕ) (es : List Event) (old new : Configuration) (result : Result StepEnd Fault) : Type 0 where
+pub record Did (s : StoryTree) (b : Bound) (marked : Bool) (made : List Made) (n : ℕ) (es : List Event) (old new : Configuration) (result : Result StepEnd Fault) : Type 0 where
   pub more : List Made
   pub events : es ≡ calls n more
   pub bound : AreBound b more
-  pub ends : Ends s b made more old new result
+  pub ends : Ends s b marked made more old new result
 
-module _ (s : StoryTree) (b : Bound) (made : List Made) (n : ℕ) (es : List Event) (old new : Configuration) where
+-- what asks for memory, by itself or by the mark
+either : (marked asking : Bool) → marked || asking ≡ true → (asking ≡ true) ⊎ (marked ≡ true)
+either true asking h = inr refl
+either false asking h = inl h
+
+module _ (s : StoryTree) (b : Bound) (marked : Bool) (made : List Made) (n : ℕ) (es : List Event) (old new : Configuration) where
   -- ---- without a call
 
   module _ (o : Outcome) (is : step s b old ≡ Comes o) where
     came_so : (left : List (Option Given)) (m : List Made → Moment) → moment_after old o left made ≡ m made → came s old (step s b old) left made ≡ m (made ++ [])
     came_so left m h = ap (λ x. came s old x left made) is ∙ h ∙ ap m (sym (append-nil made))
 
-    ends_plainly : (result : Result StepEnd Fault) → StepEnds (asks s b old) o old.shared.globals new result → Ends s b made [] old new result
-    ends_plainly (Ok ends.Went) h = λ left. came_so left (At new left) (went left made (asks s b old) old new o h)
-    ends_plainly (Ok ends.Stopped) h = λ left. came_so left (Stopped new left) (stopped left made (asks s b old) old new o h)
-    ends_plainly (Ok ends.WantsCall) h = never_wants (asks s b old) o old.shared.globals new h
+    ends_plainly : (result : Result StepEnd Fault) → StepEnds (marked || asks s b old) o old.shared.globals new result → Ends s b marked made [] old new result
+    ends_plainly (Ok ends.Went) h = λ left. came_so left (At new left) (went left made (marked || asks s b old) old new o h)
+    ends_plainly (Ok ends.Stopped) h = λ left. came_so left (Stopped new left) (stopped left made (marked || asks s b old) old new o h)
+    ends_plainly (Ok ends.WantsCall) h = never_wants (marked || asks s b old) o old.shared.globals new h
     ends_plainly (Err f) h = (
-      kept_globals (asks s b old) old.shared.globals new f o h,
-      elim (faulted made (asks s b old) old new f o h) [
+      kept_globals (marked || asks s b old) old.shared.globals new f o h,
+      elim (faulted made (marked || asks s b old) old new f o h) [
         | inl faults ↦ inl (λ left. came_so left (Faulted f old left) (faults left))
-        | inr short ↦ inr (short.0, inl (refl, short.1))
+        | inr short ↦ inr (short.0, elim (either marked (asks s b old) short.1) [ inl asking ↦ inl (inl (refl, asking)) | inr is_marked ↦ inr is_marked ])
       ],
     )
 
-    did_plainly : (result : Result StepEnd Fault) → (es ≡ []) × StepEnds (asks s b old) o old.shared.globals new result → Did s b made n es old new result
+    did_plainly : (result : Result StepEnd Fault) → (es ≡ []) × StepEnds (marked || asks s b old) o old.shared.globals new result → Did s b marked made n es old new result
     did_plainly result h = record { more = []; events = h.0; bound = tt; ends = ends_plainly result h.1 }
 
   -- ---- with a call
@@ -103,9 +109,9 @@ module _ (s : StoryTree) (b : Bound) (made : List Made) (n : ℕ) (es : List Eve
       came_calling left m h = ap (λ x. came s old x (gave ∷ left) made) is ∙ h
 
       abbrev asking : Bool
-      asking = answered_asks s arguments f d gave
+      asking = marked || answered_asks s arguments f d gave
 
-      ends_calling : (result : Result StepEnd Fault) → StepEnds asking (answered s f d gave) old.shared.globals new result → Ends s b made (call gave ∷ []) old new result
+      ends_calling : (result : Result StepEnd Fault) → StepEnds asking (answered s f d gave) old.shared.globals new result → Ends s b marked made (call gave ∷ []) old new result
       ends_calling (Ok ends.Went) h = λ left. came_calling left _ (went left (made ++ call gave ∷ []) asking old new (answered s f d gave) h)
       ends_calling (Ok ends.Stopped) h = λ left. came_calling left _ (stopped left (made ++ call gave ∷ []) asking old new (answered s f d gave) h)
       ends_calling (Ok ends.WantsCall) h = never_wants asking (answered s f d gave) old.shared.globals new h
@@ -113,7 +119,7 @@ module _ (s : StoryTree) (b : Bound) (made : List Made) (n : ℕ) (es : List Eve
         kept_globals asking old.shared.globals new g (answered s f d gave) h,
         elim (faulted (made ++ call gave ∷ []) asking old new g (answered s f d gave) h) [
           | inl faults ↦ inl (λ left. came_calling left _ (faults left))
-          | inr short ↦ inr (short.0, inr (by gave refl short.1))
+          | inr short ↦ inr (short.0, elim (either marked (answered_asks s arguments f d gave) short.1) [ inl asked ↦ inl (inr (by gave refl asked)) | inr is_marked ↦ inr is_marked ])
         ],
       )
         where
@@ -123,25 +129,25 @@ module _ (s : StoryTree) (b : Bound) (made : List Made) (n : ℕ) (es : List Eve
           by None at h = absurd (cc)
           by (Some given) at h = (name, arguments, given, f, d, is, ap (λ o. call o ∷ []) at, h)
 
-    did_calling : (result : Result StepEnd Fault) → ((gave : Option Given) × (b name ≡ Some turn_function) × (es ≡ calls n (call gave ∷ [])) × StepEnds (answered_asks s arguments f d gave) (answered s f d gave) old.shared.globals new result)
-        ⊎ ((es ≡ []) × (result ≡ Err OutOfMemory) × (asks s b old ≡ true) × (new.shared.globals ≡ old.shared.globals)) → Did s b made n es old new result
+    did_calling : (result : Result StepEnd Fault) → ((gave : Option Given) × (b name ≡ Some turn_function) × (es ≡ calls n (call gave ∷ [])) × StepEnds (marked || answered_asks s arguments f d gave) (answered s f d gave) old.shared.globals new result)
+        ⊎ ((es ≡ []) × (result ≡ Err OutOfMemory) × ((marked || asks s b old) ≡ true) × (new.shared.globals ≡ old.shared.globals)) → Did s b marked made n es old new result
     did_calling result h = elim h [
       | inl called ↦ record { more = call called.0 ∷ []; events = called.2; bound = (called.1, tt); ends = ends_calling called.0 result called.3 }
-      | inr short ↦ subst (Did s b made n es old new) (sym short.1) (record { more = []; events = short.0; bound = tt; ends = (short.3, inr (refl, inl (refl, short.2))) })
+      | inr short ↦ subst (Did s b marked made n es old new) (sym short.1) (record { more = []; events = short.0; bound = tt; ends = (short.3, inr (refl, elim (either marked (asks s b old) short.2) [ inl asking ↦ inl (inl (refl, asking)) | inr is_marked ↦ inr is_marked ])) })
     ]
 
   -- ---- a step in a run
 
-  did_so : (result : Result StepEnd Fault) (o : Stepped) → step s b old ≡ o → StepMakes s b n (asks s b old) o es old.shared.globals new result → Did s b made n es old new result
+  did_so : (result : Result StepEnd Fault) (o : Stepped) → step s b old ≡ o → StepMakes s b n marked (asks s b old) o es old.shared.globals new result → Did s b marked made n es old new result
   did_so result (Comes o) is h = did_plainly o is result h
   did_so result (Wants name arguments f d) is h = did_calling name arguments f d is result h
 
-  pub did : (result : Result StepEnd Fault) → StepMakes s b n (asks s b old) (step s b old) es old.shared.globals new result → Did s b made n es old new result
+  pub did : (result : Result StepEnd Fault) → StepMakes s b n marked (asks s b old) (step s b old) es old.shared.globals new result → Did s b marked made n es old new result
   did result h = did_so result (step s b old) refl h
 
 -- ---- from moment to moment
 
-module _ (s : StoryTree) (b : Bound) (start : Configuration) where
+module _ (s : StoryTree) (b : Bound) (marked : Bool) (start : Configuration) where
   -- after n steps the run has come here, with these calls made, whatever answers are left
   abbrev pub GotTo : ℕ → Configuration → List Made → Type 0
   GotTo n now made = (left : List (Option Given)) → moment s b start (answers_of made ++ left) n ≡ At now left made
@@ -181,17 +187,17 @@ module _ (s : StoryTree) (b : Bound) (start : Configuration) where
   alone : (made : List Made) (n : ℕ) → moment s b start (answers_of made) n ≡ moment s b start (answers_of made ++ []) n
   alone made n = ap (λ answers. moment s b start answers n) (sym (append-nil (answers_of made)))
 
-  pub run_went : (n : ℕ) (old new : Configuration) (made more : List Made) → GotTo n old made → Ends s b made more old new (Ok ends.Went) → GotTo (n + 1) new (made ++ more)
+  pub run_went : (n : ℕ) (old new : Configuration) (made more : List Made) → GotTo n old made → Ends s b marked made more old new (Ok ends.Went) → GotTo (n + 1) new (made ++ more)
   run_went n old new made more h so = λ left. one_more n old made more left (At new left (made ++ more)) h (so left)
 
-  pub run_stopped : (n k : ℕ) (old new : Configuration) (made more : List Made) → n < k → GotTo n old made → Ends s b made more old new (Ok ends.Stopped)
+  pub run_stopped : (n k : ℕ) (old new : Configuration) (made more : List Made) → n < k → GotTo n old made → Ends s b marked made more old new (Ok ends.Stopped)
       → moment s b start (answers_of (made ++ more)) k ≡ Stopped new [] (made ++ more)
   run_stopped n k old new made more below h so =
       alone (made ++ more) k ∙ stays_to (answers_of (made ++ more) ++ []) (n + 1) k (Stopped new [] (made ++ more)) refl (omega arith)
       (one_more n old made more [] (Stopped new [] (made ++ more)) h (so []))
 
-  pub run_faulted : (n : ℕ) (old new : Configuration) (made more : List Made) (f : Fault) → n < MAX_STEPS → GotTo n old made → Ends s b made more old new (Err f)
-      → RunFalls s b start (made ++ more) new.shared.globals f
+  pub run_faulted : (n : ℕ) (old new : Configuration) (made more : List Made) (f : Fault) → n < MAX_STEPS → GotTo n old made → Ends s b marked made more old new (Err f)
+      → RunFalls s b marked start (made ++ more) new.shared.globals f
   run_faulted n old new made more f below h so = record {
     before = old;
     kept = so.0;
@@ -202,6 +208,8 @@ module _ (s : StoryTree) (b : Bound) (start : Configuration) where
       | inr short ↦ inr (
         short.0,
         elim short.1 [
+          | inr is_marked ↦ inr is_marked
+          | inl asked ↦ inl (elim asked [
           | inl before ↦ inl (subst (λ all. GetsTo s b start all old) (ap (λ more. made ++ more) (sym before.0))
               (subst (λ all. GetsTo s b start all old) (sym (append-nil made)) (record { steps = n; within = below; got_there = alone made n ∙ h []; asking = before.1 })))
           | inr after ↦ inr (record {
@@ -218,13 +226,14 @@ module _ (s : StoryTree) (b : Bound) (start : Configuration) where
             calls = ap (λ more. made ++ more) after.6;
             asking = after.7;
           })
+          ])
         ],
       )
     ];
   }
 
   -- the run needs one more step than it may take
-  pub run_out : (n : ℕ) (now : Configuration) (made : List Made) → MAX_STEPS ≡ n → GotTo n now made → RunFalls s b start made now.shared.globals OutOfSteps
+  pub run_out : (n : ℕ) (now : Configuration) (made : List Made) → MAX_STEPS ≡ n → GotTo n now made → RunFalls s b marked start made now.shared.globals OutOfSteps
   run_out n now made e h = record {
     before = now;
     kept = refl;

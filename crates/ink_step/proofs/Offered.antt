@@ -1,5 +1,5 @@
 -- Choice points: what is made of spots and of places, and what it comes to.
-use Rattle.std.proofs.Common.{◌≡◌, ◌∙◌, ℕ, List, [], ◌∷◌, ◌++◌, length, map, reverse, nat_lt, if◌then◌else◌, Bool, true, false, Option, Some, None, option_map, Result, Ok, Err, OnOk, ap, sym, subst, refl, inl}
+use Rattle.std.proofs.Common.{◌≡◌, ◌∙◌, ℕ, List, [], ◌∷◌, ◌++◌, length, map, reverse, nat_lt, if◌then◌else◌, Bool, true, false, Option, Some, None, option_map, Result, Ok, Err, OnOk, ap, sym, subst, refl, inl, inr}
 use Rattle.std.proofs.lemmas.List.{length-map, map-append}
 use Rattle.ink_choice.specs.Words.{Adds, Makes}
 use Rattle.ink_model.specs.Acceptance.{content_counted, counted_container, lands, leaf_counted, written_target}
@@ -95,7 +95,7 @@ module _ (s : StoryTree) (p : List Part) (rest : Rest) (ts : ThreadsOf Spot) (te
       (or_else BadTarget o (λ q. or_fault (make flags q (was_visited s p seen text flags) seen.thread old) (λ r. offering s p seen r.0 (with r.1)))) (with new) (Err BadTarget))
       (h ∙ leaf_landing s p _ stands) (inl refl)
 
-  module _ (spot : Spot) (there : Some (place_of s spot) ≡ written_target s p) (visited : Bool) (is : visited ≡ is_visited (visits_in s (counts_in s rest.counts) (counted_container s p))) where
+  module _ (spot : Spot) (there : Some (place_of s spot) ≡ written_target s p) (visited : Bool) (is : visited ≡ is_visited (visits_in s (counts_in s rest.counts) (counted_container s p))) (Short : Type 0) where
     -- of what is made of spots
     abbrev made : Result (Option (ChoiceOf Spot) × List Value) Fault
     made = make flags spot visited ts.thread old
@@ -140,22 +140,25 @@ module _ (s : StoryTree) (p : List Part) (rest : Rest) (ts : ThreadsOf Spot) (te
           subst (λ b. Performs t b offers (with new) result) (sym asking_is) (subst (λ e. Performs t (makes_choice (made_at (place_of s) made)) e (with new) result) (sym offers_is) h)
 
       -- none is made
-      none_by : (m : Result (Option (ChoiceOf Spot) × List Value) Fault) → Makes m old new (Ok None) → Comes m (Ok transfer.Next)
+      none_by : (m : Result (Option (ChoiceOf Spot) × List Value) Fault) → Makes Short m old new (Ok None) → Comes m (Ok transfer.Next)
       none_by (Ok (None, left)) h = ap with h.1
       none_by (Ok (Some c, left)) h = absurd (let no : None ≡ Some c = h.0 in cc)
       none_by (Err g) h = absurd h
 
-      pub offers_none : Makes made old new (Ok None) → Performs t asking offers (with new) (Ok transfer.Next)
+      pub offers_none : Makes Short made old new (Ok None) → Performs t asking offers (with new) (Ok transfer.Next)
       offers_none h = offers_so _ (none_by made h)
 
       -- or a fault comes
-      fails_by : (m : Result (Option (ChoiceOf Spot) × List Value) Fault) (g : Fault) → Makes m old new (Err g) → Comes m (Err g)
-      fails_by (Ok (None, left)) g h = absurd (let no : false ≡ true = h.1 in cc)
-      fails_by (Ok (Some c, left)) g h = subst (λ x. Performs t true (so (Some (map_choice (place_of s) c), left)) (with new) (Err x)) (sym h.0) (short t true (with new) _ refl)
-      fails_by (Err x) g h = inl h.0
+      fails_by : (never : Short → ⊥) (m : Result (Option (ChoiceOf Spot) × List Value) Fault) (g : Fault) → Makes Short m old new (Err g) → Comes m (Err g)
+      fails_by never (Ok (None, left)) g h = elim h.1 [
+        | inl asks ↦ absurd (let no : false ≡ true = asks in cc)
+        | inr few ↦ absurd (never few)
+      ]
+      fails_by never (Ok (Some c, left)) g h = subst (λ x. Performs t true (so (Some (map_choice (place_of s) c), left)) (with new) (Err x)) (sym h.0) (short t true (with new) _ refl)
+      fails_by never (Err x) g h = inl h.0
 
-      pub offers_fault : (g : Fault) → Makes made old new (Err g) → Performs t asking offers (with new) (Err g)
-      offers_fault g h = offers_so _ (fails_by made g h)
+      pub offers_fault : (never : Short → ⊥) (g : Fault) → Makes Short made old new (Err g) → Performs t asking offers (with new) (Err g)
+      offers_fault never g h = offers_so _ (fails_by never made g h)
 
       -- one is made
       module _ (c : ChoiceOf Spot) (after : List (ChoiceOf Spot)) (result : Result (Unit {0}) Fault) where
@@ -166,7 +169,7 @@ module _ (s : StoryTree) (p : List Part) (rest : Rest) (ts : ThreadsOf Spot) (te
         one_added left e (Err g) (Ok u) h = absurd h
         one_added left e (Err g) (Err f) h = inl h.0
 
-        one_by : (m : Result (Option (ChoiceOf Spot) × List Value) Fault) → Makes m old new (Ok (Some c)) → Adds (added c rest.choices) rest.choices after result → Comes m (moving result)
+        one_by : (m : Result (Option (ChoiceOf Spot) × List Value) Fault) → Makes Short m old new (Ok (Some c)) → Adds (added c rest.choices) rest.choices after result → Comes m (moving result)
         one_by (Ok (None, left)) h adds = absurd (let no : Some c ≡ None = h.0 in cc)
         one_by (Ok (Some d, left)) h adds =
             let same : c ≡ d = let both : Some c ≡ Some d = h.0 in cc in
@@ -174,16 +177,16 @@ module _ (s : StoryTree) (p : List Part) (rest : Rest) (ts : ThreadsOf Spot) (te
             (one_added left h.1 (added d rest.choices) result (subst (λ x. Adds (added x rest.choices) rest.choices after result) same adds))
         one_by (Err g) h adds = absurd h
 
-        pub offers_one : Makes made old new (Ok (Some c)) → Adds (added c rest.choices) rest.choices after result → Performs t asking offers (with new) (moving result)
+        pub offers_one : Makes Short made old new (Ok (Some c)) → Adds (added c rest.choices) rest.choices after result → Performs t asking offers (with new) (moving result)
         offers_one h adds = offers_so _ (one_by made h adds)
 
     -- ---- the choices after it
 
     module _ (new : List Value) where
-      pub keeps_none : Makes made old new (Ok None) → KeepsChoices s offers rest.choices rest.choices
+      pub keeps_none : Makes Short made old new (Ok None) → KeepsChoices s offers rest.choices rest.choices
       keeps_none h = subst (λ e. KeepsChoices s e rest.choices rest.choices) (sym offers_is) (by made h)
         where
-          by : (m : Result (Option (ChoiceOf Spot) × List Value) Fault) → Makes m old new (Ok None) → KeepsChoices s (comes_to m) rest.choices rest.choices
+          by : (m : Result (Option (ChoiceOf Spot) × List Value) Fault) → Makes Short m old new (Ok None) → KeepsChoices s (comes_to m) rest.choices rest.choices
           by (Ok (None, left)) h = refl
           by (Ok (Some c, left)) h = absurd (let no : None ≡ Some c = h.0 in cc)
           by (Err g) h = absurd h
@@ -195,11 +198,11 @@ module _ (s : StoryTree) (p : List Part) (rest : Rest) (ts : ThreadsOf Spot) (te
         keeps_added f (Err g) (Ok u) h = absurd h
         keeps_added f r (Err g) h = tt
 
-        pub keeps_one : (result : Result (Unit {0}) Fault) → Makes made old new (Ok (Some c)) → Adds (added c rest.choices) rest.choices after result
+        pub keeps_one : (result : Result (Unit {0}) Fault) → Makes Short made old new (Ok (Some c)) → Adds (added c rest.choices) rest.choices after result
             → OnOk result (KeepsChoices s offers rest.choices after)
         keeps_one result h adds = subst (λ e. OnOk result (KeepsChoices s e rest.choices after)) (sym offers_is) (by made h)
           where
-            by : (m : Result (Option (ChoiceOf Spot) × List Value) Fault) → Makes m old new (Ok (Some c)) → OnOk result (KeepsChoices s (comes_to m) rest.choices after)
+            by : (m : Result (Option (ChoiceOf Spot) × List Value) Fault) → Makes Short m old new (Ok (Some c)) → OnOk result (KeepsChoices s (comes_to m) rest.choices after)
             by (Ok (None, left)) h = absurd (let no : Some c ≡ None = h.0 in cc)
             by (Ok (Some d, left)) h =
                 let same : c ≡ d = let both : Some c ≡ Some d = h.0 in cc in

@@ -1,6 +1,6 @@
 -- A value that is put in the place of those on top of a stack.
 use Rattle.std.proofs.Common.{◌≡◌, ◌∙◌, ◌+◌, ◌-◌, ◌<◌, ◌≤◌, ap, sym, subst, refl, arith, ◌&&◌, ℕ, suc, List, [], ◌∷◌, ◌++◌, length, drop, take, get_or, length-append, nat_le, nat_lt, if◌then◌else◌, Bool, true, false, not, Option, Some, None, option_map, Result, Ok, Err}
-use Rattle.std.proofs.lemmas.Bool.{le-leb, lt-ltb}
+use Rattle.std.proofs.lemmas.Bool.{le-leb, leb-true, lt-ltb}
 use Rattle.std.proofs.lemmas.List.{drop_all, take_all, take_more}
 use Rattle.ink_model.specs.Choices.{has_any}
 use Rattle.ink_model.specs.Effect.{Fields, Moves, Fails, or_fault, pushing}
@@ -87,6 +87,31 @@ top_there count below vs mid enough more dropped none =
     let there : arguments_on (suc below) vs ≡ parts = ap (λ (b : Bool). if b then parts else None) (le-leb (suc below) (length vs) within) in
     let some = one_over below vs _ _ mid within there dropped in
     absurd (cc)
+
+-- the value on top goes
+pub one_dropped : (vs new : List Value) → option_map (λ r. r.1) (arguments_on 1 vs) ≡ Some new → option_map (λ r. r.1) (popped vs) ≡ Some new
+one_dropped vs new dropped = ap (option_map (λ r. r.1)) (one_over 0 vs (drop (length vs - 1) vs) new vs within there whole_of)
+  where
+    by : (b : Bool) → (let r : Option (List Value × List Value) = if b then Some (drop (length vs - 1) vs, take (length vs - 1) vs) else None in option_map (λ p. p.1) r ≡ Some new)
+        → (b ≡ true) × (take (length vs - 1) vs ≡ new)
+    by true h = (refl, cc)
+    by false h = absurd (cc)
+
+    parts : (nat_le 1 (length vs) ≡ true) × (take (length vs - 1) vs ≡ new)
+    parts = by (nat_le 1 (length vs)) dropped
+
+    within : 1 ≤ length vs
+    within = leb-true 1 (length vs) parts.0
+
+    there : arguments_on 1 vs ≡ Some (drop (length vs - 1) vs, new)
+    there =
+        let r : Option (List Value × List Value) = Some (drop (length vs - 1) vs, take (length vs - 1) vs) in
+        ap (λ (b : Bool). if b then r else None) parts.0 ∙ ap (λ us. Some (drop (length vs - 1) vs, us)) parts.1
+
+    whole_of : option_map (λ r. r.1) (arguments_on 0 vs) ≡ Some vs
+    whole_of =
+        let r : Option (List Value × List Value) = Some (drop (length vs - 0) vs, take (length vs - 0) vs) in
+        ap (λ (b : Bool). option_map (λ p. p.1) (if b then r else None)) (le-leb 0 (length vs) (omega arith)) ∙ ap Some (take_all (length vs - 0) vs (omega arith))
 
 pub put_over_it : (count below : ℕ) (vs over left mid new : List Value) (v : Value) (u : Unit {0}) → count ≤ length vs → (1 ≤ count) × (below ≡ count - 1)
     → option_map (λ r. r.1) (arguments_on below vs) ≡ Some mid → Some new ≡ with_top v (popped mid) → length new ≤ MAX_STACK → arguments_on count vs ≡ Some (over, left)

@@ -18,7 +18,7 @@ use Rattle.ink_step.specs.declared.flow.StepEnd.TheVariants as ends
 use Rattle.ink_step.specs.declared.transfer.Assignment.{Assignment}
 use Rattle.ink_step.specs.declared.transfer.Transfer.{Transfer}
 use Rattle.ink_step.specs.declared.transfer.Transfer.TheVariants as transfer
-use Rattle.ink_step.proofs.Follows.{ends_short, or_first}
+use Rattle.ink_step.proofs.Follows.{ends_short, ends_where, or_between, or_first}
 
 module _ (s : StoryTree) where
   -- a fault that came before a choice is followed
@@ -26,6 +26,20 @@ module _ (s : StoryTree) where
   broke a (Stop x) globals d f h = ends_short _ (stopped_by s (default_choice x.flow.choices) x) globals d f (h.0.0, or_first a _ h.0.1) h.1
   broke a (Faults g) globals d f h = (elim h.0 [ inl is ↦ inl is | inr short ↦ inr (short.0, or_first a _ short.1) ], h.1)
   broke a o globals d f h = ((h.0.0, or_first a _ h.0.1), h.1)
+
+  -- flow went on, and no choice is followed
+  pub went_on : (a : Bool) (o : Outcome) (globals : Values) (d : Configuration) → StepEnds a o globals d (Ok ends.Went) → StepEnds (a || following_asks s o) (following s o) globals d (Ok ends.Went)
+  went_on a (Next c) globals d h = h
+  went_on a o globals d h = absurd h
+
+  -- flow stopped, and a choice may be followed
+  pub stopped_so : (m a : Bool) (o : Outcome) (vs globals : Values) (mid d : Configuration) (r : Result StepEnd Fault) → StepEnds (m || a) o vs mid (Ok ends.Stopped)
+      → StepEnds (m || default_asks s (default_choice mid.flow.choices) mid) (stopped_by s (default_choice mid.flow.choices) mid) globals d r
+      → StepEnds (m || (a || following_asks s o)) (following s o) globals d r
+  stopped_so m a (Stop x) vs globals mid d r h follows =
+      ends_where _ _ (or_between m a (default_asks s (default_choice x.flow.choices) x)) (stopped_by s (default_choice x.flow.choices) x) globals d r
+      (subst (λ y. StepEnds (m || default_asks s (default_choice y.flow.choices) y) (stopped_by s (default_choice y.flow.choices) y) globals d r) h follows)
+  stopped_so m a o vs globals mid d r h follows = absurd h
 
   -- ---- a global is stored after that
 

@@ -28,6 +28,10 @@ top_turned (u ∷ us) v h = (reverse us, ap popped (reverse_onto us u []) ∙ to
 pub top_seen : (vs : List Value) (v : Value) → slice_get (reverse vs) 0 ≡ Some v → (rest : List Value) × (popped vs ≡ Some (v, rest))
 top_seen vs v h = let t = top_turned (reverse vs) v h in (t.0, ap popped (sym (reverse-reverse vs)) ∙ t.1)
 
+-- the value on top, as it is looked at
+pub lent_top : (vs : List Value) (v : Value) → slice_get (reverse vs) 0 ≡ Some v → Some v ≡ option_map (λ r. r.0) (popped vs)
+lent_top vs v h = sym (ap (option_map (λ r. r.0)) (top_seen vs v h).1)
+
 module _ (vs : List Value) (v : Value) (seen : slice_get (reverse vs) 0 ≡ Some v) where
   pub copied : (room : Bool) (copy : Value) → room ≡ true → copy ≡ v → CopiesTop room (popped vs) (Ok copy)
   copied room copy is same = rw is (subst (λ o. CopiesTop true o (Ok copy)) (sym (top_seen vs v seen).1) (ap Ok (sym same)))

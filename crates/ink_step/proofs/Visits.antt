@@ -1,5 +1,5 @@
 -- Visits and turns by number, as a machine keeps them, and by place, as the definitions do.
-use Rattle.std.proofs.Common.{◌≡◌, ◌∙◌, ap, sym, refl, ℕ, ◌<◌, List, [], ◌∷◌, length, Bool, true, false, true≢false, ◌&&◌, nat_lt, if◌then◌else◌, Option, Some, None, is_some, unwrap_or, Ok, Err, not, ◌||◌, pos, arith}
+use Rattle.std.proofs.Common.{◌≡◌, ◌∙◌, ap, sym, refl, inl, inr, ◌⊎◌, ℕ, suc, ◌+◌, ◌*◌, ◌^◌, ◌<◌, ◌≤◌, List, [], ◌∷◌, length, Bool, true, false, true≢false, ◌&&◌, nat_lt, if◌then◌else◌, Option, Some, None, is_some, unwrap_or, Ok, Err, not, ◌||◌, pos, arith}
 use Rattle.std.proofs.lemmas.Bool.Decides.{nat_tests}
 use Rattle.std.specs.Cmp.{IsTotalOrder, nat_cmp_is, ranked}
 use Rattle.std.specs.FinMap.{nat_cmp-IsAntisymmetric}
@@ -7,18 +7,23 @@ use Rattle.std.specs.Ordering.{nat_cmp, match_ordering, ordering_reverse}
 use Rattle.std.specs.declared.cmp.Ordering.{Ordering}
 use Rattle.std.specs.declared.cmp.Ordering.TheVariants.{Less, Equal, Greater}
 use Rattle.ink_model.specs.Counts.{CountsOf, adds_row, counts, one_more, turns_from, turns_since, visited, visits_at, visits_of}
-use Rattle.ink_model.specs.Entered.{flags_at}
+use Rattle.ink_model.specs.Entered.{flags_at, listed_if}
 use Rattle.ink_model.specs.Flags.{counts_visits, notes_turns}
 use Rattle.ink_model.specs.Places.{places}
 use Rattle.ink_model.specs.Rows.{map_keys, place_order, row, with_row}
-use Rattle.ink_model.specs.Tree.{StoryTree, at}
+use Rattle.ink_model.specs.Path.{is_container}
+use Rattle.ink_model.specs.Tree.{StoryTree, leaf, container, at}
 use Rattle.ink_model.specs.Visits.{adds_rows, all_visited}
 use Rattle.ink_model.specs.declared.fault.Fault.TheVariants.{NotCounted}
 use Rattle.ink_model.specs.declared.place.Part.{Part}
 use Rattle.ink_step.specs.Words.{counts_in, rows_below, rows_in}
 use Rattle.ink_step.proofs.Keys.{KeepsPlace, put_renamed, row_renamed}
+use Rattle.ink_tree.specs.Kept.{leaf_in}
 use Rattle.ink_tree.specs.Nodes.{NumbersInOrder, node_place}
 use Rattle.ink_tree.proofs.Rising.{place_total}
+use Rattle.ink_vars.proofs.Marks.{counts_free}
+use Rattle.ink_vars.specs.Undo.{counts_spare, counts_stood}
+use Rattle.ink_vars.specs.Views.{CountsView}
 
 -- ---- rows below a number
 
@@ -204,6 +209,22 @@ module _ (s : StoryTree) (turn : ℕ) (all : List (List Part)) (old : CountsOf �
         (rows_less s p (flags_at (at s p)) turn (counts_in s now) more (ap (adds_rows s more) (sym visit) ∙ h))),
   )
 
+  -- one that is still entered lacks memory
+  pub enters_adds : (p : List Part) (rest more : List (List Part)) (now : CountsOf ℕ) → rest ≡ p ∷ more → StillEnters s turn all old rest now
+      → adds_row place_order p (flags_at (at s p)) (counts_in s now) ≡ true → adds_rows s all (counts_in s old) ≡ true
+  enters_adds p rest more now is still adds = still.1 (ap (λ ps. adds_rows s ps (counts_in s now)) is ∙ ap (λ b. b || adds_rows s more (counts_in s now)) adds)
+
+-- a content that holds no other, by index, where it is entered as a container
+module _ (s : StoryTree) (p : List Part) (c : CountsOf (List Part)) where
+  last_adds_by : (o : Option StoryTree) → at s p ≡ o → leaf_in o ≡ None → adds_row place_order p (flags_at (at s p)) c ≡ true
+      → adds_rows s (listed_if (is_container o) p []) c ≡ true
+  last_adds_by None is none adds = absurd (true≢false (sym adds ∙ ap (λ o. adds_row place_order p (flags_at o) c) is))
+  last_adds_by (Some (leaf l)) is none adds = absurd cc
+  last_adds_by (Some (container name flags content named)) is none adds = ap (λ b. b || false) adds
+
+  pub last_adds : leaf_in (at s p) ≡ None → adds_row place_order p (flags_at (at s p)) c ≡ true → adds_rows s (listed_if (is_container (at s p)) p []) c ≡ true
+  last_adds = last_adds_by (at s p) refl
+
 -- the first of these that are entered
 module _ (s : StoryTree) (turn : ℕ) (p : List Part) (all more : List (List Part)) (is : all ≡ p ∷ more) (old : CountsOf ℕ) where
   pub first_adds : adds_row place_order p (flags_at (at s p)) (counts_in s old) ≡ true → adds_rows s all (counts_in s old) ≡ true
@@ -213,3 +234,30 @@ module _ (s : StoryTree) (turn : ℕ) (p : List Part) (all more : List (List Par
 
   pub first_entered : (new : CountsOf ℕ) → counts_in s new ≡ visited place_order p (flags_at (at s p)) true turn (counts_in s old) → StillEnters s turn all old more new
   first_entered = enters_more s turn all old p all more old is (refl, λ h. h)
+
+-- ---- where a mark stands
+
+-- all can be noted where no mark stands
+few_marked : (v : CountsView) (o : Option (CountsOf ℕ)) → counts_stood v ≡ o → counts_spare v < 2 → is_some (counts_stood v) ≡ true
+few_marked v (Some c) is few = ap is_some is
+few_marked v None is few = absurd (let free : 2 ^ 64 ≤ counts_spare v = counts_free v is in omega arith)
+
+-- a visit lacks memory for a row, or for its notes where a mark stands
+pub lacks_marked : (A B : Type 0) (v : CountsView) → (A → B) → A ⊎ (counts_spare v < 2) → B ⊎ (is_some (counts_stood v) ≡ true)
+lacks_marked A B v on (inl h) = inl (on h)
+lacks_marked A B v on (inr few) = inr (few_marked v (counts_stood v) refl few)
+
+-- after a visit and others, as many as there was room for, there is room to take it back
+pub room_back : (old mid new : CountsView) (n m : ℕ) → (is_some (counts_stood old) ≡ true → 4 * n ≤ counts_spare old) → n ≡ suc m → counts_spare old ≤ counts_spare mid + 2
+    → counts_spare mid ≤ counts_spare new + 4 * m → counts_stood new ≡ counts_stood old → 2 ≤ counts_spare new
+room_back old mid new n m room is visit others mark = by (counts_stood old) refl
+  where
+    by : (o : Option (CountsOf ℕ)) → counts_stood old ≡ o → 2 ≤ counts_spare new
+    by (Some c) stood = let enough : 4 * n ≤ counts_spare old = room (ap is_some stood) in omega arith
+    by None stood = let free : 2 ^ 64 ≤ counts_spare new = counts_free new (mark ∙ stood) in omega arith
+
+-- what was lacking, of the same containers and counts
+pub lacks_same : (s : StoryTree) (ps qs : List (List Part)) (v w : CountsView) → ps ≡ qs → v.rows ≡ w.rows → counts_stood v ≡ counts_stood w
+    → (adds_rows s ps (counts_in s v.rows) ≡ true) ⊎ (is_some (counts_stood v) ≡ true) → (adds_rows s qs (counts_in s w.rows) ≡ true) ⊎ (is_some (counts_stood w) ≡ true)
+lacks_same s ps qs v w places rows mark (inl adds) = inl (ap (adds_rows s qs) (ap (counts_in s) (sym rows)) ∙ ap (λ xs. adds_rows s xs (counts_in s v.rows)) (sym places) ∙ adds)
+lacks_same s ps qs v w places rows mark (inr marked) = inr (ap is_some (sym mark) ∙ marked)

@@ -1,4 +1,5 @@
 pub mod Words
+pub mod Marks
 pub mod Performs
 pub mod External
 pub mod Stacks

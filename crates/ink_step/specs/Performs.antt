@@ -37,6 +37,11 @@ abbrev pub led_as : StoryTree → Result Landing Fault → Result Goal Fault
 led_as s (Ok to) = Ok (landing_of s to)
 led_as s (Err f) = Err f
 
+-- where a tunnel goes back to, in the same way
+abbrev pub led_back_as : StoryTree → Result (Option Landing) Fault → Result (Option Goal) Fault
+led_back_as s (Ok to) = Ok (option_map (landing_of s) to)
+led_back_as s (Err f) = Err f
+
 -- Performing has an effect: it leaves the effect's fields, but for the end of freshness that a text makes, and for a global that
 -- is stored last, which asks for memory, since its change is noted; or it is its fault. Where it asks for memory it may be
 -- OutOfMemory instead. Temporaries are stored at once (`stored_by`).

@@ -1,5 +1,5 @@
 -- How runs of steps end, with the calls that they made.
-use Rattle.std.specs.Prelude.{◌≡◌, ◌⊎◌, List, [], Some, Result, Ok, Err}
+use Rattle.std.specs.Prelude.{◌≡◌, ◌⊎◌, List, [], Bool, true, Some, Result, Ok, Err}
 use Rattle.std.specs.List.{AllByRecursion}
 use Rattle.ink_model.specs.Configuration.{Configuration}
 use Rattle.ink_model.specs.Host.{Bound, turn_function}
@@ -17,14 +17,14 @@ abbrev pub AreBound : Bound → List Made → Type 0
 AreBound b made = AllByRecursion (λ m. b m.name ≡ Some turn_function) made
 
 -- A run, with these calls made, ended with a fault, or memory was refused to a step that asks for it, or for what came of its
--- last call, at a configuration with these globals.
-pub record RunFalls (s : StoryTree) (b : Bound) (start : Configuration) (made : List Made) (globals : Values) (f : Fault) : Type 0 where
+-- last call, at a configuration with these globals. While a mark stands any step may be refused memory.
+pub record RunFalls (s : StoryTree) (b : Bound) (marked : Bool) (start : Configuration) (made : List Made) (globals : Values) (f : Fault) : Type 0 where
   pub before : Configuration
   pub kept : globals ≡ before.shared.globals
   pub why : (cut_off (moment s b start (answers_of made) MAX_STEPS) ≡ Faulted f before [] made)
-      ⊎ ((f ≡ OutOfMemory) × (GetsTo s b start made before ⊎ CallsAt s b start made before))
+      ⊎ ((f ≡ OutOfMemory) × ((GetsTo s b start made before ⊎ CallsAt s b start made before) ⊎ (marked ≡ true)))
 
 -- A run, with these calls made, to its stop, with what it leaves, or to a fault, with the globals that it leaves.
-abbrev pub RunsToStop : StoryTree → Bound → Configuration → List Made → Configuration → Result (Unit {0}) Fault → Type 0
-RunsToStop s b old made new (Ok u) = moment s b old (answers_of made) MAX_STEPS ≡ run.Stopped new [] made
-RunsToStop s b old made new (Err f) = RunFalls s b old made new.shared.globals f
+abbrev pub RunsToStop : StoryTree → Bound → Bool → Configuration → List Made → Configuration → Result (Unit {0}) Fault → Type 0
+RunsToStop s b marked old made new (Ok u) = moment s b old (answers_of made) MAX_STEPS ≡ run.Stopped new [] made
+RunsToStop s b marked old made new (Err f) = RunFalls s b marked old made new.shared.globals f

@@ -1,11 +1,15 @@
 //! Where choices lead, and jumps (docs/RUNNING.md, "Choosing and jumping").
 
-ghost use Rattle.std.specs.Prelude.{◌≡◌, true, OnErr, OnOk};
+ghost use Rattle.ink_stack.specs.Undo.{threads_spare};
+ghost use Rattle.ink_choice.specs.Undo.{choices_spare, choices_stood};
+ghost use Rattle.std.specs.Prelude.{◌≡◌, is_some, false, Some, true, MatchOption, slice_get, OnErr, OnOk, ◌≤◌, ◌||◌, IfErr, IfOk};
 ghost use Rattle.ink_check.specs.Words.{story_tree};
 ghost use Rattle.ink_model.specs.Choosing.{default_asks, default_choice, jumped, open_choice, stopped_by, taken_up};
+ghost use Rattle.ink_model.specs.Choices as rules;
 ghost use Rattle.ink_model.specs.Configuration.{map_choice};
 ghost use Rattle.ink_model.specs.Tree.{StoryTree};
 ghost use Rattle.ink_model.specs.Visits.{entering_around, entering_asks};
+ghost use Rattle.ink_step.specs.Marks.{marked_in, stood_of, own_spare};
 ghost use Rattle.ink_step.specs.Steps.{Chooses, StepEnds};
 ghost use Rattle.ink_step.specs.Words.{config_of, start_of};
 ghost use Rattle.ink_tree.specs.Nodes.{place_of};
@@ -17,6 +21,7 @@ use ink_check::Story;
 use ink_choice::Choice;
 use ink_model::{Fault, Refusal};
 use ink_tree::Spot;
+use ink_vars::Turn;
 use std::alloc::AllocError;
 
 impl Machine {
@@ -24,16 +29,19 @@ impl Machine {
     /// The one error is a refused request for memory, which is made only for a container that is entered for the first time.
     #[inline(never)]
     pub(crate) fn follow_default(&mut self, story: &Story) -> Result<StepEnd, Fault>
+        requires room { 2 ≤ threads_spare self.old.flow.threads }
         ensures ends { let s = story_tree story.now in let c = config_of s self.old in let choice = default_choice c.flow.choices in
-            StepEnds (default_asks s choice c) (stopped_by s choice c) self.old.shared.globals.rows (config_of s self.new) result }
+            StepEnds (marked_in (stood_of self.old) || default_asks s choice c) (stopped_by s choice c) self.old.shared.globals.rows (config_of s self.new) result }
         ensures globals { self.new.shared.globals.rows ≡ self.old.shared.globals.rows }
         ensures start { start_of self.new ≡ start_of self.old }
+        ensures mark { stood_of self.new ≡ stood_of self.old }
     {
         if !self.flow.choices.only_invisible() {
             return Ok(StepEnd::Stopped);
         }
-        match self.flow.choices.take(0) {
+        match self.flow.choices.take(0)? {
             Some(choice) => {
+                self.flow.choices.ready(1)?;
                 self.take_up(choice);
                 match self.enter_around(story.tree(), true) {
                     Ok(()) => Ok(StepEnd::Went),
@@ -46,9 +54,12 @@ impl Machine {
 
     // Flow is where a choice leads, in the choice's thread alone, and no choice is left.
     fn take_up(&mut self, choice: Choice<Spot>)
+        requires room { 2 ≤ threads_spare self.old.flow.threads }
+        requires choices_room { 1 ≤ choices_spare self.old.flow.choices }
         ensures taken { (s : StoryTree) → config_of s self.new ≡ taken_up (map_choice (place_of s) choice) (config_of s self.old) }
         ensures globals { self.new.shared.globals.rows ≡ self.old.shared.globals.rows }
         ensures start { start_of self.new ≡ start_of self.old }
+        ensures mark { stood_of self.new ≡ stood_of self.old }
     {
         let Choice { target, thread, .. } = choice;
         self.flow.threads.replace(thread);
@@ -61,7 +72,8 @@ impl Machine {
     /// `OutOfMemory` for a refused request for memory, which is made only for a container that is entered for the first time.
     /// On an error nothing has changed (docs/RUNNING.md, "Choosing and jumping").
     pub fn choose(&mut self, story: &Story, number: usize) -> Result<(), Refusal>
-        ensures { let s = story_tree story.now in let c = config_of s self.old in Chooses s (open_choice number c) c (config_of s self.new) result }
+        ensures chooses { let s = story_tree story.now in let c = config_of s self.old in Chooses s (marked_in (stood_of self.old)) (open_choice number c) c (config_of s self.new) result }
+        ensures mark { stood_of self.new ≡ stood_of self.old }
     {
         if self.can_go_on() {
             return Err(Refusal::NotAChoice);
@@ -69,25 +81,84 @@ impl Machine {
         let Some(choice) = self.flow.choices.visible_at(number) else {
             return Err(Refusal::NotAChoice);
         };
+        let previous = choice.thread.previous();
+        let target = choice.target;
+        let copied = self.copied_choice(number)?;
+        self.make_choosing_room()?;
         let turn = self.shared.turn.next();
         match enter_landed(
             story.tree(),
             &mut self.shared.counts,
-            choice.thread.previous(),
-            choice.target,
+            previous,
+            target,
             turn,
         ) {
             Ok(()) => {}
             Err(_) => return Err(Refusal::OutOfMemory),
         }
-        match self.flow.choices.take(number) {
+        match copied {
             Some(choice) => {
-                self.shared.set_turn(turn);
-                self.take_up(choice);
+                self.take_up_next(choice, turn);
                 Ok(())
             }
-            None => Err(Refusal::NotAChoice),
+            None => match self.flow.choices.take(number) {
+                Ok(Some(choice)) => {
+                    self.take_up_next(choice, turn);
+                    Ok(())
+                }
+                Ok(None) => Err(Refusal::NotAChoice),
+                Err(_) => Err(Refusal::OutOfMemory),
+            },
         }
+    }
+
+    // The same in another turn.
+    fn take_up_next(&mut self, choice: Choice<Spot>, turn: Turn)
+        requires room { 2 ≤ threads_spare self.old.flow.threads }
+        requires choices_room { 1 ≤ choices_spare self.old.flow.choices }
+        requires own_room { 1 ≤ own_spare self.old.trail }
+        ensures taken { (s : StoryTree) → let c = config_of s self.old in config_of s self.new ≡ taken_up (map_choice (place_of s) choice) (record c { shared = record c.shared { turn = turn } }) }
+        ensures mark { stood_of self.new ≡ stood_of self.old }
+    {
+        self.set_turn(turn);
+        self.take_up(choice);
+    }
+
+    // A copy of a choice, where a mark stands that keeps the choices: so that taking it up cannot fail. The one error is a refused
+    // request for memory.
+    fn copied_choice(&self, number: usize) -> Result<Option<Choice<Spot>>, Refusal>
+        ensures copy { IfOk result (λ copied. MatchOption copied (is_some (choices_stood self.now.flow.choices) ≡ false) (λ c. Some c ≡ slice_get (rules.visible self.now.flow.choices.items) number)) }
+        ensures fault { IfErr result (λ r. r ≡ Refusal.OutOfMemory) }
+        ensures memory { OnErr result (marked_in (stood_of self.now) ≡ true) }
+    {
+        if !self.flow.choices.is_marked() {
+            return Ok(None);
+        }
+        match self.flow.choices.visible_at(number) {
+            Some(choice) => match choice.clone_in(self.alloc) {
+                Ok(copy) => Ok(Some(copy)),
+                Err(_) => Err(Refusal::OutOfMemory),
+            },
+            None => Ok(None),
+        }
+    }
+
+    // Makes room for what a choice or a jump changes, where a mark stands. The one error is a refused request for memory, and nothing
+    // has changed then.
+    fn make_choosing_room(&mut self) -> Result<(), Refusal>
+        ensures config { (s : StoryTree) → config_of s self.new ≡ config_of s self.old }
+        ensures items { self.new.flow.choices.items ≡ self.old.flow.choices.items }
+        ensures mark { stood_of self.new ≡ stood_of self.old }
+        ensures threads { OnOk result (2 ≤ threads_spare self.new.flow.threads) }
+        ensures choices { OnOk result (2 ≤ choices_spare self.new.flow.choices) }
+        ensures own { OnOk result (2 ≤ own_spare self.new.trail) }
+        ensures fault { IfErr result (λ r. r ≡ Refusal.OutOfMemory) }
+        ensures memory { OnErr result (marked_in (stood_of self.old) ≡ true) }
+    {
+        if self.flow.threads.ready(2).is_err() || self.flow.choices.ready(2).is_err() || self.make_own_room().is_err() {
+            return Err(Refusal::OutOfMemory);
+        }
+        Ok(())
     }
 
     /// Ends all threads and choices, and lands at a place, in the next turn. The one error is a refused request for memory,
@@ -96,16 +167,20 @@ impl Machine {
     pub fn jump(&mut self, story: &Story, place: Spot) -> Result<(), AllocError>
         ensures ok { let s = story_tree story.now in OnOk result (config_of s self.new ≡ entering_around s (jumped (place_of s place) (config_of s self.old))) }
         ensures err { let s = story_tree story.now in OnErr result (config_of s self.new ≡ config_of s self.old) }
-        ensures memory { let s = story_tree story.now in OnErr result (entering_asks s (jumped (place_of s place) (config_of s self.old)) ≡ true) }
+        ensures memory { let s = story_tree story.now in OnErr result ((marked_in (stood_of self.old) || entering_asks s (jumped (place_of s place) (config_of s self.old))) ≡ true) }
+        ensures mark { stood_of self.new ≡ stood_of self.old }
     {
+        if self.make_choosing_room().is_err() {
+            return Err(AllocError);
+        }
         let turn = self.shared.turn.next();
         match enter_landed(story.tree(), &mut self.shared.counts, None, place, turn) {
             Ok(()) => {
                 self.flow.threads.reset();
                 self.flow.threads.put(Some(place));
                 self.flow.choices.clear();
-                self.flow.set_safe(true);
-                self.shared.set_turn(turn);
+                self.set_safe(true);
+                self.set_turn(turn);
                 Ok(())
             }
             Err(_) => Err(AllocError),

@@ -1,6 +1,7 @@
 //! Diverts (docs/RUNNING.md, "Diverts").
 
-ghost use Rattle.std.specs.Prelude.{◌≡◌, ℕ, Bool, false, Option, option_map};
+ghost use Rattle.ink_value.specs.Undo.{stack_spare, stack_stood};
+ghost use Rattle.std.specs.Prelude.{◌≡◌, ℕ, Bool, false, Option, option_map, ◌≤◌, ◌+◌};
 ghost use Rattle.ink_check.specs.Words.{story_tree};
 ghost use Rattle.ink_model.specs.Acceptance.{lands_to, written_target};
 ghost use Rattle.ink_model.specs.Page.{Page};
@@ -13,7 +14,7 @@ ghost use Rattle.ink_step.specs.Performs.{Performs, fields, landing_of, leading,
 ghost use Rattle.ink_step.specs.Words.{Rest, seen_by};
 ghost use Rattle.ink_tree.specs.Nodes.{place_of};
 
-use crate::operands::top;
+use crate::operands::{drop_top, top};
 use crate::transfer::{Landing, Transfer};
 use ink_check::{Story, ends_in_index};
 use ink_model::{Destination, Fault, Path, Value};
@@ -39,8 +40,10 @@ pub(crate) fn divert(
 ) -> Result<(), Fault>
     requires on { transfer.old ≡ Transfer.Next }
     requires path { let s = story_tree story.now in written_target s (place_of s here) ≡ lands_to s (place_of s here) to.now }
-    ensures { let s = story_tree story.now in (evaluating : Bool) (fresh : Option ℕ) (page : Page) (rest : Rest)
+    requires room { 1 ≤ stack_spare stack.old }
+    ensures effect { let s = story_tree story.now in (evaluating : Bool) (fresh : Option ℕ) (page : Page) (rest : Rest)
         → Performs s false (divert s (place_of s here) (seen_by s threads.now.threads rest) to.now conditional (fields evaluating fresh stack.old.items page globals.now.rows)) (fields evaluating fresh stack.new.items page globals.now.rows) (leading result transfer.new) }
+    ensures mark { stack_stood stack.new ≡ stack_stood stack.old }
 {
     match is_wanted(conditional, stack) {
         Ok(true) => match destination(story, here, to, globals, threads) {
@@ -59,16 +62,21 @@ pub(crate) fn divert(
 /// none, `BadOperands` where it is no truth.
 #[inline(always)]
 pub(crate) fn is_wanted(conditional: bool, stack: &mut EvalStack) -> Result<bool, Fault>
-    ensures { (evaluating : Bool) (fresh : Option ℕ) (page : Page) (globals : Values)
+    requires room { 1 ≤ stack_spare stack.old }
+    ensures wanted { (evaluating : Bool) (fresh : Option ℕ) (page : Page) (globals : Values)
         → leaving_fields (fields evaluating fresh stack.new.items page globals) result ≡ condition conditional (fields evaluating fresh stack.old.items page globals) }
+    ensures mark { stack_stood stack.new ≡ stack_stood stack.old }
+    ensures spare { stack_spare stack.old ≤ stack_spare stack.new + 1 }
 {
     if !conditional {
         return Ok(true);
     }
-    match top(stack) {
-        Some(condition) => is_true(&condition),
-        None => Err(Fault::StackEmpty),
-    }
+    let Some(condition) = top(stack) else {
+        return Err(Fault::StackEmpty);
+    };
+    let wanted = is_true(condition);
+    drop_top(stack);
+    wanted
 }
 
 /// Where a divert, a call or a tunnel leads: by a written path, or by what a variable is read as. `BadTarget` where that is

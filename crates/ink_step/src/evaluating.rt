@@ -1,6 +1,7 @@
 //! Values, operators and evaluation mode (docs/RUNNING.md, "Evaluation").
 
-ghost use Rattle.std.specs.Prelude.{◌&&◌, ℕ, List, [], Bool, true, false, Option, Some, IfOk, ◌≡◌};
+ghost use Rattle.ink_value.specs.Undo.{stack_spare, stack_stood};
+ghost use Rattle.std.specs.Prelude.{◌&&◌, ℕ, List, [], Bool, true, false, Option, Some, IfOk, ◌≡◌, ◌≤◌, ◌+◌};
 ghost use Rattle.ink_check.specs.Words.{story_tree};
 ghost use Rattle.ink_model.specs.Asks.{has_room};
 ghost use Rattle.ink_model.specs.Memory.{has_top, operator_asks};
@@ -17,7 +18,7 @@ ghost use Rattle.ink_model.specs.declared.value.Value.TheVariants as value;
 ghost use Rattle.ink_step.specs.Performs.{Changes, fields};
 ghost use Rattle.ink_tree.specs.Nodes.{place_of};
 
-use crate::operands::{check_room, push, top, top_copy};
+use crate::operands::{check_room, drop_top, push, top, top_copy};
 use ink_check::Story;
 use ink_model::{Fault, Op, Path, Shared, Text, Value};
 use ink_tree::Spot;
@@ -27,8 +28,9 @@ use std::alloc::{AllocError, Global};
 /// A value is pushed in evaluation mode, and does nothing outside it.
 #[inline(always)]
 pub(crate) fn push_value(stack: &mut EvalStack, evaluating: bool, value: Value) -> Result<(), Fault>
-    ensures { (fresh : Option ℕ) (page : Page) (globals : Values)
+    ensures effect { (fresh : Option ℕ) (page : Page) (globals : Values)
         → Changes (evaluating && has_room stack.old.items) (push_value value (fields evaluating fresh stack.old.items page globals)) (fields evaluating fresh stack.new.items page globals) result }
+    ensures mark { stack_stood stack.new ≡ stack_stood stack.old }
 {
     if !evaluating {
         return Ok(());
@@ -46,8 +48,9 @@ pub(crate) fn push_target(
     text: &Shared<Text>,
 ) -> Result<(), Fault>
     requires { let s = story_tree story.now in at s (place_of s here) ≡ Some (leaf (Target text.now)) }
-    ensures { (fresh : Option ℕ) (page : Page) (globals : Values)
+    ensures effect { (fresh : Option ℕ) (page : Page) (globals : Values)
         → Changes (evaluating && has_room stack.old.items) (push_value (value.Target (rules.path_of text.now)) (fields evaluating fresh stack.old.items page globals)) (fields evaluating fresh stack.new.items page globals) result }
+    ensures mark { stack_stood stack.new ≡ stack_stood stack.old }
 {
     if !evaluating {
         return Ok(());
@@ -98,17 +101,23 @@ pub(crate) fn end_eval(evaluating: &mut bool) -> Result<(), Fault>
 
 /// The value on top goes. `StackEmpty` where there is none.
 pub(crate) fn pop(stack: &mut EvalStack) -> Result<(), Fault>
-    ensures { (evaluating : Bool) (fresh : Option ℕ) (page : Page) (globals : Values)
+    requires room { 1 ≤ stack_spare stack.old }
+    ensures effect { (evaluating : Bool) (fresh : Option ℕ) (page : Page) (globals : Values)
         → Changes false (pop (fields evaluating fresh stack.old.items page globals)) (fields evaluating fresh stack.new.items page globals) result }
+    ensures mark { stack_stood stack.new ≡ stack_stood stack.old }
 {
-    top(stack).ok_or(Fault::StackEmpty)?;
+    if top(stack).is_none() {
+        return Err(Fault::StackEmpty);
+    }
+    drop_top(stack);
     Ok(())
 }
 
 /// The value on top is pushed again.
 pub(crate) fn duplicate(alloc: Global, stack: &mut EvalStack) -> Result<(), Fault>
-    ensures { (evaluating : Bool) (fresh : Option ℕ) (page : Page) (globals : Values)
+    ensures effect { (evaluating : Bool) (fresh : Option ℕ) (page : Page) (globals : Values)
         → Changes (has_top (popped stack.old.items) && has_room stack.old.items) (duplicate (fields evaluating fresh stack.old.items page globals)) (fields evaluating fresh stack.new.items page globals) result }
+    ensures mark { stack_stood stack.new ≡ stack_stood stack.old }
 {
     let value = top_copy(alloc, stack)?;
     push(stack, value)
@@ -117,8 +126,10 @@ pub(crate) fn duplicate(alloc: Global, stack: &mut EvalStack) -> Result<(), Faul
 /// What an operator makes of the values on top is pushed in their place.
 #[inline(always)]
 pub(crate) fn operate(alloc: Global, stack: &mut EvalStack, operator: Op) -> Result<(), Fault>
-    ensures { (evaluating : Bool) (fresh : Option ℕ) (page : Page) (globals : Values)
+    requires room { 2 ≤ stack_spare stack.old }
+    ensures effect { (evaluating : Bool) (fresh : Option ℕ) (page : Page) (globals : Values)
         → Changes (operator_asks operator (taken (takes operator) stack.old.items [])) (operate operator (fields evaluating fresh stack.old.items page globals)) (fields evaluating fresh stack.new.items page globals) result }
+    ensures mark { stack_stood stack.new ≡ stack_stood stack.old }
 {
     stack.apply_top(alloc, operator)
 }

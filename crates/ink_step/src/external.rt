@@ -1,6 +1,7 @@
 //! External functions: what a host has bound is called or asked, and what it has not bound is a knot (docs/HOST.md, "Calls").
 
-ghost use Rattle.std.specs.Prelude.{◌≡◌, ◌≤◌, ℕ, List, Bool, Option, Some, Ok, Err, IfOk, IfErr, true, false, is_some, length, option_map};
+ghost use Rattle.ink_value.specs.Undo.{stack_spare, stack_stood};
+ghost use Rattle.std.specs.Prelude.{◌≡◌, ◌≤◌, ℕ, List, Bool, Option, Some, Ok, Err, IfOk, IfErr, true, false, is_some, length, option_map, ◌+◌};
 ghost use Rattle.std.specs.List.{list_all};
 ghost use Rattle.ink_check.specs.Words.{story_tree};
 ghost use Rattle.ink_host.specs.Desk.{Grew, at, bound_by};
@@ -81,11 +82,13 @@ pub(crate) fn call_external<'a, P: PureFn, T: TurnFn, W: Watcher>(
     output: &Output,
     desk: &mut Desk<P, T, W>,
 ) -> Result<Transfer<'a>, Fault>
+    requires room { length stack.old.items + 1 ≤ stack_spare stack.old }
     ensures call { let s = story_tree story.now in let b = bound_by P.meaning desk.old.functions in let k = call_of call.now in (evaluating : Bool) (fresh : Option ℕ) (globals : Values)
         → let f = fields evaluating fresh stack.old.items output.now.page globals in
         (es : List Happening) × Grew T.log (log_of W.state) desk.old es desk.new
         × PerformsCall s desk.old.next (external_asks (b k.name) k.arguments k.conditional f) (rules.call_external s b k.name k.arguments k.conditional f) es (fields evaluating fresh stack.new.items output.now.page globals) result }
     ensures watchers { desk.new.watchers ≡ desk.old.watchers }
+    ensures mark { stack_stood stack.new ≡ stack_stood stack.old }
 {
     match is_wanted(call.conditional, stack) {
         Ok(true) => call_bound(story, call, stack, output, desk),
@@ -102,11 +105,13 @@ fn call_bound<'a, P: PureFn, T: TurnFn, W: Watcher>(
     output: &Output,
     desk: &mut Desk<P, T, W>,
 ) -> Result<Transfer<'a>, Fault>
+    requires room { length stack.old.items ≤ stack_spare stack.old }
     ensures call { let s = story_tree story.now in let bound = bound_by P.meaning desk.old.functions call.now.name.now in let k = call_of call.now in (evaluating : Bool) (fresh : Option ℕ) (globals : Values)
         → let f = fields evaluating fresh stack.old.items output.now.page globals in
         (es : List Happening) × Grew T.log (log_of W.state) desk.old es desk.new
         × PerformsCall s desk.old.next (binding_asks bound k.arguments f) (rules.call_bound s bound k.name k.arguments f) es (fields evaluating fresh stack.new.items output.now.page globals) result }
     ensures watchers { desk.new.watchers ≡ desk.old.watchers }
+    ensures mark { stack_stood stack.new ≡ stack_stood stack.old }
 {
     match desk.kind(call.name) {
         None => fall_back(story, call.name),
@@ -143,12 +148,14 @@ fn call_turn<'a, P, T: TurnFn, W: Watcher>(
     output: &Output,
     desk: &mut Desk<P, T, W>,
 ) -> Result<Transfer<'a>, Fault>
-    requires { (t : T) × (at call.now.name.now desk.old.functions ≡ Some (bound.Turn t)) }
+    requires bound { (t : T) × (at call.now.name.now desk.old.functions ≡ Some (bound.Turn t)) }
+    requires room { length stack.old.items ≤ stack_spare stack.old }
     ensures call { let k = call_of call.now in let turn = Some turn_function in (s : StoryTree) (evaluating : Bool) (fresh : Option ℕ) (globals : Values)
         → let f = fields evaluating fresh stack.old.items output.now.page globals in
         (es : List Happening) × Grew T.log (log_of W.state) desk.old es desk.new
         × PerformsCall s desk.old.next (binding_asks turn k.arguments f) (rules.call_bound s turn k.name k.arguments f) es (fields evaluating fresh stack.new.items output.now.page globals) result }
     ensures watchers { desk.new.watchers ≡ desk.old.watchers }
+    ensures mark { stack_stood stack.new ≡ stack_stood stack.old }
 {
     if output.in_string() {
         return Err(Fault::UnsafeInString);
@@ -166,10 +173,12 @@ fn ask_pure<'a, P: PureFn, T, W>(
     stack: &mut EvalStack,
     desk: &Desk<P, T, W>,
 ) -> Result<Transfer<'a>, Fault>
-    requires { (p : P) × (at call.now.name.now desk.now.functions ≡ Some (bound.Pure p)) }
-    ensures { let k = call_of call.now in (p : P) → at call.now.name.now desk.now.functions ≡ Some (bound.Pure p) → let pure = Some (pure_function (P.meaning p)) in
+    requires bound { (p : P) × (at call.now.name.now desk.now.functions ≡ Some (bound.Pure p)) }
+    requires room { length stack.old.items ≤ stack_spare stack.old }
+    ensures effect { let k = call_of call.now in (p : P) → at call.now.name.now desk.now.functions ≡ Some (bound.Pure p) → let pure = Some (pure_function (P.meaning p)) in
         (s : StoryTree) (evaluating : Bool) (fresh : Option ℕ) (page : Page) (globals : Values) → let f = fields evaluating fresh stack.old.items page globals in
         Performs s (binding_asks pure k.arguments f) (rules.ask_pure (P.meaning p) k.arguments f) (fields evaluating fresh stack.new.items page globals) result }
+    ensures mark { stack_stood stack.new ≡ stack_stood stack.old }
 {
     let arguments = lend_arguments(stack, call.arguments)?;
     match desk.ask(call.name, arguments) {
@@ -196,10 +205,12 @@ fn lend_arguments(stack: &EvalStack, count: usize) -> Result<&[Value], Fault>
 // What was given is put in the place of the arguments. `TooDeep` for a text over its limit. Only where there are no arguments it may
 // be `TooDeep` for a stack that is full, and `OutOfMemory` for a refused request for memory.
 fn answer<'a>(stack: &mut EvalStack, count: usize, given: Given) -> Result<Transfer<'a>, Fault>
-    requires { count ≤ length stack.old.items }
-    ensures { (s : StoryTree) (evaluating : Bool) (fresh : Option ℕ) (page : Page) (globals : Values) (arguments left : List Data) → rules.arguments_on count stack.old.items ≡ Some (arguments, left)
+    requires there { count ≤ length stack.old.items }
+    requires room { count ≤ stack_spare stack.old }
+    ensures effect { (s : StoryTree) (evaluating : Bool) (fresh : Option ℕ) (page : Page) (globals : Values) (arguments left : List Data) → rules.arguments_on count stack.old.items ≡ Some (arguments, left)
         → let f = fields evaluating fresh left page globals in
         Performs s (given_asks arguments f (Some given)) (rules.answering (Some given) f) (fields evaluating fresh stack.new.items page globals) result }
+    ensures mark { stack_stood stack.new ≡ stack_stood stack.old }
 {
     if !fits(&given) {
         return Err(Fault::TooDeep);

@@ -1,6 +1,9 @@
 //! Where flow goes among frames and threads (docs/FRAMES.md).
 
-ghost use Rattle.std.specs.Prelude.{◌≡◌, List, None, Some, Ok, Err, false, nat_lt, if◌then◌else◌, option_map, option_and_then};
+ghost use Rattle.ink_out.specs.Undo.{output_stood};
+ghost use Rattle.ink_stack.specs.Undo.{threads_spare, threads_stood};
+ghost use Rattle.ink_value.specs.Undo.{stack_stood};
+ghost use Rattle.std.specs.Prelude.{◌≡◌, List, None, Some, Ok, Err, false, nat_lt, if◌then◌else◌, option_map, option_and_then, ◌≤◌, ◌+◌, OnOk};
 ghost use Rattle.ink_model.specs.Flow.{Written, called, depth_of, done, forked, halt, moved_on, reach, returned, void_for};
 ghost use Rattle.ink_model.specs.Frames.{base_threads, is_function, map_threads, place_in};
 ghost use Rattle.ink_model.specs.Memory.{Gives, leaving};
@@ -25,6 +28,9 @@ use ink_out::Output;
 use ink_stack::{CallKind, Threads};
 use ink_tree::{Spot, Tree};
 use ink_value::EvalStack;
+
+/// How many changes of threads a move makes at the most before it makes room again: each thread may end, and flow is put somewhere.
+pub(crate) const MOVING: usize = 108;
 
 /// How a step ended: flow went on, or it has stopped; or a turn function would be called, by a step that is to call none.
 #[derive(Clone, Copy)]
@@ -56,8 +62,13 @@ pub(crate) fn move_on(
     stack: &mut EvalStack,
     output: &mut Output,
 ) -> Result<StepEnd, Fault>
-    ensures { let s = story_tree tree.now in let ts = map_threads (place_of s) threads.old.threads in let w = written stack.old output.old in
+    requires room { MOVING ≤ threads_spare threads.old }
+    ensures flow { let s = story_tree tree.now in let ts = map_threads (place_of s) threads.old.threads in let w = written stack.old output.old in
         ReachesAs (moved_asks (next_place s) ts w) (moved_on (next_place s) ts w) (map_threads (place_of s) threads.new.threads) (written stack.new output.new) result }
+    ensures threads_mark { threads_stood threads.new ≡ threads_stood threads.old }
+    ensures stack_mark { stack_stood stack.new ≡ stack_stood stack.old }
+    ensures output_mark { output_stood output.new ≡ output_stood output.old }
+    ensures enough { 6 ≤ threads_spare threads.new }
 {
     if let Some(place) = next_of(tree, threads) {
         return Ok(land(threads, place));
@@ -68,9 +79,12 @@ pub(crate) fn move_on(
 /// The same where the place after is known. Takes no memory.
 #[inline(always)]
 pub(crate) fn move_to(tree: &Tree, threads: &mut Threads<Spot>, next: Spot)
-    requires { let s = story_tree tree.now in option_and_then (next_place s) (place_in (map_threads (place_of s) threads.old.threads)) ≡ Some (place_of s next) }
-    ensures { (w : Written) → let s = story_tree tree.now in let ts = map_threads (place_of s) threads.old.threads in
+    requires next { let s = story_tree tree.now in option_and_then (next_place s) (place_in (map_threads (place_of s) threads.old.threads)) ≡ Some (place_of s next) }
+    requires room { 2 ≤ threads_spare threads.old }
+    ensures flow { (w : Written) → let s = story_tree tree.now in let ts = map_threads (place_of s) threads.old.threads in
         ReachesAs (moved_asks (next_place s) ts w) (moved_on (next_place s) ts w) (map_threads (place_of s) threads.new.threads) w (Ok Went) }
+    ensures mark { threads_stood threads.new ≡ threads_stood threads.old }
+    ensures spare { threads_spare threads.old ≤ threads_spare threads.new + 2 }
 {
     threads.go(Some(next));
 }
@@ -83,8 +97,13 @@ fn move_out(
     stack: &mut EvalStack,
     output: &mut Output,
 ) -> Result<StepEnd, Fault>
-    ensures { let s = story_tree tree.now in let ts = map_threads (place_of s) threads.old.threads in let w = written stack.old output.old in
+    requires room { MOVING ≤ threads_spare threads.old }
+    ensures flow { let s = story_tree tree.now in let ts = map_threads (place_of s) threads.old.threads in let w = written stack.old output.old in
         ReachesAs (moved_asks (next_place s) ts w) (moved_on (next_place s) ts w) (map_threads (place_of s) threads.new.threads) (written stack.new output.new) result }
+    ensures threads_mark { threads_stood threads.new ≡ threads_stood threads.old }
+    ensures stack_mark { stack_stood stack.new ≡ stack_stood stack.old }
+    ensures output_mark { output_stood output.new ≡ output_stood output.old }
+    ensures enough { 6 ≤ threads_spare threads.new }
 {
     loop {
         if let Some(place) = next_of(tree, threads) {
@@ -93,10 +112,11 @@ fn move_out(
         match threads.top().kind() {
             FrameKind::Function => end_function(threads, stack, output)?,
             FrameKind::Base | FrameKind::Tunnel => {
-                if !threads.pop_thread() {
+                if threads.is_last() {
                     threads.go(None);
                     return stop(output);
                 }
+                let _dropped = threads.pop_thread();
             }
         }
     }
@@ -105,7 +125,10 @@ fn move_out(
 /// Flow goes to a place. Takes no memory.
 #[inline(always)]
 pub(crate) fn land(threads: &mut Threads<Spot>, place: Spot) -> StepEnd
-    ensures { (s : StoryTree) (w : Written) → ReachesAs false (reach (place_of s place) (map_threads (place_of s) threads.old.threads) w) (map_threads (place_of s) threads.new.threads) w (Ok result) }
+    requires room { 2 ≤ threads_spare threads.old }
+    ensures flow { (s : StoryTree) (w : Written) → ReachesAs false (reach (place_of s place) (map_threads (place_of s) threads.old.threads) w) (map_threads (place_of s) threads.new.threads) w (Ok result) }
+    ensures mark { threads_stood threads.new ≡ threads_stood threads.old }
+    ensures spare { threads_spare threads.old ≤ threads_spare threads.new + 2 }
 {
     threads.go(Some(place));
     StepEnd::Went
@@ -120,8 +143,12 @@ pub(crate) fn call(
     kind: CallKind,
     place: Spot,
 ) -> Result<StepEnd, Fault>
-    ensures { (s : StoryTree) (values : List Data) → let ts = map_threads (place_of s) threads.old.threads in let w : Written = record { stack = values; page = output.old.page } in
+    requires room { 4 ≤ threads_spare threads.old }
+    ensures flow { (s : StoryTree) (values : List Data) → let ts = map_threads (place_of s) threads.old.threads in let w : Written = record { stack = values; page = output.old.page } in
         ReachesAs (nat_lt (frame_count ts.thread) MAX_FRAMES) (called (frame_kind kind) (place_of s place) ts w) (map_threads (place_of s) threads.new.threads) (record { stack = values; page = output.new.page }) result }
+    ensures threads_mark { threads_stood threads.new ≡ threads_stood threads.old }
+    ensures output_mark { output_stood output.new ≡ output_stood output.old }
+    ensures spare { threads_spare threads.old ≤ threads_spare threads.new + 4 }
 {
     threads.push_frame(kind, output.depth())?;
     enter(threads, output, kind)?;
@@ -139,8 +166,13 @@ pub(crate) fn give_back(
     kind: FrameKind,
     to: Option<Spot>,
 ) -> Result<StepEnd, Fault>
-    ensures { let s = story_tree tree.now in let ts = map_threads (place_of s) threads.old.threads in let w = written stack.old output.old in let q = option_map (place_of s) to in
+    requires room { MOVING + 2 ≤ threads_spare threads.old }
+    ensures flow { let s = story_tree tree.now in let ts = map_threads (place_of s) threads.old.threads in let w = written stack.old output.old in let q = option_map (place_of s) to in
         ReachesAs (returned_asks (next_place s) kind q ts w) (returned (next_place s) kind q ts w) (map_threads (place_of s) threads.new.threads) (written stack.new output.new) result }
+    ensures threads_mark { threads_stood threads.new ≡ threads_stood threads.old }
+    ensures stack_mark { stack_stood stack.new ≡ stack_stood stack.old }
+    ensures output_mark { output_stood output.new ≡ output_stood output.old }
+    ensures enough { 5 ≤ threads_spare threads.new }
 {
     leave(threads, output, kind)?;
     match to {
@@ -158,8 +190,13 @@ pub(crate) fn fork(
     stack: &mut EvalStack,
     output: &mut Output,
 ) -> Result<StepEnd, Fault>
-    ensures { let s = story_tree tree.now in let ts = map_threads (place_of s) threads.old.threads in let w = written stack.old output.old in
+    requires room { MOVING + 2 ≤ threads_spare threads.old }
+    ensures flow { let s = story_tree tree.now in let ts = map_threads (place_of s) threads.old.threads in let w = written stack.old output.old in
         ReachesAs (forked_asks (next_place s) ts w) (forked (next_place s) ts w) (map_threads (place_of s) threads.new.threads) (written stack.new output.new) result }
+    ensures threads_mark { threads_stood threads.new ≡ threads_stood threads.old }
+    ensures stack_mark { stack_stood stack.new ≡ stack_stood stack.old }
+    ensures output_mark { output_stood output.new ≡ output_stood output.old }
+    ensures enough { 5 ≤ threads_spare threads.new }
 {
     let end = move_on(tree, threads, stack, output)?;
     if let StepEnd::Went = end {
@@ -177,8 +214,13 @@ pub(crate) fn done(
     stack: &mut EvalStack,
     output: &mut Output,
 ) -> Result<StepEnd, Fault>
-    ensures { let s = story_tree tree.now in let ts = map_threads (place_of s) threads.old.threads in let w = written stack.old output.old in
+    requires room { MOVING + 2 ≤ threads_spare threads.old }
+    ensures flow { let s = story_tree tree.now in let ts = map_threads (place_of s) threads.old.threads in let w = written stack.old output.old in
         ReachesAs (dropped_asks (next_place s) (dropped ts) w) (done (next_place s) ts w) (map_threads (place_of s) threads.new.threads) (written stack.new output.new) result }
+    ensures threads_mark { threads_stood threads.new ≡ threads_stood threads.old }
+    ensures stack_mark { stack_stood stack.new ≡ stack_stood stack.old }
+    ensures output_mark { output_stood output.new ≡ output_stood output.old }
+    ensures enough { 6 ≤ threads_spare threads.new }
 {
     if threads.pop_thread() {
         return move_on(tree, threads, stack, output);
@@ -190,7 +232,10 @@ pub(crate) fn done(
 /// Flow stops, and of where it was nothing is left. `StopInString` while a string or a tag is open. Takes no memory.
 #[inline(never)]
 pub(crate) fn end(threads: &mut Threads<Spot>, output: &Output) -> Result<StepEnd, Fault>
-    ensures { (s : StoryTree) (values : List Data) → let w : Written = record { stack = values; page = output.now.page } in ReachesAs false (halt (base_threads None) w) (map_threads (place_of s) threads.new.threads) w result }
+    requires room { 1 ≤ threads_spare threads.old }
+    ensures flow { (s : StoryTree) (values : List Data) → let w : Written = record { stack = values; page = output.now.page } in ReachesAs false (halt (base_threads None) w) (map_threads (place_of s) threads.new.threads) w result }
+    ensures mark { threads_stood threads.new ≡ threads_stood threads.old }
+    ensures spare { threads_spare threads.old ≤ threads_spare threads.new + 1 }
 {
     threads.reset();
     stop(output)
@@ -218,23 +263,32 @@ pub(crate) fn next_of(tree: &Tree, threads: &Threads<Spot>) -> Option<Spot>
     }
 }
 
-/// Off the end of a function: its frame is popped, its mark is written, and void is pushed where the caller evaluates.
+/// Off the end of a function: its frame is popped, its mark is written, and void is pushed where the caller evaluates. There is
+/// room again to move on.
 fn end_function(
     threads: &mut Threads<Spot>,
     stack: &mut EvalStack,
     output: &mut Output,
 ) -> Result<(), Fault>
-    ensures { (s : StoryTree) → let ts = map_threads (place_of s) threads.old.threads in let w = written stack.old output.old in
+    requires room { 1 ≤ threads_spare threads.old }
+    ensures flow { (s : StoryTree) → let ts = map_threads (place_of s) threads.old.threads in let w = written stack.old output.old in
         PassesAs (left_asks kind.Function (popped kind.Function (depth_of w) ts.thread)) (ended ts w) (map_threads (place_of s) threads.new.threads) (written stack.new output.new) result }
+    ensures threads_mark { threads_stood threads.new ≡ threads_stood threads.old }
+    ensures stack_mark { stack_stood stack.new ≡ stack_stood stack.old }
+    ensures output_mark { output_stood output.new ≡ output_stood output.old }
+    ensures enough { OnOk result (MOVING ≤ threads_spare threads.new) }
+    ensures spare { threads_spare threads.old ≤ threads_spare threads.new + 1 }
 {
     leave(threads, output, FrameKind::Function)?;
+    threads.ready(MOVING)?;
     push_void(stack, threads.is_evaluating())
 }
 
 /// Void for a caller that evaluates.
 fn push_void(stack: &mut EvalStack, evaluating: bool) -> Result<(), Fault>
-    ensures { (page : Page) → let w : Written = record { stack = stack.old.items; page = page } in
+    ensures void { (page : Page) → let w : Written = record { stack = stack.old.items; page = page } in
         Gives (leaving (record w { stack = stack.new.items }) result) (void_for evaluating w) }
+    ensures mark { stack_stood stack.new ≡ stack_stood stack.old }
 {
     if !evaluating {
         return Ok(());
@@ -245,8 +299,12 @@ fn push_void(stack: &mut EvalStack, evaluating: bool) -> Result<(), Fault>
 /// A function that was called has its mark in the text, and its frame the mark's number. `TooDeep` for more than 100,000 marks in
 /// the line, and where no number is left; `OutOfMemory` for a refused request for memory.
 fn enter(threads: &mut Threads<Spot>, output: &mut Output, kind: CallKind) -> Result<(), Fault>
-    ensures { (s : StoryTree) (values : List Data) → let ts = map_threads (place_of s) threads.old.threads in let w : Written = record { stack = values; page = output.old.page } in
+    requires room { 1 ≤ threads_spare threads.old }
+    ensures flow { (s : StoryTree) (values : List Data) → let ts = map_threads (place_of s) threads.old.threads in let w : Written = record { stack = values; page = output.old.page } in
         PassesAs (is_function (frame_kind kind)) (entered (frame_kind kind) ts w) (map_threads (place_of s) threads.new.threads) (record { stack = values; page = output.new.page }) result }
+    ensures threads_mark { threads_stood threads.new ≡ threads_stood threads.old }
+    ensures output_mark { output_stood output.new ≡ output_stood output.old }
+    ensures spare { threads_spare threads.old ≤ threads_spare threads.new + 1 }
 {
     match kind {
         CallKind::Function => {
@@ -262,8 +320,12 @@ fn enter(threads: &mut Threads<Spot>, output: &mut Output, kind: CallKind) -> Re
 /// only one, else `BadMode` where another number of strings and tags is open than at its push, else `TooDeep` for more than
 /// 100,000 marks in the line, and `OutOfMemory` for a refused request for memory.
 fn leave(threads: &mut Threads<Spot>, output: &mut Output, kind: FrameKind) -> Result<(), Fault>
-    ensures { (s : StoryTree) (values : List Data) → let ts = map_threads (place_of s) threads.old.threads in let w : Written = record { stack = values; page = output.old.page } in
+    requires room { 1 ≤ threads_spare threads.old }
+    ensures flow { (s : StoryTree) (values : List Data) → let ts = map_threads (place_of s) threads.old.threads in let w : Written = record { stack = values; page = output.old.page } in
         PassesAs (left_asks kind (popped kind (depth_of w) ts.thread)) (left kind ts w) (map_threads (place_of s) threads.new.threads) (record { stack = values; page = output.new.page }) result }
+    ensures threads_mark { threads_stood threads.new ≡ threads_stood threads.old }
+    ensures output_mark { output_stood output.new ≡ output_stood output.old }
+    ensures spare { threads_spare threads.old ≤ threads_spare threads.new + 1 }
 {
     let number = threads.top().number();
     threads.pop_frame(kind, output.depth())?;

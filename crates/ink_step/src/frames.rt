@@ -1,19 +1,20 @@
 //! Calls, tunnels and the returns of tunnels (docs/FRAMES.md).
 
-ghost use Rattle.std.specs.Prelude.{◌≡◌, ℕ, Bool, false, Option};
+ghost use Rattle.ink_value.specs.Undo.{stack_spare, stack_stood};
+ghost use Rattle.std.specs.Prelude.{◌≡◌, ℕ, Bool, false, Option, ◌≤◌, ◌+◌};
 ghost use Rattle.ink_check.specs.Words.{story_tree};
 ghost use Rattle.ink_model.specs.Acceptance.{lands_to, written_target};
 ghost use Rattle.ink_model.specs.Page.{Page};
-ghost use Rattle.ink_model.specs.Step.Calls.{call, return_tunnel};
+ghost use Rattle.ink_model.specs.Step.Calls.{call, led_back, return_tunnel};
 ghost use Rattle.ink_model.specs.Store.{Values};
 ghost use Rattle.ink_stack.specs.Calls.{frame_kind};
-ghost use Rattle.ink_step.specs.Performs.{Performs, fields, leading};
+ghost use Rattle.ink_step.specs.Performs.{Performs, fields, leading, led_back_as};
 ghost use Rattle.ink_step.specs.Words.{Rest, seen_by};
 ghost use Rattle.ink_tree.specs.Nodes.{place_of};
 
 use crate::diverting::{destination, is_wanted, landing_on};
-use crate::operands::top;
-use crate::transfer::Transfer;
+use crate::operands::{drop_top, top};
+use crate::transfer::{Landing, Transfer};
 use ink_check::Story;
 use ink_model::{Destination, Fault, FrameKind, Value};
 use ink_stack::{CallKind, Threads};
@@ -38,8 +39,10 @@ pub(crate) fn call(
 ) -> Result<(), Fault>
     requires on { transfer.old ≡ Transfer.Next }
     requires path { let s = story_tree story.now in written_target s (place_of s here) ≡ lands_to s (place_of s here) to.now }
-    ensures { let s = story_tree story.now in (evaluating : Bool) (fresh : Option ℕ) (page : Page) (rest : Rest)
+    requires room { 1 ≤ stack_spare stack.old }
+    ensures effect { let s = story_tree story.now in (evaluating : Bool) (fresh : Option ℕ) (page : Page) (rest : Rest)
         → Performs s false (call (frame_kind kind) s (place_of s here) (seen_by s threads.now.threads rest) to.now conditional (fields evaluating fresh stack.old.items page globals.now.rows)) (fields evaluating fresh stack.new.items page globals.now.rows) (leading result transfer.new) }
+    ensures mark { stack_stood stack.new ≡ stack_stood stack.old }
 {
     match is_wanted(conditional, stack) {
         Ok(true) => match destination(story, here, to, globals, threads) {
@@ -62,22 +65,31 @@ pub(crate) fn return_tunnel(
     stack: &mut EvalStack,
     transfer: &mut Transfer<'_>,
 ) -> Result<(), Fault>
-    ensures { let s = story_tree story.now in (evaluating : Bool) (fresh : Option ℕ) (page : Page) (globals : Values)
+    requires room { 1 ≤ stack_spare stack.old }
+    ensures effect { let s = story_tree story.now in (evaluating : Bool) (fresh : Option ℕ) (page : Page) (globals : Values)
         → Performs s false (return_tunnel s (fields evaluating fresh stack.old.items page globals)) (fields evaluating fresh stack.new.items page globals) (leading result transfer.new) }
+    ensures mark { stack_stood stack.new ≡ stack_stood stack.old }
 {
-    match top(stack) {
-        Some(Value::Void) => {
-            *transfer = Transfer::Return(FrameKind::Tunnel, None);
-            Ok(())
-        }
-        Some(Value::Target(path)) => match landing_on(story, path.get()) {
-            Some(landing) => {
-                *transfer = Transfer::Return(FrameKind::Tunnel, Some(landing));
-                Ok(())
-            }
+    let Some(value) = top(stack) else {
+        return Err(Fault::StackEmpty);
+    };
+    let landing = returned_to(story, value)?;
+    drop_top(stack);
+    *transfer = Transfer::Return(FrameKind::Tunnel, landing);
+    Ok(())
+}
+
+/// Where a tunnel that is given a value goes back to: void leads to after its call, a target to the very place that it names.
+/// `BadPop` for another value, `BadTarget` for a target that leads nowhere.
+fn returned_to(story: &Story, value: &Value) -> Result<Option<Landing>, Fault>
+    ensures { let s = story_tree story.now in led_back_as s result ≡ led_back s value.now }
+{
+    match value {
+        Value::Void => Ok(None),
+        Value::Target(path) => match landing_on(story, path.get()) {
+            Some(landing) => Ok(Some(landing)),
             None => Err(Fault::BadTarget),
         },
-        Some(_) => Err(Fault::BadPop),
-        None => Err(Fault::StackEmpty),
+        _ => Err(Fault::BadPop),
     }
 }

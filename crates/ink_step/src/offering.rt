@@ -1,6 +1,8 @@
 //! Choice points (docs/RUNNING.md, "Choices").
 
-ghost use Rattle.std.specs.Prelude.{◌≡◌, ℕ, Bool, Option, Some, OnOk};
+ghost use Rattle.ink_choice.specs.Undo.{choices_stood};
+ghost use Rattle.ink_value.specs.Undo.{stack_spare, stack_stood};
+ghost use Rattle.std.specs.Prelude.{◌≡◌, ℕ, Bool, Option, Some, OnOk, ◌≤◌, length};
 ghost use Rattle.ink_check.specs.Words.{story_tree};
 ghost use Rattle.ink_model.specs.Acceptance.{counted_container, lands};
 ghost use Rattle.ink_model.specs.Frames.{ThreadsOf};
@@ -43,13 +45,16 @@ pub(crate) fn offer(
     choices: &mut Choices<Spot>,
     text: &Shared<Text>,
 ) -> Result<(), Fault>
-    requires { let s = story_tree story.now in at s (place_of s here) ≡ Some (leaf (Point text.now flags)) }
+    requires stands { let s = story_tree story.now in at s (place_of s here) ≡ Some (leaf (Point text.now flags)) }
+    requires room { length stack.old.items ≤ stack_spare stack.old }
     ensures effect { let s = story_tree story.now in let p = place_of s here in (rest : Rest) (evaluating : Bool) (fresh : Option ℕ) (page : Page) (globals : Values)
         → let seen = seen_by s threads.now.threads (record rest { choices = choices.old.items; counts = counts.now.rows }) in let f = fields evaluating fresh stack.old.items page globals in
         Changes (offer_asks s p seen text.now flags f (lands s p text.now)) (offer s p seen text.now flags f) (fields evaluating fresh stack.new.items page globals) result }
     ensures choices { let s = story_tree story.now in let p = place_of s here in (rest : Rest) (evaluating : Bool) (fresh : Option ℕ) (page : Page) (globals : Values)
         → let seen = seen_by s threads.now.threads (record rest { choices = choices.old.items; counts = counts.now.rows }) in let f = fields evaluating fresh stack.old.items page globals in
         OnOk result (KeepsChoices s (offer s p seen text.now flags f) choices.old.items choices.new.items) }
+    ensures stack_mark { stack_stood stack.new ≡ stack_stood stack.old }
+    ensures choices_mark { choices_stood choices.new ≡ choices_stood choices.old }
 {
     let Some(target) = written_landing(story, here) else {
         return Err(Fault::BadTarget);
@@ -74,8 +79,9 @@ fn was_visited(story: &Story, here: Spot, counts: &Counts) -> bool
 
 /// How many choices were made is pushed, the invisible ones counted.
 pub(crate) fn push_choice_count(stack: &mut EvalStack, choices: &Choices<Spot>) -> Result<(), Fault>
-    ensures { (s : StoryTree) (threads : ThreadsOf Place) (rest : Rest) (evaluating : Bool) (fresh : Option ℕ) (page : Page) (globals : Values)
+    ensures effect { (s : StoryTree) (threads : ThreadsOf Place) (rest : Rest) (evaluating : Bool) (fresh : Option ℕ) (page : Page) (globals : Values)
         → Changes (has_room stack.old.items) (push_choice_count (seen_by s threads (record rest { choices = choices.now.items })) (fields evaluating fresh stack.old.items page globals)) (fields evaluating fresh stack.new.items page globals) result }
+    ensures mark { stack_stood stack.new ≡ stack_stood stack.old }
 {
     push(stack, Value::Int(choices.len() as i32))
 }

@@ -1,6 +1,6 @@
 //! Opening a story: running its declarations, and keeping the globals (docs/RUNNING.md, "Opening").
 
-ghost use Rattle.std.specs.Prelude.{◌≡◌, [], Ok, IfOk, IfErr, option_map};
+ghost use Rattle.std.specs.Prelude.{◌≡◌, [], Ok, IfOk, IfErr, false, option_map};
 ghost use Rattle.ink_model.specs.Configuration.{fresh_at, start, with_globals};
 ghost use Rattle.ink_model.specs.Host.{nothing_bound};
 ghost use Rattle.ink_model.specs.Opening.{declarations, opening};
@@ -17,6 +17,7 @@ use ink_host::{Desk, Nobody};
 use ink_model::Fault;
 use ink_out::Output;
 use ink_stack::Threads;
+use ink_trail::Trail;
 use ink_tree::Spot;
 use ink_value::EvalStack;
 use ink_vars::{Counts, Globals, Turn};
@@ -30,13 +31,15 @@ pub struct Unopened {
 }
 
 impl Machine {
+    ghost use Rattle.ink_step.specs.Marks.{stood_of, unmarked};
     ghost use Rattle.ink_step.specs.Steps.{FailsToOpen};
     ghost use Rattle.ink_step.specs.Words.{config_of, globals_of};
 
     /// A machine at the story's start, with the globals that the story declares. The fault is that of the declarations, or
-    /// `OutOfMemory`. A story without declarations needs no memory.
+    /// `OutOfMemory`. A story without declarations needs no memory. No mark stands in the machine.
     pub fn open(alloc: Global, story: &Story) -> Result<Machine, Unopened>
         ensures ok { let s = story_tree story.now in IfOk result (λ m. opening s ≡ Ok (config_of s m)) }
+        ensures mark { IfOk result (λ m. stood_of m ≡ unmarked) }
         ensures err { IfErr result (λ e. FailsToOpen (story_tree story.now) e.fault e.globals.rows) }
     {
         let Some(place) = first_declaration(story) else {
@@ -52,9 +55,11 @@ impl Machine {
         }
     }
 
-    /// Steps to the stop, with nothing bound.
+    /// Steps to the stop, with nothing bound, where no mark stands.
     fn run_alone(&mut self, alloc: Global, story: &Story) -> Result<(), Fault>
-        ensures { let s = story_tree story.now in RunsToStop s nothing_bound (config_of s self.old) [] (config_of s self.new) result }
+        requires unmarked { stood_of self.old ≡ unmarked }
+        ensures runs { let s = story_tree story.now in RunsToStop s nothing_bound false (config_of s self.old) [] (config_of s self.new) result }
+        ensures mark { stood_of self.new ≡ stood_of self.old }
     {
         let mut desk: Desk<Nobody, Nobody, Nobody> = Desk::new(alloc);
         let outcome = self.run(story, &mut desk);
@@ -62,21 +67,24 @@ impl Machine {
         outcome
     }
 
-    /// A machine at the story's start with these globals. Takes no memory.
+    /// A machine at the story's start with these globals, where no mark stands. Takes no memory.
     #[tactic(auto, unfolding(ink_model::specs::Configuration::start, ink_model::specs::Configuration::fresh_at))]
     pub fn at_start(alloc: Global, story: &Story, globals: Globals) -> Machine
         ensures at_start { let s = story_tree story.now in config_of s result ≡ start s globals.rows }
         ensures globals { globals_of result ≡ globals.rows }
+        ensures mark { stood_of result ≡ unmarked }
     {
         Machine::fresh(alloc, story.tree().start(), globals)
     }
 
-    /// A machine at a place with these globals, where nothing has happened yet. Takes no memory.
-    #[tactic(auto, unfolding(ink_model::specs::Configuration::fresh_at))]
-    fn fresh(alloc: Global, place: Spot, globals: Globals) -> Machine
+    /// A machine at a place with these globals, where nothing has happened yet and no mark stands. Takes no memory.
+    #[tactic(auto, unfolding(ink_model::specs::Configuration::fresh_at, crate::specs::Marks::own_stood, ink_trail::specs::Undo::stood_at))]
+    fn fresh(alloc: Global, place: Spot, mut globals: Globals) -> Machine
         ensures fresh { (s : StoryTree) → config_of s result ≡ with_globals globals.rows (fresh_at (place_of s place)) }
         ensures globals { globals_of result ≡ globals.rows }
+        ensures mark { stood_of result ≡ unmarked }
     {
+        globals.forget();
         Machine {
             flow: Flow {
                 threads: Threads::new(alloc, Some(place)),
@@ -90,6 +98,7 @@ impl Machine {
                 turn: Turn::first(),
             },
             output: Output::new(alloc),
+            trail: Trail::new(alloc),
             alloc,
         }
     }

@@ -9,6 +9,7 @@ ghost use Rattle.ink_step.specs.Parts.{config_of_fields, config_of_parts};
 use crate::machine::{Flow, Machine, Shared};
 use ink_check::Story;
 use ink_out::Output;
+use ink_trail::Trail;
 use ink_vars::Globals;
 use std::alloc::Global;
 
@@ -29,11 +30,13 @@ pub struct Fields {
 }
 
 impl Machine {
+    ghost use Rattle.ink_step.specs.Marks.{stood_of, unmarked};
     ghost use Rattle.ink_step.specs.Words.{config_of};
 
     /// A machine at the story's start, without globals. Takes no memory.
     pub fn new(alloc: Global, story: &Story) -> Machine
-        ensures { let s = story_tree story.now in config_of s result ≡ start s [] }
+        ensures new { let s = story_tree story.now in config_of s result ≡ start s [] }
+        ensures mark { stood_of result ≡ unmarked }
     {
         Machine::at_start(alloc, story, Globals::new(alloc))
     }
@@ -49,15 +52,19 @@ impl Machine {
         }
     }
 
-    /// The machine that has these. Takes no memory.
+    /// The machine that has these, where no mark stands. Takes no memory.
     pub fn from_parts(alloc: Global, fields: Fields) -> Machine
-        ensures { (s : StoryTree) → config_of s result ≡ config_of_fields s fields }
+        ensures config { (s : StoryTree) → config_of s result ≡ config_of_fields s fields }
+        ensures mark { stood_of result ≡ unmarked }
     {
-        Machine {
+        let mut machine = Machine {
             flow: fields.flow,
             shared: fields.shared,
             output: fields.output,
+            trail: Trail::new(alloc),
             alloc,
-        }
+        };
+        machine.forget();
+        machine
     }
 }

@@ -1,6 +1,7 @@
 //! Questions for visits and turns (docs/RUNNING.md, "Questions for counts").
 
-ghost use Rattle.std.specs.Prelude.{◌≡◌, ◌&&◌, ℕ, Bool, false, Option, option_map, reverse};
+ghost use Rattle.ink_value.specs.Undo.{stack_spare, stack_stood};
+ghost use Rattle.std.specs.Prelude.{◌≡◌, ◌&&◌, ℕ, Bool, false, Option, option_map, reverse, ◌≤◌};
 ghost use Rattle.ink_check.specs.Words.{story_tree};
 ghost use Rattle.ink_model.specs.Acceptance.{counted_container, leads};
 ghost use Rattle.ink_model.specs.Frames.{ThreadsOf};
@@ -38,9 +39,10 @@ pub(crate) fn push_count(
     path: &Shared<Text>,
 ) -> Result<(), Fault>
     requires { let s = story_tree story.now in at s (place_of s here) ≡ Some (leaf (Count path.now)) }
-    ensures { let s = story_tree story.now in (threads : ThreadsOf Place) (rest : Rest) (evaluating : Bool) (fresh : Option ℕ) (page : Page) (globals : Values)
+    ensures effect { let s = story_tree story.now in (threads : ThreadsOf Place) (rest : Rest) (evaluating : Bool) (fresh : Option ℕ) (page : Page) (globals : Values)
         → let seen = seen_by s threads (record rest { counts = counts.now.rows }) in Changes (visit_asks s seen (leads s (place_of s here) path.now) && has_room stack.old.items)
         (push_count s seen (place_of s here) path.now (fields evaluating fresh stack.old.items page globals)) (fields evaluating fresh stack.new.items page globals) result }
+    ensures mark { stack_stood stack.new ≡ stack_stood stack.old }
 {
     let visits = visits_in(story, counts, counted(story, here))?;
     push(stack, Value::Int(visits))
@@ -53,9 +55,10 @@ pub(crate) fn push_visit(
     counts: &Counts,
     stack: &mut EvalStack,
 ) -> Result<(), Fault>
-    ensures { let s = story_tree story.now in (threads : ThreadsOf Place) (rest : Rest) (evaluating : Bool) (fresh : Option ℕ) (page : Page) (globals : Values)
+    ensures effect { let s = story_tree story.now in (threads : ThreadsOf Place) (rest : Rest) (evaluating : Bool) (fresh : Option ℕ) (page : Page) (globals : Values)
         → let seen = seen_by s threads (record rest { counts = counts.now.rows }) in Changes (visit_asks s seen (above (reverse (place_of s here))) && has_room stack.old.items)
         (push_visit s seen (place_of s here) (fields evaluating fresh stack.old.items page globals)) (fields evaluating fresh stack.new.items page globals) result }
+    ensures mark { stack_stood stack.new ≡ stack_stood stack.old }
 {
     let visits = visits_in(story, counts, holder(story, here))?;
     push(stack, Value::Int(visits - 1))
@@ -63,8 +66,9 @@ pub(crate) fn push_visit(
 
 /// The number of the turn is pushed.
 pub(crate) fn push_turn(stack: &mut EvalStack, turn: Turn) -> Result<(), Fault>
-    ensures { (s : StoryTree) (threads : ThreadsOf Place) (rest : Rest) (evaluating : Bool) (fresh : Option ℕ) (page : Page) (globals : Values)
+    ensures effect { (s : StoryTree) (threads : ThreadsOf Place) (rest : Rest) (evaluating : Bool) (fresh : Option ℕ) (page : Page) (globals : Values)
         → Changes (has_room stack.old.items) (push_turn s (seen_by s threads (record rest { turn = turn })) (fields evaluating fresh stack.old.items page globals)) (fields evaluating fresh stack.new.items page globals) result }
+    ensures mark { stack_stood stack.new ≡ stack_stood stack.old }
 {
     push(stack, Value::Int(turn.number() as i32))
 }
@@ -78,8 +82,10 @@ pub(crate) fn push_turns(
     stack: &mut EvalStack,
     turn: Turn,
 ) -> Result<(), Fault>
-    ensures { let s = story_tree story.now in (threads : ThreadsOf Place) (rest : Rest) (evaluating : Bool) (fresh : Option ℕ) (page : Page) (globals : Values)
+    requires room { 1 ≤ stack_spare stack.old }
+    ensures effect { let s = story_tree story.now in (threads : ThreadsOf Place) (rest : Rest) (evaluating : Bool) (fresh : Option ℕ) (page : Page) (globals : Values)
         → Changes false (push_turns s (seen_by s threads (record rest { counts = counts.now.rows; turn = turn })) (fields evaluating fresh stack.old.items page globals)) (fields evaluating fresh stack.new.items page globals) result }
+    ensures mark { stack_stood stack.new ≡ stack_stood stack.old }
 {
     let place = asked_place(story, stack)?;
     let turns = turns_there(story, counts, place, turn)?;
@@ -94,8 +100,10 @@ pub(crate) fn push_read_count(
     counts: &Counts,
     stack: &mut EvalStack,
 ) -> Result<(), Fault>
-    ensures { let s = story_tree story.now in (threads : ThreadsOf Place) (rest : Rest) (evaluating : Bool) (fresh : Option ℕ) (page : Page) (globals : Values)
+    requires room { 1 ≤ stack_spare stack.old }
+    ensures effect { let s = story_tree story.now in (threads : ThreadsOf Place) (rest : Rest) (evaluating : Bool) (fresh : Option ℕ) (page : Page) (globals : Values)
         → Changes false (push_read_count s (seen_by s threads (record rest { counts = counts.now.rows })) (fields evaluating fresh stack.old.items page globals)) (fields evaluating fresh stack.new.items page globals) result }
+    ensures mark { stack_stood stack.new ≡ stack_stood stack.old }
 {
     let place = asked_place(story, stack)?;
     let visits = visits_there(story, counts, place)?;
@@ -186,7 +194,9 @@ fn container(story: &Story, place: Spot) -> Option<NodeId>
 
 /// Puts a number in the place of the value on top. `StackEmpty` where there is none.
 fn answer(stack: &mut EvalStack, number: i32) -> Result<(), Fault>
-    ensures { Answers number (popped stack.old.items) stack.new.items result }
+    requires room { 1 ≤ stack_spare stack.old }
+    ensures answers { Answers number (popped stack.old.items) stack.new.items result }
+    ensures mark { stack_stood stack.new ≡ stack_stood stack.old }
 {
     match stack.replace_top(Value::Int(number)) {
         Ok(()) => Ok(()),

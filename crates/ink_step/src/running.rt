@@ -7,6 +7,7 @@ ghost use Rattle.ink_host.specs.Telling.{log_of};
 ghost use Rattle.ink_model.specs.Events.{Made, calls};
 ghost use Rattle.ink_model.specs.Tree.{StoryTree};
 ghost use Rattle.ink_model.specs.Turns.{open_choices};
+ghost use Rattle.ink_step.specs.Marks.{marked_in, stood_of};
 ghost use Rattle.ink_step.specs.Runs.{AreBound, RunsToStop};
 
 use crate::machine::Machine;
@@ -20,7 +21,8 @@ impl Machine {
 
     /// Steps to the stop, from where a running command has begun. The fault is that of the step that faulted, `OutOfSteps` after
     /// 1,000,000 steps, or `OutOfMemory` where memory was refused to a step that asks for it, or for what came of a call that it
-    /// made; the globals are then as they were before that step, and the machine is of use for them alone (docs/RUNNING.md,
+    /// made, or to any step while a mark stands; the globals are then as they were before that step, and the machine is of use for
+    /// them alone (docs/RUNNING.md,
     /// "Runs").
     pub fn run<P: PureFn, T: TurnFn, W: Watcher>(
         &mut self,
@@ -28,9 +30,10 @@ impl Machine {
         desk: &mut Desk<P, T, W>,
     ) -> Result<(), Fault>
         ensures runs { let s = story_tree story.now in let b = bound_by P.meaning desk.old.functions in
-            (made : List Made) × Grew T.log (log_of W.state) desk.old (calls desk.old.next made) desk.new × RunsToStop s b (config_of s self.old) made (config_of s self.new) result × AreBound b made }
+            (made : List Made) × Grew T.log (log_of W.state) desk.old (calls desk.old.next made) desk.new × RunsToStop s b (marked_in (stood_of self.old)) (config_of s self.old) made (config_of s self.new) result × AreBound b made }
         ensures watchers { desk.new.watchers ≡ desk.old.watchers }
         ensures start { start_of self.new ≡ start_of self.old }
+        ensures mark { stood_of self.new ≡ stood_of self.old }
     {
         for _step in 0..MAX_STEPS {
             if !self.forward(story, desk)? {

@@ -1,5 +1,7 @@
 //! Strings and tags begin and end (docs/TEXT.md, "Sections").
 
+ghost use Rattle.ink_out.specs.Undo.{output_stood};
+ghost use Rattle.ink_value.specs.Undo.{stack_stood};
 ghost use Rattle.std.specs.Prelude.{◌≡◌, ◌&&◌, ℕ, List, Bool, true, false, Option, Ok, Err, IfErr, OnOk, if◌then◌else◌};
 ghost use Rattle.ink_model.specs.Asks.{has_room, has_tag_room, may_open};
 ghost use Rattle.ink_model.specs.Memory.{Gives, leaving};
@@ -15,8 +17,9 @@ use ink_value::EvalStack;
 
 /// A string begins in evaluation mode, and its content is written as text.
 pub(crate) fn begin_string(output: &mut Output, evaluating: &mut bool) -> Result<(), Fault>
-    ensures { (fresh : Option ℕ) (stack : List Data) (globals : Values)
+    ensures effect { (fresh : Option ℕ) (stack : List Data) (globals : Values)
         → Changes (evaluating.old && may_open output.old.page.sections) (begin_string (fields evaluating.old fresh stack output.old.page globals)) (fields evaluating.new fresh stack output.new.page globals) result }
+    ensures mark { output_stood output.new ≡ output_stood output.old }
 {
     if !*evaluating {
         return Err(Fault::BadMode);
@@ -33,8 +36,10 @@ pub(crate) fn end_string(
     output: &mut Output,
     evaluating: &mut bool,
 ) -> Result<(), Fault>
-    ensures { (fresh : Option ℕ) (globals : Values)
+    ensures effect { (fresh : Option ℕ) (globals : Values)
         → Changes (in_string output.old.page.sections && has_room stack.old.items) (end_string (fields evaluating.old fresh stack.old.items output.old.page globals)) (fields evaluating.new fresh stack.new.items output.new.page globals) result }
+    ensures stack_mark { stack_stood stack.new ≡ stack_stood stack.old }
+    ensures output_mark { output_stood output.new ≡ output_stood output.old }
 {
     if !output.is_string() {
         return Err(Fault::BadMode);
@@ -47,8 +52,10 @@ pub(crate) fn end_string(
 
 /// A tag begins; one that is on top is closed first.
 pub(crate) fn begin_tag(stack: &mut EvalStack, output: &mut Output) -> Result<(), Fault>
-    ensures { (evaluating : Bool) (fresh : Option ℕ) (globals : Values)
+    ensures effect { (evaluating : Bool) (fresh : Option ℕ) (globals : Values)
         → Changes (if in_tag output.old.page.sections then has_tag_room output.old.page.sections stack.old.items else may_open output.old.page.sections) (begin_tag (fields evaluating fresh stack.old.items output.old.page globals)) (fields evaluating fresh stack.new.items output.new.page globals) result }
+    ensures stack_mark { stack_stood stack.new ≡ stack_stood stack.old }
+    ensures output_mark { output_stood output.new ≡ output_stood output.old }
 {
     close_tag_on_top(stack, output)?;
     output.open_tag()
@@ -56,8 +63,10 @@ pub(crate) fn begin_tag(stack: &mut EvalStack, output: &mut Output) -> Result<()
 
 /// The tag on top ends; in a string its text is pushed.
 pub(crate) fn end_tag(stack: &mut EvalStack, output: &mut Output) -> Result<(), Fault>
-    ensures { (evaluating : Bool) (fresh : Option ℕ) (globals : Values)
+    ensures effect { (evaluating : Bool) (fresh : Option ℕ) (globals : Values)
         → Changes (in_tag output.old.page.sections && has_tag_room output.old.page.sections stack.old.items) (end_tag (fields evaluating fresh stack.old.items output.old.page globals)) (fields evaluating fresh stack.new.items output.new.page globals) result }
+    ensures stack_mark { stack_stood stack.new ≡ stack_stood stack.old }
+    ensures output_mark { output_stood output.new ≡ output_stood output.old }
 {
     close_tag(stack, output)
 }
@@ -67,6 +76,8 @@ fn close_tag_on_top(stack: &mut EvalStack, output: &mut Output) -> Result<(), Fa
     ensures closed { Gives (leaving (stack.new.items, output.new.page) result) (if in_tag output.old.page.sections then closed_tag stack.old.items output.old.page else Ok (stack.old.items, output.old.page)) }
     ensures memory { result ≡ Err Fault.OutOfMemory → in_tag output.old.page.sections ≡ true }
     ensures room { in_tag output.old.page.sections ≡ true → has_tag_room output.old.page.sections stack.old.items ≡ false → result ≡ Err Fault.TooDeep }
+    ensures stack_mark { stack_stood stack.new ≡ stack_stood stack.old }
+    ensures output_mark { output_stood output.new ≡ output_stood output.old }
 {
     match close_tag(stack, output) {
         Err(Fault::BadMode) => Ok(()),
@@ -81,6 +92,8 @@ fn close_tag(stack: &mut EvalStack, output: &mut Output) -> Result<(), Fault>
     ensures none { IfErr result (λ fault. fault ≡ Fault.BadMode → (stack.new.items ≡ stack.old.items) × (output.new.page ≡ output.old.page)) }
     ensures memory { result ≡ Err Fault.OutOfMemory → in_tag output.old.page.sections ≡ true }
     ensures room { in_tag output.old.page.sections ≡ true → has_tag_room output.old.page.sections stack.old.items ≡ false → result ≡ Err Fault.TooDeep }
+    ensures stack_mark { stack_stood stack.new ≡ stack_stood stack.old }
+    ensures output_mark { output_stood output.new ≡ output_stood output.old }
 {
     check_tag_room(stack, output)?;
     match output.close_tag() {

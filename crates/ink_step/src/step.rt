@@ -1,6 +1,8 @@
 //! One step of the machine: enter, effect, move (docs/RUNNING.md, "Steps").
 
-ghost use Rattle.std.specs.Prelude.{◌≡◌, ◌||◌, Bool, List, true, None, Some, Ok, IfSome, OnOk, nat_lt, option_and_then, option_map};
+ghost use Rattle.ink_value.specs.Undo.{stack_spare, stack_stood};
+ghost use Rattle.ink_stack.specs.Undo.{threads_spare};
+ghost use Rattle.std.specs.Prelude.{◌≡◌, ◌||◌, Bool, List, true, None, Some, Ok, IfSome, OnOk, nat_lt, option_and_then, option_map, ◌≤◌, ◌+◌, IfErr, OnErr, length, ◌&&◌, is_some};
 ghost use Rattle.ink_check.specs.Words.{story_tree};
 ghost use Rattle.ink_host.specs.Desk.{Grew, bound_by};
 ghost use Rattle.ink_host.specs.Telling.{log_of};
@@ -16,11 +18,12 @@ ghost use Rattle.ink_model.specs.MoveMemory.{landed_asks, move_asks, moved_asks,
 ghost use Rattle.ink_model.specs.Place.{next_place};
 ghost use Rattle.ink_model.specs.Step.{acted, call_made, control_effect, effect, leaf_effect, step};
 ghost use Rattle.ink_model.specs.Step.Host.{call_external};
-ghost use Rattle.ink_model.specs.Threads.{frame_count};
+ghost use Rattle.ink_model.specs.Threads.{frame_count, staled};
 ghost use Rattle.ink_model.specs.Tree.{StoryTree, at, leaf};
 ghost use Rattle.ink_model.specs.declared.host.Event.{Event as Happening};
 ghost use Rattle.ink_model.specs.declared.limits.TheConstants.{MAX_FRAMES};
 ghost use Rattle.ink_stack.specs.Calls.{frame_kind};
+ghost use Rattle.ink_step.specs.Marks.{marked_in, stood_of, takes_value};
 ghost use Rattle.ink_step.specs.Performs.{Keeps, KeepsChoices, Performs, landing_of, leading, storing_in, unstored};
 ghost use Rattle.ink_step.specs.External.{call_of};
 ghost use Rattle.ink_step.specs.Steps.{Passes, StepEnds, StepMakes, Steps, ended, wants};
@@ -33,7 +36,7 @@ ghost use Rattle.ink_tree.specs.Nodes.{place_of};
 use crate::diverting::{divert, number_of};
 use crate::evaluating::{begin_eval, duplicate, end_eval, operate, pop, push_target, push_value};
 use crate::external::{External, external_in, is_external, would_call};
-use crate::flow::{StepEnd, done, end, fork, give_back, land, move_on, move_to, next_of};
+use crate::flow::{MOVING, StepEnd, done, end, fork, give_back, land, move_on, move_to, next_of};
 use crate::frames::{call, return_tunnel};
 use crate::machine::Machine;
 use crate::offering::{offer, push_choice_count};
@@ -50,6 +53,9 @@ use ink_stack::CallKind;
 use ink_tree::Spot;
 use std::mem;
 
+/// How many changes of threads a step makes at the most before it makes room again.
+const STEPPING: usize = 120;
+
 impl Machine {
     /// One step: goes down to the first content, performs it and moves; where flow stops so, it may follow a choice. Where flow had
     /// stopped before it stays stopped. A turn function is called on the desk, once, which is an event; a quiet step that comes
@@ -64,11 +70,12 @@ impl Machine {
         quiet: bool,
     ) -> Result<StepEnd, Fault>
         ensures step { let s = story_tree story.now in let b = bound_by P.meaning desk.old.functions in let c = config_of s self.old in
-            (es : List Happening) × Grew T.log (log_of W.state) desk.old es desk.new × Steps quiet s b desk.old.next (asks s b c) (step s b c) es (globals_of self.old) c (config_of s self.new) result }
+            (es : List Happening) × Grew T.log (log_of W.state) desk.old es desk.new × Steps quiet s b desk.old.next (marked_in (stood_of self.old)) (asks s b c) (step s b c) es (globals_of self.old) c (config_of s self.new) result }
         ensures watchers { desk.new.watchers ≡ desk.old.watchers }
         ensures machine { result ≡ Ok WantsCall → self.new ≡ self.old }
         ensures desk { result ≡ Ok WantsCall → desk.new ≡ desk.old }
         ensures start { start_of self.new ≡ start_of self.old }
+        ensures mark { stood_of self.new ≡ stood_of self.old }
     {
         if quiet && self.wants_call(story, desk) {
             return Ok(StepEnd::WantsCall);
@@ -88,13 +95,35 @@ impl Machine {
         desk: &mut Desk<P, T, W>,
     ) -> Result<bool, Fault>
         ensures step { let s = story_tree story.now in let b = bound_by P.meaning desk.old.functions in let c = config_of s self.old in
-            (es : List Happening) × Grew T.log (log_of W.state) desk.old es desk.new × StepMakes s b desk.old.next (asks s b c) (step s b c) es self.old.shared.globals.rows (config_of s self.new) (ended result) }
+            (es : List Happening) × Grew T.log (log_of W.state) desk.old es desk.new × StepMakes s b desk.old.next (marked_in (stood_of self.old)) (asks s b c) (step s b c) es self.old.shared.globals.rows (config_of s self.new) (ended result) }
         ensures watchers { desk.new.watchers ≡ desk.old.watchers }
         ensures start { start_of self.new ≡ start_of self.old }
+        ensures mark { stood_of self.new ≡ stood_of self.old }
     {
         let Some(place) = self.flow.threads.place() else {
             return Ok(false);
         };
+        self.make_step_room()?;
+        self.forward_from(story, desk, place)
+    }
+
+    // The same from a place where flow is, once there is room for the step.
+    #[inline(always)]
+    fn forward_from<P: PureFn, T: TurnFn, W: Watcher>(
+        &mut self,
+        story: &Story,
+        desk: &mut Desk<P, T, W>,
+        place: Spot,
+    ) -> Result<bool, Fault>
+        requires at { self.old.flow.threads.threads.thread.frame.place ≡ Some place }
+        requires room { 120 ≤ threads_spare self.old.flow.threads }
+        requires stack_room { length self.old.flow.stack.items + 2 ≤ stack_spare self.old.flow.stack }
+        ensures step { let s = story_tree story.now in let b = bound_by P.meaning desk.old.functions in let c = config_of s self.old in
+            (es : List Happening) × Grew T.log (log_of W.state) desk.old es desk.new × StepMakes s b desk.old.next (marked_in (stood_of self.old)) (asks s b c) (step s b c) es self.old.shared.globals.rows (config_of s self.new) (ended result) }
+        ensures watchers { desk.new.watchers ≡ desk.old.watchers }
+        ensures start { start_of self.new ≡ start_of self.old }
+        ensures mark { stood_of self.new ≡ stood_of self.old }
+    {
         match self.pass(story, place)? {
             Some(end) => Ok(end.went()),
             None => {
@@ -112,11 +141,14 @@ impl Machine {
         desk: &mut Desk<P, T, W>,
         place: Spot,
     ) -> Result<StepEnd, Fault>
-        requires { self.old.flow.threads.threads.thread.frame.place ≡ Some place }
+        requires at { self.old.flow.threads.threads.thread.frame.place ≡ Some place }
+        requires stack_room { length self.old.flow.stack.items + 2 ≤ stack_spare self.old.flow.stack }
+        requires room { 120 ≤ threads_spare self.old.flow.threads }
         ensures step { let s = story_tree story.now in let b = bound_by P.meaning desk.old.functions in let c = config_of s self.old in
-            (es : List Happening) × Grew T.log (log_of W.state) desk.old es desk.new × StepMakes s b desk.old.next (asks s b c) (step s b c) es self.old.shared.globals.rows (config_of s self.new) result }
+            (es : List Happening) × Grew T.log (log_of W.state) desk.old es desk.new × StepMakes s b desk.old.next (marked_in (stood_of self.old)) (asks s b c) (step s b c) es self.old.shared.globals.rows (config_of s self.new) result }
         ensures watchers { desk.new.watchers ≡ desk.old.watchers }
         ensures start { start_of self.new ≡ start_of self.old }
+        ensures mark { stood_of self.new ≡ stood_of self.old }
     {
         let (here, found) = self.go_in(story.tree(), place)?;
         match external_in(found) {
@@ -129,10 +161,13 @@ impl Machine {
     /// then nothing has changed. Most steps are of this kind.
     #[inline(always)]
     fn pass(&mut self, story: &Story, place: Spot) -> Result<Option<StepEnd>, Fault>
-        requires { self.old.flow.threads.threads.thread.frame.place ≡ Some place }
-        ensures passes { (b : Bound) → let s = story_tree story.now in let c = config_of s self.old in Passes (asks s b c) (step s b c) self.old.shared.globals.rows (config_of s self.new) result }
+        requires at { self.old.flow.threads.threads.thread.frame.place ≡ Some place }
+        requires stack_room { length self.old.flow.stack.items + 2 ≤ stack_spare self.old.flow.stack }
+        requires room { 120 ≤ threads_spare self.old.flow.threads }
+        ensures passes { (b : Bound) → let s = story_tree story.now in let c = config_of s self.old in Passes (marked_in (stood_of self.old) || asks s b c) (step s b c) self.old.shared.globals.rows (config_of s self.new) result }
         ensures kept { result ≡ Ok None → self.new ≡ self.old }
         ensures start { start_of self.new ≡ start_of self.old }
+        ensures mark { stood_of self.new ≡ stood_of self.old }
     {
         match story.tree().leaf_at(place) {
             Some(content) if !is_external(content) => {
@@ -170,12 +205,15 @@ impl Machine {
         desk: &mut Desk<P, T, W>,
         call: &External<'_>,
     ) -> Result<StepEnd, Fault>
+        requires stack_room { length self.old.flow.stack.items + 2 ≤ stack_spare self.old.flow.stack }
+        requires room { 116 ≤ threads_spare self.old.flow.threads }
         ensures step { let s = story_tree story.now in let b = bound_by P.meaning desk.old.functions in let c = config_of s self.old in let k = call_of call.now in
             let called = call_external s b k.name k.arguments k.conditional (fields_of c) in
             (es : List Happening) × Grew T.log (log_of W.state) desk.old es desk.new
-            × StepMakes s b desk.old.next (calling_asks s (external_asks (b k.name) k.arguments k.conditional (fields_of c)) called c) (call_made s called c) es self.old.shared.globals.rows (config_of s self.new) result }
+            × StepMakes s b desk.old.next (marked_in (stood_of self.old)) (calling_asks s (external_asks (b k.name) k.arguments k.conditional (fields_of c)) called c) (call_made s called c) es self.old.shared.globals.rows (config_of s self.new) result }
         ensures watchers { desk.new.watchers ≡ desk.old.watchers }
         ensures start { start_of self.new ≡ start_of self.old }
+        ensures mark { stood_of self.new ≡ stood_of self.old }
     {
         let mut transfer = external::call_external(
             story,
@@ -190,11 +228,14 @@ impl Machine {
     /// What stands where flow is has its effect, and flow moves; where it stops it may follow a choice.
     #[inline(always)]
     fn act(&mut self, story: &Story, here: Spot, found: Option<&Leaf>) -> Result<StepEnd, Fault>
-        requires { let s = story_tree story.now in option_map (λ l. l.now) found ≡ leaf_in (at s (place_of s here)) }
+        requires stands { let s = story_tree story.now in option_map (λ l. l.now) found ≡ leaf_in (at s (place_of s here)) }
+        requires stack_room { length self.old.flow.stack.items + 2 ≤ stack_spare self.old.flow.stack }
+        requires room { 116 ≤ threads_spare self.old.flow.threads }
         ensures ends { let s = story_tree story.now in let p = place_of s here in let stands = option_map (λ l. leaf l.now) found.entry in let c = config_of s self.old in
             let e = effect s p stands (context_of c) (fields_of c) in
-            StepEnds (acting_asks s (content_asks s p stands (context_of c) (fields_of c)) e c) (acted s e c) self.old.shared.globals.rows (config_of s self.new) result }
+            StepEnds (marked_in (stood_of self.old) || acting_asks s (content_asks s p stands (context_of c) (fields_of c)) e c) (acted s e c) self.old.shared.globals.rows (config_of s self.new) result }
         ensures start { start_of self.new ≡ start_of self.old }
+        ensures mark { stood_of self.new ≡ stood_of self.old }
     {
         let mut transfer = Transfer::Next;
         self.perform(story, here, found, &mut transfer)?;
@@ -220,11 +261,13 @@ impl Machine {
     /// Flow goes on to the place after its own, which is known.
     #[inline(always)]
     fn go_to_next(&mut self, story: &Story, next: Spot)
-        requires { let s = story_tree story.now in option_and_then (next_place s) (place_in (map_threads (place_of s) self.old.flow.threads.threads)) ≡ Some (place_of s next) }
+        requires next { let s = story_tree story.now in option_and_then (next_place s) (place_in (map_threads (place_of s) self.old.flow.threads.threads)) ≡ Some (place_of s next) }
+        requires room { 2 ≤ threads_spare self.old.flow.threads }
         ensures ends { let s = story_tree story.now in let c = config_of s self.old in
             StepEnds (moved_asks (next_place s) c.flow.threads (written_in c)) (going (moved_on (next_place s)) c) self.old.shared.globals.rows (config_of s self.new) (Ok Went) }
         ensures globals { self.new.shared.globals.rows ≡ self.old.shared.globals.rows }
         ensures start { start_of self.new ≡ start_of self.old }
+        ensures mark { stood_of self.new ≡ stood_of self.old }
     {
         move_to(story.tree(), &mut self.flow.threads, next);
     }
@@ -232,10 +275,12 @@ impl Machine {
     /// After a content was performed flow goes where it sends it, and a global is stored.
     #[inline(never)]
     fn finish(&mut self, story: &Story, transfer: &mut Transfer<'_>) -> Result<StepEnd, Fault>
+        requires room { 112 ≤ threads_spare self.old.flow.threads }
         ensures ends { let s = story_tree story.now in (old : Before) (asks : Bool) (e : Effect) → Performs s asks e (fields_of (config_of s self.old)) (Ok transfer.old) → Keeps s e old.flow.threads.threads self.old.flow.threads.threads → KeepsChoices s e old.flow.choices.items self.old.flow.choices.items
             → self.old.flow.safe ≡ old.flow.safe → self.old.shared.counts.rows ≡ old.shared.counts.rows → self.old.shared.turn ≡ old.shared.turn → self.old.shared.globals.rows ≡ old.shared.globals.rows → let c = config_of s old in
-            StepEnds ((asks || move_asks s e c) || following_asks s (moved s e c)) (following s (moved s e c)) old.shared.globals.rows (config_of s self.new) result }
+            StepEnds (marked_in (stood_of self.old) || ((asks || move_asks s e c) || following_asks s (moved s e c))) (following s (moved s e c)) old.shared.globals.rows (config_of s self.new) result }
         ensures start { start_of self.new ≡ start_of self.old }
+        ensures mark { stood_of self.new ≡ stood_of self.old }
     {
         let end = self.go(story, transfer)?;
         self.store(transfer, end)
@@ -244,15 +289,18 @@ impl Machine {
     /// Flow goes where a content sends it; where it stops it may follow a choice. No global is stored yet.
     #[inline(always)]
     fn go(&mut self, story: &Story, transfer: &Transfer<'_>) -> Result<StepEnd, Fault>
+        requires room { 112 ≤ threads_spare self.old.flow.threads }
         ensures ends { let s = story_tree story.now in (asks : Bool) (e : Effect) → Performs s asks e (fields_of (config_of s self.old)) (Ok transfer.now) → Keeps s e self.old.flow.threads.threads self.old.flow.threads.threads → KeepsChoices s e self.old.flow.choices.items self.old.flow.choices.items
             → let o = moved s (unstored self.old.shared.globals.rows e) (config_of s self.old) in
-            StepEnds ((asks || move_asks s e (config_of s self.old)) || following_asks s o) (following s o) self.old.shared.globals.rows (config_of s self.new) result }
+            StepEnds (marked_in (stood_of self.old) || ((asks || move_asks s e (config_of s self.old)) || following_asks s o)) (following s o) self.old.shared.globals.rows (config_of s self.new) result }
         ensures globals { self.new.shared.globals.rows ≡ self.old.shared.globals.rows }
         ensures start { start_of self.new ≡ start_of self.old }
+        ensures mark { stood_of self.new ≡ stood_of self.old }
     {
-        match self.follow(story, transfer) {
-            Ok(StepEnd::Stopped) => self.follow_default(story),
-            end => end,
+        match self.follow(story, transfer)? {
+            StepEnd::Stopped => self.follow_default(story),
+            StepEnd::Went => Ok(StepEnd::Went),
+            StepEnd::WantsCall => Ok(StepEnd::WantsCall),
         }
     }
 
@@ -263,6 +311,7 @@ impl Machine {
         ensures start { start_of self.new ≡ start_of self.old }
         ensures stored { (s : StoryTree) (asks whole : Bool) (e : Effect) (f : Fields) (o : Outcome) → (asks ≡ true → whole ≡ true) → f.globals ≡ self.old.shared.globals.rows → Performs s asks e f (Ok transfer.old)
             → StepEnds whole o self.old.shared.globals.rows (config_of s self.old) (Ok end) → StepEnds whole (storing_in e o) self.old.shared.globals.rows (config_of s self.new) result }
+        ensures mark { stood_of self.new ≡ stood_of self.old }
     {
         match transfer {
             Transfer::Store(to) => {
@@ -287,8 +336,10 @@ impl Machine {
     ) -> Result<(), Fault>
         requires on { transfer.old ≡ Transfer.Next }
         requires stands { let s = story_tree story.now in option_map (λ l. l.now) found ≡ leaf_in (at s (place_of s here)) }
+        requires stack_room { length self.old.flow.stack.items + 2 ≤ stack_spare self.old.flow.stack }
+        requires room { 1 ≤ threads_spare self.old.flow.threads }
         ensures effect { let s = story_tree story.now in let p = place_of s here in let stands = option_map (λ l. leaf l.now) found.entry in let c = config_of s self.old in
-            Performs s (content_asks s p stands (context_of c) (fields_of c)) (effect s p stands (context_of c) (fields_of c)) (fields_of (config_of s self.new)) (leading result transfer.new) }
+            Performs s (marked_in (stood_of self.old) || content_asks s p stands (context_of c) (fields_of c)) (effect s p stands (context_of c) (fields_of c)) (fields_of (config_of s self.new)) (leading result transfer.new) }
         ensures threads { let s = story_tree story.now in let stands = option_map (λ l. leaf l.now) found.entry in let c = config_of s self.old in
             OnOk result (Keeps s (effect s (place_of s here) stands (context_of c) (fields_of c)) self.old.flow.threads.threads self.new.flow.threads.threads) }
         ensures choices { let s = story_tree story.now in let stands = option_map (λ l. leaf l.now) found.entry in let c = config_of s self.old in
@@ -298,6 +349,8 @@ impl Machine {
         ensures safe { self.new.flow.safe ≡ self.old.flow.safe }
         ensures globals { self.new.shared.globals.rows ≡ self.old.shared.globals.rows }
         ensures start { start_of self.new ≡ start_of self.old }
+        ensures mark { stood_of self.new ≡ stood_of self.old }
+        ensures spare { threads_spare self.old.flow.threads ≤ threads_spare self.new.flow.threads + 1 }
     {
         match found {
             None => Ok(()),
@@ -316,8 +369,10 @@ impl Machine {
     ) -> Result<(), Fault>
         requires on { transfer.old ≡ Transfer.Next }
         requires stands { let s = story_tree story.now in at s (place_of s here) ≡ Some (leaf content.now) }
+        requires stack_room { length self.old.flow.stack.items + 2 ≤ stack_spare self.old.flow.stack }
+        requires room { 1 ≤ threads_spare self.old.flow.threads }
         ensures effect { let s = story_tree story.now in let p = place_of s here in let c = config_of s self.old in
-            Performs s (leaf_asks s p (context_of c) content.now (fields_of c)) (leaf_effect s p (context_of c) content.now (fields_of c)) (fields_of (config_of s self.new)) (leading result transfer.new) }
+            Performs s ((takes_value content.now && is_some (stack_stood self.old.flow.stack)) || leaf_asks s p (context_of c) content.now (fields_of c)) (leaf_effect s p (context_of c) content.now (fields_of c)) (fields_of (config_of s self.new)) (leading result transfer.new) }
         ensures threads { let s = story_tree story.now in let c = config_of s self.old in
             OnOk result (Keeps s (leaf_effect s (place_of s here) (context_of c) content.now (fields_of c)) self.old.flow.threads.threads self.new.flow.threads.threads) }
         ensures choices { let s = story_tree story.now in let c = config_of s self.old in
@@ -327,6 +382,8 @@ impl Machine {
         ensures safe { self.new.flow.safe ≡ self.old.flow.safe }
         ensures globals { self.new.shared.globals.rows ≡ self.old.shared.globals.rows }
         ensures start { start_of self.new ≡ start_of self.old }
+        ensures mark { stood_of self.new ≡ stood_of self.old }
+        ensures spare { threads_spare self.old.flow.threads ≤ threads_spare self.new.flow.threads + 1 }
     {
         let evaluating = self.flow.threads.is_evaluating();
         match content {
@@ -457,7 +514,9 @@ impl Machine {
         control: Control,
         transfer: &mut Transfer<'_>,
     ) -> Result<(), Fault>
-        requires { transfer.old ≡ Transfer.Next }
+        requires on { transfer.old ≡ Transfer.Next }
+        requires stack_room { 1 ≤ stack_spare self.old.flow.stack }
+        requires room { 1 ≤ threads_spare self.old.flow.threads }
         ensures effect { let s = story_tree story.now in let p = place_of s here in let c = config_of s self.old in
             Performs s (control_asks s p (context_of c) control (fields_of c)) (control_effect s p (context_of c) control (fields_of c)) (fields_of (config_of s self.new)) (leading result transfer.new) }
         ensures choices { self.new.flow.choices.items ≡ self.old.flow.choices.items }
@@ -467,6 +526,8 @@ impl Machine {
         ensures safe { self.new.flow.safe ≡ self.old.flow.safe }
         ensures globals { self.new.shared.globals.rows ≡ self.old.shared.globals.rows }
         ensures start { start_of self.new ≡ start_of self.old }
+        ensures mark { stood_of self.new ≡ stood_of self.old }
+        ensures spare { threads_spare self.old.flow.threads ≤ threads_spare self.new.flow.threads + 1 }
     {
         let mut evaluating = self.flow.threads.is_evaluating();
         let outcome = match control {
@@ -527,15 +588,18 @@ impl Machine {
     /// global is stored after that.
     #[inline(always)]
     fn follow(&mut self, story: &Story, transfer: &Transfer<'_>) -> Result<StepEnd, Fault>
+        requires room { 112 ≤ threads_spare self.old.flow.threads }
         ensures ends { let s = story_tree story.now in (asks : Bool) (e : Effect) → Performs s asks e (fields_of (config_of s self.old)) (Ok transfer.now) → Keeps s e self.old.flow.threads.threads self.old.flow.threads.threads → KeepsChoices s e self.old.flow.choices.items self.old.flow.choices.items
-            → StepEnds (asks || move_asks s e (config_of s self.old)) (moved s (unstored self.old.shared.globals.rows e) (config_of s self.old)) self.old.shared.globals.rows (config_of s self.new) result }
+            → StepEnds (marked_in (stood_of self.old) || (asks || move_asks s e (config_of s self.old))) (moved s (unstored self.old.shared.globals.rows e) (config_of s self.old)) self.old.shared.globals.rows (config_of s self.new) result }
         ensures globals { self.new.shared.globals.rows ≡ self.old.shared.globals.rows }
         ensures start { start_of self.new ≡ start_of self.old }
+        ensures mark { stood_of self.new ≡ stood_of self.old }
+        ensures enough { OnOk result (2 ≤ threads_spare self.new.flow.threads) }
     {
         match transfer {
             Transfer::Next => self.go_on(story),
             Transfer::Wrote => {
-                self.flow.threads.end_freshness(self.output.depth());
+                self.end_freshness()?;
                 self.go_on(story)
             }
             Transfer::Store(..) => self.go_on(story),
@@ -550,7 +614,7 @@ impl Machine {
             ),
             Transfer::Done => {
                 let safe = self.flow.safe | self.flow.threads.is_last();
-                self.flow.set_safe(safe);
+                self.change_safe(safe)?;
                 done(
                     story.tree(),
                     &mut self.flow.threads,
@@ -559,20 +623,60 @@ impl Machine {
                 )
             }
             Transfer::End => {
-                self.flow.set_safe(true);
+                self.change_safe(true)?;
+                self.flow.choices.ready(1)?;
                 self.flow.choices.clear();
                 end(&mut self.flow.threads, &self.output)
             }
         }
     }
 
+    // Makes room for what a step changes on threads and on the evaluation stack, where a mark stands. The one error is `OutOfMemory`
+    // for a refused request for memory, while a mark stands.
+    #[inline(always)]
+    fn make_step_room(&mut self) -> Result<(), Fault>
+        ensures same { self.new ≡ record self.old { flow = record self.old.flow { threads = self.new.flow.threads; stack = self.new.flow.stack } } }
+        ensures threads { self.new.flow.threads.threads ≡ self.old.flow.threads.threads }
+        ensures items { self.new.flow.stack.items ≡ self.old.flow.stack.items }
+        ensures mark { stood_of self.new ≡ stood_of self.old }
+        ensures threads_room { OnOk result (120 ≤ threads_spare self.new.flow.threads) }
+        ensures stack_room { OnOk result (length self.new.flow.stack.items + 2 ≤ stack_spare self.new.flow.stack) }
+        ensures fault { IfErr result (λ f. f ≡ Fault.OutOfMemory) }
+        ensures memory { OnErr result (marked_in (stood_of self.old) ≡ true) }
+    {
+        self.flow.threads.ready(STEPPING)?;
+        let count = self.flow.stack.len() + 2;
+        self.flow.stack.ready(count)?;
+        Ok(())
+    }
+
+    // A text was written in the open section, which ends the freshness of functions. The one error is `OutOfMemory` for a refused
+    // request for memory, while a mark stands.
+    #[inline(always)]
+    fn end_freshness(&mut self) -> Result<(), Fault>
+        ensures same { self.new ≡ record self.old { flow = record self.old.flow { threads = self.new.flow.threads } } }
+        ensures threads { OnOk result (self.new.flow.threads.threads ≡ on_top (staled (length self.old.output.page.sections)) self.old.flow.threads.threads) }
+        ensures mark { stood_of self.new ≡ stood_of self.old }
+        ensures enough { OnOk result (MOVING ≤ threads_spare self.new.flow.threads) }
+        ensures fault { IfErr result (λ f. f ≡ Fault.OutOfMemory) }
+        ensures memory { OnErr result (marked_in (stood_of self.old) ≡ true) }
+    {
+        let frames = self.flow.threads.top().frames();
+        self.flow.threads.ready(frames + MOVING)?;
+        self.flow.threads.end_freshness(self.output.depth());
+        Ok(())
+    }
+
     /// Flow lands, which may enter containers around.
     #[inline(always)]
     fn go_to(&mut self, story: &Story, to: Landing) -> Result<StepEnd, Fault>
+        requires room { 2 ≤ threads_spare self.old.flow.threads }
         ensures ends { let s = story_tree story.now in let c = config_of s self.old in let how = reach (place_of s to.place) in
-            StepEnds (landed_asks s to.enters c.shared.counts (how c.flow.threads (written_in c))) (landing s to.enters how c) self.old.shared.globals.rows (config_of s self.new) result }
+            StepEnds (marked_in (stood_of self.old) || landed_asks s to.enters c.shared.counts (how c.flow.threads (written_in c))) (landing s to.enters how c) self.old.shared.globals.rows (config_of s self.new) result }
         ensures globals { self.new.shared.globals.rows ≡ self.old.shared.globals.rows }
         ensures start { start_of self.new ≡ start_of self.old }
+        ensures mark { stood_of self.new ≡ stood_of self.old }
+        ensures spare { threads_spare self.old.flow.threads ≤ threads_spare self.new.flow.threads + 2 }
     {
         let end = land(&mut self.flow.threads, to.place);
         self.enter_around(story.tree(), to.enters)?;
@@ -582,11 +686,14 @@ impl Machine {
     /// Flow lands in a frame of this kind, which may enter containers around.
     #[inline(never)]
     fn go_into(&mut self, story: &Story, kind: CallKind, to: Landing) -> Result<StepEnd, Fault>
+        requires room { 4 ≤ threads_spare self.old.flow.threads }
         ensures ends { let s = story_tree story.now in let c = config_of s self.old in let how = called (frame_kind kind) (place_of s to.place) in
-            StepEnds (nat_lt (frame_count c.flow.threads.thread) MAX_FRAMES || landed_asks s to.enters c.shared.counts (how c.flow.threads (written_in c)))
+            StepEnds (marked_in (stood_of self.old) || (nat_lt (frame_count c.flow.threads.thread) MAX_FRAMES || landed_asks s to.enters c.shared.counts (how c.flow.threads (written_in c))))
             (landing s to.enters how c) self.old.shared.globals.rows (config_of s self.new) result }
         ensures globals { self.new.shared.globals.rows ≡ self.old.shared.globals.rows }
         ensures start { start_of self.new ≡ start_of self.old }
+        ensures mark { stood_of self.new ≡ stood_of self.old }
+        ensures spare { threads_spare self.old.flow.threads ≤ threads_spare self.new.flow.threads + 4 }
     {
         let end = flow::call(&mut self.flow.threads, &mut self.output, kind, to.place)?;
         self.enter_around(story.tree(), to.enters)?;
@@ -601,11 +708,14 @@ impl Machine {
         kind: FrameKind,
         to: Option<Landing>,
     ) -> Result<StepEnd, Fault>
+        requires room { 110 ≤ threads_spare self.old.flow.threads }
         ensures ends { let s = story_tree story.now in let c = config_of s self.old in let goal = option_map (landing_of s) to in let how = returned (next_place s) kind (place_to goal) in
-            StepEnds (returned_asks (next_place s) kind (place_to goal) c.flow.threads (written_in c) || landed_asks s (may_enter goal) c.shared.counts (how c.flow.threads (written_in c)))
+            StepEnds (marked_in (stood_of self.old) || (returned_asks (next_place s) kind (place_to goal) c.flow.threads (written_in c) || landed_asks s (may_enter goal) c.shared.counts (how c.flow.threads (written_in c))))
             (landing s (may_enter goal) how c) self.old.shared.globals.rows (config_of s self.new) result }
         ensures globals { self.new.shared.globals.rows ≡ self.old.shared.globals.rows }
         ensures start { start_of self.new ≡ start_of self.old }
+        ensures mark { stood_of self.new ≡ stood_of self.old }
+        ensures enough { 5 ≤ threads_spare self.new.flow.threads }
     {
         let end = give_back(
             story.tree(),
@@ -622,10 +732,13 @@ impl Machine {
     /// Flow goes on after the content.
     #[inline(always)]
     fn go_on(&mut self, story: &Story) -> Result<StepEnd, Fault>
+        requires room { 108 ≤ threads_spare self.old.flow.threads }
         ensures ends { let s = story_tree story.now in let c = config_of s self.old in
             StepEnds (moved_asks (next_place s) c.flow.threads (written_in c)) (going (moved_on (next_place s)) c) self.old.shared.globals.rows (config_of s self.new) result }
         ensures globals { self.new.shared.globals.rows ≡ self.old.shared.globals.rows }
         ensures start { start_of self.new ≡ start_of self.old }
+        ensures mark { stood_of self.new ≡ stood_of self.old }
+        ensures enough { 6 ≤ threads_spare self.new.flow.threads }
     {
         move_on(
             story.tree(),

@@ -1,6 +1,8 @@
 //! Variables are read, declared and assigned (docs/VARIABLES.md).
 
-ghost use Rattle.std.specs.Prelude.{◌≡◌, ◌≤◌, ◌&&◌, ℕ, Bool, true, Option, Err, OnOk, is_ok};
+ghost use Rattle.ink_stack.specs.Undo.{threads_spare, threads_stood};
+ghost use Rattle.ink_value.specs.Undo.{stack_stood};
+ghost use Rattle.std.specs.Prelude.{◌≡◌, ◌≤◌, ◌&&◌, ℕ, Bool, true, Option, Err, OnOk, is_ok, ◌+◌, ◌||◌, is_some};
 ghost use Rattle.ink_model.specs.Asks.{has_room};
 ghost use Rattle.ink_model.specs.Effect.{Fields, Stores};
 ghost use Rattle.ink_model.specs.Frames.{map_thread};
@@ -18,7 +20,7 @@ ghost use Rattle.ink_step.specs.Words.{Rest, seen_by};
 ghost use Rattle.ink_tree.specs.Nodes.{place_of};
 ghost use Rattle.ink_vars.specs.Words.{with_variable, writing_asks};
 
-use crate::operands::{check_room, push, top};
+use crate::operands::{check_room, push, take};
 use crate::transfer::{Assignment, Transfer};
 use ink_model::{Fault, Scope, Shared, Text, Value};
 use ink_stack::Threads;
@@ -36,9 +38,10 @@ pub(crate) fn push_variable(
     name: &Shared<Text>,
     number: Option<usize>,
 ) -> Result<(), Fault>
-    ensures { (s : StoryTree) (rest : Rest) (evaluating : Bool) (fresh : Option ℕ) (page : Page)
+    ensures effect { (s : StoryTree) (rest : Rest) (evaluating : Bool) (fresh : Option ℕ) (page : Page)
         → let seen = seen_by s threads.now.threads rest in Changes (is_ok (rules.read globals.now.rows seen.thread name.now) && has_room stack.old.items)
         (effects.push_variable name.now seen (fields evaluating fresh stack.old.items page globals.now.rows)) (fields evaluating fresh stack.new.items page globals.now.rows) result }
+    ensures mark { stack_stood stack.new ≡ stack_stood stack.old }
 {
     match look(globals, threads, name.as_str(), number) {
         Ok(Some(value)) => push_copy(alloc, stack, value),
@@ -51,6 +54,7 @@ pub(crate) fn push_variable(
 fn push_copy(alloc: Global, stack: &mut EvalStack, value: &Value) -> Result<(), Fault>
     ensures stack { Leaves (pushed value.now stack.old.items) stack.old.items stack.new.items result }
     ensures memory { result ≡ Err Fault.OutOfMemory → has_room stack.old.items ≡ true }
+    ensures mark { stack_stood stack.new ≡ stack_stood stack.old }
 {
     check_room(stack)?;
     let copy = value.clone_in(alloc)?;
@@ -67,9 +71,10 @@ pub(crate) fn push_pointer(
     name: &Shared<Text>,
     frame: i32,
 ) -> Result<(), Fault>
-    ensures { (s : StoryTree) (rest : Rest) (fresh : Option ℕ) (page : Page) (globals : Values)
+    ensures effect { (s : StoryTree) (rest : Rest) (fresh : Option ℕ) (page : Page) (globals : Values)
         → Changes (evaluating && has_room stack.old.items) (effects.push_pointer name.now frame (seen_by s threads.now.threads rest) (fields evaluating fresh stack.old.items page globals))
         (fields evaluating fresh stack.new.items page globals) result }
+    ensures mark { stack_stood stack.new ≡ stack_stood stack.old }
 {
     if !evaluating {
         return Ok(());
@@ -92,15 +97,19 @@ pub(crate) fn declare<'a>(
     number: Option<usize>,
     transfer: &mut Transfer<'a>,
 ) -> Result<(), Fault>
-    requires { transfer.old ≡ Transfer.Next }
+    requires on { transfer.old ≡ Transfer.Next }
+    requires room { 1 ≤ threads_spare threads.old }
     ensures effect { (s : StoryTree) (rest : Rest) (evaluating : Bool) (fresh : Option ℕ) (page : Page)
-        → let seen = seen_by s threads.old.threads rest in Performs s (on_popped (popped stack.old.items) (declare_asks globals.now.rows seen.thread scope name.now))
+        → let seen = seen_by s threads.old.threads rest in Performs s (is_some (stack_stood stack.old) || on_popped (popped stack.old.items) (declare_asks globals.now.rows seen.thread scope name.now))
         (effects.declare scope name.now seen (fields evaluating fresh stack.old.items page globals.now.rows)) (fields evaluating fresh stack.new.items page globals.now.rows) (leading result transfer.new) }
     ensures threads { (s : StoryTree) (rest : Rest) (evaluating : Bool) (fresh : Option ℕ) (page : Page)
         → OnOk result (Keeps s (effects.declare scope name.now (seen_by s threads.old.threads rest) (fields evaluating fresh stack.old.items page globals.now.rows)) threads.old.threads threads.new.threads) }
     ensures frame { threads.new.threads.thread.frame ≡ record threads.old.threads.thread.frame { temps = threads.new.threads.thread.frame.temps } }
+    ensures stack_mark { stack_stood stack.new ≡ stack_stood stack.old }
+    ensures threads_mark { threads_stood threads.new ≡ threads_stood threads.old }
+    ensures spare { threads_spare threads.old ≤ threads_spare threads.new + 1 }
 {
-    let Some(value) = top(stack) else {
+    let Some(value) = take(stack)? else {
         return Err(Fault::StackEmpty);
     };
     match kept(globals, threads, value) {
@@ -122,15 +131,19 @@ pub(crate) fn assign<'a>(
     number: Option<usize>,
     transfer: &mut Transfer<'a>,
 ) -> Result<(), Fault>
-    requires { transfer.old ≡ Transfer.Next }
+    requires on { transfer.old ≡ Transfer.Next }
+    requires room { 1 ≤ threads_spare threads.old }
     ensures effect { (s : StoryTree) (rest : Rest) (evaluating : Bool) (fresh : Option ℕ) (page : Page)
-        → let seen = seen_by s threads.old.threads rest in Performs s (on_popped (popped stack.old.items) (assign_asks globals.now.rows seen.thread name.now))
+        → let seen = seen_by s threads.old.threads rest in Performs s (is_some (stack_stood stack.old) || on_popped (popped stack.old.items) (assign_asks globals.now.rows seen.thread name.now))
         (effects.assign name.now seen (fields evaluating fresh stack.old.items page globals.now.rows)) (fields evaluating fresh stack.new.items page globals.now.rows) (leading result transfer.new) }
     ensures threads { (s : StoryTree) (rest : Rest) (evaluating : Bool) (fresh : Option ℕ) (page : Page)
         → OnOk result (Keeps s (effects.assign name.now (seen_by s threads.old.threads rest) (fields evaluating fresh stack.old.items page globals.now.rows)) threads.old.threads threads.new.threads) }
     ensures frame { threads.new.threads.thread.frame ≡ record threads.old.threads.thread.frame { temps = threads.new.threads.thread.frame.temps } }
+    ensures stack_mark { stack_stood stack.new ≡ stack_stood stack.old }
+    ensures threads_mark { threads_stood threads.new ≡ threads_stood threads.old }
+    ensures spare { threads_spare threads.old ≤ threads_spare threads.new + 1 }
 {
-    let Some(value) = top(stack) else {
+    let Some(value) = take(stack)? else {
         return Err(Fault::StackEmpty);
     };
     match assigned(globals, threads, name.as_str(), number) {
@@ -150,10 +163,13 @@ fn store<'a>(
 ) -> Result<(), Fault>
     requires on { transfer.old ≡ Transfer.Next }
     requires within { variable.frame ≤ frame_count threads.old.threads.thread }
+    requires room { 1 ≤ threads_spare threads.old }
     ensures effect { (s : StoryTree) (f : Fields) → let w = with_variable f.globals threads.old.threads.thread variable.entry value in
         Performs s (writing_asks f.globals threads.old.threads.thread variable.entry) (Stores (map_thread (place_of s) w.1) (record f { globals = w.0 })) f (leading result transfer.new) }
     ensures threads { (globals : Values) → OnOk result (threads.new.threads ≡ record threads.old.threads { thread = (with_variable globals threads.old.threads.thread variable.entry value).1 }) }
     ensures frame { threads.new.threads.thread.frame ≡ record threads.old.threads.thread.frame { temps = threads.new.threads.thread.frame.temps } }
+    ensures mark { threads_stood threads.new ≡ threads_stood threads.old }
+    ensures spare { threads_spare threads.old ≤ threads_spare threads.new + 1 }
 {
     if variable.frame == 0 {
         *transfer = Transfer::Store(Assignment {

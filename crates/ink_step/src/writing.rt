@@ -1,6 +1,8 @@
 //! Text, newlines and glue are written, or pushed in evaluation mode (docs/TEXT.md).
 
-ghost use Rattle.std.specs.Prelude.{◌≡◌, ℕ, List, Bool, not, Option, if◌then◌else◌, length};
+ghost use Rattle.ink_out.specs.Undo.{output_stood};
+ghost use Rattle.ink_value.specs.Undo.{stack_spare, stack_stood};
+ghost use Rattle.std.specs.Prelude.{◌≡◌, ℕ, List, Bool, not, Option, if◌then◌else◌, length, ◌≤◌};
 ghost use Rattle.ink_model.specs.Asks.{has_bytes, has_room};
 ghost use Rattle.ink_model.specs.Effect.{is_fresh_at};
 ghost use Rattle.ink_model.specs.Memory.{output_asks};
@@ -11,7 +13,7 @@ ghost use Rattle.ink_model.specs.Store.{Values};
 ghost use Rattle.ink_model.specs.declared.value.Value.{Value as Data};
 ghost use Rattle.ink_step.specs.Performs.{Changes, Writes, fields};
 
-use crate::operands::{check_room, push, top};
+use crate::operands::{check_room, drop_top, push, top};
 use ink_model::{Fault, Shared, Text, Value};
 use ink_out::Output;
 use ink_value::EvalStack;
@@ -27,7 +29,9 @@ pub(crate) fn write_text(
     fresh: Option<usize>,
     text: &Shared<Text>,
 ) -> Result<bool, Fault>
-    ensures { (globals : Values) → Writes (if evaluating then has_room stack.old.items else has_bytes text.now) (write_text text.now (fields evaluating fresh stack.old.items output.old.page globals)) (fields evaluating fresh stack.new.items output.new.page globals) result }
+    ensures effect { (globals : Values) → Writes (if evaluating then has_room stack.old.items else has_bytes text.now) (write_text text.now (fields evaluating fresh stack.old.items output.old.page globals)) (fields evaluating fresh stack.new.items output.new.page globals) result }
+    ensures stack_mark { stack_stood stack.new ≡ stack_stood stack.old }
+    ensures output_mark { output_stood output.new ≡ output_stood output.old }
 {
     if evaluating {
         check_room(stack)?;
@@ -46,7 +50,9 @@ pub(crate) fn write_newline(
     evaluating: bool,
     fresh: Option<usize>,
 ) -> Result<(), Fault>
-    ensures { (globals : Values) → Changes (if evaluating then has_room stack.old.items else not (is_fresh_at fresh (length output.old.page.sections))) (write_newline (fields evaluating fresh stack.old.items output.old.page globals)) (fields evaluating fresh stack.new.items output.new.page globals) result }
+    ensures effect { (globals : Values) → Changes (if evaluating then has_room stack.old.items else not (is_fresh_at fresh (length output.old.page.sections))) (write_newline (fields evaluating fresh stack.old.items output.old.page globals)) (fields evaluating fresh stack.new.items output.new.page globals) result }
+    ensures stack_mark { stack_stood stack.new ≡ stack_stood stack.old }
+    ensures output_mark { output_stood output.new ≡ output_stood output.old }
 {
     if evaluating {
         check_room(stack)?;
@@ -59,8 +65,9 @@ pub(crate) fn write_newline(
 /// Glue is written. It is no value: `BadMode` in evaluation mode.
 #[inline(never)]
 pub(crate) fn write_glue(output: &mut Output, evaluating: bool) -> Result<(), Fault>
-    ensures { (fresh : Option ℕ) (stack : List Data) (globals : Values)
+    ensures effect { (fresh : Option ℕ) (stack : List Data) (globals : Values)
         → Changes (not evaluating) (write_glue (fields evaluating fresh stack output.old.page globals)) (fields evaluating fresh stack output.new.page globals) result }
+    ensures mark { output_stood output.new ≡ output_stood output.old }
 {
     if evaluating {
         return Err(Fault::BadMode);
@@ -75,13 +82,19 @@ pub(crate) fn output_top(
     output: &mut Output,
     fresh: Option<usize>,
 ) -> Result<bool, Fault>
-    ensures { (evaluating : Bool) (globals : Values)
+    requires room { 1 ≤ stack_spare stack.old }
+    ensures effect { (evaluating : Bool) (globals : Values)
         → Writes (output_asks (popped stack.old.items)) (output_value (fields evaluating fresh stack.old.items output.old.page globals)) (fields evaluating fresh stack.new.items output.new.page globals) result }
+    ensures stack_mark { stack_stood stack.new ≡ stack_stood stack.old }
+    ensures output_mark { output_stood output.new ≡ output_stood output.old }
 {
-    match top(stack) {
-        Some(value) => output.write(&value, is_fresh(output, fresh)),
-        None => Ok(false),
-    }
+    let Some(value) = top(stack) else {
+        return Ok(false);
+    };
+    let fresh = is_fresh(output, fresh);
+    let wrote = output.write(value, fresh);
+    drop_top(stack);
+    wrote
 }
 
 /// Whether the top frame is a function that is fresh in the open section.

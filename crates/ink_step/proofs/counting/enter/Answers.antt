@@ -1,7 +1,7 @@
 use Rattle.std.proofs.Common.{◌∙◌, ap, sym}
 use Rattle.std.proofs.lemmas.Result.{on_err_weaker, on_ok_weaker}
 use Rattle.ink_step.specs.Words.{counts_in}
-use Rattle.ink_step.proofs.Visits.{adds_at, visited_at}
+use Rattle.ink_step.proofs.Visits.{adds_at, lacks_marked, visited_at}
 use Rattle.ink_step.proofs.counting.enter.Goals as goal
 use Rattle.ink_tree.specs.Nodes.{story_tree}
 
@@ -17,6 +17,5 @@ pub returns-clause-memory : goal.returns-clause-memory
 returns-clause-memory c =
     let s = story_tree c.args.tree.now in
     let found = c.number_of.ensures.found in
-    on_err_weaker c.visit.result
-    (λ is. sym (adds_at s c.number_of.ensures.order c.number_of.result found.0 c.args.counts.now.rows _ _ _ found.1 c.flags.ensures) ∙ is)
-    c.visit.ensures.memory
+    let adds = adds_at s c.number_of.ensures.order c.number_of.result found.0 c.args.counts.now.rows _ _ _ found.1 c.flags.ensures in
+    on_err_weaker c.visit.result (lacks_marked _ _ c.args.counts.now (λ h. sym adds ∙ h)) c.visit.ensures.memory

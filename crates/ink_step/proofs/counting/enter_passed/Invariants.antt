@@ -4,6 +4,7 @@ use Rattle.ink_model.specs.Place.{entered}
 use Rattle.ink_step.proofs.Visits.{StillEnters}
 use Rattle.ink_step.proofs.counting.enter_passed.Given as goal
 use Rattle.ink_tree.specs.Nodes.{node_place, story_tree}
+use Rattle.ink_vars.specs.Undo.{counts_stood}
 
 -- the way from here leads to where the whole way does
 abbrev pub invariant-loop-first : goal.invariant-loop-first
@@ -12,6 +13,7 @@ invariant-loop-first l =
     record {
       way : entered s (node_place s l.last) ≡ entered s (node_place s l.fn.node);
       still : StillEnters s l.fn.turn (passed_places s (node_place s l.fn.node)) l.initial.counts.rows (passed_places s (node_place s l.last)) l.counts.rows;
+      mark : counts_stood l.counts ≡ counts_stood l.initial.counts;
     }
 
 abbrev pub decreases-loop-first : goal.decreases-loop-first

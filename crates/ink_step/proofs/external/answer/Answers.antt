@@ -5,8 +5,8 @@ use Rattle.ink_step.specs.Performs.{Performs, fields}
 use Rattle.ink_step.proofs.Puts.{answers_it}
 use Rattle.ink_step.proofs.external.answer.Goals as goal
 
-pub returns : goal.returns
-returns c s evaluating fresh page globals arguments left there =
+pub returns-clause-effect : goal.returns-clause-effect
+returns-clause-effect c s evaluating fresh page globals arguments left there =
     let g = c.args.given in
     let f = fields evaluating fresh left page globals in
     let new = c.put_over.new.stack.items in

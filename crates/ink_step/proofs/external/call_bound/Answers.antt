@@ -36,5 +36,5 @@ returns-in-Some-Pure-clause-call g c evaluating fresh globals =
     let p = pure_there g.P.PureFn.meaning call.name.now desk.functions (ap (λ k. Some k) (sym c.in-Some-Pure.field-0-is) ∙ c.in-Some-Pure.ensures) in (
       [],
       grew-none g.T.TurnFn.log (log_of g.W.Watcher.state) desk,
-      pure_called g.P.PureFn.meaning desk.functions s call.name.now call.arguments false _ desk.next _ _ p.0 p.1 (c.ask_pure.ensures p.0 p.1 s evaluating fresh c.args.output.now.page globals),
+      pure_called g.P.PureFn.meaning desk.functions s call.name.now call.arguments false _ desk.next _ _ p.0 p.1 (c.ask_pure.ensures.effect p.0 p.1 s evaluating fresh c.args.output.now.page globals),
     )

@@ -1,11 +1,18 @@
-use Rattle.std.proofs.Common.{[]}
+use Rattle.std.proofs.Common.{◌≤◌, [], None, arith, false, length}
 use Rattle.ink_check.specs.Words.{story_tree}
 use Rattle.ink_host.proofs.Laws.{grew-none}
 use Rattle.ink_host.specs.Desk.{bound_by}
 use Rattle.ink_host.specs.Telling.{log_of}
 use Rattle.ink_step.specs.Performs.{fields}
-use Rattle.ink_step.proofs.Calls.{where_fault, where_unwanted, where_wanted}
+use Rattle.ink_step.proofs.Calls.{condition_below, where_fault, where_unwanted, where_wanted}
 use Rattle.ink_step.proofs.external.call_external.Goals as goal
+
+pub call_bound-requires : goal.call_bound-requires
+call_bound-requires g c =
+    let old = fields false None c.args.stack.now.items c.args.output.now.page [] in
+    let new = fields false None c.is_wanted.new.stack.items c.args.output.now.page [] in
+    let fewer : length c.is_wanted.new.stack.items ≤ length c.args.stack.now.items = condition_below c.args.call.now.conditional c.in-Ok-true.field-0 old new (c.in-Ok-true.ensures.wanted false None c.args.output.now.page []) in
+    record { room = omega arith }
 
 pub returns-in-Ok-true-clause-call : goal.returns-in-Ok-true-clause-call
 returns-in-Ok-true-clause-call g c evaluating fresh globals =
@@ -19,7 +26,7 @@ returns-in-Ok-true-clause-call g c evaluating fresh globals =
     let made = c.call_bound.ensures.call evaluating fresh globals in (
       made.0,
       made.1,
-      where_wanted s desk.next o call.name.now call.arguments _ c.in-Ok-true.field-0 new c.in-Ok-true.field-0-test (c.in-Ok-true.ensures evaluating fresh page globals) made.0 last c.call_bound.result
+      where_wanted s desk.next o call.name.now call.arguments _ c.in-Ok-true.field-0 new c.in-Ok-true.field-0-test (c.in-Ok-true.ensures.wanted evaluating fresh page globals) made.0 last c.call_bound.result
           made.2,
     )
 
@@ -33,7 +40,7 @@ returns-in-Ok-false-clause-call g c evaluating fresh globals =
     let new = fields evaluating fresh c.is_wanted.new.stack.items page globals in (
       [],
       grew-none g.T.TurnFn.log (log_of g.W.Watcher.state) desk,
-      where_unwanted s desk.next o call.name.now call.arguments _ c.in-Ok-false.field-0 new c.in-Ok-false.field-0-test (c.in-Ok-false.ensures evaluating fresh page globals),
+      where_unwanted s desk.next o call.name.now call.arguments _ c.in-Ok-false.field-0 new c.in-Ok-false.field-0-test (c.in-Ok-false.ensures.wanted evaluating fresh page globals),
     )
 
 pub returns-in-Err-clause-call : goal.returns-in-Err-clause-call
@@ -46,5 +53,5 @@ returns-in-Err-clause-call g c evaluating fresh globals =
     let new = fields evaluating fresh c.is_wanted.new.stack.items page globals in (
       [],
       grew-none g.T.TurnFn.log (log_of g.W.Watcher.state) desk,
-      where_fault s desk.next o call.name.now call.arguments _ c.in-Err.fault new (c.in-Err.ensures evaluating fresh page globals),
+      where_fault s desk.next o call.name.now call.arguments _ c.in-Err.fault new (c.in-Err.ensures.wanted evaluating fresh page globals),
     )

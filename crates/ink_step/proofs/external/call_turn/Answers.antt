@@ -32,7 +32,7 @@ returns-in-Ok-clause-call g c s evaluating fresh globals =
     let safe = sym c.in_string.ensures ∙ c.if-in_string.false in
     turn_gave s call.name.now call.arguments f new safe c.in_ok-arguments.arguments.now c.in_ok-arguments.ensures.ok g.T.TurnFn.log (log_of g.W.Watcher.state) c.args.desk.now c.call.new.self c.in-Ok.given
     (c.in-Ok.ensures.answer c.in-Ok.given refl) c.answer.result
-    (c.answer.ensures s evaluating fresh page globals _ _ (there s call.name.now call.arguments f new safe c.in_ok-arguments.arguments.now c.in_ok-arguments.ensures.ok))
+    (c.answer.ensures.effect s evaluating fresh page globals _ _ (there s call.name.now call.arguments f new safe c.in_ok-arguments.arguments.now c.in_ok-arguments.ensures.ok))
 
 pub returns-in-Err-clause-call : goal.returns-in-Err-clause-call
 returns-in-Err-clause-call g c s evaluating fresh globals =

@@ -32,7 +32,7 @@ module _ (g : given.Over) (c : In-Some g) where
   is_safe = sym c.in_string.ensures ∙ c.if-in_string.false
 
   is_whole : c.in-Some.values.now ≡ c.args.stack.now.items
-  is_whole = lent_whole c.len.result c.args.stack.now.items c.in-Some.values.now c.len.ensures c.in-Some.ensures
+  is_whole = lent_whole c.len.result c.args.stack.now.items c.in-Some.values.now c.len.ensures.len c.in-Some.ensures
 
 pub returns-then-not-call : goal.returns-then-not-call
 returns-then-not-call g c s evaluating fresh globals =

@@ -6,25 +6,25 @@ use Rattle.ink_step.proofs.flow.give_back.Goals as goal
 use Rattle.ink_step.specs.Reaches.{written}
 use Rattle.ink_tree.specs.Nodes.{place_of, story_tree}
 
-pub returns-in_err-leave : goal.returns-in_err-leave
-returns-in_err-leave c =
+pub returns-in_err-leave-clause-flow : goal.returns-in_err-leave-clause-flow
+returns-in_err-leave-clause-flow c =
     let s = story_tree c.args.tree.now in
     let f = place_of s in
     let is : c.from_residual.result ≡ Err c.in_err-leave.field-0.0 = search rules in
     rw is (return_breaks (next_place s) c.args.kind (option_map f c.args.to) (map_threads f c.args.threads.now.threads) (map_threads f c.leave.new.threads.threads) (written c.args.stack.now c.args.output.now)
-    (written c.args.stack.now c.leave.new.output) c.in_err-leave.field-0.0 (c.in_err-leave.ensures s c.args.stack.now.items))
+    (written c.args.stack.now c.leave.new.output) c.in_err-leave.field-0.0 (c.in_err-leave.ensures.flow s c.args.stack.now.items))
 
-pub returns-in-Some : goal.returns-in-Some
-returns-in-Some c =
+pub returns-in-Some-clause-flow : goal.returns-in-Some-clause-flow
+returns-in-Some-clause-flow c =
     let s = story_tree c.args.tree.now in
     let f = place_of s in
     let v = written c.args.stack.now c.leave.new.output in
     rw c.in-Some.is (return_goes (next_place s) c.args.kind (Some (f c.in-Some.place)) (map_threads f c.args.threads.now.threads) (map_threads f c.leave.new.threads.threads) (written c.args.stack.now c.args.output.now)
-    v _ c.in_ok-leave.field-0 (c.in_ok-leave.ensures s c.args.stack.now.items) (map_threads f c.land.new.threads.threads) v (Ok c.land.result) (c.land.ensures s v))
+    v _ c.in_ok-leave.field-0 (c.in_ok-leave.ensures.flow s c.args.stack.now.items) (map_threads f c.land.new.threads.threads) v (Ok c.land.result) (c.land.ensures.flow s v))
 
-pub returns-in-None : goal.returns-in-None
-returns-in-None c =
+pub returns-in-None-clause-flow : goal.returns-in-None-clause-flow
+returns-in-None-clause-flow c =
     let s = story_tree c.args.tree.now in
     let f = place_of s in
     rw c.in-None.is (return_goes (next_place s) c.args.kind None (map_threads f c.args.threads.now.threads) (map_threads f c.leave.new.threads.threads) (written c.args.stack.now c.args.output.now)
-    (written c.args.stack.now c.leave.new.output) _ c.in_ok-leave.field-0 (c.in_ok-leave.ensures s c.args.stack.now.items) (map_threads f c.move_on.new.threads.threads) (written c.move_on.new.stack c.move_on.new.output) c.move_on.result c.move_on.ensures)
+    (written c.args.stack.now c.leave.new.output) _ c.in_ok-leave.field-0 (c.in_ok-leave.ensures.flow s c.args.stack.now.items) (map_threads f c.move_on.new.threads.threads) (written c.move_on.new.stack c.move_on.new.output) c.move_on.result c.move_on.ensures.flow)

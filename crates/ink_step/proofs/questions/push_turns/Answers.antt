@@ -8,16 +8,16 @@ use Rattle.ink_step.specs.Asked.{Answers}
 use Rattle.ink_step.specs.Words.{seen_by}
 use Rattle.ink_tree.specs.Nodes.{place_of}
 
-pub returns-in_err-turns : goal.returns-in_err-turns
-returns-in_err-turns c threads rest evaluating fresh page globals t =
+pub returns-in_err-turns-clause-effect : goal.returns-in_err-turns-clause-effect
+returns-in_err-turns-clause-effect c threads rest evaluating fresh page globals t =
     let s = story_tree c.args.story.now in
     let seen = seen_by s threads (record rest { counts = c.args.counts.now.rows; turn = c.args.turn }) in
     let is : c.from_residual-in_err-turns.result ≡ Err c.in_err-turns.field-0.0 = search rules in
     rw is (asks_in_vain s seen (turns_there s seen) evaluating fresh page globals c.args.stack.now.items t c.args.stack.now.items (place_of s c.in_ok-place.place) c.in_err-turns.field-0.0
     c.in_ok-place.ensures (c.in_err-turns.ensures threads rest))
 
-pub returns : goal.returns
-returns c threads rest evaluating fresh page globals t =
+pub returns-clause-effect : goal.returns-clause-effect
+returns-clause-effect c threads rest evaluating fresh page globals t =
     let s = story_tree c.args.story.now in
     let seen = seen_by s threads (record rest { counts = c.args.counts.now.rows; turn = c.args.turn }) in
     let old = c.args.stack.now.items in

@@ -1,20 +1,28 @@
+use Rattle.std.proofs.Common.{◌≡◌, Some, is_some, subst}
+use Rattle.ink_model.specs.Stack.{popped}
+use Rattle.ink_value.specs.Undo.{stack_stood}
+use Rattle.ink_step.specs.Stacks.{Pops}
+use Rattle.ink_step.proofs.Effects.{performs_or}
 use Rattle.ink_step.specs.Performs.{fields, leading}
 use Rattle.ink_step.proofs.Stored.{assigns_keeping, assigns_nowhere, assigns_there}
 use Rattle.ink_step.proofs.storing.assign.Goals as goal
 
 pub returns-in-Ok-clause-effect : goal.returns-in-Ok-clause-effect
 returns-in-Ok-clause-effect c s rest evaluating fresh page =
+    let pops : popped c.args.stack.now.items ≡ Some (c.in-Some.value, c.take.new.stack.items) = subst (Pops c.args.stack.now.items c.take.new.stack.items) c.in-Some.is c.in_ok-value.ensures.pops in
     let f = fields evaluating fresh c.args.stack.now.items page c.args.globals.now.rows in
-    assigns_there s c.args.threads.now.threads rest f c.args.name.now c.top.new.stack.items c.in-Some.value c.in-Some.ensures c.in-Ok.variable (leading c.store.result c.store.new.transfer) (rw c.as_str.ensures at c.in-Ok.ensures)
-    (c.store.ensures.effect s (record f { stack = c.top.new.stack.items }))
+    performs_or s (is_some (stack_stood c.args.stack.now)) _ _ _ _ (assigns_there s c.args.threads.now.threads rest f c.args.name.now c.take.new.stack.items c.in-Some.value pops c.in-Ok.variable (leading c.store.result c.store.new.transfer) (rw c.as_str.ensures at c.in-Ok.ensures)
+    (c.store.ensures.effect s (record f { stack = c.take.new.stack.items })))
 
 pub returns-in-Ok-clause-threads : goal.returns-in-Ok-clause-threads
 returns-in-Ok-clause-threads c s rest evaluating fresh page =
+    let pops : popped c.args.stack.now.items ≡ Some (c.in-Some.value, c.take.new.stack.items) = subst (Pops c.args.stack.now.items c.take.new.stack.items) c.in-Some.is c.in_ok-value.ensures.pops in
     let f = fields evaluating fresh c.args.stack.now.items page c.args.globals.now.rows in
-    assigns_keeping s c.args.threads.now.threads rest f c.args.name.now c.top.new.stack.items c.in-Some.value c.in-Some.ensures c.in-Ok.variable c.store.new.threads.threads c.store.result
+    assigns_keeping s c.args.threads.now.threads rest f c.args.name.now c.take.new.stack.items c.in-Some.value pops c.in-Ok.variable c.store.new.threads.threads c.store.result
     (rw c.as_str.ensures at c.in-Ok.ensures) (c.store.ensures.threads c.args.globals.now.rows)
 
 pub returns-in-Err-clause-effect : goal.returns-in-Err-clause-effect
 returns-in-Err-clause-effect c s rest evaluating fresh page =
+    let pops : popped c.args.stack.now.items ≡ Some (c.in-Some.value, c.take.new.stack.items) = subst (Pops c.args.stack.now.items c.take.new.stack.items) c.in-Some.is c.in_ok-value.ensures.pops in
     let f = fields evaluating fresh c.args.stack.now.items page c.args.globals.now.rows in
-    assigns_nowhere s c.args.threads.now.threads rest f c.args.name.now c.top.new.stack.items c.in-Some.value c.in-Some.ensures c.in-Err.fault (rw c.as_str.ensures at c.in-Err.ensures)
+    performs_or s (is_some (stack_stood c.args.stack.now)) _ _ _ _ (assigns_nowhere s c.args.threads.now.threads rest f c.args.name.now c.take.new.stack.items c.in-Some.value pops c.in-Err.fault (rw c.as_str.ensures at c.in-Err.ensures))

@@ -28,29 +28,29 @@ entered_as c A h =
     (subst (λ v. A t (entered_places t (option_map (place_of t) v.thread.previous) (place_of t v.target))) c.choice.view_is
     (subst (λ o. A t (entered_places t (option_map (place_of t) o) (place_of t c.choice.inside.target))) c.previous.ensures h))
 
-pub returns-in_default : goal.returns-in_default
-returns-in_default c =
+pub returns-in_default-clause-chooses : goal.returns-in_default-clause-chooses
+returns-in_default-clause-chooses c =
     let s = story_tree c.args.story.now in
     let machine = c.args.self.now in
     let old = config_of s machine in
-    chooses_none s c.args.number old old (stopped (goal.at.returns-in_default c).Else-can_go_on) (open_alike (place_of s) machine.flow.choices.items c.args.number None c.in_default.ensures) refl
+    chooses_none s c.args.number old old (stopped (goal.at.returns-in_default-clause-chooses c).Else-can_go_on) (open_alike (place_of s) machine.flow.choices.items c.args.number None c.in_default.ensures) refl
 
-pub returns-in-Err : goal.returns-in-Err
-returns-in-Err c =
+pub returns-in-Err-clause-chooses : goal.returns-in-Err-clause-chooses
+returns-in-Err-clause-chooses c =
     let s = story_tree c.args.story.now in
     let machine = c.args.self.now in
-    let at = goal.at.returns-in-Err c in
+    let at = goal.at.returns-in-Err-clause-chooses c in
     let x = c.in-Some.choice.now in
     let some = open_alike (place_of s) machine.flow.choices.items c.args.number (Some x) c.in-Some.ensures in
     let adds = entered_as at.After-enter_landed (λ t ps. adds_rows t ps (counts_in t machine.shared.counts.rows) ≡ true) c.in-Err.ensures.memory in
     chooses_short s c.args.number (config_of s machine) _ (stopped at.Else-can_go_on) (map_choice (place_of s) x) some adds
     (ap (λ rows. config_of s (record machine { shared = record machine.shared { counts = record { rows = rows } } })) c.in-Err.ensures.kept)
 
-pub returns-in-Some-take : goal.returns-in-Some-take
-returns-in-Some-take c =
+pub returns-in-Some-take-clause-chooses : goal.returns-in-Some-take-clause-chooses
+returns-in-Some-take-clause-chooses c =
     let s = story_tree c.args.story.now in
     let machine = c.args.self.now in
-    let at = goal.at.returns-in-Some-take c in
+    let at = goal.at.returns-in-Some-take-clause-chooses c in
     let x = c.in-Some.choice.now in
     let y = c.in-Some-take.choice in
     let taken = takes_visible c.args.number machine.flow.choices.items c.take.new.self.items x y c.in-Some.ensures c.in-Some-take.ensures in
@@ -63,6 +63,6 @@ returns-in-Some-take c =
     chooses_one s c.args.number (config_of s machine) (config_of s c.take_up.new.self) (stopped at.Else-can_go_on) (map_choice (place_of s) y) some
     (chosen_lands s machine y c.take.new.self.items c.enter_landed.new.counts.rows c.next-turn.result c.take_up.new.self taken_up_there c.next-turn.ensures entering)
 
-pub returns-in-None : goal.returns-in-None
-returns-in-None c =
+pub returns-in-None-clause-chooses : goal.returns-in-None-clause-chooses
+returns-in-None-clause-chooses c =
     absurd (takes_any c.args.number c.args.self.now.flow.choices.items c.take.new.self.items c.in-Some.choice.now c.in-Some.ensures c.in-None.ensures)

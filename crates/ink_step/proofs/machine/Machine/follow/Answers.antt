@@ -1,18 +1,20 @@
-use Rattle.std.proofs.Common.{◌∙◌, ap, false, None, Ok, subst, sym, true}
+use Rattle.std.proofs.Common.{◌≡◌, ◌∙◌, ◌||◌, [], ap, false, None, Ok, rules, subst, sym, true}
 use Rattle.ink_check.specs.Words.{story_tree}
-use Rattle.ink_model.specs.Configuration.{ended, with_threads}
+use Rattle.ink_model.specs.Configuration.{ended, with_safe, with_threads}
 use Rattle.ink_model.specs.Effect.{fields_of}
-use Rattle.ink_model.specs.Flow.{halt, moved_on}
+use Rattle.ink_model.specs.Flow.{Written, done, forked, halt, moved_on}
 use Rattle.ink_model.specs.Frames.{base_threads, map_threads, on_top}
 use Rattle.ink_model.specs.Move.{going, reached_in, written_in}
-use Rattle.ink_model.specs.MoveMemory.{moved_asks}
+use Rattle.ink_model.specs.MoveMemory.{dropped_asks, forked_asks, moved_asks}
 use Rattle.ink_model.specs.Place.{next_place}
-use Rattle.ink_model.specs.Threads.{staled}
+use Rattle.ink_model.specs.Threads.{dropped, staled}
+use Rattle.ink_step.specs.Marks.{marked_in, stood_of}
 use Rattle.ink_step.specs.Performs.{Performs}
+use Rattle.ink_step.specs.Reaches.{ReachesAs, written}
 use Rattle.ink_step.specs.Steps.{StepEnds}
 use Rattle.ink_step.specs.Words.{config_of}
-use Rattle.ink_step.specs.declared.machine.Flow.{Flow}
-use Rattle.ink_step.proofs.Follows.{ends_more, ends_reached, goes_after_text, goes_nowhere}
+use Rattle.ink_step.specs.declared.machine.Machine.{Machine}
+use Rattle.ink_step.proofs.Follows.{ends_more, ends_reached, goes_after_text, goes_done, goes_forking, goes_nowhere, last_alike}
 use Rattle.ink_step.proofs.Landed.{goes_back, goes_into, goes_on, goes_storing, goes_there}
 use Rattle.ink_step.proofs.Staled.{staled_alike}
 use Rattle.ink_step.proofs.machine.Machine.follow.Goals as goal
@@ -23,58 +25,98 @@ returns-in-Next-clause-ends c asks e h has offers =
     let s = story_tree c.args.story.now in
     let old = config_of s c.args.self.now in
     let new = config_of s c.go_on.new.self in
-    goes_on s asks old new c.go_on.result e (subst (λ t. Performs s asks e (fields_of old) (Ok t)) c.in-Next.is h) has offers
-    (ends_more asks _ (going (moved_on (next_place s)) old) _ new c.go_on.result c.go_on.ensures.ends)
+    goes_on s (marked_in (stood_of c.args.self.now)) asks old new c.go_on.result e (subst (λ t. Performs s asks e (fields_of old) (Ok t)) c.in-Next.is h) has offers
+    (ends_more (marked_in (stood_of c.args.self.now)) _ (going (moved_on (next_place s)) old) _ new c.go_on.result (ends_more asks _ (going (moved_on (next_place s)) old) _ new c.go_on.result c.go_on.ensures.ends))
 
-pub returns-in-Wrote-clause-ends : goal.returns-in-Wrote-clause-ends
-returns-in-Wrote-clause-ends c asks e h has offers =
+pub returns-in_ok-end_freshness-in-Wrote-clause-ends : goal.returns-in_ok-end_freshness-in-Wrote-clause-ends
+returns-in_ok-end_freshness-in-Wrote-clause-ends c asks e h has offers =
     let s = story_tree c.args.story.now in
     let machine = c.args.self.now in
     let old = config_of s machine in
+    let mid = c.end_freshness.new.self in
     let new = config_of s c.go_on-in-Wrote.new.self in
-    let stale = ap (λ ts. with_threads (map_threads (place_of s) ts) old) c.end_freshness.ensures
-    ∙ ap (λ n. with_threads (map_threads (place_of s) (on_top (staled n) machine.flow.threads.threads)) old) c.depth.ensures
+    let stale = ap (config_of s) c.end_freshness.ensures.same
+    ∙ ap (λ ts. with_threads (map_threads (place_of s) ts) old) c.in_ok-end_freshness-in-Wrote.ensures.threads
     ∙ ap (λ ts. with_threads ts old) (staled_alike (place_of s) _ machine.flow.threads.threads) in
-    goes_after_text s asks old new c.go_on-in-Wrote.result e (subst (λ t. Performs s asks e (fields_of old) (Ok t)) c.in-Wrote.is h)
-    (subst (λ d. StepEnds (moved_asks (next_place s) d.flow.threads (written_in d)) (going (moved_on (next_place s)) d) machine.shared.globals.rows new c.go_on-in-Wrote.result) stale c.go_on-in-Wrote.ensures.ends)
+    goes_after_text s (marked_in (stood_of machine)) asks old new c.go_on-in-Wrote.result e (subst (λ t. Performs s asks e (fields_of old) (Ok t)) c.in-Wrote.is h)
+    (subst (λ d. StepEnds (moved_asks (next_place s) d.flow.threads (written_in d)) (going (moved_on (next_place s)) d) d.shared.globals new c.go_on-in-Wrote.result) stale c.go_on-in-Wrote.ensures.ends)
 
 pub returns-in-Store-clause-ends : goal.returns-in-Store-clause-ends
 returns-in-Store-clause-ends c asks e h has offers =
     let s = story_tree c.args.story.now in
     let old = config_of s c.args.self.now in
     let new = config_of s c.go_on-in-Store.new.self in
-    goes_storing s asks old new c.go_on-in-Store.result _ e (subst (λ t. Performs s asks e (fields_of old) (Ok t)) c.in-Store.is h) has
-    (ends_more asks _ (going (moved_on (next_place s)) old) _ new c.go_on-in-Store.result c.go_on-in-Store.ensures.ends)
+    goes_storing s (marked_in (stood_of c.args.self.now)) asks old new c.go_on-in-Store.result _ e (subst (λ t. Performs s asks e (fields_of old) (Ok t)) c.in-Store.is h) has
+    (ends_more (marked_in (stood_of c.args.self.now)) _ (going (moved_on (next_place s)) old) _ new c.go_on-in-Store.result (ends_more asks _ (going (moved_on (next_place s)) old) _ new c.go_on-in-Store.result c.go_on-in-Store.ensures.ends))
 
 pub returns-in-Land-clause-ends : goal.returns-in-Land-clause-ends
 returns-in-Land-clause-ends c asks e h has offers =
     let s = story_tree c.args.story.now in
     let old = config_of s c.args.self.now in
-    goes_there s asks old (config_of s c.go_to.new.self) c.go_to.result c.in-Land.to e (subst (λ t. Performs s asks e (fields_of old) (Ok t)) c.in-Land.is h) c.go_to.ensures.ends
+    goes_there s (marked_in (stood_of c.args.self.now)) asks old (config_of s c.go_to.new.self) c.go_to.result c.in-Land.to e (subst (λ t. Performs s asks e (fields_of old) (Ok t)) c.in-Land.is h) c.go_to.ensures.ends
 
 pub returns-in-Call-clause-ends : goal.returns-in-Call-clause-ends
 returns-in-Call-clause-ends c asks e h has offers =
     let s = story_tree c.args.story.now in
     let old = config_of s c.args.self.now in
-    goes_into s asks old (config_of s c.go_into.new.self) c.go_into.result c.in-Call.kind c.in-Call.to e (subst (λ t. Performs s asks e (fields_of old) (Ok t)) c.in-Call.is h) c.go_into.ensures.ends
+    goes_into s (marked_in (stood_of c.args.self.now)) asks old (config_of s c.go_into.new.self) c.go_into.result c.in-Call.kind c.in-Call.to e (subst (λ t. Performs s asks e (fields_of old) (Ok t)) c.in-Call.is h) c.go_into.ensures.ends
 
 pub returns-in-Return-clause-ends : goal.returns-in-Return-clause-ends
 returns-in-Return-clause-ends c asks e h has offers =
     let s = story_tree c.args.story.now in
     let old = config_of s c.args.self.now in
-    goes_back s asks old (config_of s c.go_back.new.self) c.go_back.result c.in-Return.kind c.in-Return.to e (subst (λ t. Performs s asks e (fields_of old) (Ok t)) c.in-Return.is h) c.go_back.ensures.ends
+    goes_back s (marked_in (stood_of c.args.self.now)) asks old (config_of s c.go_back.new.self) c.go_back.result c.in-Return.kind c.in-Return.to e (subst (λ t. Performs s asks e (fields_of old) (Ok t)) c.in-Return.is h) c.go_back.ensures.ends
 
-pub returns-in-End-clause-ends : goal.returns-in-End-clause-ends
-returns-in-End-clause-ends c asks e h has offers =
+pub returns-in-Fork-clause-ends : goal.returns-in-Fork-clause-ends
+returns-in-Fork-clause-ends c asks e h has offers =
     let s = story_tree c.args.story.now in
-    let old = config_of s c.args.self.now in
     let machine = c.args.self.now in
+    let old = config_of s machine in
+    let new = config_of s (record machine { flow = record machine.flow { threads = c.fork.new.threads; stack = c.fork.new.stack }; output = c.fork.new.output }) in
+    let reached : ReachesAs (forked_asks (next_place s) old.flow.threads (written_in old)) (forked (next_place s) old.flow.threads (written_in old))
+    (map_threads (place_of s) c.fork.new.threads.threads) (written c.fork.new.stack c.fork.new.output) c.fork.result = search rules in
+    goes_forking s (marked_in (stood_of machine)) asks old new c.fork.result e (subst (λ t. Performs s asks e (fields_of old) (Ok t)) c.in-Fork.is h)
+    (ends_reached _ old _ (map_threads (place_of s) c.fork.new.threads.threads) (written c.fork.new.stack c.fork.new.output) c.fork.result reached)
+
+pub returns-in_ok-change_safe-in-Done-clause-ends : goal.returns-in_ok-change_safe-in-Done-clause-ends
+returns-in_ok-change_safe-in-Done-clause-ends c asks e h has offers =
+    let s = story_tree c.args.story.now in
+    let machine = c.args.self.now in
+    let old = config_of s machine in
+    let mid = c.change_safe.new.self in
+    let same : mid ≡ record machine { trail = mid.trail; flow = record machine.flow { safe = mid.flow.safe } } = c.change_safe.ensures.same in
+    let r = c.done.result in
+    let ts = map_threads (place_of s) c.done.new.threads.threads in
+    let w = written c.done.new.stack c.done.new.output in
+    let goes = subst (λ t. ReachesAs (dropped_asks (next_place t) (dropped (map_threads (place_of t) mid.flow.threads.threads)) (written mid.flow.stack mid.output))
+    (done (next_place t) (map_threads (place_of t) mid.flow.threads.threads) (written mid.flow.stack mid.output)) (map_threads (place_of t) c.done.new.threads.threads) w r) c.tree-in-Done.ensures.tree c.done.ensures.flow in
+    let reached = subst (λ (m : Machine). ReachesAs (dropped_asks (next_place s) (dropped (map_threads (place_of s) m.flow.threads.threads)) (written m.flow.stack m.output))
+    (done (next_place s) (map_threads (place_of s) m.flow.threads.threads) (written m.flow.stack m.output)) ts w r) same goes in
+    let safely = c.in_ok-change_safe-in-Done.ensures.safe ∙ ap (λ b. machine.flow.safe || b) (c.is_last.ensures.last ∙ sym (last_alike (place_of s) machine.flow.threads.threads)) in
+    let ends = ends_reached _ (with_safe mid.flow.safe old) _ ts w r reached in
+    let there = subst (λ (m : Machine). StepEnds (dropped_asks (next_place s) (dropped old.flow.threads) (written_in old)) (going (done (next_place s)) (with_safe mid.flow.safe old)) old.shared.globals
+    (config_of s (record m { flow = record m.flow { threads = c.done.new.threads; stack = c.done.new.stack }; output = c.done.new.output })) r) (sym same) ends in
+    goes_done s (marked_in (stood_of machine)) asks old _ r e (subst (λ t. Performs s asks e (fields_of old) (Ok t)) c.in-Done.is h)
+    (subst (λ b. StepEnds (dropped_asks (next_place s) (dropped old.flow.threads) (written_in old)) (going (done (next_place s)) (with_safe b old)) old.shared.globals
+    (config_of s (record mid { flow = record mid.flow { threads = c.done.new.threads; stack = c.done.new.stack }; output = c.done.new.output })) r) safely there)
+
+pub returns-in_ok-ready-in-End-clause-ends : goal.returns-in_ok-ready-in-End-clause-ends
+returns-in_ok-ready-in-End-clause-ends c asks e h has offers =
+    let s = story_tree c.args.story.now in
+    let machine = c.args.self.now in
+    let old = config_of s machine in
+    let mid = c.change_safe-in-End.new.self in
+    let same : mid ≡ record machine { trail = mid.trail; flow = record machine.flow { safe = mid.flow.safe } } = c.change_safe-in-End.ensures.same in
     let threads = c.end.new.threads in
-    let reached = reached_in (ended old) (halt (base_threads None) (written_in old)) in
-    let new = config_of s (record machine { flow = record c.set_safe-in-End.new.self { threads = threads; choices = c.clear.new.self } }) in
-    let ends = ends_reached false (ended old) (halt (base_threads None) (written_in old)) (map_threads (place_of s) threads.threads) (written_in old) c.end.result
-    (c.end.ensures s machine.flow.stack.items) in
-    goes_nowhere s asks old new c.end.result e (subst (λ t. Performs s asks e (fields_of old) (Ok t)) c.in-End.is h)
-    (subst (λ (f : Flow). StepEnds false reached old.shared.globals (config_of s (record machine { flow = record f { threads = threads; choices = c.clear.new.self } })) c.end.result) (sym c.set_safe-in-End.ensures)
-    (subst (λ cs. StepEnds false reached old.shared.globals
-    (config_of s (record machine { flow = record machine.flow { threads = threads; choices = record { items = cs }; safe = true } })) c.end.result) (sym c.clear.ensures) ends))
+    let left = c.clear.new.self in
+    let r = c.end.result in
+    let ts = map_threads (place_of s) threads.threads in
+    let halted = reached_in (ended old) (halt (base_threads None) (written_in old)) in
+    let stops = subst (λ (m : Machine). let w : Written = record { stack = machine.flow.stack.items; page = m.output.page } in ReachesAs false (halt (base_threads None) w) ts w r) same (c.end.ensures.flow s machine.flow.stack.items) in
+    let ends = ends_reached false (ended old) (halt (base_threads None) (written_in old)) ts (written_in old) r stops in
+    let safely = subst (λ b. StepEnds false halted old.shared.globals (config_of s (record machine { flow = record machine.flow { threads = threads; choices = record left { items = [] }; safe = b } })) r)
+    (sym c.in_ok-change_safe-in-End.ensures.safe) ends in
+    let cleared = subst (λ cs. StepEnds false halted old.shared.globals (config_of s (record machine { flow = record machine.flow { threads = threads; choices = record left { items = cs }; safe = mid.flow.safe } })) r)
+    (sym c.clear.ensures.items) safely in
+    goes_nowhere s (marked_in (stood_of machine)) asks old _ r e (subst (λ t. Performs s asks e (fields_of old) (Ok t)) c.in-End.is h)
+    (subst (λ (m : Machine). StepEnds false halted old.shared.globals (config_of s (record m { flow = record m.flow { threads = threads; choices = left } })) r) (sym same) cleared)

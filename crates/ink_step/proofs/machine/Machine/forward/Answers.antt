@@ -5,11 +5,12 @@ use Rattle.ink_host.specs.Desk.{bound_by}
 use Rattle.ink_host.specs.Telling.{log_of}
 use Rattle.ink_model.specs.Asks.{asks}
 use Rattle.ink_model.specs.Step.{step}
-use Rattle.ink_step.specs.Steps.{Passes, StepMakes, ended}
+use Rattle.ink_step.specs.Marks.{marked_in, stood_of}
+use Rattle.ink_step.specs.Steps.{StepMakes, ended}
 use Rattle.ink_step.specs.Words.{config_of}
 use Rattle.ink_step.specs.declared.flow.StepEnd.TheVariants as ends
-use Rattle.ink_step.proofs.Follows.{stands_still}
-use Rattle.ink_step.proofs.Makes.{makes_plainly, makes_went}
+use Rattle.ink_step.proofs.Follows.{or_first, ready_alike, stands_still}
+use Rattle.ink_step.proofs.Makes.{makes_short}
 use Rattle.ink_step.proofs.machine.Machine.forward.Goals as goal
 use Rattle.ink_tree.specs.Nodes.{place_of}
 
@@ -21,36 +22,40 @@ returns-in_default-clause-step g c =
     let before = config_of s c.args.self.now in (
       [],
       grew-none g.T.TurnFn.log (log_of g.W.Watcher.state) desk,
-      subst (λ o. StepMakes s b desk.next (asks s b before) o [] before.shared.globals before (Ok ends.Stopped))
+      subst (λ o. StepMakes s b desk.next (marked_in (stood_of c.args.self.now)) (asks s b before) o [] before.shared.globals before (Ok ends.Stopped))
           (sym (stands_still s b before (ap (option_map (place_of s)) (sym c.place.ensures ∙ c.in_default.is)))) (refl, refl),
     )
 
-pub returns-in_err-end-clause-step : goal.returns-in_err-end-clause-step
-returns-in_err-end-clause-step g c =
+pub returns-in_err-make_step_room-clause-step : goal.returns-in_err-make_step_room-clause-step
+returns-in_err-make_step_room-clause-step g c =
     let s = story_tree c.args.story.now in
     let desk = c.args.desk.now in
     let b = bound_by g.P.PureFn.meaning desk.functions in
     let before = config_of s c.args.self.now in
-    let new = config_of s c.pass.new.self in
-    let f = c.in_err-end.field-0.0 in
+    let new = config_of s c.make_step_room.new.self in
+    let f = c.in_err-make_step_room.field-0.0 in
+    let short = c.in_err-make_step_room.ensures in
+    let same : new.shared.globals ≡ before.shared.globals = ap (λ m. m.shared.globals.rows) c.make_step_room.ensures.same in
     let is : c.from_residual.result ≡ Err f = search rules in (
       [],
       grew-none g.T.TurnFn.log (log_of g.W.Watcher.state) desk,
-      subst (λ r. StepMakes s b desk.next (asks s b before) (step s b before) [] before.shared.globals new (ended r)) (sym is)
-          (makes_plainly s b desk.next (asks s b before) (step s b before) before.shared.globals new (Err f) (c.in_err-end.ensures.passes b)),
+      subst (λ r. StepMakes s b desk.next (marked_in (stood_of c.args.self.now)) (asks s b before) (step s b before) [] before.shared.globals new (ended r)) (sym is)
+          (makes_short s b desk.next (marked_in (stood_of c.args.self.now)) (asks s b before) (step s b before) before.shared.globals new f (short.fault, or_first _ _ short.memory) same),
     )
 
-pub returns-in-Some-2-clause-step : goal.returns-in-Some-2-clause-step
-returns-in-Some-2-clause-step g c =
+pub returns-clause-step : goal.returns-clause-step
+returns-clause-step g c =
     let s = story_tree c.args.story.now in
     let desk = c.args.desk.now in
     let b = bound_by g.P.PureFn.meaning desk.functions in
-    let before = config_of s c.args.self.now in
-    let new = config_of s c.pass.new.self in
-    let end = c.in-Some-2.end in
-    let passes = subst (λ o. Passes (asks s b before) (step s b before) before.shared.globals new (Ok o)) c.in-Some-2.is (c.in_ok-end.ensures.passes b) in (
-      [],
-      grew-none g.T.TurnFn.log (log_of g.W.Watcher.state) desk,
-      subst (λ on. StepMakes s b desk.next (asks s b before) (step s b before) [] before.shared.globals new (ended (Ok on))) (sym c.went.ensures)
-          (makes_went s b desk.next [] before.shared.globals new (asks s b before) (step s b before) end (makes_plainly s b desk.next (asks s b before) (step s b before) before.shared.globals new (Ok end) passes)),
+    let machine = c.args.self.now in
+    let ready = c.make_step_room.new.self in
+    let before = config_of s machine in
+    let new = config_of s c.forward_from.new.self in
+    let step_by = c.forward_from.ensures.step in
+    let made = subst (λ x. StepMakes s b desk.next x (asks s b (config_of s ready)) (step s b (config_of s ready)) step_by.0 ready.shared.globals.rows new (ended c.forward_from.result)) (ap marked_in c.make_step_room.ensures.mark) step_by.2 in
+    let same : config_of s ready ≡ before = ready_alike s machine ready c.make_step_room.ensures.same c.make_step_room.ensures.threads c.make_step_room.ensures.items in (
+      step_by.0,
+      step_by.1,
+      subst (λ d. StepMakes s b desk.next (marked_in (stood_of machine)) (asks s b d) (step s b d) step_by.0 d.shared.globals new (ended c.forward_from.result)) same made,
     )

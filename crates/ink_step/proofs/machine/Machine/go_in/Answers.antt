@@ -13,5 +13,5 @@ returns-in_default-clause-ok c =
     let s = story_tree c.args.tree.now in
     let p = place_of s c.args.place in
     let machine = c.args.self.now in
-    went_in s p machine c.args.place c.put.new.self.threads c.put.ensures machine.shared.counts.rows (goes_nowhere_in s p c.in_default.ensures)
+    went_in s p machine c.args.place c.put.new.self.threads c.put.ensures.threads machine.shared.counts.rows (goes_nowhere_in s p c.in_default.ensures)
     (ap (λ ps. all_visited s machine.shared.turn ps (counts_in s machine.shared.counts.rows)) (sym (passes_none s p c.in_default.ensures)))

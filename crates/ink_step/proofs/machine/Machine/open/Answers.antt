@@ -8,15 +8,15 @@ use Rattle.ink_tree.specs.Nodes.{place_of}
 pub returns-in_default-clause-ok : goal.returns-in_default-clause-ok
 returns-in_default-clause-ok c =
     let s = story_tree c.args.story.now in
-    opens_plainly _ _ c.first_declaration.ensures _ _ (ap (option_map (place_of s)) c.in_default.is) c.at_start.ensures.at_start c.new.ensures
+    opens_plainly _ _ c.first_declaration.ensures _ _ (ap (option_map (place_of s)) c.in_default.is) c.at_start.ensures.at_start c.new.ensures.rows
 
 pub returns-clause-err : goal.returns-clause-err
 returns-clause-err c =
     let s = story_tree c.args.story.now in
-    fails _ _ c.first_declaration.ensures _ _ (ap (option_map (place_of s)) c.in-Some.is) (first_of _ _ _ (c.fresh-machine.ensures.fresh s) c.new-2.ensures) _ _ c.in-Err.ensures
+    fails _ _ c.first_declaration.ensures _ _ (ap (option_map (place_of s)) c.in-Some.is) (first_of _ _ _ (c.fresh-machine.ensures.fresh s) c.new-2.ensures.rows) _ _ c.in-Err.ensures.runs
 
 pub returns-in-Ok-clause-ok : goal.returns-in-Ok-clause-ok
 returns-in-Ok-clause-ok c =
     let s = story_tree c.args.story.now in
-    opens _ _ c.first_declaration.ensures _ _ (ap (option_map (place_of s)) c.in-Some.is) (first_of _ _ _ (c.fresh-machine.ensures.fresh s) c.new-2.ensures) (config_of s c.run_alone-outcome.new.self) _ c.in-Ok.ensures
+    opens _ _ c.first_declaration.ensures _ _ (ap (option_map (place_of s)) c.in-Some.is) (first_of _ _ _ (c.fresh-machine.ensures.fresh s) c.new-2.ensures.rows) (config_of s c.run_alone-outcome.new.self) _ c.in-Ok.ensures.runs
     c.at_start-in-Ok.ensures.at_start

@@ -10,7 +10,7 @@ returns-clause-effect c =
     let s = story_tree c.args.story.now in
     let old = c.args.self.now in
     let f = fields_of (config_of s old) in
-    let on = c.requires in
+    let on = c.requires.on in
     elim c.match-control.branch [
       | in-BeginEval w ↦ search (rules, on)
       | in-EndEval w ↦ search (rules, on)
@@ -28,18 +28,18 @@ returns-clause-effect c =
       | in-ReturnTunnel w ↦ search (rules, on)
       | in-Thread w ↦ search (rules, on)
       | in-Turn w ↦
-          let pushed = w.push_turn-outcome.ensures s old.flow.threads.threads (rest_of old) f.evaluating f.fresh f.page f.globals s in
+          let pushed = w.push_turn-outcome.ensures.effect s old.flow.threads.threads (rest_of old) f.evaluating f.fresh f.page f.globals s in
           search (rules, pushed, on)
       | in-Turns w ↦
-          let pushed = w.push_turns-outcome.ensures old.flow.threads.threads (rest_of old) f.evaluating f.fresh f.page f.globals s in
+          let pushed = w.push_turns-outcome.ensures.effect old.flow.threads.threads (rest_of old) f.evaluating f.fresh f.page f.globals s in
           search (rules, pushed, on)
       | in-ReadCount w ↦
-          let pushed = w.push_read_count-outcome.ensures old.flow.threads.threads (rest_of old) f.evaluating f.fresh f.page f.globals s in
+          let pushed = w.push_read_count-outcome.ensures.effect old.flow.threads.threads (rest_of old) f.evaluating f.fresh f.page f.globals s in
           search (rules, pushed, on)
       | in-Visit w ↦
-          let pushed = w.push_visit-outcome.ensures old.flow.threads.threads (rest_of old) f.evaluating f.fresh f.page f.globals s in
+          let pushed = w.push_visit-outcome.ensures.effect old.flow.threads.threads (rest_of old) f.evaluating f.fresh f.page f.globals s in
           search (rules, pushed, on)
       | in-ChoiceCount w ↦
-          let pushed = w.push_choice_count-outcome.ensures s old.flow.threads.threads (rest_of old) f.evaluating f.fresh f.page f.globals s in
+          let pushed = w.push_choice_count-outcome.ensures.effect s old.flow.threads.threads (rest_of old) f.evaluating f.fresh f.page f.globals s in
           search (rules, pushed, on)
     ]

@@ -1,4 +1,4 @@
-use Rattle.std.proofs.Common.{◌≡◌, ◌∙◌, List, OnOk, Result, Some, ap, inl, inr, of_z, refl, rules, subst, sym, to_z, to_z-of_z, w32}
+use Rattle.std.proofs.Common.{◌≡◌, ◌∙◌, ◌&&◌, ◌||◌, is_some, List, OnOk, Result, Some, ap, inl, inr, of_z, refl, rules, subst, sym, to_z, to_z-of_z, w32}
 use Rattle.ink_check.specs.Words.{story_tree}
 use Rattle.ink_model.specs.Effect.{Fields, context_of, fields_of}
 use Rattle.ink_model.specs.Frames.{ThreadsOf}
@@ -9,6 +9,7 @@ use Rattle.ink_model.specs.declared.content.Leaf.{Leaf}
 use Rattle.ink_model.specs.declared.content.Leaf.TheVariants as leaves
 use Rattle.ink_model.specs.declared.fault.Fault.{Fault}
 use Rattle.ink_model.specs.declared.place.Part.{Part}
+use Rattle.ink_step.specs.Marks.{takes_value}
 use Rattle.ink_step.specs.Performs.{Keeps, KeepsChoices, Performs, leading}
 use Rattle.ink_step.specs.Words.{config_of, rest_of}
 use Rattle.ink_step.specs.declared.machine.Machine.{Machine}
@@ -21,12 +22,13 @@ use Rattle.ink_stack.specs.Threads.{ThreadsView}
 use Rattle.ink_tree.specs.Nodes.{place_of}
 use Rattle.ink_tree.specs.declared.spot.Spot.{Spot}
 use Rattle.ink_value.specs.Stack.{Stack}
+use Rattle.ink_value.specs.Undo.{stack_stood}
 
 -- ---- content that is known
 
 module _ (s : StoryTree) (p : List Part) (machine : Machine) where
   abbrev Does : Leaf → Fields → Result Transfer Fault → Type 0
-  Does l new r = let c = config_of s machine in Performs s (leaf_asks s p (context_of c) l (fields_of c)) (leaf_effect s p (context_of c) l (fields_of c)) new r
+  Does l new r = let c = config_of s machine in Performs s ((takes_value l && is_some (stack_stood machine.flow.stack)) || leaf_asks s p (context_of c) l (fields_of c)) (leaf_effect s p (context_of c) l (fields_of c)) new r
 
   does : (l k : Leaf) (new : Fields) (led r : Result Transfer Fault) → l ≡ k → led ≡ r → Does k new r → Does l new led
   does l k new led r is leads h = subst (λ x. Does x new led) (sym is) (subst (Does k new) (sym leads) h)
@@ -70,31 +72,31 @@ pub returns-in-Divert-clause-effect : goal.returns-in-Divert-clause-effect
 returns-in-Divert-clause-effect c =
     let s = story_tree c.args.story.now in
     let machine = c.args.self.now in
-    does s (place_of s c.args.here) machine _ _ _ _ _ c.in-Divert.is refl (c.divert.ensures _ _ _ (rest_of machine))
+    does s (place_of s c.args.here) machine _ _ _ _ _ c.in-Divert.is refl (c.divert.ensures.effect _ _ _ (rest_of machine))
 
 pub returns-in-Call-clause-effect : goal.returns-in-Call-clause-effect
 returns-in-Call-clause-effect c =
     let s = story_tree c.args.story.now in
     let machine = c.args.self.now in
-    does s (place_of s c.args.here) machine _ _ _ _ _ c.in-Call.is refl (c.call.ensures _ _ _ (rest_of machine))
+    does s (place_of s c.args.here) machine _ _ _ _ _ c.in-Call.is refl (c.call.ensures.effect _ _ _ (rest_of machine))
 
 pub returns-in-Tunnel-clause-effect : goal.returns-in-Tunnel-clause-effect
 returns-in-Tunnel-clause-effect c =
     let s = story_tree c.args.story.now in
     let machine = c.args.self.now in
-    does s (place_of s c.args.here) machine _ _ _ _ _ c.in-Tunnel.is refl (c.call-in-Tunnel.ensures _ _ _ (rest_of machine))
+    does s (place_of s c.args.here) machine _ _ _ _ _ c.in-Tunnel.is refl (c.call-in-Tunnel.ensures.effect _ _ _ (rest_of machine))
 
 pub returns-in-Count-clause-effect : goal.returns-in-Count-clause-effect
 returns-in-Count-clause-effect c =
     let s = story_tree c.args.story.now in
     let machine = c.args.self.now in
-    does s (place_of s c.args.here) machine _ _ _ _ _ c.in-Count.is (ap (leading c.push_count.result) c.requires.on) (c.push_count.ensures machine.flow.threads.threads (rest_of machine) _ _ _ _ s)
+    does s (place_of s c.args.here) machine _ _ _ _ _ c.in-Count.is (ap (leading c.push_count.result) c.requires.on) (c.push_count.ensures.effect machine.flow.threads.threads (rest_of machine) _ _ _ _ s)
 
 pub returns-in-Variable-clause-effect : goal.returns-in-Variable-clause-effect
 returns-in-Variable-clause-effect c =
     let s = story_tree c.args.story.now in
     let machine = c.args.self.now in
-    does s (place_of s c.args.here) machine _ _ _ _ _ c.in-Variable.is (ap (leading c.push_variable.result) c.requires.on) (c.push_variable.ensures s (rest_of machine) _ _ _ s)
+    does s (place_of s c.args.here) machine _ _ _ _ _ c.in-Variable.is (ap (leading c.push_variable.result) c.requires.on) (c.push_variable.ensures.effect s (rest_of machine) _ _ _ s)
 
 pub returns-in-Pointer-clause-effect : goal.returns-in-Pointer-clause-effect
 returns-in-Pointer-clause-effect c =
@@ -102,7 +104,7 @@ returns-in-Pointer-clause-effect c =
     let machine = c.args.self.now in
     let old = fields_of (config_of s machine) in
     let is : to_z w32 (of_z w32 c.in-Pointer.frame) ≡ c.in-Pointer.frame = search (rules, to_z-of_z) in
-    let pushed = rw (is, c.is_evaluating-evaluating.ensures) at (c.push_pointer.ensures s (rest_of machine) old.fresh old.page old.globals s) in
+    let pushed = rw (is, c.is_evaluating-evaluating.ensures) at (c.push_pointer.ensures.effect s (rest_of machine) old.fresh old.page old.globals s) in
     does s (place_of s c.args.here) machine _ _ _ _ _ c.in-Pointer.is (ap (leading c.push_pointer.result) c.requires.on) pushed
 
 pub returns-in-Declare-clause-effect : goal.returns-in-Declare-clause-effect

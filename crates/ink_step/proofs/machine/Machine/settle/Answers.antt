@@ -1,3 +1,7 @@
+use Rattle.ink_out.proofs.Marks.{output_free}
+use Rattle.ink_out.specs.Undo.{output_stood}
+use Rattle.ink_step.specs.Marks.{Stood}
+use Rattle.std.proofs.Common.{◌≡◌, None, arith}
 use Rattle.std.proofs.Common.{◌∙◌, ap, map}
 use Rattle.ink_model.specs.Configuration.{map_choice, settled, unnumbered_choice, with_choices, with_threads}
 use Rattle.ink_model.specs.Effect.{with_page}
@@ -14,8 +18,13 @@ returns-clause-settled c s =
     let old = config_of s c.args.self.now in
     let ts = map_threads (place_of s) (unnumbered_threads c.args.self.now.flow.threads.threads) in
     let cs = map (map_choice (place_of s)) (map unnumbered_choice c.args.self.now.flow.choices.items) in
-    ap (λ ts. with_page c.clear.new.self.page (with_choices (map (map_choice (place_of s)) c.clear_numbers-2.new.self.items) (with_threads (map_threads (place_of s) ts) old))) c.clear_numbers.ensures
-    ∙ ap (λ cs. with_page c.clear.new.self.page (with_choices (map (map_choice (place_of s)) cs) (with_threads ts old))) c.clear_numbers-2.ensures
-    ∙ ap (λ page. with_page page (with_choices cs (with_threads ts old))) c.clear.ensures
+    ap (λ ts. with_page c.clear.new.self.page (with_choices (map (map_choice (place_of s)) c.clear_numbers-2.new.self.items) (with_threads (map_threads (place_of s) ts) old))) c.clear_numbers.ensures.threads
+    ∙ ap (λ cs. with_page c.clear.new.self.page (with_choices (map (map_choice (place_of s)) cs) (with_threads ts old))) c.clear_numbers-2.ensures.items
+    ∙ ap (λ page. with_page page (with_choices cs (with_threads ts old))) c.clear.ensures.page
     ∙ ap (λ ts. with_page empty_page (with_choices cs (with_threads ts old))) (threads_alike (place_of s) c.args.self.now.flow.threads.threads)
     ∙ ap (λ cs. with_page empty_page (with_choices cs (with_threads (unnumbered_threads (map_threads (place_of s) c.args.self.now.flow.threads.threads)) old))) (choices_alike (place_of s) c.args.self.now.flow.choices.items)
+
+pub clear-requires : goal.clear-requires
+clear-requires c =
+    let none : output_stood c.args.self.now.output ≡ None = ap (λ (t : Stood). t.page) c.requires.unmarked in
+    omega (arith, output_free c.args.self.now.output none)

@@ -1,4 +1,4 @@
-use Rattle.std.proofs.Common.{◌≡◌, ◌∙◌, List, Bool, Option, Some, None, Result, ap, option_map, rules, subst, sym, true, refl, [], Err}
+use Rattle.std.proofs.Common.{◌≡◌, ◌∙◌, ◌||◌, List, Bool, Option, Some, None, Result, ap, option_map, rules, subst, sym, true, refl, [], Err}
 use Rattle.ink_check.specs.Words.{story_tree}
 use Rattle.ink_host.proofs.Laws.{grew-none}
 use Rattle.ink_host.specs.Desk.{bound_by}
@@ -12,6 +12,7 @@ use Rattle.ink_model.specs.Tree.{at, leaf}
 use Rattle.ink_model.specs.declared.fault.Fault.{Fault}
 use Rattle.ink_model.specs.declared.host.Event.{Event}
 use Rattle.ink_step.specs.External.{call_of}
+use Rattle.ink_step.specs.Marks.{marked_in, stood_of}
 use Rattle.ink_step.specs.Steps.{StepMakes}
 use Rattle.ink_step.specs.Words.{config_of}
 use Rattle.ink_step.specs.declared.flow.StepEnd.{StepEnd}
@@ -27,7 +28,7 @@ use Rattle.ink_tree.specs.Nodes.{place_of}
 goes_in : (g : given.Over) (c : In_ok-here g) → let s = story_tree c.args.story.now in let desk = c.args.desk.now in let b = bound_by g.P.PureFn.meaning desk.functions in let before = config_of s c.args.self.now in
     let p = place_of s c.in_ok-here.here in let found = option_map (λ x. leaf x.now) c.in_ok-here.found in let m = config_of s c.go_in.new.self in
     (k : Option Call) → call_at found ≡ k → (es : List Event) (d : Configuration) (r : Result StepEnd Fault)
-    → StepMakes s b desk.next (performing_asks s b p found k m) (performed s b p found k m) es m.shared.globals d r → StepMakes s b desk.next (asks s b before) (step s b before) es before.shared.globals d r
+    → StepMakes s b desk.next (marked_in (stood_of c.go_in.new.self)) (performing_asks s b p found k m) (performed s b p found k m) es m.shared.globals d r → StepMakes s b desk.next (marked_in (stood_of c.args.self.now)) (asks s b before) (step s b before) es before.shared.globals d r
 goes_in g c k told es d r made =
     let s = story_tree c.args.story.now in
     let desk = c.args.desk.now in
@@ -41,13 +42,14 @@ goes_in g c k told es d r made =
     let p = place_of s spot in
     let found = option_map (λ x. leaf x.now) c.in_ok-here.found in
     let went = c.in_ok-here.ensures in
-    let Ending : Bool → Stepped → Type 0 = λ asking o. StepMakes s b desk.next asking o es before.shared.globals d r in
+    let Ending : Bool → Stepped → Type 0 = λ asking o. StepMakes s b desk.next (marked_in (stood_of machine)) asking o es before.shared.globals d r in
     let is_here = subst (λ t. place_of t spot ≡ entered t (place_of t place)) c.tree.ensures.tree went.here in
     let is_found = found_leaves c.in_ok-here.found (at s p) (subst (λ t. option_map (λ x. x.now) c.in_ok-here.found ≡ leaf_in (at t (place_of t spot))) c.tree.ensures.tree went.found) in
     let is_in = subst (λ t. config_of t inside ≡ gone_in t (place_of t place) (config_of t machine)) c.tree.ensures.tree went.ok in
-    let performing = performs_told s b Ending p found k m told (subst (λ vs. StepMakes s b desk.next (performing_asks s b p found k m) (performed s b p found k m) es vs d r) went.globals made) in
-    ends_performed s b (place_of s place) before (ap (option_map (place_of s)) c.requires) Ending p (at s p) m is_here refl is_in
-    (λ asking o. makes_more s b desk.next es before.shared.globals d r (going_in_asks s (place_of s place) before) asking o)
+    let performing = performs_told s b Ending p found k m told (subst (λ vs. StepMakes s b desk.next (marked_in (stood_of machine)) (performing_asks s b p found k m) (performed s b p found k m) es vs d r) went.globals
+    (subst (λ x. StepMakes s b desk.next x (performing_asks s b p found k m) (performed s b p found k m) es m.shared.globals d r) (ap marked_in went.mark) made)) in
+    ends_performed s b (place_of s place) before (ap (option_map (place_of s)) c.requires.at) Ending p (at s p) m is_here refl is_in
+    (λ asking o. makes_more s b desk.next (marked_in (stood_of machine)) es before.shared.globals d r (going_in_asks s (place_of s place) before) asking o)
     (performs_alike s b Ending p (at s p) m (subst (λ o. Performing s b Ending p o m) is_found performing))
 
 pub returns-in_err-here-clause-step : goal.returns-in_err-here-clause-step
@@ -60,13 +62,13 @@ returns-in_err-here-clause-step g c =
     let place = c.args.place in
     let new = config_of s c.go_in.new.self in
     let short = c.in_err-here.ensures in
-    let adds = subst (λ t. going_in_asks t (place_of t place) (config_of t machine) ≡ true) c.tree.ensures.tree short.memory in
-    let refused = ends_outside s b (place_of s place) before (ap (option_map (place_of s)) c.requires) new c.in_err-here.field-0.0 short.fault adds short.globals in
+    let adds = subst (λ t. marked_in (stood_of machine) || going_in_asks t (place_of t place) (config_of t machine) ≡ true) c.tree.ensures.tree short.memory in
+    let refused = ends_outside s b (place_of s place) before (ap (option_map (place_of s)) c.requires.at) _ new c.in_err-here.field-0.0 short.fault adds short.globals in
     let is : c.from_residual.result ≡ Err c.in_err-here.field-0.0 = search rules in (
       [],
       grew-none g.T.TurnFn.log (log_of g.W.Watcher.state) desk,
-      subst (λ r. StepMakes s b desk.next (asks s b before) (step s b before) [] before.shared.globals new r) (sym is)
-          (makes_short s b desk.next (asks s b before) (step s b before) before.shared.globals new c.in_err-here.field-0.0 (refused.0, refused.1) refused.2),
+      subst (λ r. StepMakes s b desk.next (marked_in (stood_of machine)) (asks s b before) (step s b before) [] before.shared.globals new r) (sym is)
+          (makes_short s b desk.next (marked_in (stood_of machine)) (asks s b before) (step s b before) before.shared.globals new c.in_err-here.field-0.0 (refused.0, refused.1) refused.2),
     )
 
 pub returns-in-Some-clause-step : goal.returns-in-Some-clause-step

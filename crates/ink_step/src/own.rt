@@ -1,0 +1,80 @@
+//! The machine's own fields, and what they were at the mark.
+
+ghost use Rattle.std.specs.Prelude.{◌≡◌, ◌≤◌, ◌+◌, true, None, IfErr, OnErr, OnOk};
+ghost use Rattle.ink_step.specs.Marks.{marked_in, own_spare, own_stood, stood_of};
+
+use crate::machine::Machine;
+use ink_model::Fault;
+use ink_vars::Turn;
+
+/// A cell of a machine's own fields, and what it held.
+#[derive(Drop)]
+pub enum OwnPair {
+    Turned(Turn),
+    Safe(bool),
+}
+
+impl Machine {
+    /// Stops are safe from now on, or not. The one error is `OutOfMemory` for a refused request for memory, while a mark stands.
+    #[inline(always)]
+    pub(crate) fn change_safe(&mut self, safe: bool) -> Result<(), Fault>
+        ensures same { self.new ≡ record self.old { trail = self.new.trail; flow = record self.old.flow { safe = self.new.flow.safe } } }
+        ensures safe { OnOk result (self.new.flow.safe ≡ safe) }
+        ensures mark { stood_of self.new ≡ stood_of self.old }
+        ensures fault { IfErr result (λ f. f ≡ Fault.OutOfMemory) }
+        ensures memory { OnErr result (marked_in (stood_of self.old) ≡ true) }
+    {
+        self.make_own_room()?;
+        self.set_safe(safe);
+        Ok(())
+    }
+
+    /// Makes room for changes of both fields, where a mark stands. The one error is `OutOfMemory` for a refused request for memory.
+    #[tactic(auto, unfolding(crate::specs::Marks::own_spare, crate::specs::Marks::own_stood, ink_trail::specs::Undo::spare, ink_trail::specs::Undo::stood_at))]
+    #[inline(always)]
+    pub(crate) fn make_own_room(&mut self) -> Result<(), Fault>
+        ensures same { self.new ≡ record self.old { trail = self.new.trail } }
+        ensures mark { stood_of self.new ≡ stood_of self.old }
+        ensures room { OnOk result (2 ≤ own_spare self.new.trail) }
+        ensures fault { IfErr result (λ f. f ≡ Fault.OutOfMemory) }
+        ensures memory { OnErr result (marked_in (stood_of self.old) ≡ true) }
+    {
+        self.trail.ready(2)?;
+        Ok(())
+    }
+
+    // Ends the mark of the fields. Takes no memory.
+    #[tactic(auto, unfolding(crate::specs::Marks::own_spare, crate::specs::Marks::own_stood, ink_trail::specs::Undo::spare, ink_trail::specs::Undo::stood_at))]
+    pub(crate) fn forget_own(&mut self)
+        ensures same { self.new ≡ record self.old { trail = self.new.trail } }
+        ensures mark { own_stood self.new.trail self.old.shared.turn self.old.flow.safe ≡ None }
+    {
+        self.trail.forget();
+    }
+
+    /// Stops are safe from now on, or not. Takes no memory.
+    #[tactic(auto, unfolding(crate::specs::Marks::own_spare, crate::specs::Marks::own_stood, ink_trail::specs::Undo::spare, ink_trail::specs::Undo::stood_at))]
+    #[inline(always)]
+    pub(crate) fn set_safe(&mut self, safe: bool)
+        requires room { 1 ≤ own_spare self.old.trail }
+        ensures set { self.new ≡ record self.old { trail = self.new.trail; flow = record self.old.flow { safe = safe } } }
+        ensures mark { stood_of self.new ≡ stood_of self.old }
+        ensures spare { own_spare self.old.trail ≤ own_spare self.new.trail + 1 }
+    {
+        self.trail.note(OwnPair::Safe(self.flow.safe), 1);
+        self.flow.safe = safe;
+    }
+
+    /// The turn is this one from now on. Takes no memory.
+    #[tactic(auto, unfolding(crate::specs::Marks::own_spare, crate::specs::Marks::own_stood, ink_trail::specs::Undo::spare, ink_trail::specs::Undo::stood_at))]
+    #[inline(always)]
+    pub(crate) fn set_turn(&mut self, turn: Turn)
+        requires room { 1 ≤ own_spare self.old.trail }
+        ensures set { self.new ≡ record self.old { trail = self.new.trail; shared = record self.old.shared { turn = turn } } }
+        ensures mark { stood_of self.new ≡ stood_of self.old }
+        ensures spare { own_spare self.old.trail ≤ own_spare self.new.trail + 1 }
+    {
+        self.trail.note(OwnPair::Turned(self.shared.turn), 1);
+        self.shared.turn = turn;
+    }
+}
