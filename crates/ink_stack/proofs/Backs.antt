@@ -14,8 +14,7 @@ use Rattle.ink_stack.specs.Running.{RunningView, threads_in}
 use Rattle.ink_stack.specs.Threads.{ThreadsView}
 use Rattle.ink_stack.specs.Undo.{threads_back, threads_spare, threads_stood}
 use Rattle.ink_stack.specs.Words.{Changes, Grows}
-use Rattle.ink_stack.specs.declared.undo.ThreadsPair.{ThreadsPair}
-use Rattle.ink_stack.specs.declared.undo.ThreadsPair.TheVariants.{Placed, Previous, Evaluating, Numbered, FramePushed, FramePopped, ThreadPushed, ThreadPopped}
+use Rattle.ink_stack.specs.declared.undo.ThreadsPair.TheVariants.{Placed, Previous, Evaluating, Numbered, ThreadPushed, ThreadPopped}
 
 -- a list without its last item, seen from its end
 pub popped-drop : {X : Type 0} (xs rest : List X) (o : Option X) (n m : ℕ) → xs ≡ rest ++ option_to_list o → MatchOption o ((n ≡ 0) × (m ≡ 0)) (λ x. m + 1 ≡ n) → n ≡ length xs
@@ -61,9 +60,11 @@ module _ {P : Type 0} where
       to : (f : FrameOf P) (fs : List (FrameOf P)) → f ∷ fs ≡ t.below → (b : Bool) → Changes (if b then Ok (record t { frame = f; below = fs }) else Err BadMode) t new (Ok u) → unpopped t.frame new ≡ t
       to f fs is true h = ap (unpopped t.frame) h ∙ ap (λ gs. record t { below = gs }) is
       to f fs is false h = absurd h
+
       with_below : (fs : List (FrameOf P)) → fs ≡ t.below → Changes (back_to fs d t) t new (Ok u) → unpopped t.frame new ≡ t
       with_below [] is h = absurd h
       with_below (f ∷ fs) is h = to f fs is (nat_eq t.frame.depth d) h
+
       by : (b : Bool) → Changes (if b then back_to t.below d t else Err BadPop) t new (Ok u) → unpopped t.frame new ≡ t
       by true h = with_below t.below refl h
       by false h = absurd h

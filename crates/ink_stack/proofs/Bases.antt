@@ -52,35 +52,10 @@ module _ {P : Type 0} where
   base_unnumbered k [] h = h
   base_unnumbered k (f ∷ fs) h = (h.0, base_unnumbered f.kind fs h.1)
 
-  base_changed : (name : List ℕ) (v : Value) (n : ℕ) (k : FrameKind) (fs : List (FrameOf P)) → BaseFirst k fs → BaseFirst k (changed (with_row_in name v) n fs)
-  base_changed name v n k [] h = h
-  base_changed name v n k (f ∷ fs) h =
-      elim (nat_eq n (length fs + 1)) as (λ b. BaseFirst k (if b then with_row_in name v f ∷ fs else f ∷ changed (with_row_in name v) n fs)) [
-        | true ↦ h
-        | false ↦ (h.0, base_changed name v n f.kind fs h.1)
-      ]
-
-  module _ {U E : Type 0} (r : Result U E) (name : List ℕ) (v : Value) where
-    -- after a call that gives a frame a temporary
-    pub kind_along : (f g : FrameOf P) → OnOk r (g ≡ with_row_in name v f) → OnErr r (g ≡ f) → g.kind ≡ f.kind
-    kind_along f g ok err = by r ok err
-      where
-        by : (r : Result U E) → OnOk r (g ≡ with_row_in name v f) → OnErr r (g ≡ f) → g.kind ≡ f.kind
-        by (Ok u) made kept = ap (λ h. h.kind) made
-        by (Err e) made kept = ap (λ h. h.kind) kept
-
-    -- the same of one below the top frame
-    pub base_along : (k : FrameKind) (fs : List (FrameOf P)) (n : ℕ) (d g : FrameOf P) → 0 < n → n ≤ length fs
-        → OnOk r (g ≡ with_row_in name v (get_or fs (n - 1) d)) → OnErr r (g ≡ get_or fs (n - 1) d)
-        → BaseFirst k (reverse fs) → BaseFirst k (reverse (set fs (n - 1) g))
-    base_along k fs n d g above within ok err h = by r ok err
-      where
-        by : (r : Result U E) → OnOk r (g ≡ with_row_in name v (get_or fs (n - 1) d)) → OnErr r (g ≡ get_or fs (n - 1) d) → BaseFirst k (reverse (set fs (n - 1) g))
-        by (Ok u) made kept =
-            subst (λ gs. BaseFirst k gs) (sym (ap (λ x. reverse (set fs (n - 1) x)) made ∙ changed_is (with_row_in name v) fs n d above within))
-            (base_changed name v n k (reverse fs) h)
-        by (Err e) made kept =
-            subst (λ gs. BaseFirst k gs) (sym (ap (λ x. reverse (set fs (n - 1) x)) kept ∙ ap reverse (set-get_or fs (n - 1) d))) h
+  -- after a call that gives a frame a temporary
+  pub kind_along : {U E : Type 0} (r : Result U E) (name : List ℕ) (v : Value) (f g : FrameOf P) → OnOk r (g ≡ with_row_in name v f) → OnErr r (g ≡ f) → g.kind ≡ f.kind
+  kind_along (Ok u) name v f g made kept = ap (λ h. h.kind) made
+  kind_along (Err e) name v f g made kept = ap (λ h. h.kind) kept
 
   -- a copy is put on top where there are fewer threads
   pub doubled_there : (ts : ThreadsOf P) → thread_count ts < MAX_THREADS → doubled ts ≡ Ok (record ts { below = ts.thread ∷ ts.below })

@@ -1,12 +1,12 @@
 -- What rows were before one was set.
-use Rattle.std.proofs.Common.{◌≡◌, ◌∙◌, ◌&&◌, ◌<◌, ◌≤◌, ◌+◌, ℕ, zero, suc, List, [], ◌∷◌, ◌++◌, Bool, true, Some, None, ap, arith, drop, get_or, is_lt, length, refl, set, sym, take}
+use Rattle.std.proofs.Common.{◌≡◌, ◌∙◌, ◌&&◌, ◌<◌, ◌≤◌, ℕ, zero, suc, List, [], ◌∷◌, ◌++◌, true, ap, arith, drop, get_or, is_lt, length, refl, set, take}
 use Rattle.std.proofs.lemmas.Bool.{and_from}
 use Rattle.std.proofs.lemmas.List.{append-nil, drop_all, take_all}
 use Rattle.std.specs.List.{remove}
 use Rattle.ink_model.specs.Rows.{is_before, name_order, rows_rise}
 use Rattle.ink_model.specs.Store.{Values}
 use Rattle.ink_model.specs.declared.value.Value.{Value}
-use Rattle.ink_stack.specs.Cells.{temps_back, value_at}
+use Rattle.ink_stack.specs.Cells.{value_at}
 use Rattle.ink_stack.proofs.Rises.{both}
 
 -- ---- a value is put back

@@ -1,8 +1,8 @@
 -- A change of the frame of a number.
-use Rattle.std.proofs.Common.{◌≡◌, ◌∙◌, ◌<◌, ◌≤◌, ◌+◌, ◌-◌, ℕ, List, [], ◌∷◌, ◌++◌, Bool, true, false, Option, Some, None, ap, arith, drop, get_or, if◌then◌else◌, length, length-set, nat_eq, refl, reverse, set, subst, sym, take}
+use Rattle.std.proofs.Common.{◌≡◌, ◌∙◌, ◌<◌, ◌≤◌, ◌+◌, ◌-◌, ℕ, List, [], ◌∷◌, ◌++◌, true, false, Option, ap, arith, drop, get_or, if◌then◌else◌, length, length-set, nat_eq, refl, reverse, set, subst, sym, take}
 use Rattle.std.proofs.lemmas.List.{get_or-set_same, length-reverse, set-get_or, set-set}
 use Rattle.ink_model.specs.Bases.{BaseFirst}
-use Rattle.ink_model.specs.Frames.{FrameOf, ThreadOf, frame_numbered}
+use Rattle.ink_model.specs.Frames.{FrameOf, ThreadOf}
 use Rattle.ink_model.specs.Threads.{changed, frame_count}
 use Rattle.ink_model.specs.declared.frame.FrameKind.{FrameKind}
 use Rattle.ink_stack.specs.Cells.{Within, with_frame}

@@ -1,12 +1,12 @@
 -- The function frames that come first, from the frame of a number on.
-use Rattle.std.proofs.Common.{◌≡◌, ◌∙◌, ◌≤◌, ◌<◌, ◌+◌, ◌-◌, ℕ, List, [], ◌∷◌, Bool, true, false, Some, None, ap, arith, if◌then◌else◌, length, nat_eq, refl, sym}
+use Rattle.std.proofs.Common.{◌≡◌, ◌∙◌, ◌≤◌, ◌<◌, ◌+◌, ◌-◌, ℕ, List, [], ◌∷◌, Bool, true, false, ap, arith, if◌then◌else◌, length, nat_eq, refl, sym}
 use Rattle.std.proofs.lemmas.Bool.Decides.{nat_tests}
 use Rattle.ink_model.specs.Frames.{FrameOf, ThreadOf, frame_numbered, is_function}
 use Rattle.ink_model.specs.Threads.{changed, stale, stale_run}
 use Rattle.ink_stack.specs.Cells.{holds_of, with_frame}
 use Rattle.ink_stack.specs.Running.{RunningView}
 use Rattle.ink_stack.proofs.Framing.{length-changed}
-use Rattle.ink_stack.proofs.Numbers.{other_number, other_number_above, same_number}
+use Rattle.ink_stack.proofs.Numbers.{other_number, same_number}
 use Rattle.ink_stack.proofs.Runs.{first_stale, first_stays}
 
 module _ {P : Type 0} (d : ℕ) where

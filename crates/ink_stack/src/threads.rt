@@ -146,8 +146,8 @@ impl<P: Copy> Threads<P> {
         ensures stood { threads_stood self.new ≡ threads_stood self.old }
         ensures spare { threads_spare self.old ≤ threads_spare self.new + 1 }
     {
-        let left = self.running.place();
-        self.trail.note(ThreadsPair::Placed(left), 1);
+        let was = self.running.place();
+        self.trail.note(ThreadsPair::Placed(was), 1);
         self.running.put(place);
     }
 
@@ -577,6 +577,7 @@ impl<P: Copy> Threads<P> {
         ensures threads { self.new.threads ≡ self.old.threads }
         ensures kept { KeepsTrail self.old.trail self.new.trail }
         ensures stood { threads_stood self.new ≡ threads_stood self.old }
+        ensures more { threads_spare self.old ≤ threads_spare self.new }
         ensures ok { OnOk result (count ≤ self.new.trail.room) }
         ensures memory { OnErr result (self.old.trail.room < count) }
     {
@@ -587,6 +588,7 @@ impl<P: Copy> Threads<P> {
     #[inline(always)]
     pub fn ready(&mut self, count: usize) -> Result<(), AllocError>
         ensures threads { self.new.threads ≡ self.old.threads }
+        ensures kept { KeepsTrail self.old.trail self.new.trail }
         ensures stood { threads_stood self.new ≡ threads_stood self.old }
         ensures more { threads_spare self.old ≤ threads_spare self.new }
         ensures ok { OnOk result (count ≤ threads_spare self.new) }

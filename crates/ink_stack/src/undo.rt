@@ -103,11 +103,7 @@ pub(crate) fn put_back<P: Copy>(
     count
 }
 
-fn put_one_back<P: Copy>(
-    running: &mut Running<P>,
-    below: &mut Vec<Thread<P>>,
-    pair: ThreadsPair<P>,
-)
+fn put_one_back<P: Copy>(running: &mut Running<P>, below: &mut Vec<Thread<P>>, pair: ThreadsPair<P>)
     requires { Held (rooms_of pair (record { frames = running.old.room; threads = vec_capacity below.old })) (threads_back pair (threads_in running.old below.old.items)) }
     ensures threads { threads_in running.new below.new.items ≡ threads_back pair (threads_in running.old below.old.items) }
     ensures room { More (rooms_of pair (record { frames = running.old.room; threads = vec_capacity below.old })) (record { frames = running.new.room; threads = vec_capacity below.new }) }

@@ -1,7 +1,6 @@
 use Rattle.std.proofs.Common.{◌≡◌, ◌∙◌, ◌-◌, ◌+◌, ◌≤◌, true, false, ap, arith, length, sym}
-use Rattle.ink_model.specs.Threads.{changed, frame_count, stale, staled}
+use Rattle.ink_model.specs.Threads.{frame_count, stale, staled}
 use Rattle.ink_trail.proofs.Undoing.{trails-more, trails-trails}
-use Rattle.ink_stack.specs.Running.{RunningView}
 use Rattle.ink_stack.specs.Undo.{threads_back}
 use Rattle.ink_stack.proofs.Framing.{framed_top, length-changed}
 use Rattle.ink_stack.proofs.Staling.{framed_lower, from_step, from_stop, from_top, from_zero, function_at, function_below, running_is, stale_from}

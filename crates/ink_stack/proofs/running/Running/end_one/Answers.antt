@@ -1,7 +1,7 @@
-use Rattle.std.proofs.Common.{◌≡◌, ◌∙◌, ◌<◌, ◌≤◌, true, ap, arith, length, length-set, vec_capacity}
+use Rattle.std.proofs.Common.{◌∙◌, ◌≤◌, true, ap, arith, length, length-set, vec_capacity}
 use Rattle.std.proofs.lemmas.Bool.{OnTrue_at, OnTrue_from}
 use Rattle.std.proofs.lemmas.List.{length-reverse}
-use Rattle.ink_model.specs.Threads.{frame_count, stale}
+use Rattle.ink_model.specs.Threads.{stale}
 use Rattle.ink_stack.specs.Cells.{with_fresh}
 use Rattle.ink_stack.proofs.Bases.{stale_kind}
 use Rattle.ink_stack.proofs.Framing.{base_set, framed_below, unframed_below}

@@ -1,4 +1,4 @@
-use Rattle.std.proofs.Common.{◌≡◌, ◌∙◌, ◌+◌, ◌≤◌, true, ap, arith, length, length-set, vec_capacity}
+use Rattle.std.proofs.Common.{◌≡◌, ◌∙◌, ◌+◌, ◌≤◌, ap, arith, length, length-set, vec_capacity}
 use Rattle.std.proofs.lemmas.List.{length-reverse}
 use Rattle.ink_model.specs.Threads.{frame_count}
 use Rattle.ink_stack.specs.Cells.{temp_back}

@@ -1,4 +1,4 @@
-use Rattle.std.proofs.Common.{◌≡◌, ◌∙◌, ap, arith, false, is_some, length, map, refl, reverse, vec_capacity, vec_len}
+use Rattle.std.proofs.Common.{◌≡◌, ◌∙◌, ap, arith, false, is_some, length, map, refl, vec_capacity, vec_len}
 use Rattle.std.proofs.lemmas.List.{length-map, length-reverse, with_items_is}
 use Rattle.ink_model.specs.Frames.{unnumbered_thread}
 use Rattle.ink_trail.specs.Undo.{trail_of}

@@ -1,4 +1,4 @@
-use Rattle.std.proofs.Common.{◌≡◌, ◌∙◌, Err, Ok, ap, arith, refl, reverse, sym, vec_capacity}
+use Rattle.std.proofs.Common.{◌∙◌, Ok, ap, arith, refl, reverse, sym, vec_capacity}
 use Rattle.ink_model.specs.Threads.{popped}
 use Rattle.ink_trail.proofs.Undoing.{trails-unmarked}
 use Rattle.ink_trail.specs.Undo.{trail_of}

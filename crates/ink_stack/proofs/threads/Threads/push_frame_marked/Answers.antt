@@ -1,4 +1,4 @@
-use Rattle.std.proofs.Common.{◌≡◌, ◌∙◌, ◌≤◌, Err, Ok, ap, arith, refl, reverse, subst, vec_capacity}
+use Rattle.std.proofs.Common.{◌≡◌, ◌∙◌, ◌≤◌, Err, ap, arith, refl, reverse, subst, vec_capacity}
 use Rattle.ink_model.specs.Threads.{pushed, top_result}
 use Rattle.ink_model.specs.declared.fault.Fault.TheVariants.{OutOfMemory}
 use Rattle.ink_trail.proofs.Undoing.{trails-one}

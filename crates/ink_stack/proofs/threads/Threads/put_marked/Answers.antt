@@ -1,4 +1,4 @@
-use Rattle.std.proofs.Common.{arith, reverse, vec_capacity, refl}
+use Rattle.std.proofs.Common.{arith, vec_capacity, refl}
 use Rattle.ink_trail.proofs.Undoing.{trails-one}
 use Rattle.ink_trail.specs.Undo.{trail_of}
 use Rattle.ink_model.specs.Frames.{put_in}
@@ -18,7 +18,7 @@ invariant_of-self g c =
     let now = held-now r (trail_of u) ts c.self.invariant.1 in
     rw (c.note.ensures.undo, c.put.ensures) (
       c.self.invariant.0,
-      held-top (Placed c.place-left.result) 1 v.thread (put_in c.args.place v.thread) ts.below u r (placed-back ts c.args.place c.place-left.result c.place-left.ensures)
+      held-top (Placed c.place-was.result) 1 v.thread (put_in c.args.place v.thread) ts.below u r (placed-back ts c.args.place c.place-was.result c.place-was.ensures)
           (within-same v.room v.thread (put_in c.args.place v.thread) refl refl now.thread) (more-refl r) c.self.invariant.1,
     )
 
@@ -26,4 +26,4 @@ pub returns-clause-trail : goal.returns-clause-trail
 returns-clause-trail g c =
     let ts = threads_in c.self.inside.running c.self.inside.below.items in
     rw (← c.self.view_is, c.put.ensures)
-    (trails-one threads_back (Placed c.place-left.result) 1 _ _ _ _ (omega arith) (placed-back ts c.args.place c.place-left.result c.place-left.ensures) c.note.ensures.undo c.note.ensures.room)
+    (trails-one threads_back (Placed c.place-was.result) 1 _ _ _ _ (omega arith) (placed-back ts c.args.place c.place-was.result c.place-was.ensures) c.note.ensures.undo c.note.ensures.room)

@@ -1,4 +1,4 @@
-use Rattle.std.proofs.Common.{arith, reverse, vec_capacity, refl}
+use Rattle.std.proofs.Common.{arith, vec_capacity, refl}
 use Rattle.ink_trail.proofs.Undoing.{trails-one}
 use Rattle.ink_trail.specs.Undo.{trail_of}
 use Rattle.ink_model.specs.Threads.{number_in}
