@@ -1,9 +1,9 @@
 -- What a mark keeps of a machine: each part of its configuration as it stood there, none where no mark stands.
-use Rattle.std.specs.Prelude.{ℕ, List, Bool, true, false, ◌||◌, Option, None, is_some}
+use Rattle.std.specs.Prelude.{ℕ, ◌+◌, ◌-◌, ◌^◌, min, List, length, map, Bool, true, false, ◌||◌, Option, None, Some, is_some, unwrap_or}
 use Rattle.ink_choice.specs.Undo.{choices_stood}
-use Rattle.ink_model.specs.Configuration.{ChoiceOf}
+use Rattle.ink_model.specs.Configuration.{ChoiceOf, Configuration, map_choice}
 use Rattle.ink_model.specs.Counts.{CountsOf}
-use Rattle.ink_model.specs.Frames.{ThreadsOf}
+use Rattle.ink_model.specs.Frames.{ThreadsOf, map_threads}
 use Rattle.ink_model.specs.Page.{Page}
 use Rattle.ink_model.specs.Store.{Values}
 use Rattle.ink_model.specs.declared.content.Leaf.{Leaf}
@@ -14,7 +14,10 @@ use Rattle.ink_stack.specs.Undo.{threads_stood}
 use Rattle.ink_step.specs.declared.machine.Machine.{Machine}
 use Rattle.ink_step.specs.declared.own.OwnPair.{OwnPair}
 use Rattle.ink_step.specs.declared.own.OwnPair.TheVariants.{Safe, Turned}
-use Rattle.ink_trail.specs.Undo.{TrailView, spare, stood_at}
+use Rattle.ink_model.specs.Tree.{StoryTree}
+use Rattle.ink_step.specs.Words.{counts_in}
+use Rattle.ink_trail.specs.Undo.{TrailView, spare, stood_at, trail_of, writes_of}
+use Rattle.ink_tree.specs.Nodes.{place_of}
 use Rattle.ink_tree.specs.declared.spot.Spot.{Spot}
 use Rattle.ink_value.specs.Undo.{stack_stood}
 use Rattle.ink_vars.specs.Undo.{counts_stood, globals_stood}
@@ -24,6 +27,9 @@ use Rattle.ink_vars.specs.Undo.{counts_stood, globals_stood}
 pub record Own : Type 0 where
   pub turn : ℕ
   pub safe : Bool
+
+abbrev pub own_of : Machine → Own
+own_of m = record { turn = m.shared.turn; safe = m.flow.safe }
 
 -- the fields before a change
 abbrev pub own_back : OwnPair → Own → Own
@@ -75,3 +81,53 @@ takes_value (leaves.DeclareTemp name) = true
 takes_value (leaves.Assign name) = true
 takes_value (leaves.AssignTemp name) = true
 takes_value l = false
+
+-- ---- going back
+
+-- each part as it stands now
+abbrev pub marked_at : Machine → Stood
+marked_at m = record {
+  own = Some (own_of m);
+  threads = Some m.flow.threads.threads;
+  stack = Some m.flow.stack.items;
+  choices = Some m.flow.choices.items;
+  globals = Some m.shared.globals.rows;
+  counts = Some m.shared.counts.rows;
+  page = Some m.output.page;
+}
+
+-- the configuration as it stood at the mark; as it is where no mark stands
+abbrev pub config_back : StoryTree → Machine → Configuration
+config_back s m =
+    let own = unwrap_or (own_stood m.trail m.shared.turn m.flow.safe) (own_of m) in
+    record {
+      flow = record {
+        threads = map_threads (place_of s) (unwrap_or (threads_stood m.flow.threads) m.flow.threads.threads);
+        stack = unwrap_or (stack_stood m.flow.stack) m.flow.stack.items;
+        choices = map (map_choice (place_of s)) (unwrap_or (choices_stood m.flow.choices) m.flow.choices.items);
+        safe = own.safe;
+      };
+      shared = record {
+        globals = unwrap_or (globals_stood m.shared.globals) m.shared.globals.rows;
+        counts = counts_in s (unwrap_or (counts_stood m.shared.counts) m.shared.counts.rows);
+        turn = own.turn;
+      };
+      page = unwrap_or (output_stood m.output) m.output.page;
+    }
+
+-- a sum that stays at the most
+abbrev pub capped : ℕ → ℕ → ℕ
+capped a b = min (a + b) (2 ^ 64 - 1)
+
+-- the changes of cells since the mark, in all parts
+abbrev pub writes_in : Machine → ℕ
+writes_in m = capped (capped (capped (capped (capped (capped (writes_of m.trail.undo) (writes_of m.flow.threads.trail.undo)) (writes_of m.flow.stack.trail.undo)) (writes_of m.flow.choices.trail.undo))
+    (writes_of m.shared.globals.trail.undo)) (writes_of m.shared.counts.trail.undo)) (writes_of m.output.trail.undo)
+
+abbrev pub noted_by : {E : Type 0} → TrailView E → ℕ
+noted_by t = length (trail_of t.undo)
+
+-- the pairs of all parts
+abbrev pub pairs_in : Machine → ℕ
+pairs_in m = capped (capped (capped (capped (capped (capped (noted_by m.trail) (noted_by m.flow.threads.trail)) (noted_by m.flow.stack.trail)) (noted_by m.flow.choices.trail))
+    (noted_by m.shared.globals.trail)) (noted_by m.shared.counts.trail)) (noted_by m.output.trail)

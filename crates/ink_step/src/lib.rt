@@ -9,6 +9,7 @@ mod external;
 mod flow;
 mod frames;
 mod machine;
+mod marking;
 mod offering;
 mod opening;
 mod own;

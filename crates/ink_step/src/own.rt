@@ -1,7 +1,8 @@
 //! The machine's own fields, and what they were at the mark.
 
-ghost use Rattle.std.specs.Prelude.{◌≡◌, ◌≤◌, ◌+◌, true, None, IfErr, OnErr, OnOk};
-ghost use Rattle.ink_step.specs.Marks.{marked_in, own_spare, own_stood, stood_of};
+ghost use Rattle.std.specs.Prelude.{◌≡◌, ◌≤◌, ◌+◌, true, length, None, Some, unwrap_or, IfErr, OnErr, OnOk};
+ghost use Rattle.ink_step.specs.Marks.{marked_in, own_of, own_spare, own_stood, stood_of};
+ghost use Rattle.ink_trail.specs.Undo.{trail_of, writes_of};
 
 use crate::machine::Machine;
 use ink_model::Fault;
@@ -41,6 +42,36 @@ impl Machine {
     {
         self.trail.ready(2)?;
         Ok(())
+    }
+
+    // Starts a mark of the fields. Takes no memory.
+    #[tactic(auto, unfolding(crate::specs::Marks::own_spare, crate::specs::Marks::own_stood, ink_trail::specs::Undo::spare, ink_trail::specs::Undo::stood_at))]
+    pub(crate) fn mark_own(&mut self)
+        ensures same { self.new ≡ record self.old { trail = self.new.trail } }
+        ensures mark { own_stood self.new.trail self.old.shared.turn self.old.flow.safe ≡ Some (own_of self.old) }
+        ensures writes { writes_of self.new.trail.undo ≡ 0 }
+    {
+        self.trail.mark();
+    }
+
+    // Puts the fields back as they stood at the mark, ends it, and answers how many pairs there were. Takes no memory.
+    #[tactic(auto, unfolding(crate::specs::Marks::own_spare, crate::specs::Marks::own_stood, ink_trail::specs::Undo::spare, ink_trail::specs::Undo::stood_at))]
+    pub(crate) fn back_own(&mut self) -> u64
+        ensures same { self.new ≡ record self.old { trail = self.new.trail; flow = record self.old.flow { safe = self.new.flow.safe }; shared = record self.old.shared { turn = self.new.shared.turn } } }
+        ensures own { own_of self.new ≡ unwrap_or (own_stood self.old.trail self.old.shared.turn self.old.flow.safe) (own_of self.old) }
+        ensures mark { own_stood self.new.trail self.new.shared.turn self.new.flow.safe ≡ None }
+        ensures len { result ≡ length (trail_of self.old.trail.undo) }
+        ensures writes { result ≤ writes_of self.old.trail.undo }
+    {
+        let count = self.trail.len() as u64;
+        while let Some(pair) = self.trail.take_last() {
+            match pair {
+                OwnPair::Turned(turn) => self.shared.turn = turn,
+                OwnPair::Safe(safe) => self.flow.safe = safe,
+            }
+        }
+        self.trail.forget();
+        count
     }
 
     // Ends the mark of the fields. Takes no memory.

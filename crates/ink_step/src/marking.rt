@@ -1,0 +1,85 @@
+//! Marks: a machine goes back to where it stood at one (docs/RUNNING.md, "Marks").
+
+ghost use Rattle.std.specs.Prelude.{◌≡◌, ◌≤◌, min, OnOk};
+ghost use Rattle.ink_model.specs.Tree.{StoryTree};
+ghost use Rattle.ink_step.specs.Marks.{config_back, marked_at, own_of, own_spare, own_stood, pairs_in, stood_of, unmarked, writes_in};
+ghost use Rattle.ink_trail.specs.Undo.{trail_of, writes_of};
+
+use crate::machine::Machine;
+use crate::own::OwnPair;
+use std::alloc::AllocError;
+
+impl Machine {
+    ghost use Rattle.ink_step.specs.Words.{config_of, globals_of, start_of};
+
+    /// Starts a mark, at which all stands as it does now, and forgets an older one. Takes no memory.
+    pub fn mark(&mut self)
+        ensures config { (s : StoryTree) → config_of s self.new ≡ config_of s self.old }
+        ensures start { start_of self.new ≡ start_of self.old }
+        ensures mark { stood_of self.new ≡ marked_at self.old }
+        ensures writes { writes_in self.new ≡ 0 }
+    {
+        self.mark_own();
+        self.flow.threads.mark();
+        self.flow.stack.mark();
+        self.flow.choices.mark();
+        self.shared.globals.mark();
+        self.shared.counts.mark();
+        self.output.mark();
+    }
+
+    /// How many changes of single cells there were since the mark, in all parts, which stays at 2^64 - 1; 0 without one.
+    pub fn writes(&self) -> u64
+        ensures { result ≡ writes_in self.now }
+    {
+        self.trail
+            .writes()
+            .saturating_add(self.flow.threads.writes())
+            .saturating_add(self.flow.stack.writes())
+            .saturating_add(self.flow.choices.writes())
+            .saturating_add(self.shared.globals.writes())
+            .saturating_add(self.shared.counts.writes())
+            .saturating_add(self.output.writes())
+    }
+
+    /// Puts all back as it stood at the mark, ends the mark, and answers how many pairs there were in all parts, which stays at
+    /// 2^64 - 1. Without a mark it changes nothing, and answers 0. What the globals were when the command began stays known. Takes
+    /// no memory, and is allowed after a fault too.
+    pub fn back(&mut self) -> u64
+        ensures config { (s : StoryTree) → config_of s self.new ≡ config_back s self.old }
+        ensures start { start_of self.new ≡ start_of self.old }
+        ensures mark { stood_of self.new ≡ unmarked }
+        ensures pairs { result ≡ pairs_in self.old }
+        ensures few { result ≤ writes_in self.old }
+    {
+        let own = self.back_own();
+        let threads = self.flow.threads.back();
+        let stack = self.flow.stack.back();
+        let choices = self.flow.choices.back();
+        let globals = self.shared.globals.back();
+        let counts = self.shared.counts.back();
+        let output = self.output.back();
+        own.saturating_add(threads)
+            .saturating_add(stack)
+            .saturating_add(choices)
+            .saturating_add(globals)
+            .saturating_add(counts)
+            .saturating_add(output)
+    }
+
+    /// Makes room for so many changes to be noted in each part without memory. The one error is a refused request for memory, and
+    /// leaves all as it was.
+    pub fn make_room(&mut self, count: usize) -> Result<(), AllocError>
+        ensures config { (s : StoryTree) → config_of s self.new ≡ config_of s self.old }
+        ensures start { start_of self.new ≡ start_of self.old }
+        ensures mark { stood_of self.new ≡ stood_of self.old }
+    {
+        self.trail.make_room(count)?;
+        self.flow.threads.make_room(count)?;
+        self.flow.stack.make_room(count)?;
+        self.flow.choices.make_room(count)?;
+        self.shared.globals.make_room(count)?;
+        self.shared.counts.make_room(count)?;
+        self.output.make_room(count)
+    }
+}
