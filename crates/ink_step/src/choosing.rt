@@ -2,10 +2,9 @@
 
 ghost use Rattle.ink_stack.specs.Undo.{threads_spare};
 ghost use Rattle.ink_choice.specs.Undo.{choices_spare, choices_stood};
-ghost use Rattle.std.specs.Prelude.{◌≡◌, is_some, false, Some, true, MatchOption, slice_get, OnErr, OnOk, ◌≤◌, ◌||◌, IfErr, IfOk};
+ghost use Rattle.std.specs.Prelude.{◌≡◌, is_some, false, Some, true, MatchOption, OnErr, OnOk, ◌≤◌, ◌||◌, IfErr, IfOk};
 ghost use Rattle.ink_check.specs.Words.{story_tree};
 ghost use Rattle.ink_model.specs.Choosing.{default_asks, default_choice, jumped, open_choice, stopped_by, taken_up};
-ghost use Rattle.ink_model.specs.Choices as rules;
 ghost use Rattle.ink_model.specs.Configuration.{map_choice};
 ghost use Rattle.ink_model.specs.Tree.{StoryTree};
 ghost use Rattle.ink_model.specs.Visits.{entering_around, entering_asks};
@@ -83,7 +82,7 @@ impl Machine {
         };
         let previous = choice.thread.previous();
         let target = choice.target;
-        let copied = self.copied_choice(number)?;
+        let copied = self.copied_choice(choice)?;
         self.make_choosing_room()?;
         let turn = self.shared.turn.next();
         match enter_landed(
@@ -126,20 +125,17 @@ impl Machine {
 
     // A copy of a choice, where a mark stands that keeps the choices: so that taking it up cannot fail. The one error is a refused
     // request for memory.
-    fn copied_choice(&self, number: usize) -> Result<Option<Choice<Spot>>, Refusal>
-        ensures copy { IfOk result (λ copied. MatchOption copied (is_some (choices_stood self.now.flow.choices) ≡ false) (λ c. Some c ≡ slice_get (rules.visible self.now.flow.choices.items) number)) }
+    fn copied_choice(&self, choice: &Choice<Spot>) -> Result<Option<Choice<Spot>>, Refusal>
+        ensures copy { IfOk result (λ copied. MatchOption copied (is_some (choices_stood self.now.flow.choices) ≡ false) (λ copy. copy ≡ choice.now)) }
         ensures fault { IfErr result (λ r. r ≡ Refusal.OutOfMemory) }
         ensures memory { OnErr result (marked_in (stood_of self.now) ≡ true) }
     {
         if !self.flow.choices.is_marked() {
             return Ok(None);
         }
-        match self.flow.choices.visible_at(number) {
-            Some(choice) => match choice.clone_in(self.alloc) {
-                Ok(copy) => Ok(Some(copy)),
-                Err(_) => Err(Refusal::OutOfMemory),
-            },
-            None => Ok(None),
+        match choice.clone_in(self.alloc) {
+            Ok(copy) => Ok(Some(copy)),
+            Err(_) => Err(Refusal::OutOfMemory),
         }
     }
 

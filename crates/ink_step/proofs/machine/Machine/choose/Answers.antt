@@ -1,18 +1,24 @@
-use Rattle.std.proofs.Common.{◌≡◌, ◌∙◌, List, ap, refl, subst, sym, true, false, option_map, Some, None, unwrap_or}
+use Rattle.std.proofs.Common.{◌≡◌, ◌∙◌, ◌⊎◌, ◌||◌, List, ap, refl, rules, subst, sym, true, false, is_some, slice_get, option_map, MatchOption, Some, None, Ok, Err, unwrap_or}
 use Rattle.ink_check.specs.Words.{story_tree}
-use Rattle.ink_model.specs.Choosing.{taken_up}
+use Rattle.ink_choice.specs.Undo.{choices_stood}
+use Rattle.ink_choice.specs.Words.{Takes}
+use Rattle.ink_model.specs.Choices.{taken, visible}
+use Rattle.ink_model.specs.Choosing.{open_choice, taken_up}
 use Rattle.ink_model.specs.Configuration.{can_go_on, map_choice}
 use Rattle.ink_model.specs.Entered.{entered_places}
 use Rattle.ink_model.specs.Tree.{StoryTree}
 use Rattle.ink_model.specs.Visits.{adds_rows, all_visited}
 use Rattle.ink_model.specs.declared.place.Part.{Part}
+use Rattle.ink_step.specs.Marks.{marked_in, stood_of}
+use Rattle.ink_step.specs.Steps.{Chooses}
 use Rattle.ink_step.specs.Words.{config_of, counts_in}
-use Rattle.ink_step.specs.declared.machine.Shared.{Shared}
-use Rattle.ink_step.proofs.Chosen.{chooses_none, chooses_one, chooses_short, chosen_lands, open_alike, takes_any, takes_visible}
+use Rattle.ink_step.proofs.Chosen.{asks_or_marked, chooses_none, chooses_one, chooses_short, chosen_lands, open_alike, takes_any, takes_visible}
+use Rattle.ink_step.proofs.Follows.{or_first}
 use Rattle.ink_step.proofs.machine.Machine.choose.Goals as goal
 use Rattle.ink_step.proofs.machine.Machine.choose.Goals.{After-enter_landed, Else-can_go_on}
 use Rattle.ink_tree.specs.Nodes as Nodes
 use Rattle.ink_tree.specs.Nodes.{place_of}
+use Rattle.ink_vars.specs.Undo.{counts_stood}
 
 -- flow has stopped
 stopped : (c : Else-can_go_on) → can_go_on (config_of (story_tree c.args.story.now) c.args.self.now) ≡ false
@@ -20,49 +26,103 @@ stopped c = sym (c.can_go_on.ensures (story_tree c.args.story.now)) ∙ c.if-can
 
 -- what is entered is what the choice leads to
 entered_as : (c : After-enter_landed) (A : StoryTree → List (List Part) → Type 0)
-    → (let t = Nodes.story_tree c.tree.result.now in A t (entered_places t (option_map (place_of t) c.previous.result) (place_of t c.choice.inside.target)))
+    → (let t = Nodes.story_tree c.tree.result.now in A t (entered_places t (option_map (place_of t) c.previous-previous.result) (place_of t c.choice.inside.target)))
     → let s = story_tree c.args.story.now in let x = c.in-Some.choice.now in A s (entered_places s (option_map (place_of s) x.thread.previous) (place_of s x.target))
 entered_as c A h =
     let t = Nodes.story_tree c.tree.result.now in
     subst (λ u. A u (entered_places u (option_map (place_of u) c.in-Some.choice.now.thread.previous) (place_of u c.in-Some.choice.now.target))) c.tree.ensures.tree
     (subst (λ v. A t (entered_places t (option_map (place_of t) v.thread.previous) (place_of t v.target))) c.choice.view_is
-    (subst (λ o. A t (entered_places t (option_map (place_of t) o) (place_of t c.choice.inside.target))) c.previous.ensures h))
+    (subst (λ o. A t (entered_places t (option_map (place_of t) o) (place_of t c.choice.inside.target))) c.previous-previous.ensures h))
+
+-- it is among the choices still once there is room
+still_there : (c : After-enter_landed) → Some c.in-Some.choice.now ≡ slice_get (visible c.make_choosing_room.new.self.flow.choices.items) c.args.number
+still_there c = c.in-Some.ensures ∙ ap (λ cs. slice_get (visible cs) c.args.number) (sym c.make_choosing_room.ensures.items)
 
 pub returns-in_default-clause-chooses : goal.returns-in_default-clause-chooses
 returns-in_default-clause-chooses c =
     let s = story_tree c.args.story.now in
     let machine = c.args.self.now in
     let old = config_of s machine in
-    chooses_none s c.args.number old old (stopped (goal.at.returns-in_default-clause-chooses c).Else-can_go_on) (open_alike (place_of s) machine.flow.choices.items c.args.number None c.in_default.ensures) refl
+    chooses_none s (marked_in (stood_of machine)) c.args.number old old (stopped (goal.at.returns-in_default-clause-chooses c).Else-can_go_on) (open_alike (place_of s) machine.flow.choices.items c.args.number None c.in_default.ensures) refl
+
+pub returns-in_err-copied-clause-chooses : goal.returns-in_err-copied-clause-chooses
+returns-in_err-copied-clause-chooses c =
+    let s = story_tree c.args.story.now in
+    let machine = c.args.self.now in
+    let old = config_of s machine in
+    let marked = marked_in (stood_of machine) in
+    let x = c.in-Some.choice.now in
+    let some = open_alike (place_of s) machine.flow.choices.items c.args.number (Some x) c.in-Some.ensures in
+    let is : c.from_residual.result ≡ Err c.in_err-copied.field-0.0 = search rules in
+    subst (λ r. Chooses s marked (open_choice c.args.number old) old old r) (sym (is ∙ ap Err c.in_err-copied.ensures.fault))
+    (chooses_short s marked c.args.number old old (stopped (goal.at.returns-in_err-copied-clause-chooses c).Else-can_go_on) (map_choice (place_of s) x) some (or_first marked _ c.in_err-copied.ensures.memory) refl)
+
+pub returns-in_err-make_choosing_room-clause-chooses : goal.returns-in_err-make_choosing_room-clause-chooses
+returns-in_err-make_choosing_room-clause-chooses c =
+    let s = story_tree c.args.story.now in
+    let machine = c.args.self.now in
+    let old = config_of s machine in
+    let new = config_of s c.make_choosing_room.new.self in
+    let marked = marked_in (stood_of machine) in
+    let x = c.in-Some.choice.now in
+    let some = open_alike (place_of s) machine.flow.choices.items c.args.number (Some x) c.in-Some.ensures in
+    let is : c.from_residual-in_err-make_choosing_room.result ≡ Err c.in_err-make_choosing_room.field-0.0 = search rules in
+    subst (λ r. Chooses s marked (open_choice c.args.number old) old new r) (sym (is ∙ ap Err c.in_err-make_choosing_room.ensures.fault))
+    (chooses_short s marked c.args.number old new (stopped (goal.at.returns-in_err-make_choosing_room-clause-chooses c).Else-can_go_on) (map_choice (place_of s) x) some
+    (or_first marked _ c.in_err-make_choosing_room.ensures.memory) (c.make_choosing_room.ensures.config s))
 
 pub returns-in-Err-clause-chooses : goal.returns-in-Err-clause-chooses
 returns-in-Err-clause-chooses c =
     let s = story_tree c.args.story.now in
     let machine = c.args.self.now in
+    let mid = c.make_choosing_room.new.self in
     let at = goal.at.returns-in-Err-clause-chooses c in
     let x = c.in-Some.choice.now in
     let some = open_alike (place_of s) machine.flow.choices.items c.args.number (Some x) c.in-Some.ensures in
-    let adds = entered_as at.After-enter_landed (λ t ps. adds_rows t ps (counts_in t machine.shared.counts.rows) ≡ true) c.in-Err.ensures.memory in
-    chooses_short s c.args.number (config_of s machine) _ (stopped at.Else-can_go_on) (map_choice (place_of s) x) some adds
-    (ap (λ rows. config_of s (record machine { shared = record machine.shared { counts = record { rows = rows } } })) c.in-Err.ensures.kept)
+    let adds = entered_as at.After-enter_landed (λ t ps. (adds_rows t ps (counts_in t mid.shared.counts.rows) ≡ true) ⊎ (is_some (counts_stood mid.shared.counts) ≡ true)) c.in-Err.ensures.memory in
+    let there = asks_or_marked (stood_of machine) (stood_of mid) _ c.make_choosing_room.ensures.mark adds in
+    let asks = subst (λ d. (marked_in (stood_of machine) || adds_rows s (entered_places s (option_map (place_of s) x.thread.previous) (place_of s x.target)) d.shared.counts) ≡ true) (c.make_choosing_room.ensures.config s) there in
+    chooses_short s (marked_in (stood_of machine)) c.args.number (config_of s machine) _ (stopped at.Else-can_go_on) (map_choice (place_of s) x) some asks
+    (ap (λ rows. config_of s (record mid { shared = record mid.shared { counts = record c.enter_landed.new.counts { rows = rows } } })) c.in-Err.ensures.kept ∙ c.make_choosing_room.ensures.config s)
 
-pub returns-in-Some-take-clause-chooses : goal.returns-in-Some-take-clause-chooses
-returns-in-Some-take-clause-chooses c =
+pub returns-in-Some-copied-clause-chooses : goal.returns-in-Some-copied-clause-chooses
+returns-in-Some-copied-clause-chooses c =
     let s = story_tree c.args.story.now in
     let machine = c.args.self.now in
-    let at = goal.at.returns-in-Some-take-clause-chooses c in
+    let at = goal.at.returns-in-Some-copied-clause-chooses c in
     let x = c.in-Some.choice.now in
-    let y = c.in-Some-take.choice in
-    let taken = takes_visible c.args.number machine.flow.choices.items c.take.new.self.items x y c.in-Some.ensures c.in-Some-take.ensures in
-    let some = open_alike (place_of s) machine.flow.choices.items c.args.number (Some y) taken in
-    let same : x ≡ y = ap (λ o. unwrap_or o x) (c.in-Some.ensures ∙ sym taken) in
-    let entering = subst (λ v. counts_in s c.enter_landed.new.counts.rows ≡ all_visited s c.next-turn.result (entered_places s (option_map (place_of s) v.thread.previous) (place_of s v.target)) (counts_in s machine.shared.counts.rows)) same
-    (entered_as at.After-enter_landed (λ t ps. counts_in t c.enter_landed.new.counts.rows ≡ all_visited t c.next-turn.result ps (counts_in t machine.shared.counts.rows)) c.in-Ok.ensures.ok) in
-    let taken_up_there = subst (λ (v : Shared). config_of s c.take_up.new.self ≡ taken_up (map_choice (place_of s) y) (config_of s (record machine { flow = record machine.flow { choices = c.take.new.self }; shared = v })))
-    c.set_turn.ensures (c.take_up.ensures.taken s) in
-    chooses_one s c.args.number (config_of s machine) (config_of s c.take_up.new.self) (stopped at.Else-can_go_on) (map_choice (place_of s) y) some
-    (chosen_lands s machine y c.take.new.self.items c.enter_landed.new.counts.rows c.next-turn.result c.take_up.new.self taken_up_there c.next-turn.ensures entering)
+    let some = open_alike (place_of s) machine.flow.choices.items c.args.number (Some x) c.in-Some.ensures in
+    let same : c.in-Some-copied.choice ≡ x = subst (λ o. MatchOption o (is_some (choices_stood machine.flow.choices) ≡ false) (λ copy. copy ≡ x)) c.in-Some-copied.is c.in_ok-copied.ensures.copy in
+    let mid = config_of s c.make_choosing_room.new.self in
+    let counts = counts_in s c.enter_landed.new.counts.rows in
+    let new = config_of s c.take_up_next.new.self in
+    let entering = entered_as at.After-enter_landed (λ t ps. counts_in t c.enter_landed.new.counts.rows ≡ all_visited t c.next-turn.result ps (counts_in t c.make_choosing_room.new.self.shared.counts.rows)) c.in-Ok.ensures.ok in
+    let taken_up_there = subst (λ v. new ≡ taken_up (map_choice (place_of s) v) (record mid { shared = record mid.shared { counts = counts; turn = c.next-turn.result } })) same (c.take_up_next.ensures.taken s) in
+    chooses_one s (marked_in (stood_of machine)) c.args.number (config_of s machine) new (stopped at.Else-can_go_on) (map_choice (place_of s) x) some
+    (chosen_lands s (map_choice (place_of s) x) (config_of s machine) mid (c.make_choosing_room.ensures.config s) counts c.next-turn.result new taken_up_there c.next-turn.ensures entering)
 
-pub returns-in-None-clause-chooses : goal.returns-in-None-clause-chooses
-returns-in-None-clause-chooses c =
-    absurd (takes_any c.args.number c.args.self.now.flow.choices.items c.take.new.self.items c.in-Some.choice.now c.in-Some.ensures c.in-None.ensures)
+pub returns-in-Ok-Some-clause-chooses : goal.returns-in-Ok-Some-clause-chooses
+returns-in-Ok-Some-clause-chooses c =
+    let s = story_tree c.args.story.now in
+    let machine = c.args.self.now in
+    let at = goal.at.returns-in-Ok-Some-clause-chooses c in
+    let x = c.in-Some.choice.now in
+    let y = c.in-Ok-Some.choice in
+    let cs = c.make_choosing_room.new.self.flow.choices.items in
+    let some = open_alike (place_of s) machine.flow.choices.items c.args.number (Some x) c.in-Some.ensures in
+    let still = still_there at.After-enter_landed in
+    let takes = subst (λ o. Takes (taken c.args.number cs) cs c.take.new.self.items (Ok o)) c.in-Ok-Some.field-0-is c.in-Ok-Some.ensures.items in
+    let same : y ≡ x = ap (λ o. unwrap_or o x) (takes_visible c.args.number cs c.take.new.self.items x y still takes ∙ sym still) in
+    let mid = config_of s c.make_choosing_room.new.self in
+    let counts = counts_in s c.enter_landed.new.counts.rows in
+    let new = config_of s c.take_up_next-in-Ok-Some.new.self in
+    let entering = entered_as at.After-enter_landed (λ t ps. counts_in t c.enter_landed.new.counts.rows ≡ all_visited t c.next-turn.result ps (counts_in t c.make_choosing_room.new.self.shared.counts.rows)) c.in-Ok.ensures.ok in
+    let taken_up_there = subst (λ v. new ≡ taken_up (map_choice (place_of s) v) (record mid { shared = record mid.shared { counts = counts; turn = c.next-turn.result } })) same (c.take_up_next-in-Ok-Some.ensures.taken s) in
+    chooses_one s (marked_in (stood_of machine)) c.args.number (config_of s machine) new (stopped at.Else-can_go_on) (map_choice (place_of s) x) some
+    (chosen_lands s (map_choice (place_of s) x) (config_of s machine) mid (c.make_choosing_room.ensures.config s) counts c.next-turn.result new taken_up_there c.next-turn.ensures entering)
+
+pub returns-in-Ok-None-clause-chooses : goal.returns-in-Ok-None-clause-chooses
+returns-in-Ok-None-clause-chooses c =
+    let cs = c.make_choosing_room.new.self.flow.choices.items in
+    let takes = subst (λ o. Takes (taken c.args.number cs) cs c.take.new.self.items (Ok o)) c.in-Ok-None.field-0-is c.in-Ok-None.ensures.items in
+    absurd (takes_any c.args.number cs c.take.new.self.items c.in-Some.choice.now (still_there (goal.at.returns-in-Ok-None-clause-chooses c).After-enter_landed) takes)
