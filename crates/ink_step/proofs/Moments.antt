@@ -210,22 +210,22 @@ module _ (s : StoryTree) (b : Bound) (marked : Bool) (start : Configuration) whe
         elim short.1 [
           | inr is_marked ↦ inr is_marked
           | inl asked ↦ inl (elim asked [
-          | inl before ↦ inl (subst (λ all. GetsTo s b start all old) (ap (λ more. made ++ more) (sym before.0))
-              (subst (λ all. GetsTo s b start all old) (sym (append-nil made)) (record { steps = n; within = below; got_there = alone made n ∙ h []; asking = before.1 })))
-          | inr after ↦ inr (record {
-            steps = n;
-            within = below;
-            before = made;
-            got_there = alone made n ∙ h [];
-            name = after.0;
-            arguments = after.1;
-            given = after.2;
-            fields = after.3;
-            calling = after.4;
-            wants = after.5;
-            calls = ap (λ more. made ++ more) after.6;
-            asking = after.7;
-          })
+            | inl before ↦ inl (subst (λ all. GetsTo s b start all old) (ap (λ more. made ++ more) (sym before.0))
+                (subst (λ all. GetsTo s b start all old) (sym (append-nil made)) (record { steps = n; within = below; got_there = alone made n ∙ h []; asking = before.1 })))
+            | inr after ↦ inr (record {
+              steps = n;
+              within = below;
+              before = made;
+              got_there = alone made n ∙ h [];
+              name = after.0;
+              arguments = after.1;
+              given = after.2;
+              fields = after.3;
+              calling = after.4;
+              wants = after.5;
+              calls = ap (λ more. made ++ more) after.6;
+              asking = after.7;
+            })
           ])
         ],
       )

@@ -151,7 +151,10 @@ impl Machine {
         ensures fault { IfErr result (λ r. r ≡ Refusal.OutOfMemory) }
         ensures memory { OnErr result (marked_in (stood_of self.old) ≡ true) }
     {
-        if self.flow.threads.ready(2).is_err() || self.flow.choices.ready(2).is_err() || self.make_own_room().is_err() {
+        if self.flow.threads.ready(2).is_err()
+            || self.flow.choices.ready(2).is_err()
+            || self.make_own_room().is_err()
+        {
             return Err(Refusal::OutOfMemory);
         }
         Ok(())
