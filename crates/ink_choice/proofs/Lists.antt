@@ -1,7 +1,7 @@
 -- Lists of choices, seen one after another.
 use Rattle.std.proofs.Common.{◌≡◌, ◌≢◌, ◌∙◌, ℕ, zero, suc, ◌+◌, ◌<◌, ◌≤◌, Bool, true, false, not, ◌||◌, cond, if◌then◌else◌, List, [], ◌∷◌, ◌++◌, length, map, get_or, take, drop, Option, Some, None, Ok, Err, option_map, ap, sym, refl, append_assoc, add-one, arith, inl, inr}
 use Rattle.std.specs.List.{filter, remove}
-use Rattle.std.proofs.lemmas.Bool.{cases_Bool, le-ltb, not-false, not-true}
+use Rattle.std.proofs.lemmas.Bool.{cases_Bool, le-ltb, lt-ltb, not-false, not-true}
 use Rattle.std.proofs.lemmas.List.{drop_more, take_more}
 use Rattle.ink_choice.specs.Words.{Adds, FindsIndex, Takes}
 use Rattle.ink_model.specs.Choices.{added, behind, none_visible, shown, shown_choice, taken, taken_of, visible}
@@ -124,6 +124,13 @@ module _ {P : Type 0} where
   -- there is no room for one more
   pub full : (c : ChoiceOf P) (cs : List (ChoiceOf P)) → MAX_CHOICES ≤ length cs → Adds (added c cs) cs cs (Err TooDeep)
   full c cs h = rw (le-ltb (length cs) MAX_CHOICES h) (refl, refl)
+
+  -- there is room for one more, and it is added, or memory is refused
+  pub one_more : (c : ChoiceOf P) (cs new : List (ChoiceOf P)) (u : Unit) → length cs < MAX_CHOICES → new ≡ cs ++ c ∷ [] → Adds (added c cs) cs new (Ok u)
+  one_more c cs new u h is = rw (lt-ltb (length cs) MAX_CHOICES h) is
+
+  pub not_added : (c : ChoiceOf P) (cs new : List (ChoiceOf P)) → length cs < MAX_CHOICES → new ≡ cs → Adds (added c cs) cs new (Err OutOfMemory)
+  not_added c cs new h is = rw (lt-ltb (length cs) MAX_CHOICES h) (refl, is)
 
   -- a call that is refused memory
   pub took_nothing : (r : Option (ChoiceOf P × List (ChoiceOf P))) (cs new : List (ChoiceOf P)) → new ≡ cs → Takes r cs new (Err OutOfMemory)

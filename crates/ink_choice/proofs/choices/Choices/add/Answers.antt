@@ -1,9 +1,11 @@
-use Rattle.std.proofs.Common.{◌≡◌, ◌∙◌, ◌<◌, ◌+◌, ◌≤◌, ◌∷◌, ◌++◌, [], ap, arith, length, refl, rules, vec_capacity, vec_len}
+use Rattle.std.proofs.Common.{◌≡◌, ◌∙◌, ◌<◌, ◌+◌, ◌≤◌, ◌∷◌, ◌++◌, [], Err, ap, arith, length, refl, rules, vec_capacity, vec_len}
 use Rattle.std.proofs.lemmas.List.{length-append}
+use Rattle.ink_model.specs.declared.fault.Fault.TheVariants.{OutOfMemory}
 use Rattle.ink_model.specs.declared.limits.TheConstants.{MAX_CHOICES}
 use Rattle.ink_trail.proofs.Undoing.{stood-trails, trails-one}
 use Rattle.ink_choice.specs.Undo.{choices_back, choices_stood}
 use Rattle.ink_choice.specs.declared.undo.ChoicePair.TheVariants.{Added}
+use Rattle.ink_choice.proofs.Lists.{not_added, one_more}
 use Rattle.ink_choice.proofs.Undoing.{added_back, held-as, held-with}
 use Rattle.ink_choice.proofs.choices.Choices.add.Goals as goal
 
@@ -34,6 +36,19 @@ invariant_of-self-2 g c =
       within,
       held-with Added 1 old.items new.items c.self.inside.trail.undo (vec_capacity old) (vec_capacity new) (added_back _ _ c.args.choice items) (within, room) grows c.self.invariant.1,
     )
+
+pub returns-in_err-add-clause-items : goal.returns-in_err-add-clause-items
+returns-in_err-add-clause-items g c =
+    let few : length c.self.inside.items.items < MAX_CHOICES = search (rules, arith) in
+    let is : c.from_residual-in_err-add.result ≡ Err OutOfMemory = search rules in
+    rw (is, ← c.self.view_is) (not_added c.args.choice c.self.inside.items.items c.reserve.new.self.items few c.reserve.ensures.items)
+
+pub returns-clause-items : goal.returns-clause-items
+returns-clause-items g c =
+    let few : length c.self.inside.items.items < MAX_CHOICES = search (rules, arith) in
+    let items : c.push_reserved.new.self.items ≡ c.self.inside.items.items ++ c.args.choice ∷ [] =
+    c.push_reserved.ensures.items ∙ ap (λ cs. cs ++ c.args.choice ∷ []) c.reserve.ensures.items in
+    rw (← c.self.view_is) (one_more c.args.choice c.self.inside.items.items c.push_reserved.new.self.items tt few items)
 
 pub returns-clause-trail : goal.returns-clause-trail
 returns-clause-trail g c =
