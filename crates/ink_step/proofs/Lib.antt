@@ -33,3 +33,4 @@ pub mod Calls
 pub mod Asking
 pub mod Finished
 pub mod Closing
+pub mod Backs

@@ -1,0 +1,103 @@
+-- What a mark begins with, and what goes back.
+use Rattle.std.proofs.Common.{◌≡◌, ◌∙◌, ◌≤◌, ℕ, Bool, List, [], ◌∷◌, Option, Some, None, ap, arith, map, refl, subst, sym, unwrap_or}
+use Rattle.ink_choice.specs.Undo.{choices_stood}
+use Rattle.ink_model.specs.Configuration.{Configuration, map_choice}
+use Rattle.ink_model.specs.Frames.{map_threads}
+use Rattle.ink_model.specs.Tree.{StoryTree}
+use Rattle.ink_out.specs.Undo.{output_stood}
+use Rattle.ink_stack.specs.Undo.{threads_stood}
+use Rattle.ink_step.specs.Marks.{Own, Stood, capped, config_back, marked_at, noted_by, own_back, own_of, own_stood, pairs_in, writes_in}
+use Rattle.ink_step.specs.Words.{counts_in}
+use Rattle.ink_step.specs.declared.machine.Machine.{Machine}
+use Rattle.ink_step.specs.declared.own.OwnPair.{OwnPair}
+use Rattle.ink_trail.proofs.Undoing.{stood-back}
+use Rattle.ink_trail.specs.Undo.{TrailView, trail_of, undone, writes_of}
+use Rattle.ink_tree.specs.Nodes.{place_of}
+use Rattle.ink_value.specs.Undo.{stack_stood}
+use Rattle.ink_vars.specs.Undo.{counts_stood, globals_stood}
+
+-- ---- a mark begins
+
+-- first the machine's own fields have one
+pub own_marked : (old mid : Machine) → mid ≡ record old { trail = mid.trail } → own_stood mid.trail old.shared.turn old.flow.safe ≡ Some (own_of old)
+    → record (marked_at mid) { own = own_stood mid.trail mid.shared.turn mid.flow.safe } ≡ marked_at old
+own_marked old mid same own =
+    subst (λ (m : Machine). record (marked_at m) { own = own_stood mid.trail m.shared.turn m.flow.safe } ≡ marked_at old) (sym same) (ap (λ (o : Option Own). record (marked_at old) { own = o }) own)
+
+-- ---- going back
+
+-- the configuration at the mark, with these fields
+abbrev pub config_with : StoryTree → Own → Machine → Configuration
+config_with s own m = record {
+  flow = record {
+    threads = map_threads (place_of s) (unwrap_or (threads_stood m.flow.threads) m.flow.threads.threads);
+    stack = unwrap_or (stack_stood m.flow.stack) m.flow.stack.items;
+    choices = map (map_choice (place_of s)) (unwrap_or (choices_stood m.flow.choices) m.flow.choices.items);
+    safe = own.safe;
+  };
+  shared = record {
+    globals = unwrap_or (globals_stood m.shared.globals) m.shared.globals.rows;
+    counts = counts_in s (unwrap_or (counts_stood m.shared.counts) m.shared.counts.rows);
+    turn = own.turn;
+  };
+  page = unwrap_or (output_stood m.output) m.output.page;
+}
+
+-- the machine's own fields alone have changed
+pub record OwnAlone (old new : Machine) : Type 0 where
+  pub same : new ≡ record old {
+    trail = new.trail;
+    flow = record old.flow { safe = new.flow.safe };
+    shared = record old.shared { turn = new.shared.turn };
+  }
+
+-- first the machine's own fields go back
+pub own_goes_back : (s : StoryTree) (old mid : Machine) → OwnAlone old mid → own_of mid ≡ unwrap_or (own_stood old.trail old.shared.turn old.flow.safe) (own_of old)
+    → config_with s (own_of mid) mid ≡ config_back s old
+own_goes_back s old mid alone own = ap (config_with s (own_of mid)) alone.same ∙ ap (λ (o : Own). config_with s o old) own
+
+-- the fields that are put back
+pub fields_back : (trail : TrailView OwnPair) (own : Own) → undone own_back (trail_of trail.undo) own ≡ unwrap_or (own_stood trail own.turn own.safe) own
+unfolding own_stood
+fields_back trail own = stood-back own_back trail own
+
+-- the last pair goes back
+pub pair_back : (e : OwnPair) (es fs : List OwnPair) (own last : Own) → fs ≡ e ∷ es → undone own_back fs own ≡ last → undone own_back es (own_back e own) ≡ last
+pair_back e es fs own last is so = sym (ap (λ xs. undone own_back xs own) is) ∙ so
+
+-- and nothing else has changed
+pub still_alone : (old mid : Machine) (trail : TrailView OwnPair) (turn : ℕ) (safe : Bool) → OwnAlone old mid
+    → record mid { trail = trail; flow = record mid.flow { safe = safe }; shared = record mid.shared { turn = turn } }
+      ≡ record old { trail = trail; flow = record old.flow { safe = safe }; shared = record old.shared { turn = turn } }
+still_alone old mid trail turn safe alone =
+    ap (λ (m : Machine). record m { trail = trail; flow = record m.flow { safe = safe }; shared = record m.shared { turn = turn } }) alone.same
+
+-- ---- sums
+
+pub capped_le : (a b c d : ℕ) → a ≤ c → b ≤ d → capped a b ≤ capped c d
+capped_le a b c d p q = omega arith
+
+module _ (old mid : Machine) (alone : OwnAlone old mid) where
+  -- the pairs of all parts, where the own ones are counted already
+  pub pairs_from : (own : ℕ) → own ≡ noted_by old.trail
+      → capped (capped (capped (capped (capped (capped own (noted_by mid.flow.threads.trail)) (noted_by mid.flow.stack.trail)) (noted_by mid.flow.choices.trail))
+          (noted_by mid.shared.globals.trail)) (noted_by mid.shared.counts.trail)) (noted_by mid.output.trail) ≡ pairs_in old
+  pairs_from own is =
+      ap (λ (m : Machine). capped (capped (capped (capped (capped (capped own (noted_by m.flow.threads.trail)) (noted_by m.flow.stack.trail)) (noted_by m.flow.choices.trail))
+          (noted_by m.shared.globals.trail)) (noted_by m.shared.counts.trail)) (noted_by m.output.trail)) alone.same
+      ∙ ap (λ n. capped (capped (capped (capped (capped (capped n (noted_by old.flow.threads.trail)) (noted_by old.flow.stack.trail)) (noted_by old.flow.choices.trail))
+          (noted_by old.shared.globals.trail)) (noted_by old.shared.counts.trail)) (noted_by old.output.trail)) is
+
+  -- no more pairs than writes
+  pub few_pairs : (own threads stack choices globals counts page : ℕ) → own ≤ writes_of old.trail.undo → threads ≤ writes_of mid.flow.threads.trail.undo
+      → stack ≤ writes_of mid.flow.stack.trail.undo → choices ≤ writes_of mid.flow.choices.trail.undo → globals ≤ writes_of mid.shared.globals.trail.undo
+      → counts ≤ writes_of mid.shared.counts.trail.undo → page ≤ writes_of mid.output.trail.undo
+      → capped (capped (capped (capped (capped (capped own threads) stack) choices) globals) counts) page ≤ writes_in old
+  few_pairs own threads stack choices globals counts page a b c d e f g =
+      let t : threads ≤ writes_of old.flow.threads.trail.undo = subst (λ (m : Machine). threads ≤ writes_of m.flow.threads.trail.undo) alone.same b in
+      let v : stack ≤ writes_of old.flow.stack.trail.undo = subst (λ (m : Machine). stack ≤ writes_of m.flow.stack.trail.undo) alone.same c in
+      let w : choices ≤ writes_of old.flow.choices.trail.undo = subst (λ (m : Machine). choices ≤ writes_of m.flow.choices.trail.undo) alone.same d in
+      let x : globals ≤ writes_of old.shared.globals.trail.undo = subst (λ (m : Machine). globals ≤ writes_of m.shared.globals.trail.undo) alone.same e in
+      let y : counts ≤ writes_of old.shared.counts.trail.undo = subst (λ (m : Machine). counts ≤ writes_of m.shared.counts.trail.undo) alone.same f in
+      let z : page ≤ writes_of old.output.trail.undo = subst (λ (m : Machine). page ≤ writes_of m.output.trail.undo) alone.same g in
+      capped_le _ _ _ _ (capped_le _ _ _ _ (capped_le _ _ _ _ (capped_le _ _ _ _ (capped_le _ _ _ _ (capped_le _ _ _ _ a t) v) w) x) y) z
