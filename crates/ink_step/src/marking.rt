@@ -69,6 +69,7 @@ impl Machine {
 
     /// Makes room for so many changes to be noted in each part without memory. The one error is a refused request for memory, and
     /// leaves all as it was.
+    #[tactic(auto, unfolding(crate::specs::Marks::own_spare, crate::specs::Marks::own_stood, ink_trail::specs::Undo::spare, ink_trail::specs::Undo::stood_at))]
     pub fn make_room(&mut self, count: usize) -> Result<(), AllocError>
         ensures config { (s : StoryTree) → config_of s self.new ≡ config_of s self.old }
         ensures start { start_of self.new ≡ start_of self.old }
