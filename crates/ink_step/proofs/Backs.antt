@@ -1,28 +1,18 @@
--- What a mark begins with, and what goes back.
-use Rattle.std.proofs.Common.{◌≡◌, ◌∙◌, ◌≤◌, ℕ, Bool, List, [], ◌∷◌, Option, Some, None, ap, arith, map, refl, subst, sym, unwrap_or}
+-- Going back to a mark.
+use Rattle.std.proofs.Common.{◌≡◌, ◌∙◌, ◌≤◌, ℕ, ap, arith, map, subst, sym, unwrap_or}
 use Rattle.ink_choice.specs.Undo.{choices_stood}
 use Rattle.ink_model.specs.Configuration.{Configuration, map_choice}
 use Rattle.ink_model.specs.Frames.{map_threads}
 use Rattle.ink_model.specs.Tree.{StoryTree}
 use Rattle.ink_out.specs.Undo.{output_stood}
 use Rattle.ink_stack.specs.Undo.{threads_stood}
-use Rattle.ink_step.specs.Marks.{Own, Stood, capped, config_back, marked_at, noted_by, own_back, own_of, own_stood, pairs_in, writes_in}
+use Rattle.ink_step.specs.Marks.{Own, capped, config_back, noted_by, own_of, own_stood, pairs_in, writes_in}
 use Rattle.ink_step.specs.Words.{counts_in}
 use Rattle.ink_step.specs.declared.machine.Machine.{Machine}
-use Rattle.ink_step.specs.declared.own.OwnPair.{OwnPair}
-use Rattle.ink_trail.proofs.Undoing.{stood-back}
-use Rattle.ink_trail.specs.Undo.{TrailView, trail_of, undone, writes_of}
+use Rattle.ink_trail.specs.Undo.{writes_of}
 use Rattle.ink_tree.specs.Nodes.{place_of}
 use Rattle.ink_value.specs.Undo.{stack_stood}
 use Rattle.ink_vars.specs.Undo.{counts_stood, globals_stood}
-
--- ---- a mark begins
-
--- first the machine's own fields have one
-pub own_marked : (old mid : Machine) → mid ≡ record old { trail = mid.trail } → own_stood mid.trail old.shared.turn old.flow.safe ≡ Some (own_of old)
-    → record (marked_at mid) { own = own_stood mid.trail mid.shared.turn mid.flow.safe } ≡ marked_at old
-own_marked old mid same own =
-    subst (λ (m : Machine). record (marked_at m) { own = own_stood mid.trail m.shared.turn m.flow.safe } ≡ marked_at old) (sym same) (ap (λ (o : Option Own). record (marked_at old) { own = o }) own)
 
 -- ---- going back
 
@@ -55,22 +45,6 @@ pub record OwnAlone (old new : Machine) : Type 0 where
 pub own_goes_back : (s : StoryTree) (old mid : Machine) → OwnAlone old mid → own_of mid ≡ unwrap_or (own_stood old.trail old.shared.turn old.flow.safe) (own_of old)
     → config_with s (own_of mid) mid ≡ config_back s old
 own_goes_back s old mid alone own = ap (config_with s (own_of mid)) alone.same ∙ ap (λ (o : Own). config_with s o old) own
-
--- the fields that are put back
-pub fields_back : (trail : TrailView OwnPair) (own : Own) → undone own_back (trail_of trail.undo) own ≡ unwrap_or (own_stood trail own.turn own.safe) own
-unfolding own_stood
-fields_back trail own = stood-back own_back trail own
-
--- the last pair goes back
-pub pair_back : (e : OwnPair) (es fs : List OwnPair) (own last : Own) → fs ≡ e ∷ es → undone own_back fs own ≡ last → undone own_back es (own_back e own) ≡ last
-pair_back e es fs own last is so = sym (ap (λ xs. undone own_back xs own) is) ∙ so
-
--- and nothing else has changed
-pub still_alone : (old mid : Machine) (trail : TrailView OwnPair) (turn : ℕ) (safe : Bool) → OwnAlone old mid
-    → record mid { trail = trail; flow = record mid.flow { safe = safe }; shared = record mid.shared { turn = turn } }
-      ≡ record old { trail = trail; flow = record old.flow { safe = safe }; shared = record old.shared { turn = turn } }
-still_alone old mid trail turn safe alone =
-    ap (λ (m : Machine). record m { trail = trail; flow = record m.flow { safe = safe }; shared = record m.shared { turn = turn } }) alone.same
 
 -- ---- sums
 
