@@ -55,12 +55,12 @@ module _ (old mid : Machine) (alone : OwnAlone old mid) where
   -- the pairs of all parts, where the own ones are counted already
   pub pairs_from : (own : ℕ) → own ≡ noted_by old.trail
       → capped (capped (capped (capped (capped (capped own (noted_by mid.flow.threads.trail)) (noted_by mid.flow.stack.trail)) (noted_by mid.flow.choices.trail))
-          (noted_by mid.shared.globals.trail)) (noted_by mid.shared.counts.trail)) (noted_by mid.output.trail) ≡ pairs_in old
+      (noted_by mid.shared.globals.trail)) (noted_by mid.shared.counts.trail)) (noted_by mid.output.trail) ≡ pairs_in old
   pairs_from own is =
       ap (λ (m : Machine). capped (capped (capped (capped (capped (capped own (noted_by m.flow.threads.trail)) (noted_by m.flow.stack.trail)) (noted_by m.flow.choices.trail))
-          (noted_by m.shared.globals.trail)) (noted_by m.shared.counts.trail)) (noted_by m.output.trail)) alone.same
+      (noted_by m.shared.globals.trail)) (noted_by m.shared.counts.trail)) (noted_by m.output.trail)) alone.same
       ∙ ap (λ n. capped (capped (capped (capped (capped (capped n (noted_by old.flow.threads.trail)) (noted_by old.flow.stack.trail)) (noted_by old.flow.choices.trail))
-          (noted_by old.shared.globals.trail)) (noted_by old.shared.counts.trail)) (noted_by old.output.trail)) is
+      (noted_by old.shared.globals.trail)) (noted_by old.shared.counts.trail)) (noted_by old.output.trail)) is
 
   -- no more pairs than writes
   pub few_pairs : (own threads stack choices globals counts page : ℕ) → own ≤ writes_of old.trail.undo → threads ≤ writes_of mid.flow.threads.trail.undo

@@ -1,16 +1,14 @@
 //! Marks: a machine goes back to where it stood at one (docs/RUNNING.md, "Marks").
 
-ghost use Rattle.std.specs.Prelude.{◌≡◌, ◌≤◌, min, OnOk};
+ghost use Rattle.std.specs.Prelude.{◌≡◌, ◌≤◌};
 ghost use Rattle.ink_model.specs.Tree.{StoryTree};
-ghost use Rattle.ink_step.specs.Marks.{config_back, marked_at, own_of, own_spare, own_stood, pairs_in, stood_of, unmarked, writes_in};
-ghost use Rattle.ink_trail.specs.Undo.{trail_of, writes_of};
+ghost use Rattle.ink_step.specs.Marks.{config_back, marked_at, pairs_in, stood_of, unmarked, writes_in};
 
 use crate::machine::Machine;
-use crate::own::OwnPair;
 use std::alloc::AllocError;
 
 impl Machine {
-    ghost use Rattle.ink_step.specs.Words.{config_of, globals_of, start_of};
+    ghost use Rattle.ink_step.specs.Words.{config_of, start_of};
 
     /// Starts a mark, at which all stands as it does now, and forgets an older one. Takes no memory.
     pub fn mark(&mut self)

@@ -19,8 +19,20 @@ returns-clause-mark c =
 pub returns-clause-pairs : goal.returns-clause-pairs
 returns-clause-pairs c =
     let alone : OwnAlone c.args.self.now c.back_own-own.new.self = record { same = c.back_own-own.ensures.same } in
-    rw (c.saturating_add-6.ensures, c.saturating_add-5.ensures, c.saturating_add-4.ensures, c.saturating_add-3.ensures, c.saturating_add-2.ensures, c.saturating_add.ensures,
-    c.back-threads.ensures.len, c.back-stack.ensures.len, c.back-choices.ensures.len, c.back-globals.ensures.len, c.back-counts.ensures.len, c.back-output.ensures.len)
+    rw (
+      c.saturating_add-6.ensures,
+      c.saturating_add-5.ensures,
+      c.saturating_add-4.ensures,
+      c.saturating_add-3.ensures,
+      c.saturating_add-2.ensures,
+      c.saturating_add.ensures,
+      c.back-threads.ensures.len,
+      c.back-stack.ensures.len,
+      c.back-choices.ensures.len,
+      c.back-globals.ensures.len,
+      c.back-counts.ensures.len,
+      c.back-output.ensures.len,
+    )
     (pairs_from c.args.self.now c.back_own-own.new.self alone c.back_own-own.result c.back_own-own.ensures.len)
 
 pub returns-clause-few : goal.returns-clause-few
