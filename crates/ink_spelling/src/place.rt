@@ -2,6 +2,7 @@
 
 ghost use Rattle.std.specs.Prelude.{◌≡◌};
 ghost use Rattle.serde_json.specs.View.{number_view};
+ghost use Rattle.ink_model.specs.Save.Asks.{place_asks, text_asks};
 ghost use Rattle.ink_model.specs.Save.Unspelled.{any_place_of, index_of, part_of};
 
 use crate::listed::Listed;
@@ -12,6 +13,8 @@ use std::alloc::{AllocError, Global};
 
 impl Spelled for Part {
     ghost spelled = { λ j. part_of j };
+
+    ghost asks = { λ j. text_asks j };
 
     fn read(alloc: Global, json: &Json) -> Result<Option<Part>, AllocError> {
         match json {
@@ -37,6 +40,8 @@ fn small_index(number: &Number) -> Option<Part>
 
 impl Spelled for Option<Listed<Part>> {
     ghost spelled = { λ j. any_place_of j };
+
+    ghost asks = { λ j. place_asks j };
 
     fn read(alloc: Global, json: &Json) -> Result<Option<Option<Listed<Part>>>, AllocError> {
         match json {

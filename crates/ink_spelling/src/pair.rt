@@ -1,9 +1,10 @@
 //! Pairs: arrays of two.
 
-ghost use Rattle.std.specs.Prelude.{◌≡◌, IfOk, option_map};
+ghost use Rattle.std.specs.Prelude.{◌≡◌, IfOk, OnErr, option_map, true};
 ghost use Rattle.serde_json.specs.Data.{array};
 ghost use Rattle.serde_json.specs.View.{items_view, view};
-ghost use Rattle.ink_save.specs.Words.{pair_by, two_in};
+ghost use Rattle.ink_spelling.specs.Words.{pair_by, two_ask, two_in};
+ghost use Rattle.ink_model.specs.Save.Asks.{pair_asks};
 ghost use Rattle.ink_model.specs.Save.Unspelled.{pair_of};
 
 use crate::spelled::Spelled;
@@ -12,6 +13,8 @@ use std::alloc::{AllocError, Global};
 
 impl<A: Spelled + Drop, B: Spelled + Drop> Spelled for (A, B) {
     ghost spelled = { λ j. pair_of A.spelled B.spelled j };
+
+    ghost asks = { λ j. pair_asks A.spelled A.asks B.asks j };
 
     fn read(alloc: Global, json: &Json) -> Result<Option<(A, B)>, AllocError> {
         match json {
@@ -28,7 +31,8 @@ fn read_array<A: Spelled + Drop, B: Spelled + Drop>(
     alloc: Global,
     items: &[Json],
 ) -> Result<Option<(A, B)>, AllocError>
-    ensures { IfOk result (λ found. found ≡ pair_of A.spelled B.spelled (array (items_view items.now))) }
+    ensures found { IfOk result (λ found. found ≡ pair_of A.spelled B.spelled (array (items_view items.now))) }
+    ensures memory { OnErr result (pair_asks A.spelled A.asks B.asks (array (items_view items.now)) ≡ true) }
 {
     read_two(alloc, items)
 }
@@ -38,7 +42,8 @@ fn read_two<A: Spelled + Drop, B: Spelled + Drop>(
     alloc: Global,
     items: &[Json],
 ) -> Result<Option<(A, B)>, AllocError>
-    ensures { IfOk result (λ found. found ≡ pair_by A.spelled B.spelled (two_in (items_view items.now))) }
+    ensures found { IfOk result (λ found. found ≡ pair_by A.spelled B.spelled (two_in (items_view items.now))) }
+    ensures memory { OnErr result (two_ask A.spelled A.asks B.asks (two_in (items_view items.now)) ≡ true) }
 {
     let Some((first, second)) = two(items) else {
         return Ok(None);

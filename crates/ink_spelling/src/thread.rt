@@ -1,7 +1,8 @@
 //! Threads.
 
-ghost use Rattle.std.specs.Prelude.{◌≡◌, IfOk, reverse};
+ghost use Rattle.std.specs.Prelude.{◌≡◌, IfOk, OnErr, reverse, true};
 ghost use Rattle.serde_json.specs.View.{members_view};
+ghost use Rattle.ink_model.specs.Save.Asks.{thread_asks, thread_asks_by};
 ghost use Rattle.ink_model.specs.Save.Unspelled.{thread_by, thread_in, thread_with, threads_with};
 
 use crate::frame::SavedFrame;
@@ -49,6 +50,8 @@ impl SavedThread {
 impl Spelled for SavedThread {
     ghost spelled = { λ j. thread_in j };
 
+    ghost asks = { λ j. thread_asks j };
+
     fn read(alloc: Global, json: &Json) -> Result<Option<SavedThread>, AllocError> {
         match json {
             Json::Object(members) => read_members(alloc, members),
@@ -64,7 +67,8 @@ fn read_members(
     alloc: Global,
     members: &Map<String, Json>,
 ) -> Result<Option<SavedThread>, AllocError>
-    ensures { IfOk result (λ thread. thread ≡ thread_by (members_view members.now.entries)) }
+    ensures found { IfOk result (λ thread. thread ≡ thread_by (members_view members.now.entries)) }
+    ensures memory { OnErr result (thread_asks_by (members_view members.now.entries) ≡ true) }
 {
     let mut rest = members.iter();
     let Some(json) = next_named(&mut rest, "frames") else {

@@ -8,7 +8,7 @@ use Rattle.std.specs.Prelude.{String, string_bytes}
 use Rattle.std.specs.declared.alloc.Global.{Global}
 use Rattle.serde_json.specs.View.{members_view}
 use Rattle.ink_model.specs.declared.value.Value.{Value as Spelled}
-use Rattle.ink_save.specs.Words.{pair_by, two_in}
+use Rattle.ink_spelling.specs.Words.{pair_by, two_in}
 use Rattle.ink_model.specs.Save.Unspelled.{all_of, pair_of, rows_of, value_of}
 
 -- what is read in the end, of what is made and of the elements that are left

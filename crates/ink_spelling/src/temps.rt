@@ -1,7 +1,8 @@
 //! Temporaries of frames.
 
-ghost use Rattle.std.specs.Prelude.{◌≡◌, ◌++◌, ◌∷◌, [], IfOk, OnOk};
+ghost use Rattle.std.specs.Prelude.{◌≡◌, ◌++◌, ◌∷◌, [], IfOk, OnErr, OnOk, true};
 ghost use Rattle.serde_json.specs.View.{members_view};
+ghost use Rattle.ink_model.specs.Save.Asks.{rows_ask, temps_ask};
 ghost use Rattle.ink_model.specs.Save.Unspelled.{rows_of, temps_of};
 
 use crate::plain::shared_text;
@@ -38,6 +39,8 @@ impl SavedTemps {
 impl Spelled for SavedTemps {
     ghost spelled = { λ j. temps_of j };
 
+    ghost asks = { λ j. temps_ask j };
+
     fn read(alloc: Global, json: &Json) -> Result<Option<SavedTemps>, AllocError> {
         match json {
             Json::Object(members) => read_rows(alloc, members),
@@ -65,7 +68,8 @@ fn add_row(
 // The rows that members spell. The one error is a refused request for memory.
 #[tactic(auto, using(crate::proofs::Lists::rows_more))]
 fn read_rows(alloc: Global, members: &Map<String, Json>) -> Result<Option<SavedTemps>, AllocError>
-    ensures { IfOk result (λ temps. temps ≡ rows_of (members_view members.now.entries)) }
+    ensures found { IfOk result (λ temps. temps ≡ rows_of (members_view members.now.entries)) }
+    ensures memory { OnErr result (rows_ask (members_view members.now.entries) ≡ true) }
 {
     let mut rows = Vec::new(alloc);
     let mut rest = members.iter();

@@ -1,8 +1,8 @@
 use Rattle.std.proofs.Common.{◌≡◌, length}
 use Rattle.serde_json.specs.View.{members_view}
 use Rattle.ink_model.specs.Save.Unspelled.{rows_of}
-use Rattle.ink_save.proofs.Lists.{rows_left}
-use Rattle.ink_save.proofs.temps.read_rows.Given as goal
+use Rattle.ink_spelling.proofs.Lists.{rows_left}
+use Rattle.ink_spelling.proofs.temps.read_rows.Given as goal
 
 abbrev pub invariant-loop-name : goal.invariant-loop-name
 invariant-loop-name l = rows_left l.rows.items l.rest ≡ rows_of (members_view l.members.entries)

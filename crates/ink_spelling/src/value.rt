@@ -1,11 +1,12 @@
 //! Values.
 
-ghost use Rattle.std.specs.Prelude.{◌≡◌, IfOk, IfSome, option_map};
+ghost use Rattle.std.specs.Prelude.{◌≡◌, IfOk, IfSome, OnErr, is_some, option_map, true};
 ghost use Rattle.serde_json.specs.View.{members_view, number_view, view};
 ghost use Rattle.ink_model.specs.Path as rules;
+ghost use Rattle.ink_model.specs.Save.Asks.{object_asks, path_asks, pointer_asks, tag_asks, target_asks, value_asks};
 ghost use Rattle.ink_model.specs.Save.Unspelled.{number_integer, path_in, pointer_in, tag_in, target_in, value_of};
 ghost use Rattle.ink_model.specs.declared.value.Value.TheVariants.{Int};
-ghost use Rattle.ink_save.specs.Words.{IsRead, ReadsSame, path_of, value_by};
+ghost use Rattle.ink_spelling.specs.Words.{IsRead, ReadsSame, path_of, value_by};
 
 use crate::members::{alone, next_named};
 use crate::plain::{shared_text, small_integer};
@@ -24,7 +25,7 @@ pub struct SavedValue {
 
 impl Model for SavedValue {
     ghost use Rattle.ink_model.specs.declared.value.Value as model;
-    ghost use Rattle.ink_save.specs.Words.{IsRead};
+    ghost use Rattle.ink_spelling.specs.Words.{IsRead};
 
     ghost Value = { model.Value };
 
@@ -54,6 +55,8 @@ impl SavedValue {
 impl Spelled for SavedValue {
     ghost spelled = { λ j. value_of j };
 
+    ghost asks = { λ j. value_asks j };
+
     fn read(alloc: Global, json: &Json) -> Result<Option<SavedValue>, AllocError> {
         match read_value(alloc, json)? {
             Some(value) => Ok(Some(SavedValue { value })),
@@ -66,6 +69,7 @@ impl Spelled for SavedValue {
 fn read_value(alloc: Global, json: &Json) -> Result<Option<Value>, AllocError>
     ensures value { IfOk result (λ value. value ≡ value_of (view json.now)) }
     ensures read { IfOk result (λ value. IfSome value IsRead) }
+    ensures memory { OnErr result (value_asks (view json.now) ≡ true) }
 {
     match json {
         Json::Null => Ok(Some(Value::Void)),
@@ -92,6 +96,7 @@ fn whole(number: &Number) -> Option<Value>
 fn read_members(alloc: Global, members: &Map<String, Json>) -> Result<Option<Value>, AllocError>
     ensures value { IfOk result (λ value. value ≡ value_by (members_view members.now.entries)) }
     ensures read { IfOk result (λ value. IfSome value IsRead) }
+    ensures memory { OnErr result (object_asks (members_view members.now.entries) ≡ true) }
 {
     if let Some(target) = read_target(alloc, members)? {
         return Ok(Some(target));
@@ -105,6 +110,7 @@ fn read_members(alloc: Global, members: &Map<String, Json>) -> Result<Option<Val
 fn read_target(alloc: Global, members: &Map<String, Json>) -> Result<Option<Value>, AllocError>
     ensures value { IfOk result (λ target. target ≡ target_in (members_view members.now.entries)) }
     ensures read { IfOk result (λ target. IfSome target IsRead) }
+    ensures memory { OnErr result (target_asks (members_view members.now.entries) ≡ true) }
 {
     let mut rest = members.iter();
     let Some(json) = next_named(&mut rest, "->") else {
@@ -119,6 +125,7 @@ fn read_target(alloc: Global, members: &Map<String, Json>) -> Result<Option<Valu
 fn read_pointer(alloc: Global, members: &Map<String, Json>) -> Result<Option<Value>, AllocError>
     ensures value { IfOk result (λ pointer. pointer ≡ pointer_in (members_view members.now.entries)) }
     ensures read { IfOk result (λ pointer. IfSome pointer IsRead) }
+    ensures memory { OnErr result (pointer_asks (members_view members.now.entries) ≡ true) }
 {
     let mut rest = members.iter();
     let Some(json) = next_named(&mut rest, "ci") else {
@@ -139,6 +146,7 @@ fn read_pointer(alloc: Global, members: &Map<String, Json>) -> Result<Option<Val
 fn read_tag(alloc: Global, members: &Map<String, Json>) -> Result<Option<Value>, AllocError>
     ensures value { IfOk result (λ tag. tag ≡ tag_in (members_view members.now.entries)) }
     ensures read { IfOk result (λ tag. IfSome tag IsRead) }
+    ensures memory { OnErr result (tag_asks (members_view members.now.entries) ≡ true) }
 {
     let mut rest = members.iter();
     let Some(json) = next_named(&mut rest, "tag") else {
@@ -154,6 +162,7 @@ fn read_tag(alloc: Global, members: &Map<String, Json>) -> Result<Option<Value>,
 fn read_spelled(alloc: Global, json: &Json) -> Result<Option<Shared<Path>>, AllocError>
     ensures path { IfOk result (λ path. path ≡ path_in (view json.now)) }
     ensures read { IfOk result (λ path. IfSome path ReadsSame) }
+    ensures memory { OnErr result (path_asks (view json.now) ≡ true) }
 {
     match json {
         Json::String(text) => shared_path(alloc, text.as_str()),
@@ -166,6 +175,7 @@ fn read_spelled(alloc: Global, json: &Json) -> Result<Option<Shared<Path>>, Allo
 fn shared_path(alloc: Global, text: &str) -> Result<Option<Shared<Path>>, AllocError>
     ensures path { IfOk result (λ path. path ≡ path_of text.now) }
     ensures read { IfOk result (λ path. IfSome path ReadsSame) }
+    ensures memory { OnErr result (is_some (rules.read_path text.now) ≡ true) }
 {
     match spelled_path(alloc, text)? {
         Some(path) => Ok(Some(Shared::new(alloc, path)?)),
@@ -177,6 +187,7 @@ fn shared_path(alloc: Global, text: &str) -> Result<Option<Shared<Path>>, AllocE
 fn spelled_path(alloc: Global, text: &str) -> Result<Option<Path>, AllocError>
     ensures path { IfOk result (λ path. path ≡ path_of text.now) }
     ensures read { IfOk result (λ path. IfSome path ReadsSame) }
+    ensures memory { OnErr result (is_some (rules.read_path text.now) ≡ true) }
 {
     let Some(path) = any_path(alloc, text)? else {
         return Ok(None);
@@ -191,7 +202,8 @@ fn spelled_path(alloc: Global, text: &str) -> Result<Option<Path>, AllocError>
 
 // The path that a text is, however it is spelled. The one error is a refused request for memory.
 fn any_path(alloc: Global, text: &str) -> Result<Option<Path>, AllocError>
-    ensures { IfOk result (λ path. path ≡ rules.read_path text.now) }
+    ensures path { IfOk result (λ path. path ≡ rules.read_path text.now) }
+    ensures memory { OnErr result (is_some (rules.read_path text.now) ≡ true) }
 {
     match read_path(alloc, text) {
         Ok(path) => Ok(Some(path)),

@@ -3,6 +3,7 @@
 ghost use Rattle.std.specs.Prelude.{◌≡◌, IfOk};
 ghost use Rattle.serde_json.specs.Find.{as_u64};
 ghost use Rattle.serde_json.specs.View.{number_view};
+ghost use Rattle.ink_model.specs.Save.Asks.{none_asks, text_asks};
 ghost use Rattle.ink_model.specs.Save.Unspelled.{count_of, int_of, number_integer, text_of, truth_of};
 
 use crate::spelled::Spelled;
@@ -12,6 +13,8 @@ use std::alloc::{AllocError, Global};
 
 impl Spelled for i32 {
     ghost spelled = { λ j. int_of j };
+
+    ghost asks = { λ j. none_asks j };
 
     fn read(_alloc: Global, json: &Json) -> Result<Option<i32>, AllocError> {
         match json {
@@ -40,6 +43,8 @@ pub(crate) fn small_integer(number: &Number) -> Option<i32>
 impl Spelled for u64 {
     ghost spelled = { λ j. count_of j };
 
+    ghost asks = { λ j. none_asks j };
+
     fn read(_alloc: Global, json: &Json) -> Result<Option<u64>, AllocError> {
         match json {
             Json::Number(number) => Ok(natural(number)),
@@ -59,6 +64,8 @@ fn natural(number: &Number) -> Option<u64>
 impl Spelled for bool {
     ghost spelled = { λ j. truth_of j };
 
+    ghost asks = { λ j. none_asks j };
+
     fn read(_alloc: Global, json: &Json) -> Result<Option<bool>, AllocError> {
         match json {
             Json::Bool(truth) => Ok(Some(*truth)),
@@ -72,6 +79,8 @@ impl Spelled for bool {
 impl Spelled for Text {
     ghost spelled = { λ j. text_of j };
 
+    ghost asks = { λ j. text_asks j };
+
     fn read(alloc: Global, json: &Json) -> Result<Option<Text>, AllocError> {
         match json {
             Json::String(text) => Ok(Some(Text::from_str(alloc, text.as_str())?)),
@@ -84,6 +93,8 @@ impl Spelled for Text {
 
 impl Spelled for Shared<Text> {
     ghost spelled = { λ j. text_of j };
+
+    ghost asks = { λ j. text_asks j };
 
     fn read(alloc: Global, json: &Json) -> Result<Option<Shared<Text>>, AllocError> {
         match json {

@@ -1,7 +1,8 @@
 //! Frames.
 
-ghost use Rattle.std.specs.Prelude.{◌≡◌, IfOk};
+ghost use Rattle.std.specs.Prelude.{◌≡◌, IfOk, OnErr, true};
 ghost use Rattle.serde_json.specs.View.{members_view};
+ghost use Rattle.ink_model.specs.Save.Asks.{frame_asks, frame_asks_by, none_asks};
 ghost use Rattle.ink_model.specs.Save.Unspelled.{frame_by, frame_of, kind_by, kind_of};
 
 use crate::listed::Listed;
@@ -37,6 +38,8 @@ impl Model for SavedFrame {
 impl Spelled for SavedFrame {
     ghost spelled = { λ j. frame_of j };
 
+    ghost asks = { λ j. frame_asks j };
+
     fn read(alloc: Global, json: &Json) -> Result<Option<SavedFrame>, AllocError> {
         match json {
             Json::Object(members) => read_members(alloc, members),
@@ -52,7 +55,8 @@ fn read_members(
     alloc: Global,
     members: &Map<String, Json>,
 ) -> Result<Option<SavedFrame>, AllocError>
-    ensures { IfOk result (λ frame. frame ≡ frame_by (members_view members.now.entries)) }
+    ensures found { IfOk result (λ frame. frame ≡ frame_by (members_view members.now.entries)) }
+    ensures memory { OnErr result (frame_asks_by (members_view members.now.entries) ≡ true) }
 {
     let mut rest = members.iter();
     let Some(json) = next_named(&mut rest, "depth") else {
@@ -104,6 +108,8 @@ fn read_members(
 
 impl Spelled for FrameKind {
     ghost spelled = { λ j. kind_of j };
+
+    ghost asks = { λ j. none_asks j };
 
     fn read(_alloc: Global, json: &Json) -> Result<Option<FrameKind>, AllocError> {
         match json {

@@ -1,7 +1,8 @@
 //! What a save spells.
 
-ghost use Rattle.std.specs.Prelude.{◌≡◌, IfOk, is_some};
+ghost use Rattle.std.specs.Prelude.{◌≡◌, IfOk, OnErr, is_some, true};
 ghost use Rattle.serde_json.specs.View.{members_view, view};
+ghost use Rattle.ink_model.specs.Save.Asks.{load_asks, members_ask, threads_ask, turn_asks};
 ghost use Rattle.ink_model.specs.Save.Unspelled.{format_of, from_threads, from_turn, unspelled, unspelled_by};
 
 use crate::choice::SavedChoice;
@@ -42,9 +43,11 @@ impl Model for Saved {
     } };
 }
 
-/// The configuration that a JSON value spells, if it spells one. The one error is a refused request for memory.
+/// The configuration that a JSON value spells, if it spells one. The one error is a refused request for memory, which is asked
+/// for only where something of the value is kept.
 pub fn read_saved(alloc: Global, json: &Json) -> Result<Option<Saved>, AllocError>
-    ensures { IfOk result (λ saved. saved ≡ unspelled (view json.now)) }
+    ensures saved { IfOk result (λ saved. saved ≡ unspelled (view json.now)) }
+    ensures memory { OnErr result (load_asks (view json.now) ≡ true) }
 {
     match json {
         Json::Object(members) => read_members(alloc, members),
@@ -54,7 +57,8 @@ pub fn read_saved(alloc: Global, json: &Json) -> Result<Option<Saved>, AllocErro
 
 // The configuration that members spell. The one error is a refused request for memory.
 fn read_members(alloc: Global, members: &Map<String, Json>) -> Result<Option<Saved>, AllocError>
-    ensures { IfOk result (λ saved. saved ≡ unspelled_by (members_view members.now.entries)) }
+    ensures saved { IfOk result (λ saved. saved ≡ unspelled_by (members_view members.now.entries)) }
+    ensures memory { OnErr result (members_ask (members_view members.now.entries) ≡ true) }
 {
     let mut rest = members.iter();
     let Some(json) = next_named(&mut rest, "choices") else {
@@ -99,7 +103,8 @@ fn read_threads(
     safe: bool,
     stack: Listed<SavedValue>,
 ) -> Result<Option<Saved>, AllocError>
-    ensures { IfOk result (λ saved. saved ≡ from_threads choices globals safe stack (members_view rest.old)) }
+    ensures saved { IfOk result (λ saved. saved ≡ from_threads choices globals safe stack (members_view rest.old)) }
+    ensures memory { OnErr result (threads_ask (members_view rest.old) ≡ true) }
 {
     let Some(json) = next_named(rest, "threads") else {
         return Ok(None);
@@ -120,7 +125,8 @@ fn read_turn(
     stack: Listed<SavedValue>,
     threads: Listed<SavedThread>,
 ) -> Result<Option<Saved>, AllocError>
-    ensures { IfOk result (λ saved. saved ≡ from_turn choices globals safe stack threads (members_view rest.old)) }
+    ensures saved { IfOk result (λ saved. saved ≡ from_turn choices globals safe stack threads (members_view rest.old)) }
+    ensures memory { OnErr result (turn_asks (members_view rest.old) ≡ true) }
 {
     let Some(json) = next_named(rest, "turn") else {
         return Ok(None);

@@ -1,7 +1,8 @@
 //! Choices.
 
-ghost use Rattle.std.specs.Prelude.{◌≡◌, IfOk};
+ghost use Rattle.std.specs.Prelude.{◌≡◌, IfOk, OnErr, true};
 ghost use Rattle.serde_json.specs.View.{members_view};
+ghost use Rattle.ink_model.specs.Save.Asks.{choice_asks, choice_asks_by};
 ghost use Rattle.ink_model.specs.Save.Unspelled.{choice_by, choice_of};
 
 use crate::listed::Listed;
@@ -36,6 +37,8 @@ impl Model for SavedChoice {
 impl Spelled for SavedChoice {
     ghost spelled = { λ j. choice_of j };
 
+    ghost asks = { λ j. choice_asks j };
+
     fn read(alloc: Global, json: &Json) -> Result<Option<SavedChoice>, AllocError> {
         match json {
             Json::Object(members) => read_members(alloc, members),
@@ -51,7 +54,8 @@ fn read_members(
     alloc: Global,
     members: &Map<String, Json>,
 ) -> Result<Option<SavedChoice>, AllocError>
-    ensures { IfOk result (λ choice. choice ≡ choice_by (members_view members.now.entries)) }
+    ensures found { IfOk result (λ choice. choice ≡ choice_by (members_view members.now.entries)) }
+    ensures memory { OnErr result (choice_asks_by (members_view members.now.entries) ≡ true) }
 {
     let mut rest = members.iter();
     let Some(json) = next_named(&mut rest, "hidden") else {
