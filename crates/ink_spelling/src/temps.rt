@@ -66,7 +66,6 @@ fn add_row(
 }
 
 // The rows that members spell. The one error is a refused request for memory.
-#[tactic(auto, using(crate::proofs::Lists::rows_more))]
 fn read_rows(alloc: Global, members: &Map<String, Json>) -> Result<Option<SavedTemps>, AllocError>
     ensures found { IfOk result (λ temps. temps ≡ rows_of (members_view members.now.entries)) }
     ensures memory { OnErr result (rows_ask (members_view members.now.entries) ≡ true) }
