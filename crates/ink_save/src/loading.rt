@@ -49,7 +49,6 @@ pub fn read(alloc: Global, story: &Story, json: &Json) -> Result<Machine, SaveRe
 
 // The machine that a JSON value spells, if it spells one that fits the story. The one error is a refused request for memory,
 // which only a value makes of which something is kept.
-#[tactic(auto, using(ink_spelling::proofs::Asking::spelled_asks))]
 fn read_machine(alloc: Global, tree: &Tree, json: &Json) -> Result<Option<Machine>, AllocError>
     ensures made { IfOk result (λ made. Finds (nodes.story_tree tree.now) (unspelled (view json.now)) made) }
     ensures memory { OnErr result (load_asks (view json.now) ≡ true) }
