@@ -1,7 +1,7 @@
 -- Where reading asks for memory.
-use Rattle.std.proofs.Common.{◌≡◌, ◌∙◌, ◌⊎◌, ◌<◌, ◌+◌, inl, inr, arith, ap, refl, sym, subst, zero, suc, ℕ, length, get_or, List, [], ◌∷◌, reverse, codes, String, Bool, true, false, ◌&&◌, ◌||◌, Option, Some, None, is_some, option_and_then, Result, Ok, Err, OnErr}
+use Rattle.std.proofs.Common.{◌≡◌, ◌∙◌, ◌⊎◌, ◌<◌, inl, inr, arith, refl, sym, subst, zero, suc, ℕ, length, get_or, List, [], ◌∷◌, reverse, codes, String, Bool, true, false, ◌||◌, Option, Some, None, option_and_then, Result, Ok, Err, OnErr}
 use Rattle.std.specs.Option.{option_map}
-use Rattle.serde_json.specs.Data.{Data, null, boolean, number, string, array, object, Items, no_items, item, Members}
+use Rattle.serde_json.specs.Data.{Data, array, object, Items, no_items, item, Members}
 use Rattle.serde_json.specs.View.{items_view, members_view, view}
 use Rattle.serde_json.specs.declared.value.Value.{Value}
 use Rattle.std.specs.declared.alloc.Global.{Global}

@@ -1,4 +1,4 @@
-use Rattle.std.proofs.Common.{◌≡◌, IfOk, OnErr, ap, subst, sym, true}
+use Rattle.std.proofs.Common.{◌≡◌, IfOk, OnErr, subst, sym, true}
 use Rattle.serde_json.specs.View.{items_view}
 use Rattle.ink_spelling.proofs.Asking.{pair_asks_so}
 use Rattle.ink_spelling.proofs.Lists.{pair_is}
