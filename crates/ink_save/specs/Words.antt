@@ -1,5 +1,5 @@
 -- Words for what is written.
-use Rattle.std.specs.Prelude.{ℕ, List, [], ◌∷◌, Bool, codes}
+use Rattle.std.specs.Prelude.{ℕ, [], ◌∷◌, Bool, codes}
 use Rattle.serde_json.specs.Data.{Data, boolean, object, Members, no_members, member, put}
 use Rattle.ink_model.specs.Store.{Values}
 use Rattle.ink_model.specs.ValueJson.{value_data}
