@@ -5,7 +5,7 @@ use Rattle.std.proofs.lemmas.Str.{is_utf8-from_IsUtf8}
 use Rattle.std.specs.Char.{encode_utf8}
 use Rattle.std.specs.Fmt.{digits}
 use Rattle.serde_json.proofs.OnLiterals.{serde_json_on_literals}
-use Rattle.serde_json.specs.Data.{null, number, object, no_members, member, unsigned}
+use Rattle.serde_json.specs.Data.{Data, Members, null, number, string, array, object, no_items, item, no_members, member, unsigned}
 use Rattle.ink_model.specs.Answer.{Refuses, Saves, answer}
 use Rattle.ink_model.specs.Command as command
 use Rattle.ink_model.specs.Command.{command_of, command_word, json_of, line_asks}
@@ -14,6 +14,7 @@ use Rattle.ink_model.specs.Examples.{declaring}
 use Rattle.ink_model.specs.Host.{no_objects}
 use Rattle.ink_model.specs.Opening.{opened}
 use Rattle.ink_model.specs.Place.{entered}
+use Rattle.ink_model.specs.Save.Asks.{load_asks}
 use Rattle.ink_model.specs.Save.Reads.{Reads}
 use Rattle.ink_model.specs.Save.Spelling.{spelling}
 use Rattle.ink_model.specs.Session.{Load, Save, Session, Serves}
@@ -84,6 +85,36 @@ no_spelling c h = let e = h.spells in absurd cc
 -- what spells no configuration is refused, and nothing changes
 no_save : Load declaring no_objects [] (Some null) ready (Refuses refusal.BadSave) ready
 no_save = inr (inl (no_spelling, refl, (refl, refl)))
+
+-- it is not kept for want of memory either, since nothing is kept of it
+never_without_memory : Load declaring no_objects [] (Some null) ready (Refuses refusal.OutOfMemory) ready → ⊥
+never_without_memory (inl x) = no_spelling x.loaded x.reads
+never_without_memory (inr (inl x)) = let never = x.2.0 in absurd cc
+never_without_memory (inr (inr x)) = let never = x.0 in absurd cc
+
+-- the first members of a save, and others behind them
+abbrev begun : Data → Data → Members → Data
+begun choices format others = object (member (codes "choices") choices (member (codes "format") format others))
+
+abbrev none : Data
+none = array no_items
+
+abbrev one_global : Members
+one_global = member (codes "globals") (array (item (array (item (string (codes "x")) (item null no_items))) no_items)) no_members
+
+-- another layout is found before anything is kept, and so is a choice that is none
+another_layout : load_asks (begun none (number (unsigned 2)) one_global) ≡ false
+another_layout = refl
+
+no_choice : load_asks (begun (array (item null no_items)) (number (unsigned 1)) no_members) ≡ false
+no_choice = refl
+
+-- the first text is kept, whatever comes after it
+the_name_of_a_global : load_asks (begun none (number (unsigned 1)) one_global) ≡ true
+the_name_of_a_global = refl
+
+a_load_without_memory : Load declaring no_objects [] (Some (begun none (number (unsigned 1)) one_global)) ready (Refuses refusal.OutOfMemory) ready
+a_load_without_memory = inr (inr (refl, refl, (refl, refl)))
 
 a_bad_save : answer (Refuses refusal.BadSave) ≡ codes "{\"refused\":\"BadSave\"}\n"
 unfolding answer serde_json_on_literals

@@ -4,3 +4,4 @@ pub mod Sound
 pub mod Reads
 pub mod ReadValue
 pub mod Unspelled
+pub mod Asks

@@ -19,6 +19,7 @@ use Rattle.ink_model.specs.State.{State, Condition, Ready, Broken, globals_of}
 use Rattle.ink_model.specs.Store.{Values, stored, store}
 use Rattle.ink_model.specs.Told.{ToldAs, told}
 use Rattle.ink_model.specs.Opening.{opening, Unopened}
+use Rattle.ink_model.specs.Save.Asks.{load_asks}
 use Rattle.ink_model.specs.Save.Reads.{Reads}
 use Rattle.ink_model.specs.Save.Spelling.{spelling}
 use Rattle.ink_model.specs.Turns.{Choose, Jump}
@@ -197,11 +198,12 @@ pub record Loads (s : StoryTree) (h : Bindings) (j : Data) (es : List Event) (ol
   pub reads : Reads s j loaded
   pub tells : TellsOrKeeps (told h.watches (globals_of old.condition) loaded.shared.globals) (Ready loaded) es old reply new
 
--- `load`, also of a broken player: a value that reads as no configuration is refused, and any value may find no memory
+-- `load`, also of a broken player: a value that reads as no configuration is refused, and only one of which something is kept may
+-- find no memory
 abbrev pub LoadsBy : StoryTree → Bindings → Data → List Event → State → Reply → State → Type 0
 LoadsBy s h j es old reply new = Loads s h j es old reply new
     ⊎ (((c : Configuration) → Reads s j c → ⊥) × (es ≡ []) × Keeps (Refuses refusal.BadSave) old reply new)
-    ⊎ ((es ≡ []) × FailsAllocation old reply new)
+    ⊎ ((load_asks j ≡ true) × (es ≡ []) × FailsAllocation old reply new)
 
 -- what is no JSON is refused alike
 abbrev pub Load : StoryTree → Bindings → List Event → Option Data → State → Reply → State → Type 0

@@ -104,7 +104,7 @@ module _ (s : StoryTree) (h : Bindings) (j : Data) (old : State) where
 
   pub load-refused : (r : Refusal) → NotLoaded s j r → Load s h [] (Some j) old (Refuses r) old
   load-refused r (inl x) = inr (inl (x.1, refl, (ap (λ y. Refuses y) x.0, refl)))
-  load-refused r (inr x) = inr (inr (refl, (ap (λ y. Refuses y) x, refl)))
+  load-refused r (inr x) = inr (inr (x.1, refl, (ap (λ y. Refuses y) x.0, refl)))
 
   -- ---- what is there then
 
@@ -126,7 +126,7 @@ module _ (s : StoryTree) (h : Bindings) (j : Data) (old : State) where
       tells cs (inl done) = loaded-stands x.loaded events es new done.all x.reads done.replies (ap (λ st. st.condition) done.leaves)
       tells cs (inr kept) = absurd (let never = kept.2.0 in cc)
   load-stands es (Ok events) new (inr (inl x)) = absurd (let never = x.2.0 in cc)
-  load-stands es (Ok events) new (inr (inr x)) = absurd (let never = x.1.0 in cc)
+  load-stands es (Ok events) new (inr (inr x)) = absurd (let never = x.2.0 in cc)
 
   -- a value that reads is loaded, unless memory is refused
   pub load-reads : (es : List Event) (reply : Reply) (new : State) → StoryFits s → Load s h es (Some j) old reply new → (c : Configuration) → Reads s j c → LoadsAs c reply new.condition
@@ -137,4 +137,4 @@ module _ (s : StoryTree) (h : Bindings) (j : Data) (old : State) where
           (subst (λ st. LoadsAs x.loaded (reply_told done.all (Acts es) es) st.condition) (sym done.leaves) (loaded-as x.loaded es done.all))
       tells cs (inr kept) = subst (λ y. LoadsAs x.loaded y new.condition) (sym kept.2.0) refl
   load-reads es reply new story (inr (inl x)) c reads = absurd (x.0 c reads)
-  load-reads es reply new story (inr (inr x)) c reads = subst (λ y. LoadsAs c y new.condition) (sym x.1.0) refl
+  load-reads es reply new story (inr (inr x)) c reads = subst (λ y. LoadsAs c y new.condition) (sym x.2.0) refl

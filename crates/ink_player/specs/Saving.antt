@@ -1,11 +1,12 @@
 -- What a machine is saved as, and what a save is loaded as (docs/SAVES.md).
-use Rattle.std.specs.Prelude.{◌≡◌, ◌⊎◌, ℕ, List, Result, Ok, Err}
+use Rattle.std.specs.Prelude.{◌≡◌, ◌⊎◌, ℕ, List, true, Result, Ok, Err}
 use Rattle.serde_json.specs.Data.{Data}
 use Rattle.serde_json.specs.View.{view}
 use Rattle.serde_json.specs.Written.{compact_text}
 use Rattle.serde_json.specs.declared.value.Value.{Value}
 use Rattle.ink_model.specs.Answer.{Reply, Acts, Breaks, Refuses}
 use Rattle.ink_model.specs.Configuration.{Configuration}
+use Rattle.ink_model.specs.Save.Asks.{load_asks}
 use Rattle.ink_model.specs.Save.Reads.{Reads}
 use Rattle.ink_model.specs.Save.Spelling.{spelling}
 use Rattle.ink_model.specs.State.{State, Condition, Ready, Broken}
@@ -26,9 +27,9 @@ abbrev pub IsSaveText : Configuration → Result (List ℕ) Refusal → Type 0
 IsSaveText c (Ok text) = text ≡ compact_text (spelling c)
 IsSaveText c (Err r) = r ≡ refusal.OutOfMemory
 
--- why no machine was made of a value: it reads as no configuration, or memory was refused
+-- why no machine was made of a value: it reads as no configuration, or something of it is kept, and memory was refused
 abbrev pub NotLoaded : StoryTree → Data → Refusal → Type 0
-NotLoaded s j r = ((r ≡ refusal.BadSave) × ((c : Configuration) → Reads s j c → ⊥)) ⊎ (r ≡ refusal.OutOfMemory)
+NotLoaded s j r = ((r ≡ refusal.BadSave) × ((c : Configuration) → Reads s j c → ⊥)) ⊎ ((r ≡ refusal.OutOfMemory) × (load_asks j ≡ true))
 
 -- the machine as whose configuration a value reads; or why there is none
 abbrev pub FindsSave : StoryTree → Data → Result Machine Refusal → Type 0

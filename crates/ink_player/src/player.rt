@@ -332,9 +332,10 @@ impl<P: PureFn, F: TurnFn, O: Watcher> Player<P, F, O> {
 
     /// Goes on where a save of the story stands (docs/SAVES.md); a broken player too. Watchers are told of each global that has
     /// another value than before, or was not there (docs/HOST.md, "Telling"). Refused with `BadSave` where the value spells nothing
-    /// that fits the story, and with `OutOfMemory` where memory was refused; nothing has changed then. Where a watcher finds no
-    /// memory the save is loaded, all others are told, and the player is broken by the fault `OutOfMemory`. What `save` gave for the
-    /// story is never refused with `BadSave`, and `save` gives it again where it was loaded.
+    /// that fits the story, and with `OutOfMemory` where memory was refused, which is asked for only where something of the value is
+    /// kept; nothing has changed then. Where a watcher finds no memory the save is loaded, all others are told, and the player is
+    /// broken by the fault `OutOfMemory`. What `save` gave for the story is never refused with `BadSave`, and `save` gives it again
+    /// where it was loaded.
     pub fn load(&mut self, json: &Json) -> Result<Seq<Event>, Halt>
         ensures does { (es : List Happening) × Load (story_of self.old) (bindings P.meaning (desk_of self.old)) es (Some (view json.now)) (state_of self.old) (reply_of_events result) (state_of self.new)
             × DealtOnce F.log O.state (told_from (desk_of self.old) (state_of self.old) (globals_of (state_of self.new).condition)) (desk_of self.old) es (desk_of self.new) }

@@ -35,7 +35,7 @@ pub(crate) fn saved_text(alloc: Global, story: &Story, machine: &Machine) -> Res
 }
 
 /// The machine whose configuration a JSON value spells. Refused with `BadSave` where it spells none that fits the story, and with
-/// `OutOfMemory`.
+/// `OutOfMemory` where memory was refused, which is asked for only where something of the value is kept.
 pub(crate) fn loaded(alloc: Global, story: &Story, json: &Json) -> Result<Machine, Refusal>
     ensures { FindsSave (story_tree story.now) (view json.now) result }
 {

@@ -6,7 +6,7 @@ ghost use Rattle.ink_host.specs.Telling.{rests};
 ghost use Rattle.ink_model.specs.Answer.{Refuses, reply_of_events};
 ghost use Rattle.ink_model.specs.Session.{Does, Load, Serves, Set};
 ghost use Rattle.ink_model.specs.Host.{Bindings};
-ghost use Rattle.ink_model.specs.declared.host.Event.{Event};
+ghost use Rattle.ink_model.specs.declared.host.Event.{Event as Happening};
 ghost use Rattle.ink_protocol.specs.Commands.{command_by};
 ghost use Rattle.ink_protocol.specs.Replies.{HasTextOf, reply_by};
 ghost use Rattle.ink_player.specs.Words.{Dealt, bindings, desk_of, state_of, story_of};
@@ -19,7 +19,7 @@ ghost use Rattle.serde_json.specs.View.{view};
 
 use crate::player::Player;
 use ink_host::{PureFn, TurnFn, Watcher};
-use ink_model::{Given, Halt, MAX_INPUT, MAX_LINE, Refusal, Seq};
+use ink_model::{Event, Given, Halt, MAX_INPUT, MAX_LINE, Refusal, Seq};
 use ink_protocol::{
     Ahead, Lent, Line, LineCommand, Outcome, RunFault, Sink, Source, answer_text, fixed_answer,
     next_line, read_command, write_answer,
@@ -65,7 +65,7 @@ pub fn run<R: Read, W: Write, P: PureFn, F: TurnFn, O: Watcher>(
     writer: &mut W,
     player: &mut Player<P, F, O>,
 ) -> Result<(), RunFault>
-    ensures runs { (es : List Event) × Runs (story_of player.old) (bindings P.meaning (desk_of player.old)) es MAX_INPUT [] (R.remaining reader.old) (R.remaining reader.new)
+    ensures runs { (es : List Happening) × Runs (story_of player.old) (bindings P.meaning (desk_of player.old)) es MAX_INPUT [] (R.remaining reader.old) (R.remaining reader.new)
         (W.contents writer.old) (W.contents writer.new) (state_of player.old) (state_of player.new) result
         × Dealt F.log O.state (desk_of player.old) es (desk_of player.new) }
     ensures rest { Resting (rests O.state) (desk_of player.old).watchers → Resting (rests O.state) (desk_of player.new).watchers }
@@ -85,7 +85,7 @@ pub fn serve<S: Source, T: Sink, P: PureFn, F: TurnFn, O: Watcher>(
     sink: &mut T,
     player: &mut Player<P, F, O>,
 ) -> Result<(), RunFault>
-    ensures runs { (es : List Event) × Runs (story_of player.old) (bindings P.meaning (desk_of player.old)) es MAX_INPUT [] (S.remaining source.old) (S.remaining source.new)
+    ensures runs { (es : List Happening) × Runs (story_of player.old) (bindings P.meaning (desk_of player.old)) es MAX_INPUT [] (S.remaining source.old) (S.remaining source.new)
         (T.contents sink.old) (T.contents sink.new) (state_of player.old) (state_of player.new) result
         × Dealt F.log O.state (desk_of player.old) es (desk_of player.new) }
     ensures rest { Resting (rests O.state) (desk_of player.old).watchers → Resting (rests O.state) (desk_of player.new).watchers }
@@ -105,7 +105,7 @@ pub(crate) fn serve_lines<S: Source, T: Sink, P: PureFn, F: TurnFn, O: Watcher>(
     sink: &mut T,
     player: &mut Player<P, F, O>,
 ) -> Result<(), RunFault>
-    ensures runs { (es : List Event) × Runs (story_of player.old) (bindings P.meaning (desk_of player.old)) es ahead.old.spare ahead.old.unread (S.remaining source.old) (S.remaining source.new)
+    ensures runs { (es : List Happening) × Runs (story_of player.old) (bindings P.meaning (desk_of player.old)) es ahead.old.spare ahead.old.unread (S.remaining source.old) (S.remaining source.new)
         (T.contents sink.old) (T.contents sink.new) (state_of player.old) (state_of player.new) result
         × Dealt F.log O.state (desk_of player.old) es (desk_of player.new) }
     ensures rest { Resting (rests O.state) (desk_of player.old).watchers → Resting (rests O.state) (desk_of player.new).watchers }
@@ -132,7 +132,7 @@ fn serve_line<S: Source, T: Sink, P: PureFn, F: TurnFn, O: Watcher>(
     sink: &mut T,
     player: &mut Player<P, F, O>,
 ) -> Result<Served, RunFault>
-    ensures next { (es : List Event) × ServesNext (story_of player.old) (bindings P.meaning (desk_of player.old)) es (S.remaining source.old) (S.remaining source.new) (T.contents sink.old) (T.contents sink.new)
+    ensures next { (es : List Happening) × ServesNext (story_of player.old) (bindings P.meaning (desk_of player.old)) es (S.remaining source.old) (S.remaining source.new) (T.contents sink.old) (T.contents sink.new)
         ahead.old ahead.new (state_of player.old) (state_of player.new) result
         × Dealt F.log O.state (desk_of player.old) es (desk_of player.new) }
     ensures rest { Resting (rests O.state) (desk_of player.old).watchers → Resting (rests O.state) (desk_of player.new).watchers }
@@ -174,7 +174,7 @@ fn answer_line<T: Sink, P: PureFn, F: TurnFn, O: Watcher>(
     player: &mut Player<P, F, O>,
     line: &[u8],
 ) -> Result<(), RunFault>
-    ensures answers { (es : List Event) × Answers (story_of player.old) (bindings P.meaning (desk_of player.old)) es line.now (T.contents sink.old) (T.contents sink.new) (state_of player.old) (state_of player.new) result
+    ensures answers { (es : List Happening) × Answers (story_of player.old) (bindings P.meaning (desk_of player.old)) es line.now (T.contents sink.old) (T.contents sink.new) (state_of player.old) (state_of player.new) result
         × Dealt F.log O.state (desk_of player.old) es (desk_of player.new) }
     ensures rest { Resting (rests O.state) (desk_of player.old).watchers → Resting (rests O.state) (desk_of player.new).watchers }
     ensures story { story_of player.new ≡ story_of player.old }
@@ -198,7 +198,7 @@ fn outcome_of<P: PureFn, F: TurnFn, O: Watcher>(
     player: &mut Player<P, F, O>,
     line: &[u8],
 ) -> Outcome
-    ensures serves { (es : List Event) × (saved : Data) × HasTextOf saved result
+    ensures serves { (es : List Happening) × (saved : Data) × HasTextOf saved result
         × Serves (story_of player.old) (bindings P.meaning (desk_of player.old)) es line.now (state_of player.old) (reply_by saved result) (state_of player.new)
         × Dealt F.log O.state (desk_of player.old) es (desk_of player.new) }
     ensures rest { Resting (rests O.state) (desk_of player.old).watchers → Resting (rests O.state) (desk_of player.new).watchers }
@@ -215,7 +215,7 @@ fn perform<P: PureFn, F: TurnFn, O: Watcher>(
     player: &mut Player<P, F, O>,
     command: Option<LineCommand<'_>>,
 ) -> Outcome
-    ensures does { (es : List Event) × (saved : Data) × HasTextOf saved result
+    ensures does { (es : List Happening) × (saved : Data) × HasTextOf saved result
         × (Does (story_of player.old) (bindings P.meaning (desk_of player.old)) es (option_map command_by command.entry) (state_of player.old) (reply_by saved result) (state_of player.new)
         ⊎ ((es ≡ []) × PathFails (option_map command_by command.entry) (state_of player.old) (reply_by saved result) (state_of player.new)))
         × Dealt F.log O.state (desk_of player.old) es (desk_of player.new) }
@@ -242,8 +242,8 @@ fn set<P: PureFn, F: TurnFn, O: Watcher>(
     player: &mut Player<P, F, O>,
     name: &str,
     value: Option<Given>,
-) -> Result<Seq<ink_model::Event>, Halt>
-    ensures does { (es : List Event) × Set (bindings P.meaning (desk_of player.old)) es name.now value (state_of player.old) (reply_of_events result) (state_of player.new)
+) -> Result<Seq<Event>, Halt>
+    ensures does { (es : List Happening) × Set (bindings P.meaning (desk_of player.old)) es name.now value (state_of player.old) (reply_of_events result) (state_of player.new)
         × Dealt F.log O.state (desk_of player.old) es (desk_of player.new) }
     ensures rest { Resting (rests O.state) (desk_of player.old).watchers → Resting (rests O.state) (desk_of player.new).watchers }
     ensures story { story_of player.new ≡ story_of player.old }
@@ -268,8 +268,8 @@ fn no_value<P: PureFn, F: TurnFn, O: Watcher>(player: &Player<P, F, O>) -> Refus
 fn load<P: PureFn, F: TurnFn, O: Watcher>(
     player: &mut Player<P, F, O>,
     saved: Option<Json>,
-) -> Result<Seq<ink_model::Event>, Halt>
-    ensures does { (es : List Event) × Load (story_of player.old) (bindings P.meaning (desk_of player.old)) es (option_map view saved) (state_of player.old) (reply_of_events result) (state_of player.new)
+) -> Result<Seq<Event>, Halt>
+    ensures does { (es : List Happening) × Load (story_of player.old) (bindings P.meaning (desk_of player.old)) es (option_map view saved) (state_of player.old) (reply_of_events result) (state_of player.new)
         × Dealt F.log O.state (desk_of player.old) es (desk_of player.new) }
     ensures rest { Resting (rests O.state) (desk_of player.old).watchers → Resting (rests O.state) (desk_of player.new).watchers }
     ensures story { story_of player.new ≡ story_of player.old }

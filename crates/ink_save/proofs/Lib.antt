@@ -1,4 +1,3 @@
-pub mod Lists
 pub mod Making
 pub mod Standing
 pub mod Arrays

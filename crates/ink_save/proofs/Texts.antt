@@ -1,6 +1,6 @@
 -- The tokens of what is written.
-use Rattle.std.proofs.Common.{◌≡◌, ◌∙◌, sym, ap, refl, subst, ℕ, ◌≤◌, ◌<◌, ◌+◌, List, [], ◌∷◌, ◌++◌, append_assoc, append-nil, flat_map, map, reverse, take, slice_get, get_or, length, Option, Some, None, inl, inr, Result, Ok, Err, OnOk}
-use Rattle.std.proofs.lemmas.List.{map-append, reverse-append, reverse-reverse, take_all, take_more}
+use Rattle.std.proofs.Common.{◌≡◌, ◌∙◌, sym, ap, refl, subst, ℕ, ◌≤◌, ◌+◌, List, [], ◌∷◌, ◌++◌, append_assoc, flat_map, map, reverse, take, slice_get, length, Option, Some, None, inl, inr, Result, OnOk}
+use Rattle.std.proofs.lemmas.List.{reverse-append, reverse-reverse, take_all, take_more}
 use Rattle.std.proofs.lemmas.Option.{get_or_from_slice_get, slice_get_cases, slice_get_within}
 use Rattle.json.specs.Token.{Token}
 use Rattle.json.specs.Token as token

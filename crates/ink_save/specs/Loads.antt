@@ -1,7 +1,8 @@
 -- What a JSON value is read as.
-use Rattle.std.specs.Prelude.{⊤, Result, Ok, Err, Option, Some, None}
+use Rattle.std.specs.Prelude.{◌≡◌, ⊤, true, Result, Ok, Err, Option, Some, None}
 use Rattle.serde_json.specs.Data.{Data}
 use Rattle.ink_model.specs.Configuration.{Configuration}
+use Rattle.ink_model.specs.Save.Asks.{load_asks}
 use Rattle.ink_model.specs.Save.Reads.{Reads}
 use Rattle.ink_model.specs.Save.Sound.{Sound}
 use Rattle.ink_model.specs.Tree.{StoryTree}
@@ -11,11 +12,12 @@ use Rattle.ink_save.specs.declared.loading.SaveRefusal.TheVariants as refusal
 use Rattle.ink_step.specs.Words.{config_of}
 use Rattle.ink_step.specs.declared.machine.Machine.{Machine}
 
--- a machine whose configuration it spells; or there is none, or memory was refused
+-- a machine whose configuration it spells; or there is none, or memory was refused, which only a value asks for of which something
+-- is kept
 abbrev pub ReadsAs : StoryTree → Data → Result Machine SaveRefusal → Type 0
 ReadsAs s j (Ok m) = Reads s j (config_of s m)
 ReadsAs s j (Err refusal.BadSave) = (c : Configuration) → Reads s j c → ⊥
-ReadsAs s j (Err refusal.OutOfMemory) = Unit {0}
+ReadsAs s j (Err refusal.OutOfMemory) = load_asks j ≡ true
 
 -- the machine of what was spelled, if that is sound
 abbrev pub Finds : StoryTree → Option Configuration → Option Machine → Type 0

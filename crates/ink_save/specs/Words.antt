@@ -1,48 +1,9 @@
--- Words for what readers read.
-use Rattle.std.specs.Prelude.{◌≡◌, ℕ, List, [], ◌∷◌, Bool, codes, Option, Some, None, option_and_then}
-use Rattle.std.specs.Option.{option_map, option_or}
-use Rattle.serde_json.specs.Data.{Data, boolean, object, Items, no_items, item, Members, no_members, member, put}
+-- Words for what is written.
+use Rattle.std.specs.Prelude.{ℕ, [], ◌∷◌, Bool, codes}
+use Rattle.serde_json.specs.Data.{Data, boolean, object, Members, no_members, member, put}
 use Rattle.ink_model.specs.Store.{Values}
 use Rattle.ink_model.specs.ValueJson.{value_data}
-use Rattle.ink_model.specs.Path.{path_text, read_path}
-use Rattle.ink_model.specs.declared.place.Path.{Path}
-use Rattle.ink_model.specs.declared.value.Value.{Value}
-use Rattle.ink_model.specs.declared.value.Value.TheVariants as value
 use Rattle.ink_model.specs.Save.Spelling.{count_data}
-use Rattle.ink_model.specs.Save.Unspelled.{path_if, pointer_in, tag_in, target_in}
-
--- the value that members spell
-abbrev pub value_by : Members → Option Value
-value_by ms = option_or (target_in ms) (option_or (pointer_in ms) (tag_in ms))
-
--- a path as it is spelled
-abbrev pub path_of : List ℕ → Option Path
-path_of t = option_and_then (path_if t) (read_path t)
-
--- a path is read from its text
-abbrev pub ReadsSame : Path → Type 0
-ReadsSame p = read_path (path_text p) ≡ Some p
-
--- the path of a target is
-abbrev pub IsRead : Value → Type 0
-IsRead (value.Int z) = Unit {0}
-IsRead (value.Bool b) = Unit {0}
-IsRead (value.Text t) = Unit {0}
-IsRead (value.Target p) = ReadsSame p
-IsRead (value.Pointer i n) = Unit {0}
-IsRead value.Void = Unit {0}
-IsRead (value.Tag t) = Unit {0}
-
--- the elements, where there are two
-abbrev pub two_in : Items → Option (Data × Data)
-two_in no_items = None
-two_in (item d no_items) = None
-two_in (item d (item e no_items)) = Some (d, e)
-two_in (item d (item e (item h ds))) = None
-
--- what they spell
-abbrev pub pair_by : {A B : Type 0} → (Data → Option A) → (Data → Option B) → Option (Data × Data) → Option (A × B)
-pair_by f g two = option_and_then (λ (p : Data × Data). option_and_then (λ x. option_map (λ y. (x, y)) (g p.1)) (f p.0)) two
 
 -- rows are put one by one
 abbrev pub put_all : Members → Values → Members

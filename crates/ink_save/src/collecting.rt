@@ -7,10 +7,9 @@ ghost use Rattle.ink_model.specs.Save.Sound.{ChoicesFit, GlobalsFit, StackFits};
 ghost use Rattle.ink_tree.specs.Nodes.{place_of, story_tree};
 
 use crate::building::{Built, build_all};
-use crate::choice::SavedChoice;
-use crate::value::SavedValue;
 use ink_choice::Choices;
 use ink_model::Text;
+use ink_spelling::{SavedChoice, SavedValue};
 use ink_tree::{Spot, Tree};
 use ink_value::EvalStack;
 use ink_vars::Globals;

@@ -12,8 +12,8 @@ ghost use Rattle.ink_step.specs.Words.{counts_in, rows_in};
 ghost use Rattle.ink_tree.specs.Nodes.{Finds, NumbersInOrder, story_tree};
 ghost use Rattle.ink_vars.specs.Slots.{AreCounts, rows_from};
 
-use crate::listed::Listed;
 use ink_model::{MAX_COUNT, Part, flags};
+use ink_spelling::Listed;
 use ink_tree::{NodeId, Tree};
 use ink_vars::Counts;
 use std::alloc::{AllocError, Global};

@@ -3,14 +3,13 @@
 ghost use Rattle.std.specs.Prelude.{◌≡◌, ◌↔◌, IfOk, IsTrue, option_map};
 ghost use Rattle.ink_model.specs.Bytes.{fits_text};
 ghost use Rattle.ink_save.specs.Building.{Builds};
-ghost use Rattle.ink_save.specs.Words.{ReadsSame};
+ghost use Rattle.ink_spelling.specs.Words.{ReadsSame};
 ghost use Rattle.ink_model.specs.Save.Sound.{AnyPlace, PathFits, PlaceFits, RowFits, ValueFits};
 ghost use Rattle.ink_tree.specs.Nodes.{place_of, story_tree};
 
 use crate::building::Built;
-use crate::listed::Listed;
-use crate::value::SavedValue;
 use ink_model::{MAX_TEXT, Part, Path, Shared, Text, Value};
+use ink_spelling::{Listed, SavedValue};
 use ink_tree::{NodeId, Spot, Tree};
 use std::alloc::{AllocError, Global};
 

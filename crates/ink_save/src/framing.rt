@@ -8,9 +8,8 @@ ghost use Rattle.ink_tree.specs.Nodes.{place_of};
 
 use crate::building::{Built, build_all};
 use crate::fitting::any_spot;
-use crate::frame::SavedFrame;
-use crate::thread::SavedThread;
 use ink_model::MAX_SECTIONS;
+use ink_spelling::{SavedFrame, SavedThread};
 use ink_stack::{Frame, Thread};
 use ink_tree::{Spot, Tree};
 use std::alloc::{AllocError, Global};

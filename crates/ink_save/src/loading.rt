@@ -1,9 +1,10 @@
 //! The machine that a JSON value spells.
 
-ghost use Rattle.std.specs.Prelude.{◌≡◌, ◌≤◌, IfOk};
+ghost use Rattle.std.specs.Prelude.{◌≡◌, ◌≤◌, IfOk, OnErr, true};
 ghost use Rattle.serde_json.specs.View.{view};
 ghost use Rattle.ink_check.specs.Words.{story_tree};
 ghost use Rattle.ink_model.specs.Output.{empty_page};
+ghost use Rattle.ink_model.specs.Save.Asks.{load_asks};
 ghost use Rattle.ink_model.specs.Save.Sound.{FlowSound, SharedSound, Sound};
 ghost use Rattle.ink_model.specs.Save.Unspelled.{unspelled};
 ghost use Rattle.ink_model.specs.declared.limits.TheConstants.{MAX_COUNT};
@@ -15,10 +16,10 @@ ghost use Rattle.ink_tree.specs.Nodes as nodes;
 use crate::building::Built;
 use crate::collecting::{build_choices, build_globals, build_stack};
 use crate::counting::build_counts;
-use crate::saved::{Saved, read_saved};
 use ink_check::Story;
 use ink_model::MAX_COUNT;
 use ink_out::Output;
+use ink_spelling::{Saved, read_saved};
 use ink_step::{Fields, Flow, Machine, Shared};
 use ink_tree::Tree;
 use ink_vars::Turn;
@@ -33,7 +34,7 @@ pub enum SaveRefusal {
 }
 
 /// The machine that a JSON value spells. Refused with `BadSave` where it spells none that fits the story, and with `OutOfMemory`
-/// where memory was refused.
+/// where memory was refused, which is asked for only where something of the value is kept.
 pub fn read(alloc: Global, story: &Story, json: &Json) -> Result<Machine, SaveRefusal>
     ensures { ReadsAs (story_tree story.now) (view json.now) result }
 {
@@ -46,9 +47,11 @@ pub fn read(alloc: Global, story: &Story, json: &Json) -> Result<Machine, SaveRe
     }
 }
 
-// The machine that a JSON value spells, if it spells one that fits the story. The one error is a refused request for memory.
+// The machine that a JSON value spells, if it spells one that fits the story. The one error is a refused request for memory,
+// which only a value makes of which something is kept.
 fn read_machine(alloc: Global, tree: &Tree, json: &Json) -> Result<Option<Machine>, AllocError>
-    ensures { IfOk result (λ made. Finds (nodes.story_tree tree.now) (unspelled (view json.now)) made) }
+    ensures made { IfOk result (λ made. Finds (nodes.story_tree tree.now) (unspelled (view json.now)) made) }
+    ensures memory { OnErr result (load_asks (view json.now) ≡ true) }
 {
     match read_saved(alloc, json)? {
         Some(saved) => saved.build(alloc, tree),
@@ -56,76 +59,79 @@ fn read_machine(alloc: Global, tree: &Tree, json: &Json) -> Result<Option<Machin
     }
 }
 
-impl Saved {
-    // The machine of this, if it fits the story. The one error is a refused request for memory.
-    fn build(&self, alloc: Global, tree: &Tree) -> Result<Option<Machine>, AllocError>
-        ensures { let s = nodes.story_tree tree.now in IfOk result (λ made. Builds (config_of s) (Sound s) self.now made) }
-    {
-        let Some(flow) = self.build_flow(alloc, tree)? else {
+impl Built for Saved {
+    type Made = Machine;
+
+    ghost in_story = { λ s machine. config_of s machine };
+
+    ghost fits = { λ s saved. Sound s saved };
+
+    fn build(&self, alloc: Global, tree: &Tree) -> Result<Option<Machine>, AllocError> {
+        let Some(flow) = build_flow(alloc, tree, self)? else {
             return Ok(None);
         };
-        let Some(shared) = self.build_shared(alloc, tree)? else {
+        let Some(shared) = build_shared(alloc, tree, self)? else {
             return Ok(None);
         };
         let fields = Fields {
             flow,
             shared,
-            output: self.output(alloc),
+            output: output_of(alloc, self),
         };
         Ok(Some(Machine::from_parts(alloc, fields)))
     }
+}
 
-    // What it writes, which is nothing.
-    fn output(&self, alloc: Global) -> Output
-        ensures page { result.page ≡ self.now.page }
-        ensures empty { self.now.page ≡ empty_page }
-    {
-        let _safe = self.safe;
-        Output::new(alloc)
-    }
+// What a save writes, which is nothing.
+fn output_of(alloc: Global, saved: &Saved) -> Output
+    ensures page { result.page ≡ saved.now.page }
+    ensures empty { saved.now.page ≡ empty_page }
+{
+    let _safe = saved.safe;
+    Output::new(alloc)
+}
 
-    // Its flow, if it fits the story. The one error is a refused request for memory.
-    fn build_flow(&self, alloc: Global, tree: &Tree) -> Result<Option<Flow>, AllocError>
-        ensures { let s = nodes.story_tree tree.now in IfOk result (λ made. Builds (flow_of s) (FlowSound s) self.now.flow made) }
-    {
-        let Some(threads) = self.threads.build(alloc, tree)? else {
-            return Ok(None);
-        };
-        let Some(stack) = build_stack(alloc, tree, self.stack.as_slice())? else {
-            return Ok(None);
-        };
-        let Some(choices) = build_choices(alloc, tree, self.choices.as_slice())? else {
-            return Ok(None);
-        };
-        Ok(Some(Flow {
-            threads,
-            stack,
-            choices,
-            safe: self.safe,
-        }))
-    }
+// The flow of a save, if it fits the story. The one error is a refused request for memory.
+fn build_flow(alloc: Global, tree: &Tree, saved: &Saved) -> Result<Option<Flow>, AllocError>
+    ensures { let s = nodes.story_tree tree.now in IfOk result (λ made. Builds (flow_of s) (FlowSound s) saved.now.flow made) }
+{
+    let Some(threads) = saved.threads.build(alloc, tree)? else {
+        return Ok(None);
+    };
+    let Some(stack) = build_stack(alloc, tree, saved.stack.as_slice())? else {
+        return Ok(None);
+    };
+    let Some(choices) = build_choices(alloc, tree, saved.choices.as_slice())? else {
+        return Ok(None);
+    };
+    Ok(Some(Flow {
+        threads,
+        stack,
+        choices,
+        safe: saved.safe,
+    }))
+}
 
-    // What its flows share, if it fits the story. The one error is a refused request for memory.
-    fn build_shared(&self, alloc: Global, tree: &Tree) -> Result<Option<Shared>, AllocError>
-        ensures { let s = nodes.story_tree tree.now in IfOk result (λ made. Builds (shared_of s) (SharedSound s) self.now.shared made) }
-    {
-        let Some(turn) = turn_of(self.turn) else {
-            return Ok(None);
-        };
-        let Some(globals) = build_globals(alloc, tree, self.globals.as_slice())? else {
-            return Ok(None);
-        };
-        let visits = self.visits.as_slice();
-        let turns = self.turns.as_slice();
-        let Some(counts) = build_counts(alloc, tree, visits, turns)? else {
-            return Ok(None);
-        };
-        Ok(Some(Shared {
-            globals,
-            counts,
-            turn,
-        }))
-    }
+// What the flows of a save share, if it fits the story. The one error is a refused request for memory.
+fn build_shared(alloc: Global, tree: &Tree, saved: &Saved) -> Result<Option<Shared>, AllocError>
+    ensures { let s = nodes.story_tree tree.now in IfOk result (λ made. Builds (shared_of s) (SharedSound s) saved.now.shared made) }
+{
+    let Some(turn) = turn_of(saved.turn) else {
+        return Ok(None);
+    };
+    let Some(globals) = build_globals(alloc, tree, saved.globals.as_slice())? else {
+        return Ok(None);
+    };
+    let visits = saved.visits.as_slice();
+    let turns = saved.turns.as_slice();
+    let Some(counts) = build_counts(alloc, tree, visits, turns)? else {
+        return Ok(None);
+    };
+    Ok(Some(Shared {
+        globals,
+        counts,
+        turn,
+    }))
 }
 
 // The turn of a number, if it is within its limit.

@@ -9,11 +9,10 @@ ghost use Rattle.ink_model.specs.Save.Sound.{ChoiceFits, ThreadStands};
 ghost use Rattle.ink_tree.specs.Nodes.{place_of, story_tree};
 
 use crate::building::{Built, build_all};
-use crate::choice::SavedChoice;
 use crate::fitting::{spot_of, text_fits};
-use crate::thread::SavedThread;
 use ink_choice::Choice;
 use ink_model::{Seq, Shared, Text};
+use ink_spelling::{SavedChoice, SavedThread};
 use ink_stack::Thread;
 use ink_tree::{Spot, Tree};
 use std::alloc::{AllocError, Global};

@@ -8,7 +8,7 @@ ghost use Rattle.ink_model.specs.Save.Sound.{ThreadsFit};
 ghost use Rattle.ink_tree.specs.Nodes.{place_of};
 
 use crate::building::{Built, build_all};
-use crate::thread::SavedThreads;
+use ink_spelling::SavedThreads;
 use ink_stack::{Thread, Threads};
 use ink_tree::{Spot, Tree};
 use std::alloc::{AllocError, Global};

@@ -135,7 +135,7 @@ module _ (s : StoryTree) where
   loads_fit : (h : Bindings) (j : Data) (es : List Event) (old : State) (reply : Reply) (new : State) → LoadsBy s h j es old reply new → StateFits s old → StateFits s new
   loads_fit h j es old reply new (inl x) o = tells_fits _ (Ready x.loaded) es old reply new x.tells (x.reads.sound, x.reads.rests) o
   loads_fit h j es old reply new (inr (inl x)) o = kept _ old new reply x.2 o
-  loads_fit h j es old reply new (inr (inr x)) o = kept _ old new reply x.1 o
+  loads_fit h j es old reply new (inr (inr x)) o = kept _ old new reply x.2 o
 
   load_fits : (h : Bindings) (es : List Event) (saved : Option Data) (old : State) (reply : Reply) (new : State) → Load s h es saved old reply new → StateFits s old → StateFits s new
   load_fits h es None old reply new x o = kept _ old new reply x.1 o

@@ -1,6 +1,4 @@
-use Rattle.std.proofs.Common.{◌+◌, subst, sym}
 use Rattle.ink_tree.specs.Nodes.{story_tree}
-use Rattle.ink_tokens.specs.Tokens.{Added}
 use Rattle.ink_save.proofs.Numbering.{put_no_row, put_row_more}
 use Rattle.ink_save.proofs.counts.put_slots.Goals.{in-Some+in_ok-put_row, in_default}
 use Rattle.ink_save.proofs.counts.put_slots.Goals as goal

@@ -7,9 +7,9 @@ use Rattle.ink_save.proofs.loading.read.Goals as goal
 pub returns-in-Some : goal.returns-in-Some
 returns-in-Some c =
     reads_found (story_tree c.args.story.now) (nodes.story_tree c.tree.result.now) (view c.args.json.now) c.in-Ok.found c.in-Some.machine
-    c.tree.ensures.tree c.tree.ensures.spelled c.tree.ensures.good c.in-Some.is c.in-Ok.ensures
+    c.tree.ensures.tree c.tree.ensures.spelled c.tree.ensures.good c.in-Some.is c.in-Ok.ensures.made
 
 pub returns-in-None : goal.returns-in-None
 returns-in-None c =
     reads_none (story_tree c.args.story.now) (nodes.story_tree c.tree.result.now) (view c.args.json.now) c.in-Ok.found
-    c.tree.ensures.tree c.tree.ensures.spelled c.tree.ensures.good c.in-None.is c.in-Ok.ensures
+    c.tree.ensures.tree c.tree.ensures.spelled c.tree.ensures.good c.in-None.is c.in-Ok.ensures.made

@@ -1,8 +1,0 @@
-use Rattle.std.proofs.Common.{◌≡◌, drop}
-use Rattle.serde_json.specs.View.{items_view}
-use Rattle.ink_model.specs.Save.Unspelled.{all_of}
-use Rattle.ink_save.proofs.Lists.{left}
-use Rattle.ink_save.proofs.spelled.read_items.Given as goal
-
-abbrev pub invariant-loop-item : goal.invariant-loop-item
-invariant-loop-item g l = left g.T.Spelled.spelled l.made.items (drop l.item-index l.items) ≡ all_of g.T.Spelled.spelled (items_view l.items)

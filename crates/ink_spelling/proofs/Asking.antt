@@ -1,0 +1,153 @@
+-- Where reading asks for memory.
+use Rattle.std.proofs.Common.{◌≡◌, ◌∙◌, ◌⊎◌, ◌<◌, inl, inr, arith, refl, sym, subst, zero, suc, ℕ, length, get_or, List, [], ◌∷◌, reverse, codes, String, Bool, true, false, ◌||◌, Option, Some, None, option_and_then, Result, Ok, Err, OnErr}
+use Rattle.std.specs.Option.{option_map}
+use Rattle.serde_json.specs.Data.{Data, array, object, Items, no_items, item, Members}
+use Rattle.serde_json.specs.View.{items_view, members_view, view}
+use Rattle.serde_json.specs.declared.value.Value.{Value}
+use Rattle.std.specs.declared.alloc.Global.{Global}
+use Rattle.ink_model.specs.Configuration.{ChoiceOf, Configuration}
+use Rattle.ink_model.specs.Frames.{ThreadOf, ThreadsOf}
+use Rattle.ink_model.specs.declared.place.Part.{Part}
+use Rattle.ink_model.specs.declared.value.Value.{Value as Spelled}
+use Rattle.ink_model.specs.Save.Asks.{both_ask, choice_asks, counts_ask, items_ask, list_asks, load_asks, none_asks, pair_asks, rows_ask, take_asks, text_asks, thread_asks, threads_ask, turn_asks, value_asks}
+use Rattle.ink_spelling.specs.Words.{two_ask, two_in}
+use Rattle.ink_model.specs.Save.Unspelled.{all_of, choice_of, count_of, format_of, from_threads, from_turn, list_of, next_named, pair_of, place_of, take, text_of, thread_in, threads_with, truth_of, unspelled, value_of}
+
+or_true : (b : Bool) → b || true ≡ true
+or_true true = refl
+or_true false = refl
+
+-- ---- lists
+
+-- past the first element, memory was asked for
+abbrev pub AskedBefore : {A : Type 0} → (Data → Option A) → (Data → Bool) → List Value → ℕ → Type 0
+AskedBefore f asks vs i = 0 < i → items_ask f asks (items_view vs) ≡ true
+
+module _ {A : Type 0} (f : Data → Option A) (asks : Data → Bool) where
+  pub asked_none : (vs : List Value) → AskedBefore f asks vs 0
+  asked_none vs h = absurd (omega (arith, h))
+
+  -- an element that asks
+  pub asked_here : (vs : List Value) (i : ℕ) (d : Value) → i < length vs → asks (view (get_or vs i d)) ≡ true → AskedBefore f asks vs i → items_ask f asks (items_view vs) ≡ true
+  asked_here [] i d lt h before = absurd (omega (arith, lt))
+  asked_here (v ∷ vs) zero d lt h before = rw h refl
+  asked_here (v ∷ vs) (suc i) d lt h before = before (omega arith)
+
+  -- one that is kept
+  pub asked_kept : (vs : List Value) (i : ℕ) (d : Value) (x : A) → i < length vs → f (view (get_or vs i d)) ≡ Some x → AskedBefore f asks vs i → items_ask f asks (items_view vs) ≡ true
+  asked_kept [] i d x lt is before = absurd (omega (arith, lt))
+  asked_kept (v ∷ vs) zero d x lt is before = rw is (or_true (asks (view v)))
+  asked_kept (v ∷ vs) (suc i) d x lt is before = before (omega arith)
+
+-- ---- pairs
+
+pub pair_asks_so : {A : Type 0} (f : Data → Option A) (asks second : Data → Bool) (ds : Items) → pair_asks f asks second (array ds) ≡ two_ask f asks second (two_in ds)
+pair_asks_so f asks second no_items = refl
+pair_asks_so f asks second (item d no_items) = refl
+pair_asks_so f asks second (item d (item e no_items)) = refl
+pair_asks_so f asks second (item d (item e (item h ds))) = refl
+
+-- ---- rows of members
+
+-- these are all members, or memory was asked for
+abbrev pub RowsAsked : List (String Global × Value) → List (String Global × Value) → Type 0
+RowsAsked all left = (left ≡ all) ⊎ (rows_ask (members_view all) ≡ true)
+
+pub row_asks : (all left : List (String Global × Value)) (e : String Global × Value) (es : List (String Global × Value)) → left ≡ e ∷ es
+    → value_asks (view e.1) ≡ true → RowsAsked all left → rows_ask (members_view all) ≡ true
+row_asks all left e es is h (inl same) = subst (λ l. rows_ask (members_view l) ≡ true) (sym is ∙ same) (rw h refl)
+row_asks all left e es is h (inr asked) = asked
+
+pub row_kept : (all left : List (String Global × Value)) (e : String Global × Value) (es : List (String Global × Value)) (v : Spelled) → left ≡ e ∷ es
+    → value_of (view e.1) ≡ Some v → RowsAsked all left → rows_ask (members_view all) ≡ true
+row_kept all left e es v is h (inl same) = subst (λ l. rows_ask (members_view l) ≡ true) (sym is ∙ same) (rw h (or_true (value_asks (view e.1))))
+row_kept all left e es v is h (inr asked) = asked
+
+-- what holds, holds at an error
+pub or_else : {A E : Type 0} {P : Type 0} (r : Result A E) → P → OnErr r P
+or_else (Ok a) h = tt
+or_else (Err e) h = h
+
+bind_some : {A B : Type 0} (o : Option A) (f : A → Option B) (y : B) → option_and_then f o ≡ Some y → (x : A) × (o ≡ Some x) × (f x ≡ Some y)
+bind_some None f y e = absurd cc
+bind_some (Some x) f y e = (x, refl, e)
+
+module _ {A : Type 0} (f : Data → Option A) (asks : Data → Bool) where
+  -- a value asks
+  pub first_asks : (d : Data) (later : Bool) → asks d ≡ true → both_ask f asks d later ≡ true
+  first_asks d later h = rw h refl
+
+  -- a value is read, and what comes after it asks
+  pub second_asks : (d : Data) (later : Bool) (x : A) → f d ≡ Some x → later ≡ true → both_ask f asks d later ≡ true
+  second_asks d later x is h = rw is (rw h (or_true (asks d)))
+
+  -- ---- what spells a configuration
+
+  -- the first member is read, and what comes behind it asks
+  through : {B : Type 0} (k : List ℕ) (so : A → Members → Option B) (later : Members → Bool) (ms : Members) (y : B) → take k f so ms ≡ Some y
+      → ((x : A) (rest : Members) → so x rest ≡ Some y → later rest ≡ true) → take_asks k f asks later ms ≡ true
+  through k so later ms y e behind =
+      let found = bind_some (next_named k ms) _ y e in
+      let read = bind_some (f found.0.0) (λ x. so x found.0.1) y found.2 in
+      rw found.1 (second_asks found.0.0 (later found.0.1) read.0 read.1 (behind read.0 found.0.1 read.2))
+
+  -- the first member is read, and asks
+  there : {B : Type 0} (k : List ℕ) (so : A → Members → Option B) (later : Members → Bool) (ms : Members) (y : B) → take k f so ms ≡ Some y
+      → ((d : Data) (x : A) (rest : Members) → f d ≡ Some x → so x rest ≡ Some y → asks d ≡ true) → take_asks k f asks later ms ≡ true
+  there k so later ms y e asking =
+      let found = bind_some (next_named k ms) _ y e in
+      let read = bind_some (f found.0.0) (λ x. so x found.0.1) y found.2 in
+      rw found.1 (first_asks found.0.0 (later found.0.1) (asking found.0.0 read.0 found.0.1 read.1 read.2))
+
+  -- the first member is read, and what it is tells
+  behind : {B : Type 0} (P : Type 0) (k : List ℕ) (so : A → Members → Option B) (ms : Members) (y : B) → take k f so ms ≡ Some y
+      → ((x : A) (rest : Members) → so x rest ≡ Some y → P) → P
+  behind P k so ms y e tells =
+      let found = bind_some (next_named k ms) _ y e in
+      let read = bind_some (f found.0.0) (λ x. so x found.0.1) y found.2 in
+      tells read.0 found.0.1 read.2
+
+  list_kept : (d : Data) (x : A) (xs : List A) → list_of f d ≡ Some (x ∷ xs) → list_asks f asks d ≡ true
+  list_kept (array no_items) x xs e = absurd (let same : [] ≡ x ∷ xs = cc in cc)
+  list_kept (array (item d ds)) x xs e =
+      let found = bind_some (f d) (λ y. option_map (λ ys. y ∷ ys) (all_of f ds)) (x ∷ xs) e in
+      rw found.1 (or_true (asks d))
+  list_kept d x xs e = absurd cc
+
+-- there are threads
+abbrev Some_of : {A : Type 0} → List A → Type 0
+Some_of [] = ⊥
+Some_of (x ∷ xs) = Unit {0}
+
+turned : (us : List (ThreadOf (List Part))) (ts : ThreadsOf (List Part)) → threads_with (reverse us) ≡ Some ts → Some_of us
+turned [] ts e = absurd cc
+turned (u ∷ us) ts e = tt
+
+threads_there : (choices : List (ChoiceOf (List Part))) (globals : List (List ℕ × Spelled)) (safe : Bool) (stack : List Spelled) (threads : List (ThreadOf (List Part))) (ms : Members) (c : Configuration)
+    → from_turn choices globals safe stack threads ms ≡ Some c → Some_of threads
+threads_there choices globals safe stack threads ms c e =
+    behind count_of none_asks (Some_of threads) (codes "turn") _ ms c e (λ turn rest e.
+    behind (list_of (pair_of place_of count_of)) counts_ask (Some_of threads) (codes "turns") _ rest c e (λ turns rest e.
+    behind (list_of (pair_of place_of count_of)) counts_ask (Some_of threads) (codes "visits") _ rest c e (λ visits rest e.
+    let found = bind_some (threads_with (reverse threads)) _ c e in turned threads found.0 found.1)))
+
+threads_kept : (us : List (ThreadOf (List Part))) (d : Data) → list_of thread_in d ≡ Some us → Some_of us → list_asks thread_in thread_asks d ≡ true
+threads_kept [] d e h = absurd h
+threads_kept (u ∷ us) d e h = list_kept thread_in thread_asks d u us e
+
+threads_asked : (choices : List (ChoiceOf (List Part))) (globals : List (List ℕ × Spelled)) (safe : Bool) (stack : List Spelled) (ms : Members) (c : Configuration)
+    → from_threads choices globals safe stack ms ≡ Some c → threads_ask ms ≡ true
+threads_asked choices globals safe stack ms c e =
+    there (list_of thread_in) (list_asks thread_in thread_asks) (codes "threads") _ turn_asks ms c e (λ d threads rest is e.
+    threads_kept threads d is (threads_there choices globals safe stack threads rest c e))
+
+-- what spells a configuration has a thread, which is kept
+pub spelled_asks : (j : Data) (c : Configuration) → unspelled j ≡ Some c → load_asks j ≡ true
+spelled_asks (object ms) c e =
+    through (list_of choice_of) (list_asks choice_of choice_asks) (codes "choices") _ _ ms c e (λ choices rest e.
+    through format_of none_asks (codes "format") _ _ rest c e (λ one rest e.
+    through (list_of (pair_of text_of value_of)) (list_asks (pair_of text_of value_of) (pair_asks text_of text_asks value_asks)) (codes "globals") _ _ rest c e (λ globals rest e.
+    through truth_of none_asks (codes "safe") _ _ rest c e (λ safe rest e.
+    through (list_of value_of) (list_asks value_of value_asks) (codes "stack") _ threads_ask rest c e (λ stack rest e.
+    threads_asked choices globals safe stack rest c e)))))
+spelled_asks j c e = absurd cc
