@@ -1,10 +1,10 @@
 -- The base stays the bottom frame alone, and threads stay within their limit.
-use Rattle.std.proofs.Common.{◌≡◌, ◌≢◌, ◌∙◌, ◌<◌, ◌≤◌, ◌+◌, ◌-◌, ℕ, List, [], ◌∷◌, ◌++◌, true, false, Result, Ok, Err, OnOk, OnErr, ap, arith, get_or, if◌then◌else◌, length, map, nat_eq, nat_lt, refl, reverse, set, subst, sym}
+use Rattle.std.proofs.Common.{◌≡◌, ◌≢◌, ◌<◌, ℕ, List, [], ◌∷◌, ◌++◌, true, false, Result, Ok, Err, OnOk, OnErr, ap, arith, if◌then◌else◌, map, nat_eq, nat_lt, refl, reverse, subst, sym}
 use Rattle.std.proofs.lemmas.Bool.Decides.{nat_tests}
-use Rattle.std.proofs.lemmas.List.{reverse-append, set-get_or}
+use Rattle.std.proofs.lemmas.List.{reverse-append}
 use Rattle.ink_model.specs.Bases.{BaseFirst}
 use Rattle.ink_model.specs.Frames.{FrameOf, ThreadOf, ThreadsOf, is_function, unnumbered_frame}
-use Rattle.ink_model.specs.Threads.{changed, doubled, stale, stale_run, thread_count, top_result, with_row_in}
+use Rattle.ink_model.specs.Threads.{doubled, stale, stale_run, thread_count, top_result, with_row_in}
 use Rattle.ink_model.specs.declared.fault.Fault.{Fault}
 use Rattle.ink_model.specs.declared.frame.FrameKind.{FrameKind}
 use Rattle.ink_model.specs.declared.frame.FrameKind.TheVariants.{Base}
@@ -14,7 +14,6 @@ use Rattle.ink_stack.specs.Calls.{frame_kind}
 use Rattle.ink_stack.specs.Words.{Changes, Grows}
 use Rattle.ink_stack.specs.declared.frame.CallKind.{CallKind}
 use Rattle.ink_stack.specs.declared.frame.CallKind.TheVariants as call
-use Rattle.ink_stack.proofs.Numbers.{changed_is}
 
 fewer : (m n : ℕ) → m < n → nat_lt m n ≡ true
 fewer m n h = grind (arith, nat_tests)
@@ -52,10 +51,14 @@ module _ {P : Type 0} where
   base_unnumbered k [] h = h
   base_unnumbered k (f ∷ fs) h = (h.0, base_unnumbered f.kind fs h.1)
 
-  -- after a call that gives a frame a temporary
+  -- a temporary has nothing to do with a frame's kind, and with freshness
   pub kind_along : {U E : Type 0} (r : Result U E) (name : List ℕ) (v : Value) (f g : FrameOf P) → OnOk r (g ≡ with_row_in name v f) → OnErr r (g ≡ f) → g.kind ≡ f.kind
   kind_along (Ok u) name v f g made kept = ap (λ h. h.kind) made
   kind_along (Err e) name v f g made kept = ap (λ h. h.kind) kept
+
+  pub fresh_along : {U E : Type 0} (r : Result U E) (name : List ℕ) (v : Value) (f g : FrameOf P) → OnOk r (g ≡ with_row_in name v f) → OnErr r (g ≡ f) → g.fresh ≡ f.fresh
+  fresh_along (Ok u) name v f g made kept = ap (λ h. h.fresh) made
+  fresh_along (Err e) name v f g made kept = ap (λ h. h.fresh) kept
 
   -- a copy is put on top where there are fewer threads
   pub doubled_there : (ts : ThreadsOf P) → thread_count ts < MAX_THREADS → doubled ts ≡ Ok (record ts { below = ts.thread ∷ ts.below })

@@ -1,7 +1,7 @@
 -- Frames by their number, over a list whose last item is the top one.
-use Rattle.std.proofs.Common.{◌≡◌, ◌∙◌, ◌<◌, ◌≤◌, ◌+◌, ◌-◌, ℕ, List, [], ◌∷◌, ◌++◌, Bool, true, false, Option, Some, None, option_and_then, Result, Ok, Err, OnOk, OnErr, add-one, ap, append_assoc, arith, drop, get_or, if◌then◌else◌, length, length-append, nat_eq, not, ◌&&◌, refl, reverse, set, sym, take}
+use Rattle.std.proofs.Common.{◌≡◌, ◌∙◌, ◌<◌, ◌≤◌, ◌+◌, ◌-◌, ℕ, List, [], ◌∷◌, ◌++◌, true, false, Option, Some, None, option_and_then, Result, OnOk, OnErr, add-one, ap, append_assoc, arith, drop, get_or, if◌then◌else◌, length, length-append, nat_eq, not, ◌&&◌, refl, reverse, set, sym, take}
 use Rattle.std.proofs.lemmas.Bool.Decides.{nat_tests}
-use Rattle.std.proofs.lemmas.List.{drop_more, length-reverse, length-take-le, reverse-append, set-get_or, set_split, take-append-drop}
+use Rattle.std.proofs.lemmas.List.{drop_more, length-reverse, length-take-le, reverse-append, set_split, take-append-drop}
 use Rattle.std.proofs.lemmas.Result.{on_err_weaker, on_ok_weaker}
 use Rattle.ink_model.specs.Frames.{FrameOf, ThreadOf, frame_numbered, is_function}
 use Rattle.ink_model.specs.Rows.{name_order, row}
@@ -75,30 +75,26 @@ module _ {P : Type 0} where
   none_zero [] = refl
   none_zero (f ∷ fs) = rw (other_number 0 (length fs + 1) (omega arith)) (none_zero fs)
 
-  -- a temporary has nothing to do with freshness
-  quiet_first : (name : List ℕ) (v : Value) (n : ℕ) (f : FrameOf P) (fs : List (FrameOf P)) → is_quiet (changed (with_row_in name v) n fs) ≡ is_quiet fs
-      → (b : Bool) → is_quiet (if b then with_row_in name v f ∷ fs else f ∷ changed (with_row_in name v) n fs) ≡ is_quiet (f ∷ fs)
-  quiet_first name v n f fs rest true = refl
-  quiet_first name v n f fs rest false = ap (λ b. if is_function f.kind then not f.fresh && b else true) rest
+  -- freshness where a frame of the same kind stands in the place of another
+  quiet_around : (above : List (FrameOf P)) (f g : FrameOf P) (below : List (FrameOf P)) → g.kind ≡ f.kind → g.fresh ≡ f.fresh
+      → is_quiet (above ++ g ∷ below) ≡ is_quiet (above ++ f ∷ below)
+  quiet_around [] f g below kind fresh =
+      ap (λ k. if is_function k then not g.fresh && is_quiet below else true) kind ∙ ap (λ b. if is_function f.kind then not b && is_quiet below else true) fresh
+  quiet_around (a ∷ above) f g below kind fresh = ap (λ b. if is_function a.kind then not a.fresh && b else true) (quiet_around above f g below kind fresh)
 
-  pub quiet_changed : (name : List ℕ) (v : Value) (n : ℕ) (fs : List (FrameOf P)) → is_quiet (changed (with_row_in name v) n fs) ≡ is_quiet fs
-  quiet_changed name v n [] = refl
-  quiet_changed name v n (f ∷ fs) = quiet_first name v n f fs (quiet_changed name v n fs) (nat_eq n (length fs + 1))
+  pub quiet_set : (fs : List (FrameOf P)) (n : ℕ) (d g : FrameOf P) → 0 < n → n ≤ length fs → g.kind ≡ (get_or fs (n - 1) d).kind → g.fresh ≡ (get_or fs (n - 1) d).fresh
+      → is_quiet (reverse (set fs (n - 1) g)) ≡ is_quiet (reverse fs)
+  quiet_set fs n d g above within kind fresh =
+      let inside : n - 1 < length fs = omega arith in
+      ap is_quiet (split_set fs (n - 1) g inside)
+      ∙ quiet_around (reverse (drop (n - 1 + 1) fs)) (get_or fs (n - 1) d) g (reverse (take (n - 1) fs)) kind fresh
+      ∙ sym (ap is_quiet (split_at fs (n - 1) d inside))
 
   -- a frame of a number, below another one
   pub numbered_below : (f : FrameOf P) (fs : List (FrameOf P)) (n : ℕ) (d : FrameOf P) → 0 < n → n ≤ length fs
       → frame_numbered n (f ∷ reverse fs) ≡ Some (get_or fs (n - 1) d)
   numbered_below f fs n d above within =
       rw (other_number n (length (reverse fs) + 1) (omega (arith, length-reverse fs))) (numbered_is fs n d above within)
-
-  -- the frames after a call that gives one of them a temporary
-  pub quiet_along : {U E : Type 0} (r : Result U E) (fs : List (FrameOf P)) (n : ℕ) (d f : FrameOf P) (name : List ℕ) (v : Value) → 0 < n → n ≤ length fs
-      → OnOk r (f ≡ with_row_in name v (get_or fs (n - 1) d)) → OnErr r (f ≡ get_or fs (n - 1) d)
-      → is_quiet (reverse (set fs (n - 1) f)) ≡ is_quiet (reverse fs)
-  quiet_along (Ok u) fs n d f name v above within ok err =
-      ap (λ g. is_quiet (reverse (set fs (n - 1) g))) ok ∙ ap is_quiet (changed_is (with_row_in name v) fs n d above within)
-      ∙ quiet_changed name v n (reverse fs)
-  quiet_along (Err e) fs n d f name v above within ok err = ap (λ g. is_quiet (reverse (set fs (n - 1) g))) err ∙ ap (λ gs. is_quiet (reverse gs)) (set-get_or fs (n - 1) d)
 
   module _ {U E : Type 0} (r : Result U E) (f : FrameOf P) (fs : List (FrameOf P)) (previous : Option P) (n : ℕ) (d : FrameOf P) (name : List ℕ)
       (above : 0 < n) (within : n ≤ length fs) where

@@ -2,9 +2,10 @@
 use Rattle.std.proofs.Common.{◌≡◌, ◌∙◌, ◌≤◌, ◌<◌, ◌+◌, ◌-◌, ℕ, List, [], ◌∷◌, Bool, true, false, ap, arith, if◌then◌else◌, length, nat_eq, refl, sym}
 use Rattle.std.proofs.lemmas.Bool.Decides.{nat_tests}
 use Rattle.ink_model.specs.Frames.{FrameOf, ThreadOf, frame_numbered, is_function}
-use Rattle.ink_model.specs.Threads.{changed, stale, stale_run}
+use Rattle.ink_model.specs.Threads.{changed, stale, stale_run, staled}
 use Rattle.ink_stack.specs.Cells.{holds_of, with_frame}
 use Rattle.ink_stack.specs.Running.{RunningView}
+use Rattle.ink_stack.proofs.Bases.{stale_kind}
 use Rattle.ink_stack.proofs.Framing.{length-changed}
 use Rattle.ink_stack.proofs.Numbers.{other_number, same_number}
 use Rattle.ink_stack.proofs.Runs.{first_stale, first_stays}
@@ -59,6 +60,31 @@ module _ {P : Type 0} (d : ℕ) where
 
   pub framed_lower : (change : FrameOf P → FrameOf P) (t : ThreadOf P) (n : ℕ) → n ≤ length t.below → with_frame change n t ≡ record t { below = changed change n t.below }
   framed_lower change t n within = rw (other_number n (length t.below + 1) (omega arith)) refl
+
+-- what is stale already stays as it is
+module _ {P : Type 0} (d : ℕ) where
+  stale_twice : (f : FrameOf P) → stale d (stale d f) ≡ stale d f
+  stale_twice f = by (nat_eq f.depth d) refl
+    where
+      by : (b : Bool) → nat_eq f.depth d ≡ b → stale d (stale d f) ≡ stale d f
+      by true is = rw (is, is) refl
+      by false is = rw (is, is) refl
+
+  run_twice : (fs : List (FrameOf P)) → stale_run d (stale_run d fs) ≡ stale_run d fs
+  run_twice [] = refl
+  run_twice (f ∷ fs) = by (is_function f.kind) refl (run_twice fs)
+    where
+      by : (b : Bool) → is_function f.kind ≡ b → stale_run d (stale_run d fs) ≡ stale_run d fs → stale_run d (stale_run d (f ∷ fs)) ≡ stale_run d (f ∷ fs)
+      by true is below =
+          ap (stale_run d) (first_stale d f fs is)
+          ∙ first_stale d (stale d f) (stale_run d fs) (ap is_function (stale_kind d f) ∙ is)
+          ∙ ap (λ g. g ∷ stale_run d (stale_run d fs)) (stale_twice f) ∙ ap (λ gs. stale d f ∷ gs) below ∙ sym (first_stale d f fs is)
+      by false is below = ap (stale_run d) (first_stays d f fs is)
+
+  pub staled_twice : (t : ThreadOf P) → staled d (staled d t) ≡ staled d t
+  staled_twice t =
+      ap (λ f. record t { frame = f; below = stale_run d (stale_run d t.below) }) (stale_twice t.frame)
+      ∙ ap (λ fs. record t { frame = stale d t.frame; below = fs }) (run_twice t.below)
 
 -- a thread that runs, by its parts
 pub running_is : {P : Type 0} (v : RunningView P) (t : ThreadOf P) (room : ℕ) → v.thread.frame ≡ t.frame → v.thread.below ≡ t.below → v.thread.previous ≡ t.previous → v.room ≡ room

@@ -264,6 +264,13 @@ impl<P: Copy> Running<P> {
         let _ = &self.below;
     }
 
+    // Whether it is known of the function frames nearest below the top one that none is fresh.
+    pub(crate) fn is_quiet(&self) -> bool
+        ensures { OnTrue result (is_quiet self.now.thread.below ≡ true) }
+    {
+        self.quiet
+    }
+
     // Whether the frame of a number is a function.
     pub(crate) fn is_function(&self, number: usize) -> bool
         ensures { result ≡ holds_of (λ f. is_function f.kind) (frame_numbered number (self.now.thread.frame ∷ self.now.thread.below)) }
@@ -283,10 +290,10 @@ impl<P: Copy> Running<P> {
         ensures ended { OnTrue result (with_frame (with_fresh true) number self.new.thread ≡ self.old.thread) }
         ensures kept { OnFalse result (self.new.thread ≡ self.old.thread) }
     {
-        self.quiet = false;
         if number == self.below.len() + 1 {
             return self.frame.end_one(depth);
         }
+        self.quiet = false;
         self.below[number - 1].end_one(depth)
     }
 
@@ -325,7 +332,6 @@ impl<P: Copy> Running<P> {
             return;
         }
         if 0 < number && number <= self.below.len() {
-            self.quiet = false;
             self.below[number - 1].put_temp_back(index, was);
         }
     }
@@ -334,9 +340,9 @@ impl<P: Copy> Running<P> {
     pub(crate) fn unpush(&mut self)
         ensures { self.new ≡ record self.old { thread = unpushed self.old.thread } }
     {
-        if let Some(caller) = self.below.pop() {
-            self.quiet = false;
-            self.frame = caller;
+        if let Some(under) = self.below.pop() {
+            self.quiet = under.is_function() && self.quiet;
+            self.frame = under;
         }
     }
 
@@ -345,9 +351,9 @@ impl<P: Copy> Running<P> {
         requires { Within self.old.room (unpopped frame self.old.thread) }
         ensures { self.new ≡ record self.old { thread = unpopped frame self.old.thread } }
     {
-        self.quiet = false;
-        let caller = mem::replace(&mut self.frame, frame);
-        self.below.push_reserved(caller);
+        let under = mem::replace(&mut self.frame, frame);
+        self.quiet = !under.is_function() || !under.is_fresh() && self.quiet;
+        self.below.push_reserved(under);
     }
 }
 

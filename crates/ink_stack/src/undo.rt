@@ -1,7 +1,7 @@
 //! How changes of frames and threads are put back.
 
 ghost use Rattle.std.specs.Prelude.{◌≡◌, ◌≤◌, ◌<◌, ◌+◌, length, vec_capacity};
-ghost use Rattle.ink_model.specs.Threads.{frame_count, stale, staled};
+ghost use Rattle.ink_model.specs.Threads.{frame_count, stale, stale_run, staled};
 ghost use Rattle.ink_stack.specs.Cells.{with_frame};
 ghost use Rattle.ink_stack.specs.Running.{threads_in};
 ghost use Rattle.ink_stack.specs.Undo.{Held, More, StaysHeld, rooms_of, threads_back};
@@ -52,9 +52,30 @@ pub(crate) fn end_freshness<P: Copy>(
     ensures trail { Trails threads_back (frame_count running.old.thread) (threads_in running.old below.now.items) trail.old (threads_in running.new below.now.items) trail.new }
     ensures held { StaysHeld (record { frames = running.new.room; threads = vec_capacity below.now }) (trail_of trail.new.undo) (threads_in running.new below.now.items) }
 {
-    let mut number = running.frames();
-    end_one(running, below, trail, number, depth);
-    number -= 1;
+    let top = running.frames();
+    end_one(running, below, trail, top, depth);
+    if running.is_quiet() {
+        return;
+    }
+    end_run(running, below, trail, depth);
+    // Nothing is left to end; that none is fresh is kept in mind where it is so.
+    running.end_freshness(depth);
+}
+
+/// The same of the function frames nearest below the top one.
+fn end_run<P: Copy>(
+    running: &mut Running<P>,
+    below: &Vec<Thread<P>>,
+    trail: &mut Trail<ThreadsPair<P>>,
+    depth: usize,
+)
+    requires spare { length running.old.thread.below ≤ spare trail.old }
+    requires held { StaysHeld (record { frames = running.old.room; threads = vec_capacity below.now }) (trail_of trail.old.undo) (threads_in running.old below.now.items) }
+    ensures running { running.new ≡ record running.old { thread = record running.old.thread { below = stale_run depth running.old.thread.below } } }
+    ensures trail { Trails threads_back (length running.old.thread.below) (threads_in running.old below.now.items) trail.old (threads_in running.new below.now.items) trail.new }
+    ensures held { StaysHeld (record { frames = running.new.room; threads = vec_capacity below.now }) (trail_of trail.new.undo) (threads_in running.new below.now.items) }
+{
+    let mut number = running.frames() - 1;
     while number > 0 && running.is_function(number) {
         end_one(running, below, trail, number, depth);
         number -= 1;

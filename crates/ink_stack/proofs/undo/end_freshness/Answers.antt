@@ -1,80 +1,63 @@
-use Rattle.std.proofs.Common.{◌≡◌, ◌∙◌, ◌-◌, ◌+◌, ◌≤◌, true, false, ap, arith, length, sym}
-use Rattle.ink_model.specs.Threads.{frame_count, stale, staled}
+use Rattle.std.proofs.Common.{◌≡◌, ◌∙◌, ◌+◌, true, ap, arith, length, subst, sym, vec_capacity}
+use Rattle.std.proofs.lemmas.Bool.{OnTrue_at}
+use Rattle.ink_model.specs.Threads.{frame_count, stale, stale_run, staled}
 use Rattle.ink_trail.proofs.Undoing.{trails-more, trails-trails}
-use Rattle.ink_stack.specs.Undo.{threads_back}
-use Rattle.ink_stack.proofs.Framing.{framed_top, length-changed}
-use Rattle.ink_stack.proofs.Staling.{framed_lower, from_step, from_stop, from_top, from_zero, function_at, function_below, running_is, stale_from}
+use Rattle.ink_trail.specs.Undo.{Trails, trail_of}
+use Rattle.ink_stack.specs.Quiet.{is_quiet}
+use Rattle.ink_stack.specs.Running.{RunningView, threads_in}
+use Rattle.ink_stack.specs.Undo.{StaysHeld, threads_back}
+use Rattle.ink_stack.proofs.Framing.{framed_top}
+use Rattle.ink_stack.proofs.Quietness.{quiet_run}
+use Rattle.ink_stack.proofs.Staling.{staled_twice}
+use Rattle.ink_stack.proofs.undo.end_freshness.Given.{Over}
+use Rattle.ink_stack.proofs.undo.end_freshness.Goals.{After-end_freshness, After-end_one}
 use Rattle.ink_stack.proofs.undo.end_freshness.Goals as goal
 
-pub loop-number-init : goal.loop-number-init
-loop-number-init g c =
+-- the top frame is fresh no more
+top : (g : Over) (c : After-end_one g) → c.end_one.new.running
+    ≡ record c.args.running.now { thread = record c.args.running.now.thread { frame = stale c.args.depth c.args.running.now.thread.frame } }
+top g c =
+    c.end_one.ensures.running
+    ∙ ap (λ u. record { thread = u; room = c.args.running.now.room }) (framed_top (stale c.args.depth) c.frames-top.result c.args.running.now.thread c.frames-top.ensures.count)
+
+-- none is any more
+all : (g : Over) (c : After-end_freshness g) → c.end_run.new.running ≡ record c.args.running.now { thread = staled c.args.depth c.args.running.now.thread }
+all g c =
+    c.end_run.ensures.running
+    ∙ ap (λ (v : RunningView g.row.P.Denot). record v { thread = record v.thread { below = stale_run c.args.depth v.thread.below } }) (top g (goal.at.After-end_freshness g c).After-end_one)
+
+same : (g : Over) (c : After-end_freshness g) → c.end_freshness.new.self ≡ c.end_run.new.running
+same g c =
+    let d = c.args.depth in
+    let e = all g c in
+    c.end_freshness.ensures ∙ ap (λ (v : RunningView g.row.P.Denot). record v { thread = staled d v.thread }) e
+    ∙ ap (λ t. record c.args.running.now { thread = t }) (staled_twice d c.args.running.now.thread) ∙ sym e
+
+pub returns-then-is_quiet-clause-running : goal.returns-then-is_quiet-clause-running
+returns-then-is_quiet-clause-running g c =
+    let d = c.args.depth in
     let t = c.args.running.now.thread in
-    let n = c.frames-number.result in
-    let count : n ≡ frame_count t = c.frames-number.ensures.count in
-    let e = c.end_one.ensures.running ∙ ap (λ u. record { thread = u; room = c.args.running.now.room }) (framed_top (stale c.args.depth) n t count) in
-    record {
-      within = omega (arith, count);
-      count = ap (λ v. length v.thread.below) e;
-      room = ap (λ v. v.room) e;
-      frame = ap (λ v. v.thread.frame) e;
-      previous = ap (λ v. v.thread.previous) e;
-      run = ap (λ v. stale_from c.args.depth (n - 1) v.thread.below) e ∙ from_top c.args.depth (n - 1) t.below (omega (arith, count));
-      spare = omega (arith, count, c.end_one.ensures.spare, c.requires.spare);
-      trail = trails-more threads_back 1 (frame_count t - (n - 1)) _ _ _ _ (omega (arith, count)) c.end_one.ensures.trail;
-      held = c.end_one.ensures.held;
-    }
+    let e = top g (goal.at.returns-then-is_quiet-clause-running g c).After-end_one in
+    let quiet : is_quiet t.below ≡ true = ap (λ v. is_quiet v.thread.below) (sym e) ∙ OnTrue_at c.if-is_quiet.true c.is_quiet.ensures in
+    e ∙ ap (λ fs. record c.args.running.now { thread = record t { frame = stale d t.frame; below = fs } }) (sym (quiet_run d t.below quiet))
 
-pub end_one-requires-in-loop-number-clause-there : goal.end_one-requires-in-loop-number-clause-there
-end_one-requires-in-loop-number-clause-there g c = omega (arith, c.loop-number.invariant.within, c.loop-number.invariant.count)
+pub returns-clause-running : goal.returns-clause-running
+returns-clause-running g c =
+    let at = (goal.at.returns-clause-running g c).After-end_freshness in
+    same g at ∙ all g at
 
-pub end_one-requires-in-loop-number-clause-spare : goal.end_one-requires-in-loop-number-clause-spare
-end_one-requires-in-loop-number-clause-spare g c = omega (arith, c.loop-number.invariant.spare)
+pub returns-clause-trail : goal.returns-clause-trail
+returns-clause-trail g c =
+    let at = (goal.at.returns-clause-trail g c).After-end_freshness in
+    let t = c.args.running.now.thread in
+    let v = c.end_one.new.running in
+    let count = ap (λ v. length v.thread.below) (top g (goal.at.returns-clause-trail g c).After-end_one) in
+    subst (λ (w : RunningView g.row.P.Denot). Trails threads_back (frame_count t) (threads_in c.args.running.now c.args.below.now.items) c.args.trail.now (threads_in w c.args.below.now.items) c.end_run.new.trail)
+    (sym (same g at))
+    (trails-more threads_back (1 + length v.thread.below) (frame_count t) _ _ _ _ (omega (arith, count))
+    (trails-trails threads_back 1 (length v.thread.below) _ _ _ _ _ _ c.end_one.ensures.trail c.end_run.ensures.trail))
 
-pub loop-number-preserved : goal.loop-number-preserved
-loop-number-preserved g c =
-    let d = c.args.depth in
-    let inv = c.loop-number.invariant in
-    let n = c.loop-number.number in
-    let v = c.loop-number.running in
-    let here : n ≤ length v.thread.below = omega (arith, inv.within, inv.count) in
-    let function : function_at d n v.thread.below ≡ true = sym (function_below d v.thread.frame v.thread.below n here) ∙ sym c.is_function.ensures ∙ c.if-is_function.true in
-    let e = c.end_one-in-loop-number.ensures.running ∙ ap (λ u. record { thread = u; room = v.room }) (framed_lower d (stale d) v.thread n here) in
-    record {
-      within = omega (arith, inv.within);
-      count = ap (λ w. length w.thread.below) e ∙ length-changed (stale d) n v.thread.below ∙ inv.count;
-      room = ap (λ w. w.room) e ∙ inv.room;
-      frame = ap (λ w. w.thread.frame) e ∙ inv.frame;
-      previous = ap (λ w. w.thread.previous) e ∙ inv.previous;
-      run = ap (λ w. stale_from d (n - 1) w.thread.below) e ∙ from_step d n v.thread.below c.loop-number-test.true here function ∙ inv.run;
-      spare = omega (arith, inv.spare, c.end_one-in-loop-number.ensures.spare);
-      trail = trails-more threads_back (frame_count c.args.running.now.thread - n + 1) (frame_count c.args.running.now.thread - (n - 1)) _ _ _ _ (omega (arith, inv.within, c.loop-number-test.true))
-          (trails-trails threads_back (frame_count c.args.running.now.thread - n) 1 _ _ _ _ _ _ inv.trail c.end_one-in-loop-number.ensures.trail);
-      held = c.end_one-in-loop-number.ensures.held;
-    }
-
-pub returns-else-is_function-clause-running : goal.returns-else-is_function-clause-running
-returns-else-is_function-clause-running g c =
-    let d = c.args.depth in
-    let inv = c.loop-number.invariant in
-    let n = c.loop-number.number in
-    let v = c.loop-number.running in
-    let here : n ≤ length v.thread.below = omega (arith, inv.within, inv.count) in
-    let other : function_at d n v.thread.below ≡ false = sym (function_below d v.thread.frame v.thread.below n here) ∙ sym c.is_function.ensures ∙ c.if-is_function.false in
-    running_is v (staled d c.args.running.now.thread) c.args.running.now.room inv.frame (sym (from_stop d n v.thread.below other) ∙ inv.run) inv.previous inv.room
-
-pub returns-else-is_function-clause-trail : goal.returns-else-is_function-clause-trail
-returns-else-is_function-clause-trail g c =
-    trails-more threads_back (frame_count c.args.running.now.thread - c.loop-number.number) (frame_count c.args.running.now.thread) _ _ _ _ (omega arith) c.loop-number.invariant.trail
-
-pub returns-after-loop-number-clause-running : goal.returns-after-loop-number-clause-running
-returns-after-loop-number-clause-running g c =
-    let d = c.args.depth in
-    let inv = c.loop-number.invariant in
-    let v = c.loop-number.running in
-    let none : 0 ≡ c.loop-number.number = omega arith in
-    running_is v (staled d c.args.running.now.thread) c.args.running.now.room inv.frame
-    (sym (from_zero d v.thread.below) ∙ ap (λ m. stale_from d m v.thread.below) none ∙ inv.run) inv.previous inv.room
-
-pub returns-after-loop-number-clause-trail : goal.returns-after-loop-number-clause-trail
-returns-after-loop-number-clause-trail g c =
-    trails-more threads_back (frame_count c.args.running.now.thread - c.loop-number.number) (frame_count c.args.running.now.thread) _ _ _ _ (omega arith) c.loop-number.invariant.trail
+pub returns-clause-held : goal.returns-clause-held
+returns-clause-held g c =
+    subst (λ (w : RunningView g.row.P.Denot). StaysHeld (record { frames = w.room; threads = vec_capacity c.args.below.now }) (trail_of c.end_run.new.trail.undo) (threads_in w c.args.below.now.items))
+    (sym (same g (goal.at.returns-clause-held g c).After-end_freshness)) c.end_run.ensures.held

@@ -3,6 +3,7 @@ use Rattle.std.proofs.lemmas.List.{length-reverse}
 use Rattle.ink_model.specs.Threads.{frame_count}
 use Rattle.ink_stack.specs.Cells.{temp_back}
 use Rattle.ink_stack.proofs.Framing.{base_set, framed_below, framed_past, framed_zero}
+use Rattle.ink_stack.proofs.Numbers.{quiet_set}
 use Rattle.ink_stack.proofs.running.Running.put_temp_back.Goals.{else-number-gt0-via-then-number-gt0+else-number-len-2, else-number-gt0-via-else-number-gt0}
 use Rattle.ink_stack.proofs.running.Running.put_temp_back.Goals as goal
 
@@ -12,7 +13,10 @@ invariant_of-self-then-number-len-2 g c =
     let new = c.put_temp_back-then-number-len-2.new.self in
     let within : c.args.number ≤ length items = omega (arith, c.self.inside.below.ok.0) in (
       rw length-set c.self.invariant.0,
-      λ quiet. cc,
+      λ quiet.
+          rw (quiet_set items c.args.number c.index_mut.result.now new (omega arith) within
+          (ap (λ f. f.kind) c.put_temp_back-then-number-len-2.ensures ∙ ap (λ f. f.kind) c.index_mut.ensures.value)
+          (ap (λ f. f.fresh) c.put_temp_back-then-number-len-2.ensures ∙ ap (λ f. f.fresh) c.index_mut.ensures.value)) (c.self.invariant.1 quiet),
       base_set c.self.inside.frame.kind items c.args.number c.index_mut.result.now new (omega arith) within
           (ap (λ f. f.kind) c.put_temp_back-then-number-len-2.ensures ∙ ap (λ f. f.kind) c.index_mut.ensures.value) c.self.invariant.2,
     )
