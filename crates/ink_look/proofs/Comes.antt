@@ -1,5 +1,5 @@
 -- What a running command comes to, from the run that it makes.
-use Rattle.std.proofs.Common.{◌≡◌, ◌∙◌, ◌⊎◌, ap, sym, refl, subst, inl, inr, List, [], true, Some, Result, Ok, Err}
+use Rattle.std.proofs.Common.{◌≡◌, ◌∙◌, ◌⊎◌, ap, sym, refl, subst, inl, inr, List, [], Bool, true, false, Some, Result, Ok, Err}
 use Rattle.ink_look.specs.Ends.{RunsThrough}
 use Rattle.ink_look.specs.Words.{said, said_asks}
 use Rattle.ink_look.specs.declared.said.Said.{Said}
@@ -36,10 +36,13 @@ module _ (s : StoryTree) (b : Bound) (made : List Made) (c begin : Configuration
     leaves = refl;
   }
 
-  pub comes_to_fault : (new : Configuration) (f : Fault) → RunFalls s b begin made new.shared.globals f → Ran new (Err f)
+  pub comes_to_fault : (new : Configuration) (f : Fault) → RunFalls s b false begin made new.shared.globals f → Ran new (Err f)
   comes_to_fault new f h = elim h.why [
     | inl faults ↦ inl (Broke f h.before.shared.globals, ends_through _ _ faults refl, (refl, h.kept))
-    | inr short ↦ inr (ap Err short.0, subst (FallsShort s b c made) (sym h.kept) (fell h.before short.1))
+    | inr short ↦ elim short.1 [
+      | inl there ↦ inr (ap Err short.0, subst (FallsShort s b c made) (sym h.kept) (fell h.before there))
+      | inr is_marked ↦ absurd (cc)
+    ]
   ]
 
   -- memory was refused for what was said

@@ -3,3 +3,4 @@ mod Comes
 mod Steps
 mod Searches
 mod LineEnding
+mod Marks

@@ -1,5 +1,5 @@
 -- Steps of a loop that looks for a line, by what a step of the machine comes to.
-use Rattle.std.proofs.Common.{◌≡◌, ◌∙◌, ◌⊎◌, ap, sym, refl, subst, inl, inr, ℕ, suc, List, [], Bool, true, false, Option, Some, Result, Ok, Err}
+use Rattle.std.proofs.Common.{◌≡◌, ◌∙◌, ◌⊎◌, ◌||◌, ap, sym, refl, subst, inl, inr, ℕ, suc, List, [], Bool, true, false, Option, Some, Result, Ok, Err}
 use Rattle.ink_model.specs.Line.{is_call}
 use Rattle.ink_line.specs.Look.{Looking, Search, look_on, looked, looked_by, looked_on}
 use Rattle.ink_line.proofs.Opens.{is_open, open_is}
@@ -53,20 +53,20 @@ QuietEnds s o es old new (Ok ends.Stopped) = (es ≡ []) × (is_call o ≡ false
 QuietEnds s o es old new (Ok ends.WantsCall) = es ≡ []
 QuietEnds s o es old new (Err f) = (es ≡ []) × (new.shared.globals ≡ old.shared.globals)
 
-module _ (s : StoryTree) (b : Bound) (n : ℕ) (asking : Bool) (es : List Event) (old new : Configuration) where
-  pub quiet_ends : (o : Stepped) (r : Result StepEnd Fault) → Steps true s b n asking o es old.shared.globals old new r → QuietEnds s o es old new r
+module _ (s : StoryTree) (b : Bound) (n : ℕ) (marked asking : Bool) (es : List Event) (old new : Configuration) where
+  pub quiet_ends : (o : Stepped) (r : Result StepEnd Fault) → Steps true s b n marked asking o es old.shared.globals old new r → QuietEnds s o es old new r
   quiet_ends (Wants name arguments f d) (Ok ends.Went) h = absurd (went_wants h.0)
   quiet_ends (Wants name arguments f d) (Ok ends.Stopped) h = absurd (stopped_wants h.0)
   quiet_ends (Wants name arguments f d) (Ok ends.WantsCall) h = h.1
   quiet_ends (Wants name arguments f d) (Err g) h = absurd (err_wants g h.0)
-  quiet_ends (Comes o) (Ok ends.Went) h = (h.0, refl, went asking old new o h.1)
-  quiet_ends (Comes o) (Ok ends.Stopped) h = (h.0, refl, stopped asking old new o h.1)
-  quiet_ends (Comes o) (Ok ends.WantsCall) h = absurd (never_wants asking o old.shared.globals new h.1)
-  quiet_ends (Comes o) (Err f) h = (h.0, kept_globals asking old new f o h.1)
+  quiet_ends (Comes o) (Ok ends.Went) h = (h.0, refl, went (marked || asking) old new o h.1)
+  quiet_ends (Comes o) (Ok ends.Stopped) h = (h.0, refl, stopped (marked || asking) old new o h.1)
+  quiet_ends (Comes o) (Ok ends.WantsCall) h = absurd (never_wants (marked || asking) o old.shared.globals new h.1)
+  quiet_ends (Comes o) (Err f) h = (h.0, kept_globals (marked || asking) old new f o h.1)
 
   -- the same by what it returned
-  pub quiet_so : (o : Stepped) (r k : Result StepEnd Fault) → r ≡ k → Steps true s b n asking o es old.shared.globals old new r → QuietEnds s o es old new k
-  quiet_so o r k is h = quiet_ends o k (subst (λ r. Steps true s b n asking o es old.shared.globals old new r) is h)
+  pub quiet_so : (o : Stepped) (r k : Result StepEnd Fault) → r ≡ k → Steps true s b n marked asking o es old.shared.globals old new r → QuietEnds s o es old new k
+  quiet_so o r k is h = quiet_ends o k (subst (λ r. Steps true s b n marked asking o es old.shared.globals old new r) is h)
 
 -- ---- a look past a newline
 

@@ -6,7 +6,6 @@ use Rattle.ink_look.specs.declared.looking.Looked.{Looked}
 use Rattle.ink_look.specs.declared.looking.Looked.TheVariants as looked
 use Rattle.ink_look.specs.declared.looking.Standing.{Standing}
 use Rattle.ink_look.specs.declared.looking.Standing.TheVariants as standing
-use Rattle.ink_look.specs.declared.looking.Waiting.{Waiting}
 use Rattle.ink_model.specs.Asks.{asks}
 use Rattle.ink_model.specs.Configuration.{Configuration}
 use Rattle.ink_model.specs.Host.{Bound}
@@ -15,14 +14,13 @@ use Rattle.ink_model.specs.Page.{Page}
 use Rattle.ink_model.specs.Run.{At, Made, Stopped}
 use Rattle.ink_model.specs.Shown.{open_newline}
 use Rattle.ink_model.specs.Step.{step}
-use Rattle.ink_model.specs.Store.{Values}
 use Rattle.ink_model.specs.Tree.{StoryTree}
 use Rattle.ink_model.specs.declared.fault.Fault.{Fault}
 use Rattle.ink_model.specs.declared.fault.Fault.TheVariants.{OutOfMemory}
 use Rattle.ink_model.specs.declared.host.Event.{Event}
 use Rattle.ink_model.specs.declared.host.Given.{Given}
+use Rattle.ink_step.specs.Marks.{marked_at, stood_of, unmarked}
 use Rattle.ink_step.specs.Steps.{StepMakes}
-use Rattle.ink_step.specs.Words.{config_of, start_of}
 use Rattle.ink_step.specs.declared.flow.StepEnd.{StepEnd}
 use Rattle.ink_step.specs.declared.flow.StepEnd.TheVariants as ends
 use Rattle.ink_step.specs.declared.machine.Machine.{Machine}
@@ -35,7 +33,7 @@ newline_from marks page = if is_line page.sections then at_least marks (open_new
 
 abbrev pub found_of : Option ℕ → Looked
 found_of None = looked.Nothing
-found_of (Some newline) = looked.Newline (record { newline = newline; kept = None })
+found_of (Some newline) = looked.Newline newline
 
 -- by whether a newline is shown, and whether a text or a tag stands behind it
 abbrev pub StandsAs : Standing → Bool → Bool → Type 0
@@ -43,67 +41,63 @@ StandsAs standing.Last shown past = (shown ≡ true) × (past ≡ false)
 StandsAs standing.Past shown past = (shown ≡ true) × (past ≡ true)
 StandsAs standing.Hidden shown past = shown ≡ false
 
--- ---- what is kept
+-- ---- marks
 
--- the configuration to come back to: where nothing is kept, it is still there
-abbrev pub kept_of : StoryTree → Option Machine → Configuration → Configuration
-kept_of s None now = now
-kept_of s (Some m) now = config_of s m
+-- the newline that waits after a step
+abbrev pub waiting_after : Looked → Option ℕ
+waiting_after (looked.Newline newline) = Some newline
+waiting_after l = None
 
--- changes of globals in it are those from these values on
-abbrev pub KeptFrom : Values → Option Machine → Type 0
-KeptFrom start None = ⊤
-KeptFrom start (Some m) = start_of m ≡ start
+-- at each part of a machine it has stood so
+abbrev pub IsMarked : Machine → Type 0
+IsMarked m = (there : Machine) × (stood_of m ≡ marked_at there)
 
-abbrev pub WaitsFrom : Values → Option Waiting → Type 0
-WaitsFrom start None = ⊤
-WaitsFrom start (Some w) = KeptFrom start w.kept
-
-abbrev pub LookedFrom : Values → Looked → Type 0
-LookedFrom start (looked.Newline w) = KeptFrom start w.kept
-LookedFrom start l = ⊤
-
--- they stay so in a step
-abbrev pub StepsFrom : Values → Option Waiting → Values → Result Looked Fault → Type 0
-StepsFrom old w new (Ok l) = WaitsFrom old w → (new ≡ old) × LookedFrom old l
-StepsFrom old w new (Err f) = new ≡ old
+-- a mark stands where a newline waits, and else none
+abbrev pub Waits : Option ℕ → Machine → Type 0
+Waits None m = stood_of m ≡ unmarked
+Waits (Some newline) m = IsMarked m
 
 -- ---- the search
 
--- before a step
-abbrev pub search_at : StoryTree → Option Waiting → Configuration → List (Option Given) → List Made → Search
-search_at s None now left made = Seeking (At now left made)
-search_at s (Some w) now left made = Looking (At (kept_of s w.kept now) left made) w.newline (At now left made)
+-- before a step, by where the mark is and where flow is
+abbrev pub search_at : Option ℕ → Configuration → Configuration → List (Option Given) → List Made → Search
+search_at None kept now left made = Seeking (At now left made)
+search_at (Some newline) kept now left made = Looking (At kept left made) newline (At now left made)
 
 -- after it
-abbrev pub search_after : StoryTree → Looked → Configuration → List (Option Given) → List Made → Search
-search_after s looked.Nothing now left made = Seeking (At now left made)
-search_after s (looked.Newline w) now left made = Looking (At (kept_of s w.kept now) left made) w.newline (At now left made)
-search_after s looked.Cut now left made = Over (At now left made)
-search_after s looked.Stopped now left made = Over (Stopped now left made)
+abbrev pub search_after : Looked → Configuration → Configuration → List (Option Given) → List Made → Search
+search_after looked.Cut kept now left made = Over (At now left made)
+search_after looked.Stopped kept now left made = Over (Stopped now left made)
+search_after looked.Nothing kept now left made = Seeking (At now left made)
+search_after (looked.Newline newline) kept now left made = Looking (At kept left made) newline (At now left made)
 
 -- how the step ended
 abbrev pub stepped : Result Looked Fault → Result StepEnd Fault
 stepped (Ok looked.Nothing) = Ok ends.Went
-stepped (Ok (looked.Newline w)) = Ok ends.Went
+stepped (Ok (looked.Newline newline)) = Ok ends.Went
 stepped (Ok looked.Cut) = Ok ends.Went
 stepped (Ok looked.Stopped) = Ok ends.Stopped
 stepped (Err f) = Err f
 
+-- a newline that is found has its mark where flow is
+abbrev pub MarksHere : Looked → Configuration → Configuration → Type 0
+MarksHere (looked.Newline newline) kept now = kept ≡ now
+MarksHere l kept now = ⊤
+
 -- a step that went on has this newline
-abbrev pub FindsAs : Option ℕ → Result Looked Fault → Type 0
-FindsAs newline (Ok looked.Stopped) = ⊤
-FindsAs newline (Ok l) = l ≡ found_of newline
-FindsAs newline (Err f) = ⊤
+abbrev pub FindsAs : Option ℕ → Configuration → Configuration → Result Looked Fault → Type 0
+FindsAs newline kept now (Ok looked.Stopped) = ⊤
+FindsAs newline kept now (Ok l) = (l ≡ found_of newline) × MarksHere l kept now
+FindsAs newline kept now (Err f) = ⊤
 
 -- a step past a newline, which may be refused memory
-abbrev pub LooksAs : StoryTree → Bound → Waiting → Configuration → Configuration → Result Looked Fault → Type 0
-LooksAs s b w old new (Ok l) = (left : List (Option Given)) (made : List Made) → look_on s b (search_at s (Some w) old left made) ≡ search_after s l new left made
-LooksAs s b w old new (Err f) = (f ≡ OutOfMemory) × (new.shared.globals ≡ old.shared.globals)
+abbrev pub LooksAs : StoryTree → Bound → ℕ → Configuration → Configuration → Configuration → Configuration → Result Looked Fault → Type 0
+LooksAs s b newline kept old kept_then new (Ok l) = (left : List (Option Given)) (made : List Made) → look_on s b (Looking (At kept left made) newline (At old left made)) ≡ search_after l kept_then new left made
+LooksAs s b newline kept old kept_then new (Err f) = (f ≡ OutOfMemory) × (new.shared.globals ≡ old.shared.globals)
 
 -- A step, with its events, which count on from a stamp: where no newline waits, one of a run, by what it writes; else one that calls
 -- nothing.
-abbrev pub StepsOn : StoryTree → Bound → ℕ → Option Waiting → Configuration → List Event → Configuration → Result Looked Fault → Type 0
-StepsOn s b n None old es new result =
-    StepMakes s b n (asks s b old) (step s b old) es old.shared.globals new (stepped result) × FindsAs (newline_between old.page new.page) result
-StepsOn s b n (Some w) old es new result = (es ≡ []) × LooksAs s b w old new result
+abbrev pub StepsOn : StoryTree → Bound → ℕ → Option ℕ → Configuration → Configuration → List Event → Configuration → Configuration → Result Looked Fault → Type 0
+StepsOn s b n None kept old es kept_then new result =
+    StepMakes s b n false (asks s b old) (step s b old) es old.shared.globals new (stepped result) × FindsAs (newline_between old.page new.page) kept_then new result
+StepsOn s b n (Some newline) kept old es kept_then new result = (es ≡ []) × LooksAs s b newline kept old kept_then new result

@@ -8,6 +8,7 @@ ghost use Rattle.ink_look.specs.LineEnds.{RunsLine, SaysLine};
 ghost use Rattle.ink_look.specs.Words.{said, said_asks};
 ghost use Rattle.ink_model.specs.Events.{Made, calls};
 ghost use Rattle.ink_model.specs.Tree.{StoryTree};
+ghost use Rattle.ink_step.specs.Marks.{stood_of, unmarked};
 ghost use Rattle.ink_step.specs.Words.{config_of, globals_of, start_of};
 
 use crate::looking::find_line;
@@ -41,18 +42,24 @@ pub fn line<P: PureFn, F: TurnFn, O: Watcher>(
         (made : List Made) × Grew F.log (log_of O.state) desk.old (calls desk.old.next made) desk.new × RunsLine said said_asks s b (config_of s machine.old) made (config_of s machine.new) result }
     ensures watchers { desk.new.watchers ≡ desk.old.watchers }
     ensures start { start_of machine.new ≡ globals_of machine.old }
+    ensures mark { stood_of machine.new ≡ unmarked }
 {
     machine.begin();
     match find_line(machine, story, desk) {
         Ok(is_cut) => say(machine, is_cut),
-        Err(fault) => LineEnd::Fault(fault),
+        Err(fault) => {
+            machine.forget();
+            LineEnd::Fault(fault)
+        }
     }
 }
 
 /// What is said on the line, which was cut or not; afterwards no mark is left.
 fn say(machine: &mut Machine, is_cut: bool) -> LineEnd
+    requires unmarked { stood_of machine.old ≡ unmarked }
     ensures says { (s : StoryTree) → SaysLine said said_asks is_cut (config_of s machine.old) (config_of s machine.new) result }
     ensures start { start_of machine.new ≡ start_of machine.old }
+    ensures mark { stood_of machine.new ≡ unmarked }
 {
     let Ok(said) = said_by(machine) else {
         return LineEnd::Fault(Fault::OutOfMemory);

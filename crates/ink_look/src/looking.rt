@@ -1,22 +1,21 @@
-//! Looking past newlines: the machine is kept as it was at a newline, runs on, and goes back there, unless the newline was hidden
-//! or flow stopped (docs/RUNNING.md, "Lines").
+//! Looking past newlines: a mark is set at a newline, flow runs on, and goes back there, unless the newline was hidden or flow
+//! stopped (docs/RUNNING.md, "Lines", "Marks").
 
-ghost use Rattle.std.specs.Prelude.{◌≡◌, ◌≤◌, suc, length, List, Option, IfOk, None, Some, Ok};
+ghost use Rattle.std.specs.Prelude.{◌≡◌, suc, length, List, Option, IfOk, None, Some};
 ghost use Rattle.ink_check.specs.Words.{story_tree};
 ghost use Rattle.ink_host.specs.Desk.{Grew, bound_by};
 ghost use Rattle.ink_host.specs.Telling.{log_of};
-ghost use Rattle.ink_model.specs.Line.{at_least};
 ghost use Rattle.ink_line.specs.Look.{looked_by};
 ghost use Rattle.ink_look.specs.LineEnds.{RunsToLine};
-ghost use Rattle.ink_look.specs.Looking.{KeptFrom, LooksAs, LookedFrom, StandsAs, StepsOn, StepsFrom, WaitsFrom, found_of, kept_of, newline_from, search_after};
+ghost use Rattle.ink_look.specs.Looking.{IsMarked, MarksHere, StandsAs, StepsOn, Waits, found_of, newline_from, search_after, waiting_after};
 ghost use Rattle.ink_model.specs.Configuration.{Configuration};
 ghost use Rattle.ink_model.specs.Events.{Made, calls};
 ghost use Rattle.ink_model.specs.Run as runs;
 ghost use Rattle.ink_model.specs.Shown as rules;
-ghost use Rattle.ink_model.specs.Store.{Values};
 ghost use Rattle.ink_model.specs.Tree.{StoryTree};
 ghost use Rattle.ink_model.specs.declared.host.Event.{Event as Happening};
 ghost use Rattle.ink_model.specs.declared.host.Given.{Given as Gift};
+ghost use Rattle.ink_step.specs.Marks.{config_back, stood_of, unmarked};
 ghost use Rattle.ink_step.specs.Words.{config_of, start_of};
 
 use ink_check::Story;
@@ -24,21 +23,13 @@ use ink_host::{Desk, PureFn, TurnFn, Watcher};
 use ink_model::{Fault, MAX_STEPS};
 use ink_out::Output;
 use ink_step::{Machine, StepEnd};
-use std::alloc::AllocError;
 
-/// A newline that may end the line, by its index there; and the machine as it was after the step that wrote it, once flow has gone
-/// on from there.
-#[derive(Drop)]
-pub(crate) struct Waiting {
-    newline: usize,
-    kept: Option<Machine>,
-}
-
-/// What a step comes to: no newline waits, or this one does; or the line was cut, or flow stopped.
-#[derive(Drop)]
+/// What a step comes to: no newline waits; or the one at this index in the line does, which may end it, and the machine has a mark
+/// behind the step that wrote it; or the line was cut, or flow stopped.
+#[derive(Clone, Copy)]
 pub(crate) enum Looked {
     Nothing,
-    Newline(Waiting),
+    Newline(usize),
     Cut,
     Stopped,
 }
@@ -52,31 +43,33 @@ enum Standing {
 }
 
 /// Runs to the end of a line, from where a running command has begun. True where it was cut, and the machine has gone back to its
-/// newline; false where flow stopped. The fault is that of the line, or `OutOfMemory` for a refused request for memory; the globals
-/// are then as they were before that step, and the machine is of use for them alone.
+/// newline; false where flow stopped; no mark is left then. The fault is that of the line, or `OutOfMemory` for a refused request
+/// for memory; the globals are then as they were before that step, and the machine is of use for them alone.
 pub(crate) fn find_line<P: PureFn, F: TurnFn, O: Watcher>(
     machine: &mut Machine,
     story: &Story,
     desk: &mut Desk<P, F, O>,
 ) -> Result<bool, Fault>
+    requires unmarked { stood_of machine.old ≡ unmarked }
     ensures line { let s = story_tree story.now in let b = bound_by P.meaning desk.old.functions in
         (made : List Made) × Grew F.log (log_of O.state) desk.old (calls desk.old.next made) desk.new × RunsToLine s b (config_of s machine.old) made (config_of s machine.new) result }
     ensures watchers { desk.new.watchers ≡ desk.old.watchers }
     ensures start { start_of machine.new ≡ start_of machine.old }
+    ensures mark { IfOk result (λ is_cut. stood_of machine.new ≡ unmarked) }
 {
-    let mut waiting: Option<Waiting> = None;
+    let mut waiting: Option<usize> = None;
     for _step in 0..MAX_STEPS {
         match step_on(machine, story, desk, waiting)? {
             Looked::Nothing => waiting = None,
-            Looked::Newline(next) => waiting = Some(next),
+            Looked::Newline(newline) => waiting = Some(newline),
             Looked::Cut => return Ok(true),
             Looked::Stopped => return Ok(false),
         }
     }
-    let Some(waiting) = waiting else {
+    let Some(_newline) = waiting else {
         return Err(Fault::OutOfSteps);
     };
-    go_back(machine, waiting.kept);
+    let _changes = machine.back();
     Ok(true)
 }
 
@@ -85,15 +78,18 @@ fn step_on<P: PureFn, F: TurnFn, O: Watcher>(
     machine: &mut Machine,
     story: &Story,
     desk: &mut Desk<P, F, O>,
-    waiting: Option<Waiting>,
+    waiting: Option<usize>,
 ) -> Result<Looked, Fault>
+    requires waits { Waits waiting machine.old }
     ensures steps { let s = story_tree story.now in let b = bound_by P.meaning desk.old.functions in
-        (es : List Happening) × Grew F.log (log_of O.state) desk.old es desk.new × StepsOn s b desk.old.next waiting (config_of s machine.old) es (config_of s machine.new) result }
+        (es : List Happening) × Grew F.log (log_of O.state) desk.old es desk.new
+        × StepsOn s b desk.old.next waiting (config_back s machine.old) (config_of s machine.old) es (config_back s machine.new) (config_of s machine.new) result }
     ensures watchers { desk.new.watchers ≡ desk.old.watchers }
-    ensures start { StepsFrom (start_of machine.old) waiting (start_of machine.new) result }
+    ensures start { start_of machine.new ≡ start_of machine.old }
+    ensures waits { IfOk result (λ l. Waits (waiting_after l) machine.new) }
 {
     match waiting {
-        Some(waiting) => look(machine, story, desk, waiting),
+        Some(newline) => look(machine, story, desk, newline),
         None => seek(machine, story, desk),
     }
 }
@@ -104,14 +100,17 @@ fn seek<P: PureFn, F: TurnFn, O: Watcher>(
     story: &Story,
     desk: &mut Desk<P, F, O>,
 ) -> Result<Looked, Fault>
+    requires unmarked { stood_of machine.old ≡ unmarked }
     ensures steps { let s = story_tree story.now in let b = bound_by P.meaning desk.old.functions in
-        (es : List Happening) × Grew F.log (log_of O.state) desk.old es desk.new × StepsOn s b desk.old.next None (config_of s machine.old) es (config_of s machine.new) result }
+        (es : List Happening) × Grew F.log (log_of O.state) desk.old es desk.new
+        × StepsOn s b desk.old.next None (config_back s machine.old) (config_of s machine.old) es (config_back s machine.new) (config_of s machine.new) result }
     ensures watchers { desk.new.watchers ≡ desk.old.watchers }
-    ensures start { StepsFrom (start_of machine.old) None (start_of machine.new) result }
+    ensures start { start_of machine.new ≡ start_of machine.old }
+    ensures waits { IfOk result (λ l. Waits (waiting_after l) machine.new) }
 {
     let marks = machine.parts().output.len();
     match machine.step(story, desk, false)? {
-        StepEnd::Went => Ok(found(machine.parts().output, marks)),
+        StepEnd::Went => Ok(found(machine, marks)),
         _ => Ok(Looked::Stopped),
     }
 }
@@ -121,98 +120,100 @@ fn look<P: PureFn, F: TurnFn, O: Watcher>(
     machine: &mut Machine,
     story: &Story,
     desk: &mut Desk<P, F, O>,
-    waiting: Waiting,
+    newline: usize,
 ) -> Result<Looked, Fault>
+    requires waits { IsMarked machine.old }
     ensures steps { let s = story_tree story.now in let b = bound_by P.meaning desk.old.functions in
-        (es : List Happening) × Grew F.log (log_of O.state) desk.old es desk.new × StepsOn s b desk.old.next (Some waiting) (config_of s machine.old) es (config_of s machine.new) result }
+        (es : List Happening) × Grew F.log (log_of O.state) desk.old es desk.new
+        × StepsOn s b desk.old.next (Some newline) (config_back s machine.old) (config_of s machine.old) es (config_back s machine.new) (config_of s machine.new) result }
     ensures watchers { desk.new.watchers ≡ desk.old.watchers }
-    ensures start { StepsFrom (start_of machine.old) (Some waiting) (start_of machine.new) result }
+    ensures start { start_of machine.new ≡ start_of machine.old }
+    ensures waits { IfOk result (λ l. Waits (waiting_after l) machine.new) }
 {
-    let Waiting { newline, kept } = waiting;
-    let kept = keep(kept, machine)?;
     let marks = machine.parts().output.len();
     match machine.step(story, desk, true) {
-        Ok(StepEnd::Went) => Ok(went_on(machine, marks, newline, kept)),
-        Ok(StepEnd::Stopped) => Ok(stopped(machine, newline, kept)),
+        Ok(StepEnd::Went) => Ok(went_on(machine, marks, newline)),
+        Ok(StepEnd::Stopped) => Ok(stopped(machine, newline)),
         Err(Fault::OutOfMemory) => Err(Fault::OutOfMemory),
-        _ => Ok(cut(machine, kept)),
+        _ => Ok(cut(machine)),
     }
 }
 
 // After a step past a newline, which has marks of this number before it, where flow went on.
-fn went_on(machine: &mut Machine, marks: usize, newline: usize, kept: Option<Machine>) -> Looked
+fn went_on(machine: &mut Machine, marks: usize, newline: usize) -> Looked
+    requires waits { IsMarked machine.old }
     ensures looked { (s : StoryTree) (old : Configuration) → length old.page.line ≡ marks → (left : List (Option Gift)) (made : List Made) → let new = config_of s machine.old in
-        looked_by (rules.is_shown new.page.line newline) (rules.more_from new.page.line (suc newline)) (runs.At (kept_of s kept new) left made) newline (runs.At old left made) (runs.At new left made)
-        ≡ search_after s result (config_of s machine.new) left made }
-    ensures start { (start : Values) → start_of machine.old ≡ start → KeptFrom start kept → (start_of machine.new ≡ start) × LookedFrom start result }
+        looked_by (rules.is_shown new.page.line newline) (rules.more_from new.page.line (suc newline)) (runs.At (config_back s machine.old) left made) newline (runs.At old left made) (runs.At new left made)
+        ≡ search_after result (config_back s machine.new) (config_of s machine.new) left made }
+    ensures start { start_of machine.new ≡ start_of machine.old }
+    ensures waits { Waits (waiting_after result) machine.new }
 {
     match judge(machine.parts().output, newline) {
-        Standing::Last => Looked::Newline(Waiting { newline, kept }),
-        Standing::Past => cut(machine, kept),
-        Standing::Hidden => found(machine.parts().output, marks),
-    }
-}
-
-// After a step past a newline, where flow stopped.
-fn stopped(machine: &mut Machine, newline: usize, kept: Option<Machine>) -> Looked
-    ensures looked { (s : StoryTree) (old : Configuration) (left : List (Option Gift)) (made : List Made) → let new = config_of s machine.old in
-        looked_by (rules.is_shown new.page.line newline) (rules.more_from new.page.line (suc newline)) (runs.At (kept_of s kept new) left made) newline (runs.At old left made) (runs.Stopped new left made)
-        ≡ search_after s result (config_of s machine.new) left made }
-    ensures start { (start : Values) → start_of machine.old ≡ start → KeptFrom start kept → (start_of machine.new ≡ start) × LookedFrom start result }
-{
-    match judge(machine.parts().output, newline) {
-        Standing::Past => cut(machine, kept),
-        _ => Looked::Stopped,
-    }
-}
-
-// Goes back to the newline, which ends the line.
-fn cut(machine: &mut Machine, kept: Option<Machine>) -> Looked
-    ensures cut { result ≡ Looked.Cut }
-    ensures config { (s : StoryTree) → config_of s machine.new ≡ kept_of s kept (config_of s machine.old) }
-    ensures start { (start : Values) → start_of machine.old ≡ start → KeptFrom start kept → start_of machine.new ≡ start }
-{
-    go_back(machine, kept);
-    Looked::Cut
-}
-
-// Keeps the machine as it is, where nothing is kept yet. The one error is a refused request for memory.
-fn keep(kept: Option<Machine>, machine: &Machine) -> Result<Option<Machine>, AllocError>
-    ensures kept { (s : StoryTree) (now : Configuration) → IfOk result (λ k. kept_of s k now ≡ kept_of s kept (config_of s machine.now)) }
-    ensures start { (start : Values) → start_of machine.now ≡ start → KeptFrom start kept → IfOk result (KeptFrom start) }
-{
-    match kept {
-        Some(kept) => Ok(Some(kept)),
-        None => {
-            let copy = machine.copy()?;
-            Ok(Some(copy))
+        Standing::Last => Looked::Newline(newline),
+        Standing::Past => cut(machine),
+        Standing::Hidden => {
+            machine.forget();
+            found(machine, marks)
         }
     }
 }
 
-// Goes back to what was kept; where nothing was, the machine has not gone on.
-fn go_back(machine: &mut Machine, kept: Option<Machine>)
-    ensures config { (s : StoryTree) → config_of s machine.new ≡ kept_of s kept (config_of s machine.old) }
-    ensures start { (start : Values) → start_of machine.old ≡ start → KeptFrom start kept → start_of machine.new ≡ start }
+// After a step past a newline, where flow stopped.
+fn stopped(machine: &mut Machine, newline: usize) -> Looked
+    ensures looked { (s : StoryTree) (old : Configuration) (left : List (Option Gift)) (made : List Made) → let new = config_of s machine.old in
+        looked_by (rules.is_shown new.page.line newline) (rules.more_from new.page.line (suc newline)) (runs.At (config_back s machine.old) left made) newline (runs.At old left made) (runs.Stopped new left made)
+        ≡ search_after result (config_back s machine.new) (config_of s machine.new) left made }
+    ensures start { start_of machine.new ≡ start_of machine.old }
+    ensures waits { Waits (waiting_after result) machine.new }
 {
-    if let Some(kept) = kept {
-        *machine = kept;
+    match judge(machine.parts().output, newline) {
+        Standing::Past => cut(machine),
+        _ => {
+            machine.forget();
+            Looked::Stopped
+        }
     }
 }
 
-// The newline of a step that had so many marks before it: with the line alone open, one that it wrote, shown last.
-fn found(output: &Output, marks: usize) -> Looked
-    ensures { result ≡ found_of (newline_from marks output.now.page) }
+// Goes back to the newline, which ends the line.
+fn cut(machine: &mut Machine) -> Looked
+    ensures cut { result ≡ Looked.Cut }
+    ensures config { (s : StoryTree) → config_of s machine.new ≡ config_back s machine.old }
+    ensures start { start_of machine.new ≡ start_of machine.old }
+    ensures mark { stood_of machine.new ≡ unmarked }
+{
+    let _pairs = machine.back();
+    Looked::Cut
+}
+
+// The newline of a step that had so many marks before it, which waits from now on, if there is one.
+fn found(machine: &mut Machine, marks: usize) -> Looked
+    requires unmarked { stood_of machine.old ≡ unmarked }
+    ensures found { (s : StoryTree) → result ≡ found_of (newline_from marks (config_of s machine.old).page) }
+    ensures config { (s : StoryTree) → config_of s machine.new ≡ config_of s machine.old }
+    ensures here { (s : StoryTree) → MarksHere result (config_back s machine.new) (config_of s machine.new) }
+    ensures start { start_of machine.new ≡ start_of machine.old }
+    ensures waits { Waits (waiting_after result) machine.new }
+{
+    match newline_since(machine.parts().output, marks) {
+        Some(newline) => {
+            machine.mark();
+            Looked::Newline(newline)
+        }
+        None => Looked::Nothing,
+    }
+}
+
+// With the line alone open, its newline from an index on that is shown last.
+fn newline_since(output: &Output, marks: usize) -> Option<usize>
+    ensures { result ≡ newline_from marks output.now.page }
 {
     if output.depth() > 0 {
-        return Looked::Nothing;
+        return None;
     }
     match output.open_newline() {
-        Some(newline) if newline >= marks => Looked::Newline(Waiting {
-            newline,
-            kept: None,
-        }),
-        _ => Looked::Nothing,
+        Some(newline) if newline >= marks => Some(newline),
+        _ => None,
     }
 }
 

@@ -23,6 +23,7 @@ use Rattle.ink_model.specs.declared.host.Given.{Given}
 use Rattle.ink_model.specs.declared.place.Part.{Part}
 use Rattle.ink_sound.specs.Kept.{ConditionFits, StateFits, StoryFits}
 use Rattle.ink_sound.proofs.Sessions.{does_fit}
+use Rattle.ink_step.specs.Marks.{marked_in, stood_of, unmarked}
 use Rattle.ink_step.specs.Steps.{Chooses}
 use Rattle.ink_step.specs.Words.{config_of}
 use Rattle.ink_step.specs.declared.machine.Machine.{Machine}
@@ -41,12 +42,17 @@ told_unwatched start [] = refl
 told_unwatched start (e ∷ now) = told_unwatched start now
 
 -- a choice is taken, as a command
-choice_taken : (s : StoryTree) (choice : Option (ChoiceOf (List Part))) (c d : Configuration) (r : Result (Unit {0}) Refusal) → Chooses s choice c d r
+choice_taken : (s : StoryTree) (choice : Option (ChoiceOf (List Part))) (c d : Configuration) (r : Result (Unit {0}) Refusal) → Chooses s false choice c d r
     → ChoosesBy s choice c (at_stamp (Ready c) 0) (reply_of_landing r) (at_stamp (Ready d) 0)
 choice_taken s None c d (Ok u) h = absurd h
 choice_taken s None c d (Err r) h = (ap Refuses h.0, ap (λ x. at_stamp (Ready x) 0) h.1)
 choice_taken s (Some choice) c d (Ok u) h = inl (refl, ap (λ x. at_stamp (Ready x) 0) h)
 choice_taken s (Some choice) c d (Err r) h = inr (h.1, (ap Refuses h.0, ap (λ x. at_stamp (Ready x) 0) h.2))
+
+-- no mark stands where it is taken
+pub chooses-free : (s : StoryTree) (m : Machine) → stood_of m ≡ unmarked → (choice : Option (ChoiceOf (List Part))) (d : Configuration) (r : Result (Unit {0}) Refusal)
+    → Chooses s (marked_in (stood_of m)) choice (config_of s m) d r → Chooses s false choice (config_of s m) d r
+chooses-free s m free choice d r h = subst (λ stood. Chooses s (marked_in stood) choice (config_of s m) d r) free h
 
 -- what goes so far, as a command
 abbrev going : Extent → Command
@@ -65,18 +71,18 @@ module _ (s : StoryTree) (story : StoryFits s) where
   -- ---- what is left between calls
 
   -- a fault broke it
-  pub stands-broken : (m : Machine) (es : List Event) (b : Option Fault) (f : Fault) → is_empty es ≡ true → b ≡ Some f → Stands s es b m
-  stands-broken m es b f none e = record { taken = none; story = story; fits = subst (λ x. ConditionFits s (condition_by x (config_of s m))) (sym e) tt }
+  pub stands-broken : (m : Machine) (es : List Event) (b : Option Fault) (f : Fault) → is_empty es ≡ true → b ≡ Some f → stood_of m ≡ unmarked → Stands s es b m
+  stands-broken m es b f none e free = record { taken = none; story = story; unmarked = free; fits = subst (λ x. ConditionFits s (condition_by x (config_of s m))) (sym e) tt }
 
   -- none did
-  pub stands-free : (m : Machine) (es : List Event) (b : Option Fault) → is_empty es ≡ true → b ≡ None → ConditionFits s (Ready (config_of s m)) → Stands s es b m
-  stands-free m es b none free fits = record { taken = none; story = story; fits = subst (λ x. ConditionFits s (condition_by x (config_of s m))) (sym free) fits }
+  pub stands-free : (m : Machine) (es : List Event) (b : Option Fault) → is_empty es ≡ true → b ≡ None → stood_of m ≡ unmarked → ConditionFits s (Ready (config_of s m)) → Stands s es b m
+  stands-free m es b none free mark fits = record { taken = none; story = story; unmarked = mark; fits = subst (λ x. ConditionFits s (condition_by x (config_of s m))) (sym free) fits }
 
   -- watchers were told, all of them or not
   pub stands-told : (m : Machine) (es : List Event) (all : Bool) (b old : Option Fault) → is_empty es ≡ true → old ≡ None → b ≡ fault_told all old
-      → ConditionFits s (Ready (config_of s m)) → Stands s es b m
-  stands-told m es true b old none free e fits = stands-free m es b none (e ∙ free) fits
-  stands-told m es false b old none free e fits = stands-broken m es b OutOfMemory none e
+      → stood_of m ≡ unmarked → ConditionFits s (Ready (config_of s m)) → Stands s es b m
+  stands-told m es true b old none free e mark fits = stands-free m es b none (e ∙ free) mark fits
+  stands-told m es false b old none free e mark fits = stands-broken m es b OutOfMemory none e mark
 
   -- ---- commands, from where a player stands that is not broken
 
@@ -88,7 +94,7 @@ module _ (s : StoryTree) (story : StoryFits s) where
     does : (b : Bound) (es : List Event) (k : Command) (reply : Reply) (new : State) → Does s (unwatched b) es (Some k) (at_stamp (Ready c) 0) reply new → StateFits s new
     does b es k reply new h = does_fit s story (unwatched b) es (Some k) (at_stamp (Ready c) 0) reply new h fits
 
-    pub choose-stands : (n : ℕ) (d : Configuration) (r : Result (Unit {0}) Refusal) → Chooses s (open_choice n c) c d r → ConditionFits s (Ready d)
+    pub choose-stands : (n : ℕ) (d : Configuration) (r : Result (Unit {0}) Refusal) → Chooses s false (open_choice n c) c d r → ConditionFits s (Ready d)
     choose-stands n d r h = does nothing_bound [] (command.Choose n) (reply_of_landing r) (at_stamp (Ready d) 0) (refl, choice_taken s (open_choice n c) c d r h)
 
     pub jump-stands : {E : Type 0} (path : List ℕ) (q : List Part) (d : Configuration) (r : Result (Unit {0}) E) → jump_place s path ≡ Some q

@@ -18,6 +18,7 @@ use Rattle.ink_model.specs.declared.host.Event.{Event}
 use Rattle.ink_model.specs.declared.host.Given.{Given}
 use Rattle.ink_model.specs.declared.value.Value.{Value}
 use Rattle.ink_sound.specs.Kept.{ConditionFits, StoryFits}
+use Rattle.ink_step.specs.Marks.{stood_of, unmarked}
 use Rattle.ink_step.specs.Words.{config_of}
 use Rattle.ink_step.specs.declared.machine.Machine.{Machine}
 
@@ -42,11 +43,12 @@ abbrev pub condition_by : Option Fault → Configuration → Condition
 condition_by None c = Ready c
 condition_by (Some f) c = Broken f c.shared.globals
 
--- A player between calls: every event was taken, its story is as the laws of saves ask, and it stands sound and at rest, unless a
--- fault broke it.
+-- A player between calls: every event was taken, its story is as the laws of saves ask, no mark stands in its machine, and it
+-- stands sound and at rest, unless a fault broke it.
 pub record Stands (s : StoryTree) (events : List Event) (broken : Option Fault) (m : Machine) : Type 0 where
   pub taken : is_empty events ≡ true
   pub story : StoryFits s
+  pub unmarked : stood_of m ≡ unmarked
   pub fits : ConditionFits s (condition_by broken (config_of s m))
 
 -- nothing was done to watchers, or there was one round, with all these changes

@@ -19,6 +19,7 @@ ghost use Rattle.ink_protocol.specs.Plain.{IsPlain};
 ghost use Rattle.ink_protocol.specs.Replies.{IsTextOf, reply_of_json, reply_of_text};
 ghost use Rattle.ink_player.specs.Extents.{GoesOn};
 ghost use Rattle.ink_player.specs.Words.{DealtOnce, anew, bindings, desk_of, fault_told, state_of, story_of, told_from};
+ghost use Rattle.ink_step.specs.Marks.{stood_of, unmarked};
 ghost use Rattle.ink_step.specs.Words.{config_of};
 ghost use Rattle.serde_json.specs.Data.{Data};
 ghost use Rattle.serde_json.specs.View.{view};
@@ -376,6 +377,7 @@ impl<P: PureFn, F: TurnFn, O: Watcher> Player<P, F, O> {
     /// Begins anew with a machine that was opened or loaded, once the watchers are told of what has another value in it.
     fn begin_anew(&mut self, machine: Machine) -> Result<Seq<Event>, Halt>
         requires fits { let s = story_of self.old in ConditionFits s (Ready (config_of s machine)) }
+        requires unmarked { stood_of machine ≡ unmarked }
         ensures does { let s = story_of self.old in let was = config_of s self.old.machine in let c = config_of s machine in let h = bindings P.meaning (desk_of self.old) in
             (es : List Happening) × TellsOrKeeps (told h.watches was.shared.globals c.shared.globals) (Ready c) es (state_of self.old) (reply_of_events result) (state_of self.new)
             × DealtOnce F.log O.state (told_from (desk_of self.old) (state_of self.old) (globals_of (state_of self.new).condition)) (desk_of self.old) es (desk_of self.new) }

@@ -1,9 +1,11 @@
 //! Machines and what they are saved as, and what a story has for that (docs/SAVES.md).
 
+ghost use Rattle.std.specs.Prelude.{◌≡◌, IfOk};
 ghost use Rattle.serde_json.specs.View.{view};
 ghost use Rattle.ink_check.specs.Words.{story_tree};
 ghost use Rattle.ink_player.specs.Saving.{FindsSave, IsSave, IsSaveText};
 ghost use Rattle.ink_sound.specs.Kept.{StoryFits};
+ghost use Rattle.ink_step.specs.Marks.{stood_of, unmarked};
 ghost use Rattle.ink_step.specs.Words.{config_of};
 
 use ink_check::Story;
@@ -37,7 +39,8 @@ pub(crate) fn saved_text(alloc: Global, story: &Story, machine: &Machine) -> Res
 /// The machine whose configuration a JSON value spells. Refused with `BadSave` where it spells none that fits the story, and with
 /// `OutOfMemory` where memory was refused, which is asked for only where something of the value is kept.
 pub(crate) fn loaded(alloc: Global, story: &Story, json: &Json) -> Result<Machine, Refusal>
-    ensures { FindsSave (story_tree story.now) (view json.now) result }
+    ensures finds { FindsSave (story_tree story.now) (view json.now) result }
+    ensures mark { IfOk result (λ m. stood_of m ≡ unmarked) }
 {
     match read(alloc, story, json) {
         Ok(machine) => Ok(machine),

@@ -1,6 +1,6 @@
 //! The machine that a JSON value spells.
 
-ghost use Rattle.std.specs.Prelude.{◌≡◌, ◌≤◌, IfOk, OnErr, true};
+ghost use Rattle.std.specs.Prelude.{◌≡◌, ◌≤◌, IfOk, IfSome, OnErr, true};
 ghost use Rattle.serde_json.specs.View.{view};
 ghost use Rattle.ink_check.specs.Words.{story_tree};
 ghost use Rattle.ink_model.specs.Output.{empty_page};
@@ -10,6 +10,7 @@ ghost use Rattle.ink_model.specs.Save.Unspelled.{unspelled};
 ghost use Rattle.ink_model.specs.declared.limits.TheConstants.{MAX_COUNT};
 ghost use Rattle.ink_save.specs.Building.{Builds};
 ghost use Rattle.ink_save.specs.Loads.{Finds, ReadsAs};
+ghost use Rattle.ink_step.specs.Marks.{stood_of, unmarked};
 ghost use Rattle.ink_step.specs.Words.{config_of, flow_of, shared_of};
 ghost use Rattle.ink_tree.specs.Nodes as nodes;
 
@@ -34,9 +35,10 @@ pub enum SaveRefusal {
 }
 
 /// The machine that a JSON value spells. Refused with `BadSave` where it spells none that fits the story, and with `OutOfMemory`
-/// where memory was refused, which is asked for only where something of the value is kept.
+/// where memory was refused, which is asked for only where something of the value is kept. No mark stands in the machine.
 pub fn read(alloc: Global, story: &Story, json: &Json) -> Result<Machine, SaveRefusal>
-    ensures { ReadsAs (story_tree story.now) (view json.now) result }
+    ensures reads { ReadsAs (story_tree story.now) (view json.now) result }
+    ensures mark { IfOk result (λ m. stood_of m ≡ unmarked) }
 {
     match read_machine(alloc, story.tree(), json) {
         Ok(found) => match found {
@@ -51,35 +53,32 @@ pub fn read(alloc: Global, story: &Story, json: &Json) -> Result<Machine, SaveRe
 // which only a value makes of which something is kept.
 fn read_machine(alloc: Global, tree: &Tree, json: &Json) -> Result<Option<Machine>, AllocError>
     ensures made { IfOk result (λ made. Finds (nodes.story_tree tree.now) (unspelled (view json.now)) made) }
+    ensures mark { IfOk result (λ made. IfSome made (λ m. stood_of m ≡ unmarked)) }
     ensures memory { OnErr result (load_asks (view json.now) ≡ true) }
 {
     match read_saved(alloc, json)? {
-        Some(saved) => saved.build(alloc, tree),
+        Some(saved) => build_machine(alloc, tree, &saved),
         None => Ok(None),
     }
 }
 
-impl Built for Saved {
-    type Made = Machine;
-
-    ghost in_story = { λ s machine. config_of s machine };
-
-    ghost fits = { λ s saved. Sound s saved };
-
-    fn build(&self, alloc: Global, tree: &Tree) -> Result<Option<Machine>, AllocError> {
-        let Some(flow) = build_flow(alloc, tree, self)? else {
-            return Ok(None);
-        };
-        let Some(shared) = build_shared(alloc, tree, self)? else {
-            return Ok(None);
-        };
-        let fields = Fields {
-            flow,
-            shared,
-            output: output_of(alloc, self),
-        };
-        Ok(Some(Machine::from_parts(alloc, fields)))
-    }
+// The machine of a save, if it fits the story. No mark stands in it. The one error is a refused request for memory.
+fn build_machine(alloc: Global, tree: &Tree, saved: &Saved) -> Result<Option<Machine>, AllocError>
+    ensures builds { let s = nodes.story_tree tree.now in IfOk result (λ made. Builds (config_of s) (Sound s) saved.now made) }
+    ensures mark { IfOk result (λ made. IfSome made (λ m. stood_of m ≡ unmarked)) }
+{
+    let Some(flow) = build_flow(alloc, tree, saved)? else {
+        return Ok(None);
+    };
+    let Some(shared) = build_shared(alloc, tree, saved)? else {
+        return Ok(None);
+    };
+    let fields = Fields {
+        flow,
+        shared,
+        output: output_of(alloc, saved),
+    };
+    Ok(Some(Machine::from_parts(alloc, fields)))
 }
 
 // What a save writes, which is nothing.

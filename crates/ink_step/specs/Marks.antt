@@ -16,7 +16,7 @@ use Rattle.ink_step.specs.declared.own.OwnPair.{OwnPair}
 use Rattle.ink_step.specs.declared.own.OwnPair.TheVariants.{Safe, Turned}
 use Rattle.ink_model.specs.Tree.{StoryTree}
 use Rattle.ink_step.specs.Words.{counts_in}
-use Rattle.ink_trail.specs.Undo.{TrailView, spare, stood_at, trail_of, writes_of}
+use Rattle.ink_trail.specs.Undo.{KeepsTrail, TrailView, spare, stood_at, trail_of, writes_of}
 use Rattle.ink_tree.specs.Nodes.{place_of}
 use Rattle.ink_tree.specs.declared.spot.Spot.{Spot}
 use Rattle.ink_value.specs.Undo.{stack_stood}
@@ -131,3 +131,16 @@ noted_by t = length (trail_of t.undo)
 abbrev pub pairs_in : Machine → ℕ
 pairs_in m = capped (capped (capped (capped (capped (capped (noted_by m.trail) (noted_by m.flow.threads.trail)) (noted_by m.flow.stack.trail)) (noted_by m.flow.choices.trail))
     (noted_by m.shared.globals.trail)) (noted_by m.shared.counts.trail)) (noted_by m.output.trail)
+
+-- ---- room
+
+-- how many changes can be noted without memory, in whichever part
+abbrev pub room_in : Machine → ℕ
+room_in m = min (min (min (min (min (min m.trail.room m.flow.threads.trail.room) m.flow.stack.trail.room) m.flow.choices.trail.room) m.shared.globals.trail.room)
+    m.shared.counts.trail.room) m.output.trail.room
+
+-- nothing is noted in any part, and none has less room
+abbrev pub KeepsTrails : Machine → Machine → Type 0
+KeepsTrails old new = KeepsTrail old.trail new.trail × KeepsTrail old.flow.threads.trail new.flow.threads.trail × KeepsTrail old.flow.stack.trail new.flow.stack.trail
+    × KeepsTrail old.flow.choices.trail new.flow.choices.trail × KeepsTrail old.shared.globals.trail new.shared.globals.trail
+    × KeepsTrail old.shared.counts.trail new.shared.counts.trail × KeepsTrail old.output.trail new.output.trail

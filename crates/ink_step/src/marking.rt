@@ -1,8 +1,8 @@
 //! Marks: a machine goes back to where it stood at one (docs/RUNNING.md, "Marks").
 
-ghost use Rattle.std.specs.Prelude.{◌≡◌, ◌≤◌};
+ghost use Rattle.std.specs.Prelude.{◌≡◌, ◌≤◌, ◌<◌, OnErr, OnOk};
 ghost use Rattle.ink_model.specs.Tree.{StoryTree};
-ghost use Rattle.ink_step.specs.Marks.{config_back, marked_at, pairs_in, stood_of, unmarked, writes_in};
+ghost use Rattle.ink_step.specs.Marks.{KeepsTrails, config_back, marked_at, pairs_in, room_in, stood_of, unmarked, writes_in};
 
 use crate::machine::Machine;
 use std::alloc::AllocError;
@@ -65,13 +65,30 @@ impl Machine {
             .saturating_add(output)
     }
 
-    /// Makes room for so many changes to be noted in each part without memory. The one error is a refused request for memory, and
-    /// leaves all as it was.
+    /// How many changes can be noted without memory, in whichever part. Takes no memory.
+    pub fn room(&self) -> usize
+        ensures { result ≡ room_in self.now }
+    {
+        self.trail
+            .room()
+            .min(self.flow.threads.room())
+            .min(self.flow.stack.room())
+            .min(self.flow.choices.room())
+            .min(self.shared.globals.room())
+            .min(self.shared.counts.room())
+            .min(self.output.room())
+    }
+
+    /// Makes room for so many changes to be noted in each part without memory. The one error is a refused request for memory,
+    /// which is made only where there is less room; where the machine stands, and where it goes back to, is then as it was.
     #[tactic(auto, unfolding(crate::specs::Marks::own_spare, crate::specs::Marks::own_stood, ink_trail::specs::Undo::spare, ink_trail::specs::Undo::stood_at))]
     pub fn make_room(&mut self, count: usize) -> Result<(), AllocError>
         ensures config { (s : StoryTree) → config_of s self.new ≡ config_of s self.old }
         ensures start { start_of self.new ≡ start_of self.old }
         ensures mark { stood_of self.new ≡ stood_of self.old }
+        ensures kept { KeepsTrails self.old self.new }
+        ensures ok { OnOk result (count ≤ room_in self.new) }
+        ensures memory { OnErr result (room_in self.old < count) }
     {
         self.trail.make_room(count)?;
         self.flow.threads.make_room(count)?;

@@ -116,7 +116,7 @@ impl Machine {
         place: Spot,
     ) -> Result<bool, Fault>
         requires at { self.old.flow.threads.threads.thread.frame.place ≡ Some place }
-        requires room { 120 ≤ threads_spare self.old.flow.threads }
+        requires room { STEPPING ≤ threads_spare self.old.flow.threads }
         requires stack_room { length self.old.flow.stack.items + 2 ≤ stack_spare self.old.flow.stack }
         ensures step { let s = story_tree story.now in let b = bound_by P.meaning desk.old.functions in let c = config_of s self.old in
             (es : List Happening) × Grew T.log (log_of W.state) desk.old es desk.new × StepMakes s b desk.old.next (marked_in (stood_of self.old)) (asks s b c) (step s b c) es self.old.shared.globals.rows (config_of s self.new) (ended result) }
@@ -143,7 +143,7 @@ impl Machine {
     ) -> Result<StepEnd, Fault>
         requires at { self.old.flow.threads.threads.thread.frame.place ≡ Some place }
         requires stack_room { length self.old.flow.stack.items + 2 ≤ stack_spare self.old.flow.stack }
-        requires room { 120 ≤ threads_spare self.old.flow.threads }
+        requires room { STEPPING ≤ threads_spare self.old.flow.threads }
         ensures step { let s = story_tree story.now in let b = bound_by P.meaning desk.old.functions in let c = config_of s self.old in
             (es : List Happening) × Grew T.log (log_of W.state) desk.old es desk.new × StepMakes s b desk.old.next (marked_in (stood_of self.old)) (asks s b c) (step s b c) es self.old.shared.globals.rows (config_of s self.new) result }
         ensures watchers { desk.new.watchers ≡ desk.old.watchers }
@@ -163,7 +163,7 @@ impl Machine {
     fn pass(&mut self, story: &Story, place: Spot) -> Result<Option<StepEnd>, Fault>
         requires at { self.old.flow.threads.threads.thread.frame.place ≡ Some place }
         requires stack_room { length self.old.flow.stack.items + 2 ≤ stack_spare self.old.flow.stack }
-        requires room { 120 ≤ threads_spare self.old.flow.threads }
+        requires room { STEPPING ≤ threads_spare self.old.flow.threads }
         ensures passes { (b : Bound) → let s = story_tree story.now in let c = config_of s self.old in Passes (marked_in (stood_of self.old) || asks s b c) (step s b c) self.old.shared.globals.rows (config_of s self.new) result }
         ensures kept { result ≡ Ok None → self.new ≡ self.old }
         ensures start { start_of self.new ≡ start_of self.old }
@@ -206,7 +206,7 @@ impl Machine {
         call: &External<'_>,
     ) -> Result<StepEnd, Fault>
         requires stack_room { length self.old.flow.stack.items + 2 ≤ stack_spare self.old.flow.stack }
-        requires room { 116 ≤ threads_spare self.old.flow.threads }
+        requires room { MOVING + 8 ≤ threads_spare self.old.flow.threads }
         ensures step { let s = story_tree story.now in let b = bound_by P.meaning desk.old.functions in let c = config_of s self.old in let k = call_of call.now in
             let called = call_external s b k.name k.arguments k.conditional (fields_of c) in
             (es : List Happening) × Grew T.log (log_of W.state) desk.old es desk.new
@@ -230,7 +230,7 @@ impl Machine {
     fn act(&mut self, story: &Story, here: Spot, found: Option<&Leaf>) -> Result<StepEnd, Fault>
         requires stands { let s = story_tree story.now in option_map (λ l. l.now) found ≡ leaf_in (at s (place_of s here)) }
         requires stack_room { length self.old.flow.stack.items + 2 ≤ stack_spare self.old.flow.stack }
-        requires room { 116 ≤ threads_spare self.old.flow.threads }
+        requires room { MOVING + 8 ≤ threads_spare self.old.flow.threads }
         ensures ends { let s = story_tree story.now in let p = place_of s here in let stands = option_map (λ l. leaf l.now) found.entry in let c = config_of s self.old in
             let e = effect s p stands (context_of c) (fields_of c) in
             StepEnds (marked_in (stood_of self.old) || acting_asks s (content_asks s p stands (context_of c) (fields_of c)) e c) (acted s e c) self.old.shared.globals.rows (config_of s self.new) result }
@@ -275,7 +275,7 @@ impl Machine {
     /// After a content was performed flow goes where it sends it, and a global is stored.
     #[inline(never)]
     fn finish(&mut self, story: &Story, transfer: &mut Transfer<'_>) -> Result<StepEnd, Fault>
-        requires room { 112 ≤ threads_spare self.old.flow.threads }
+        requires room { MOVING + 4 ≤ threads_spare self.old.flow.threads }
         ensures ends { let s = story_tree story.now in (old : Before) (asks : Bool) (e : Effect) → Performs s asks e (fields_of (config_of s self.old)) (Ok transfer.old) → Keeps s e old.flow.threads.threads self.old.flow.threads.threads → KeepsChoices s e old.flow.choices.items self.old.flow.choices.items
             → self.old.flow.safe ≡ old.flow.safe → self.old.shared.counts.rows ≡ old.shared.counts.rows → self.old.shared.turn ≡ old.shared.turn → self.old.shared.globals.rows ≡ old.shared.globals.rows → let c = config_of s old in
             StepEnds (marked_in (stood_of self.old) || ((asks || move_asks s e c) || following_asks s (moved s e c))) (following s (moved s e c)) old.shared.globals.rows (config_of s self.new) result }
@@ -289,7 +289,7 @@ impl Machine {
     /// Flow goes where a content sends it; where it stops it may follow a choice. No global is stored yet.
     #[inline(always)]
     fn go(&mut self, story: &Story, transfer: &Transfer<'_>) -> Result<StepEnd, Fault>
-        requires room { 112 ≤ threads_spare self.old.flow.threads }
+        requires room { MOVING + 4 ≤ threads_spare self.old.flow.threads }
         ensures ends { let s = story_tree story.now in (asks : Bool) (e : Effect) → Performs s asks e (fields_of (config_of s self.old)) (Ok transfer.now) → Keeps s e self.old.flow.threads.threads self.old.flow.threads.threads → KeepsChoices s e self.old.flow.choices.items self.old.flow.choices.items
             → let o = moved s (unstored self.old.shared.globals.rows e) (config_of s self.old) in
             StepEnds (marked_in (stood_of self.old) || ((asks || move_asks s e (config_of s self.old)) || following_asks s o)) (following s o) self.old.shared.globals.rows (config_of s self.new) result }
@@ -588,7 +588,7 @@ impl Machine {
     /// global is stored after that.
     #[inline(always)]
     fn follow(&mut self, story: &Story, transfer: &Transfer<'_>) -> Result<StepEnd, Fault>
-        requires room { 112 ≤ threads_spare self.old.flow.threads }
+        requires room { MOVING + 4 ≤ threads_spare self.old.flow.threads }
         ensures ends { let s = story_tree story.now in (asks : Bool) (e : Effect) → Performs s asks e (fields_of (config_of s self.old)) (Ok transfer.now) → Keeps s e self.old.flow.threads.threads self.old.flow.threads.threads → KeepsChoices s e self.old.flow.choices.items self.old.flow.choices.items
             → StepEnds (marked_in (stood_of self.old) || (asks || move_asks s e (config_of s self.old))) (moved s (unstored self.old.shared.globals.rows e) (config_of s self.old)) self.old.shared.globals.rows (config_of s self.new) result }
         ensures globals { self.new.shared.globals.rows ≡ self.old.shared.globals.rows }
@@ -639,7 +639,7 @@ impl Machine {
         ensures threads { self.new.flow.threads.threads ≡ self.old.flow.threads.threads }
         ensures items { self.new.flow.stack.items ≡ self.old.flow.stack.items }
         ensures mark { stood_of self.new ≡ stood_of self.old }
-        ensures threads_room { OnOk result (120 ≤ threads_spare self.new.flow.threads) }
+        ensures threads_room { OnOk result (STEPPING ≤ threads_spare self.new.flow.threads) }
         ensures stack_room { OnOk result (length self.new.flow.stack.items + 2 ≤ stack_spare self.new.flow.stack) }
         ensures fault { IfErr result (λ f. f ≡ Fault.OutOfMemory) }
         ensures memory { OnErr result (marked_in (stood_of self.old) ≡ true) }
@@ -708,7 +708,7 @@ impl Machine {
         kind: FrameKind,
         to: Option<Landing>,
     ) -> Result<StepEnd, Fault>
-        requires room { 110 ≤ threads_spare self.old.flow.threads }
+        requires room { MOVING + 2 ≤ threads_spare self.old.flow.threads }
         ensures ends { let s = story_tree story.now in let c = config_of s self.old in let goal = option_map (landing_of s) to in let how = returned (next_place s) kind (place_to goal) in
             StepEnds (marked_in (stood_of self.old) || (returned_asks (next_place s) kind (place_to goal) c.flow.threads (written_in c) || landed_asks s (may_enter goal) c.shared.counts (how c.flow.threads (written_in c))))
             (landing s (may_enter goal) how c) self.old.shared.globals.rows (config_of s self.new) result }
@@ -732,7 +732,7 @@ impl Machine {
     /// Flow goes on after the content.
     #[inline(always)]
     fn go_on(&mut self, story: &Story) -> Result<StepEnd, Fault>
-        requires room { 108 ≤ threads_spare self.old.flow.threads }
+        requires room { MOVING ≤ threads_spare self.old.flow.threads }
         ensures ends { let s = story_tree story.now in let c = config_of s self.old in
             StepEnds (moved_asks (next_place s) c.flow.threads (written_in c)) (going (moved_on (next_place s)) c) self.old.shared.globals.rows (config_of s self.new) result }
         ensures globals { self.new.shared.globals.rows ≡ self.old.shared.globals.rows }

@@ -1,9 +1,10 @@
 use Rattle.std.proofs.Common.{◌≡◌}
 use Rattle.ink_check.specs.Words.{story_tree}
 use Rattle.ink_host.specs.Telling.{log_of}
-use Rattle.ink_look.specs.Looking.{WaitsFrom, search_at}
+use Rattle.ink_look.specs.Looking.{Waits, search_at}
 use Rattle.ink_look.proofs.Searches.{Ran}
 use Rattle.ink_look.proofs.looking.find_line.Given as goal
+use Rattle.ink_step.specs.Marks.{config_back}
 use Rattle.ink_step.specs.Words.{config_of, start_of}
 
 -- the search got here and is not over
@@ -11,8 +12,9 @@ abbrev pub invariant-loop-step : goal.invariant-loop-step
 invariant-loop-step g l =
     let s = story_tree l.story in
     record {
-      ran : Ran g.F.TurnFn.log (log_of g.O.Watcher.state) g.P.PureFn.meaning s l.initial.desk (config_of s l.initial.machine) l._step l.desk (search_at s l.waiting (config_of s l.machine));
+      ran : Ran g.F.TurnFn.log (log_of g.O.Watcher.state) g.P.PureFn.meaning s l.initial.desk (config_of s l.initial.machine) l._step l.desk
+          (search_at l.waiting (config_back s l.machine) (config_of s l.machine));
       watchers : l.desk.watchers ≡ l.initial.desk.watchers;
       start : start_of l.machine ≡ start_of l.initial.machine;
-      waits : WaitsFrom (start_of l.initial.machine) l.waiting;
+      waits : Waits l.waiting l.machine;
     }

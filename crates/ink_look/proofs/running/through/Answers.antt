@@ -6,6 +6,8 @@ use Rattle.ink_look.proofs.running.through.Goals as goal
 use Rattle.ink_look.specs.Ends.{RunsThrough}
 use Rattle.ink_look.specs.Words.{said, said_asks}
 use Rattle.ink_model.specs.declared.fault.Fault.TheVariants.{OutOfMemory}
+use Rattle.ink_step.specs.Marks.{marked_in}
+use Rattle.ink_step.specs.Runs.{RunFalls}
 use Rattle.ink_step.specs.Words.{config_of}
 
 pub returns-in_err-run-clause-runs : goal.returns-in_err-run-clause-runs
@@ -16,7 +18,9 @@ returns-in_err-run-clause-runs g c =
     let new = config_of s c.run.new.self in
     let ran = c.in_err-run.ensures.runs in
     let is : c.from_residual.result ≡ Err c.in_err-run.field-0.0 = search rules in
-    (ran.0, ran.1, subst (RunsThrough said said_asks s b old ran.0 new) (sym is) (comes_to_fault s b ran.0 old (config_of s c.begin.new.self) (c.begin.ensures.begun s) new _ ran.2))
+    (ran.0, ran.1, subst (RunsThrough said said_asks s b old ran.0 new) (sym is)
+    (comes_to_fault s b ran.0 old (config_of s c.begin.new.self) (c.begin.ensures.begun s) new c.in_err-run.field-0.0
+    (subst (λ stood. RunFalls s b (marked_in stood) (config_of s c.begin.new.self) ran.0 new.shared.globals c.in_err-run.field-0.0) c.begin.ensures.mark ran.2)))
 
 pub returns-in_err-said-clause-runs : goal.returns-in_err-said-clause-runs
 returns-in_err-said-clause-runs g c =
@@ -48,3 +52,10 @@ returns-in_err-said-clause-start g c = c.in_ok-run.ensures.start ∙ c.begin.ens
 
 pub returns-clause-start : goal.returns-clause-start
 returns-clause-start g c = c.settle.ensures.start ∙ c.in_ok-run.ensures.start ∙ c.begin.ensures.start
+
+-- no mark stands
+pub returns-in_err-run-clause-mark : goal.returns-in_err-run-clause-mark
+returns-in_err-run-clause-mark g c = c.in_err-run.ensures.mark ∙ c.begin.ensures.mark
+
+pub returns-in_err-said-clause-mark : goal.returns-in_err-said-clause-mark
+returns-in_err-said-clause-mark g c = c.in_ok-run.ensures.mark ∙ c.begin.ensures.mark

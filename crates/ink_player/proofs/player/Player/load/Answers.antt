@@ -17,7 +17,7 @@ returns-in-Ok-clause-does g c =
     let does = rw (sym c.self.view_is) at c.begin_anew.ensures.does in
     rw (sym c.self.view_is) (
       does.0,
-      load-read s (bindings g.P.PureFn.meaning (desk_of p)) (view c.args.json.now) (state_of p) (config_of s c.in-Ok.found) (globals_of p.machine) does.0 _ _ c.in-Ok.ensures
+      load-read s (bindings g.P.PureFn.meaning (desk_of p)) (view c.args.json.now) (state_of p) (config_of s c.in-Ok.found) (globals_of p.machine) does.0 _ _ c.in-Ok.ensures.finds
           (globals-by p.broken (config_of s p.machine)) does.1,
       does.2,
     )
@@ -27,13 +27,14 @@ returns-in-Err-clause-does g c =
     let p : PlayerView g.row.P.Denot g.row.F.Denot g.row.O.Denot = record { story = c.self.inside.story; desk = c.self.inside.desk; machine = c.self.inside.machine; broken = c.self.inside.broken } in
     rw (sym c.self.view_is) (
       [],
-      load-refused (story_of p) (bindings g.P.PureFn.meaning (desk_of p)) (view c.args.json.now) (state_of p) c.in-Err.refusal c.in-Err.ensures,
+      load-refused (story_of p) (bindings g.P.PureFn.meaning (desk_of p)) (view c.args.json.now) (state_of p) c.in-Err.refusal c.in-Err.ensures.finds,
       once-none g.F.TurnFn.log g.O.Watcher.state _ (desk_of p),
     )
 
 pub begin_anew-requires : goal.begin_anew-requires
 begin_anew-requires g c = record {
-  fits = stands-as (story_tree c.self.inside.story) (story_of c.args.self.now) c.in-Ok.found (ap (λ q. story_of q) c.self.view_is) (c.in-Ok.ensures.sound, c.in-Ok.ensures.rests);
+  fits = stands-as (story_tree c.self.inside.story) (story_of c.args.self.now) c.in-Ok.found (ap (λ q. story_of q) c.self.view_is) (c.in-Ok.ensures.finds.sound, c.in-Ok.ensures.finds.rests);
+  unmarked = c.in-Ok.ensures.mark;
 }
 
 pub returns-in-Ok-clause-stands : goal.returns-in-Ok-clause-stands

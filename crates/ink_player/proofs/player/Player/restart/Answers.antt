@@ -47,9 +47,9 @@ returns-in_default-clause-does g c =
 pub begin_anew-requires : goal.begin_anew-requires
 begin_anew-requires g c =
     let s = story_tree c.self.inside.story in
-    record { fits = stands-as s (story_of c.args.self.now) c.in-Ok.machine (ap (λ q. story_of q) c.self.view_is) (opened_fits s c.self.invariant.story (config_of s c.in-Ok.machine) c.in-Ok.ensures.ok) }
+    record { fits = stands-as s (story_of c.args.self.now) c.in-Ok.machine (ap (λ q. story_of q) c.self.view_is) (opened_fits s c.self.invariant.story (config_of s c.in-Ok.machine) c.in-Ok.ensures.ok); unmarked = c.in-Ok.ensures.mark }
 
 pub invariant_of-self : goal.invariant_of-self
 invariant_of-self g c =
     let s = story_tree c.self.inside.story in
-    stands-broken s c.self.invariant.story c.at_start.result c.break_by.new.desk.events c.break_by.new.broken c.in-Err.field-0.fault (ap (λ d. is_empty d.events) c.break_by.ensures.desk) c.break_by.ensures.broken
+    stands-broken s c.self.invariant.story c.at_start.result c.break_by.new.desk.events c.break_by.new.broken c.in-Err.field-0.fault (ap (λ d. is_empty d.events) c.break_by.ensures.desk) c.break_by.ensures.broken c.at_start.ensures.mark
