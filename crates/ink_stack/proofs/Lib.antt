@@ -5,6 +5,7 @@ pub mod Quietness
 pub mod Rows
 pub mod Rises
 pub mod Numbers
+pub mod Unnumbered
 pub mod Bases
 pub mod Rising
 pub mod BaseTests

@@ -22,21 +22,23 @@ use std::mem;
 /// such frames fit without memory.
 ///
 /// `quiet` says that of the function frames that are nearest below the top one none is fresh, so that a text need not look at
-/// them.
+/// them; `numbered`, whether a frame below the top one may have the number of its mark, so that a new line need not look at
+/// them where none has.
 #[derive(Drop)]
 pub struct Running<P> {
     pub(crate) frame: Frame<P>,
     pub(crate) below: Vec<Frame<P>>,
     pub(crate) previous: Option<P>,
     pub(crate) quiet: bool,
+    pub(crate) numbered: bool,
     pub(crate) alloc: Global,
 }
 
 impl<P> Model for Running<P> {
-    ghost use Rattle.std.specs.Prelude.{◌≡◌, reverse, ◌<◌, length, true, vec_capacity};
+    ghost use Rattle.std.specs.Prelude.{◌≡◌, reverse, ◌<◌, length, false, true, vec_capacity};
     ghost use Rattle.ink_model.specs.Bases.{BaseFirst};
     ghost use Rattle.ink_model.specs.declared.limits.TheConstants.{MAX_FRAMES};
-    ghost use Rattle.ink_stack.specs.Quiet.{is_quiet};
+    ghost use Rattle.ink_stack.specs.Quiet.{is_quiet, is_unnumbered};
     ghost use Rattle.ink_stack.specs.Running.{RunningView};
 
     ghost Value = { RunningView P };
@@ -46,7 +48,8 @@ impl<P> Model for Running<P> {
       room = vec_capacity t.below;
     } };
 
-    ghost invariant = { λ t. (length t.below.items < MAX_FRAMES) × (t.quiet ≡ true → is_quiet (reverse t.below.items) ≡ true) × BaseFirst t.frame.kind (reverse t.below.items) };
+    ghost invariant = { λ t. (length t.below.items < MAX_FRAMES) × (t.quiet ≡ true → is_quiet (reverse t.below.items) ≡ true)
+        × BaseFirst t.frame.kind (reverse t.below.items) × (t.numbered ≡ false → is_unnumbered (reverse t.below.items) ≡ true) };
 }
 
 impl<P: Copy> Running<P> {
@@ -59,6 +62,7 @@ impl<P: Copy> Running<P> {
             below: Vec::new(alloc),
             previous: None,
             quiet: true,
+            numbered: false,
             alloc,
         }
     }
@@ -127,6 +131,7 @@ impl<P: Copy> Running<P> {
             below,
             previous: self.previous,
             quiet: self.quiet,
+            numbered: self.numbered,
             alloc,
         })
     }
@@ -160,7 +165,10 @@ impl<P: Copy> Running<P> {
         ensures { self.new ≡ record self.old { thread = unnumbered_thread self.old.thread } }
     {
         self.frame.set_number(None);
-        clear_numbers_of(self.below.as_mut_slice());
+        if self.numbered {
+            clear_numbers_of(self.below.as_mut_slice());
+            self.numbered = false;
+        }
     }
 
     pub(crate) fn end_freshness(&mut self, depth: usize)
@@ -185,6 +193,7 @@ impl<P: Copy> Running<P> {
         let frame = Frame::new(self.alloc, kind.frame_kind(), self.frame.place(), depth);
         let caller = mem::replace(&mut self.frame, frame);
         self.quiet = !caller.is_function() || !caller.is_fresh() && self.quiet;
+        self.numbered = self.numbered || caller.number().is_some();
         self.below.push(caller).unwrap();
         Ok(())
     }
@@ -353,6 +362,7 @@ impl<P: Copy> Running<P> {
     {
         let under = mem::replace(&mut self.frame, frame);
         self.quiet = !under.is_function() || !under.is_fresh() && self.quiet;
+        self.numbered = self.numbered || under.number().is_some();
         self.below.push_reserved(under);
     }
 }

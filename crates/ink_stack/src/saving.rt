@@ -104,6 +104,7 @@ impl<P: Copy> Thread<P> {
             below,
             previous,
             quiet: false,
+            numbered: true,
             alloc,
         };
         Some(Thread { running })

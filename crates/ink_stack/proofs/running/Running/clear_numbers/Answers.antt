@@ -5,14 +5,21 @@ use Rattle.ink_model.specs.Frames.{unnumbered_frame}
 use Rattle.ink_stack.proofs.Bases.{base_same, base_unnumbered}
 use Rattle.ink_stack.proofs.Quietness.{quiet_unnumbered}
 use Rattle.ink_stack.proofs.Reversing.{map-reverse}
+use Rattle.ink_stack.proofs.Unnumbered.{unnumbered_map, unnumbered_same}
 use Rattle.ink_stack.proofs.running.Running.clear_numbers.Goals as goal
 
-pub returns : goal.returns
-returns g c =
+pub returns-then-self : goal.returns-then-self
+returns-then-self g c =
     let items : c.clear_numbers_of.new.frames ≡ map unnumbered_frame c.self.inside.below.items =
     c.clear_numbers_of.ensures ∙ ap (map unnumbered_frame) c.as_mut_slice.ensures.value in
     let kept : length c.clear_numbers_of.new.frames ≡ vec_len c.self.inside.below = c.clear_numbers_of.auto.frames ∙ c.as_mut_slice.ensures.len in
     rw (← c.self.view_is) (rw (with_items_is c.self.inside.below c.clear_numbers_of.new.frames kept, c.set_number.ensures, items, map-reverse) refl)
+
+-- no frame below has a number
+pub returns-else-self : goal.returns-else-self
+returns-else-self g c =
+    let below = reverse c.self.inside.below.items in
+    rw (← c.self.view_is) (rw (c.set_number.ensures, unnumbered_same below (c.self.invariant.3 c.if-self.false)) refl)
 
 pub invariant_of-self : goal.invariant_of-self
 invariant_of-self g c =
@@ -25,4 +32,5 @@ invariant_of-self g c =
       λ quiet. rw (← map-reverse unnumbered_frame old, quiet_unnumbered (reverse old)) (c.self.invariant.1 quiet),
       subst (λ fs. BaseFirst c.set_number.new.self.kind fs) (map-reverse unnumbered_frame old)
           (base_unnumbered c.set_number.new.self.kind (reverse old) (base_same c.self.inside.frame.kind c.set_number.new.self.kind (reverse old) (ap (λ f. f.kind) c.set_number.ensures) c.self.invariant.2)),
+      λ none. rw (← map-reverse unnumbered_frame old) (unnumbered_map (reverse old)),
     )

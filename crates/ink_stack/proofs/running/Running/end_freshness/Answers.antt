@@ -4,6 +4,8 @@ use Rattle.ink_model.specs.Bases.{BaseFirst}
 use Rattle.ink_model.specs.Threads.{stale_run}
 use Rattle.ink_stack.proofs.Bases.{base_same, base_stale, stale_kind}
 use Rattle.ink_stack.proofs.Quietness.{quiet_run}
+use Rattle.ink_stack.proofs.Unnumbered.{unnumbered_run}
+use Rattle.ink_stack.specs.Quiet.{is_unnumbered}
 use Rattle.ink_stack.proofs.running.Running.end_freshness.Goals as goal
 
 pub returns-else-not-self : goal.returns-else-not-self
@@ -25,4 +27,5 @@ invariant_of-self g c =
       λ quiet. sym c.end_freshness_of-self-inside.ensures.quiet ∙ quiet,
       subst (λ fs. BaseFirst top.kind fs) (sym run)
           (base_same c.self.inside.frame.kind top.kind (stale_run c.args.depth (reverse old)) kind (base_stale c.args.depth c.self.inside.frame.kind (reverse old) c.self.invariant.2)),
+      λ none. ap is_unnumbered run ∙ unnumbered_run c.args.depth (reverse old) ∙ c.self.invariant.3 none,
     )

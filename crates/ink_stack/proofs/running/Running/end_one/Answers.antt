@@ -5,6 +5,7 @@ use Rattle.ink_model.specs.Threads.{stale}
 use Rattle.ink_stack.specs.Cells.{with_fresh}
 use Rattle.ink_stack.proofs.Bases.{stale_kind}
 use Rattle.ink_stack.proofs.Framing.{base_set, framed_below, unframed_below}
+use Rattle.ink_stack.proofs.Unnumbered.{number_stale, unnumbered_set}
 use Rattle.ink_stack.proofs.running.Running.end_one.Goals as goal
 
 pub invariant_of-self-2 : goal.invariant_of-self-2
@@ -15,6 +16,9 @@ invariant_of-self-2 g c =
       λ quiet. cc,
       base_set c.self.inside.frame.kind items c.args.number c.index_mut.result.now c.end_one-2.new.self c.requires.from within
           (ap (λ f. f.kind) c.end_one-2.ensures.frame ∙ stale_kind c.args.depth c.index_mut.result.now ∙ ap (λ f. f.kind) c.index_mut.ensures.value) c.self.invariant.2,
+      λ none.
+          rw (unnumbered_set items c.args.number c.index_mut.result.now c.end_one-2.new.self c.requires.from within
+          (number_stale c.args.depth c.index_mut.result.now c.end_one-2.new.self c.end_one-2.ensures.frame ∙ ap (λ f. f.enter) c.index_mut.ensures.value)) (c.self.invariant.3 none),
     )
 
 pub returns-clause-running : goal.returns-clause-running

@@ -3,6 +3,7 @@ use Rattle.std.proofs.lemmas.List.{length-reverse}
 use Rattle.ink_model.specs.Threads.{frame_count}
 use Rattle.ink_stack.specs.Cells.{with_fresh}
 use Rattle.ink_stack.proofs.Framing.{base_set, framed_below, framed_past, framed_zero}
+use Rattle.ink_stack.proofs.Unnumbered.{unnumbered_set}
 use Rattle.ink_stack.proofs.running.Running.freshen.Goals.{else-number-gt0-via-then-number-gt0+else-number-len-2, else-number-gt0-via-else-number-gt0}
 use Rattle.ink_stack.proofs.running.Running.freshen.Goals as goal
 
@@ -15,6 +16,9 @@ invariant_of-self-then-number-len-2 g c =
       λ quiet. cc,
       base_set c.self.inside.frame.kind items c.args.number c.index_mut.result.now new (omega arith) within
           (ap (λ f. f.kind) c.freshen-then-number-len-2.ensures ∙ ap (λ f. f.kind) c.index_mut.ensures.value) c.self.invariant.2,
+      λ none.
+          rw (unnumbered_set items c.args.number c.index_mut.result.now new (omega arith) within
+          (ap (λ f. f.enter) c.freshen-then-number-len-2.ensures ∙ ap (λ f. f.enter) c.index_mut.ensures.value)) (c.self.invariant.3 none),
     )
 
 pub returns-then-number-len-2 : goal.returns-then-number-len-2

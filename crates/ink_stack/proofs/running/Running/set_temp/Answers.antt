@@ -5,6 +5,7 @@ use Rattle.ink_stack.specs.Cells.{temp_back}
 use Rattle.ink_stack.proofs.Bases.{fresh_along, kind_along}
 use Rattle.ink_stack.proofs.Framing.{base_set, unframed_below}
 use Rattle.ink_stack.proofs.Numbers.{memory_along, quiet_set, temp_along}
+use Rattle.ink_stack.proofs.Unnumbered.{number_along, unnumbered_set}
 use Rattle.ink_stack.proofs.running.Running.set_temp.Goals as goal
 
 pub invariant_of-self-2 : goal.invariant_of-self-2
@@ -14,10 +15,12 @@ invariant_of-self-2 g c =
     let now = c.set_temp-2.new.self in
     let within : c.args.frame ≤ length items = omega (arith, length-reverse items, ap (λ t. length t.thread.below) c.self.view_is) in
     let kind = kind_along c.set_temp-2.result c.args.name.now c.args.value was now c.set_temp-2.ensures.ok c.set_temp-2.ensures.err ∙ ap (λ f. f.kind) c.index_mut.ensures.value in
-    let fresh = fresh_along c.set_temp-2.result c.args.name.now c.args.value was now c.set_temp-2.ensures.ok c.set_temp-2.ensures.err ∙ ap (λ f. f.fresh) c.index_mut.ensures.value in (
+    let fresh = fresh_along c.set_temp-2.result c.args.name.now c.args.value was now c.set_temp-2.ensures.ok c.set_temp-2.ensures.err ∙ ap (λ f. f.fresh) c.index_mut.ensures.value in
+    let number = number_along c.set_temp-2.result c.args.name.now c.args.value was now c.set_temp-2.ensures.ok c.set_temp-2.ensures.err ∙ ap (λ f. f.enter) c.index_mut.ensures.value in (
       rw length-set c.self.invariant.0,
       λ quiet. rw (quiet_set items c.args.frame was now c.requires.from within kind fresh) (c.self.invariant.1 quiet),
       base_set c.self.inside.frame.kind items c.args.frame was now c.requires.from within kind c.self.invariant.2,
+      λ none. rw (unnumbered_set items c.args.frame was now c.requires.from within number) (c.self.invariant.3 none),
     )
 
 pub returns-clause-ok : goal.returns-clause-ok
