@@ -1,6 +1,6 @@
 //! The choices that are offered.
 
-ghost use Rattle.std.specs.Prelude.{◌≡◌, ◌≢◌, ◌≤◌, ◌<◌, ◌+◌, ◌||◌, [], None, Some, false, is_some, not, length, map, option_map, remove, slice_get, slice_index_or, true, unwrap_or, IfOk, OnOk, OnErr};
+ghost use Rattle.std.specs.Prelude.{◌≡◌, ◌≢◌, ◌≤◌, ◌<◌, ◌+◌, ◌++◌, ◌||◌, [], None, Some, drop, false, is_some, not, length, map, option_map, remove, slice_get, slice_index_or, take, true, unwrap_or, IfOk, OnOk, OnErr};
 ghost use Rattle.ink_model.specs.declared.limits.TheConstants.{MAX_CHOICES};
 ghost use Rattle.ink_choice.specs.Undo.{choices_back, choices_spare, choices_stood};
 ghost use Rattle.ink_choice.specs.Words.{Adds, FindsIndex, Takes};
@@ -18,15 +18,19 @@ use std::mem;
 
 /// Choices, the invisible ones among them, in the order in which they were made: 1,000 at the most; and while a mark stands the
 /// trail of what they were. A contract sees the list and the trail.
+///
+/// `settled` says how many of the first ones have no number of a mark in their threads, so that a new line looks at those alone
+/// that were added since.
 #[derive(Drop)]
 pub struct Choices<P> {
     pub(crate) items: Vec<Choice<P>>,
+    pub(crate) settled: usize,
     pub(crate) trail: Trail<ChoicePair<P>>,
 }
 
 impl<P> Model for Choices<P> {
     ghost use Rattle.std.specs.Prelude.{◌≤◌, length, vec_capacity};
-    ghost use Rattle.ink_choice.specs.Choices.{ChoicesView};
+    ghost use Rattle.ink_choice.specs.Choices.{ChoicesView, Settled};
     ghost use Rattle.ink_choice.specs.Undo.{StaysHeld};
     ghost use Rattle.ink_model.specs.declared.limits.TheConstants.{MAX_CHOICES};
     ghost use Rattle.ink_trail.specs.Undo.{trail_of};
@@ -35,7 +39,8 @@ impl<P> Model for Choices<P> {
 
     ghost view = { λ c. record { items = c.items.items; trail = c.trail } };
 
-    ghost invariant = { λ c. (length c.items.items ≤ MAX_CHOICES) × StaysHeld (vec_capacity c.items) (trail_of c.trail.undo) c.items.items };
+    ghost invariant = { λ c. (length c.items.items ≤ MAX_CHOICES) × StaysHeld (vec_capacity c.items) (trail_of c.trail.undo) c.items.items
+        × Settled c.settled c.items.items };
 }
 
 #[tactic(auto, unfolding(crate::specs::Undo::choices_stood, crate::specs::Undo::choices_spare, ink_trail::specs::Undo::stood_at, ink_trail::specs::Undo::spare))]
@@ -47,6 +52,7 @@ impl<P: Copy> Choices<P> {
     {
         Choices {
             items: Vec::new(alloc),
+            settled: 0,
             trail: Trail::new(alloc),
         }
     }
@@ -153,6 +159,7 @@ impl<P: Copy> Choices<P> {
         if self.trail.is_marked() {
             return self.take_marked(index);
         }
+        self.settled = self.settled.min(index);
         Ok(self.items.remove(index))
     }
 
@@ -170,6 +177,7 @@ impl<P: Copy> Choices<P> {
         let copy = self.items[index].clone_in(*self.items.allocator())?;
         self.trail.ready(1)?;
         let choice = self.items.remove(index);
+        self.settled = self.settled.min(index);
         self.trail.note(ChoicePair::Taken(index, choice), 1);
         Ok(copy)
     }
@@ -182,7 +190,8 @@ impl<P: Copy> Choices<P> {
         ensures stood { choices_stood self.new ≡ choices_stood self.old }
         ensures spare { choices_spare self.old ≤ choices_spare self.new }
     {
-        clear_numbers_of(self.items.as_mut_slice());
+        clear_numbers_from(self.items.as_mut_slice(), self.settled);
+        self.settled = self.items.len();
     }
 
     /// All choices go, which is one change of a cell. Takes no memory.
@@ -196,6 +205,7 @@ impl<P: Copy> Choices<P> {
         if self.trail.is_marked() {
             self.clear_marked();
         } else {
+            self.settled = 0;
             self.items.clear();
         }
     }
@@ -210,6 +220,7 @@ impl<P: Copy> Choices<P> {
         ensures stood { choices_stood self.new ≡ choices_stood self.old }
         ensures spare { choices_spare self.old ≤ choices_spare self.new + 1 }
     {
+        self.settled = 0;
         let cleared = taken_whole(&mut self.items);
         self.trail.note(ChoicePair::Cleared(cleared), 1);
     }
@@ -247,7 +258,9 @@ impl<P: Copy> Choices<P> {
         ensures len { result ≡ length (trail_of self.old.trail.undo) }
         ensures writes { result ≤ writes_of self.old.trail.undo }
     {
-        put_back(&mut self.items, &mut self.trail)
+        let count = put_back(&mut self.items, &mut self.trail);
+        self.settled = if count > 0 { 0 } else { self.settled };
+        count
     }
 
     /// Ends the mark, and changes nothing else. Takes no memory.
@@ -345,6 +358,14 @@ fn index_of<P: Copy>(choices: &[Choice<P>], number: usize, any: bool) -> Option<
         }
     }
     None
+}
+
+// Of the choices from an index on no frame of their threads has the number of its mark any more.
+fn clear_numbers_from<P: Copy>(choices: &mut [Choice<P>], from: usize)
+    requires { from ≤ length choices.old }
+    ensures { choices.new ≡ take from choices.old ++ map unnumbered_choice (drop from choices.old) }
+{
+    clear_numbers_of(&mut choices[from..]);
 }
 
 // No frame of these choices' threads has the number of its mark any more.

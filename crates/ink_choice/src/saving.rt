@@ -19,7 +19,11 @@ impl<P: Copy> Choices<P> {
     {
         if items.len() <= MAX_CHOICES {
             let trail = Trail::new(*items.allocator());
-            Some(Choices { items, trail })
+            Some(Choices {
+                items,
+                settled: 0,
+                trail,
+            })
         } else {
             None
         }

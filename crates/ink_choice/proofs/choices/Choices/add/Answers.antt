@@ -6,6 +6,7 @@ use Rattle.ink_trail.proofs.Undoing.{stood-trails, trails-one}
 use Rattle.ink_choice.specs.Undo.{choices_back, choices_stood}
 use Rattle.ink_choice.specs.declared.undo.ChoicePair.TheVariants.{Added}
 use Rattle.ink_choice.proofs.Lists.{not_added, one_more}
+use Rattle.ink_choice.proofs.Settling.{settled-added}
 use Rattle.ink_choice.proofs.Undoing.{added_back, held-as, held-with}
 use Rattle.ink_choice.proofs.choices.Choices.add.Goals as goal
 
@@ -13,12 +14,14 @@ pub invariant_of-self : goal.invariant_of-self
 invariant_of-self g c = (
   omega (arith, ap length c.reserve.ensures.items, c.self.invariant.0),
   held-as _ _ c.self.inside.trail.undo _ c.self.inside.items.items _ refl c.reserve.ensures.items c.reserve.ensures.capacity c.self.invariant.1,
+  rw c.reserve.ensures.items c.self.invariant.2,
 )
 
 pub invariant_of-self-in_err-add : goal.invariant_of-self-in_err-add
 invariant_of-self-in_err-add g c = (
   omega (arith, ap length c.reserve.ensures.items, c.self.invariant.0),
   held-as _ _ c.self.inside.trail.undo _ c.self.inside.items.items _ c.in_err-add.ensures.err.0 c.reserve.ensures.items c.reserve.ensures.capacity c.self.invariant.1,
+  rw c.reserve.ensures.items c.self.invariant.2,
 )
 
 pub invariant_of-self-2 : goal.invariant_of-self-2
@@ -35,7 +38,14 @@ invariant_of-self-2 g c =
     rw c.in_ok-add.ensures.ok (
       within,
       held-with Added 1 old.items new.items c.self.inside.trail.undo (vec_capacity old) (vec_capacity new) (added_back _ _ c.args.choice items) (within, room) grows c.self.invariant.1,
+      rw items (settled-added c.self.inside.settled old.items (c.args.choice ∷ []) c.self.invariant.2),
     )
+
+pub returns-in_err-reserve-clause-items : goal.returns-in_err-reserve-clause-items
+returns-in_err-reserve-clause-items g c =
+    let few : length c.self.inside.items.items < MAX_CHOICES = search (rules, arith) in
+    let is : c.from_residual.result ≡ Err OutOfMemory = search rules in
+    rw (is, ← c.self.view_is) (not_added c.args.choice c.self.inside.items.items c.reserve.new.self.items few c.reserve.ensures.items)
 
 pub returns-in_err-add-clause-items : goal.returns-in_err-add-clause-items
 returns-in_err-add-clause-items g c =

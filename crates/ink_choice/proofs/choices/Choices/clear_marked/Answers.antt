@@ -15,6 +15,7 @@ invariant_of-self g c =
       omega (arith, none),
       held-with (Cleared all) 1 old.items new.items c.self.inside.trail.undo (vec_capacity old) (vec_capacity new) (ap (λ v. v.items) c.taken_whole-cleared.ensures.whole)
           (omega (arith, none), omega (arith, none)) (omega (arith, ap vec_capacity c.taken_whole-cleared.ensures.whole)) c.self.invariant.1,
+      tt,
     )
 
 pub returns-clause-trail : goal.returns-clause-trail

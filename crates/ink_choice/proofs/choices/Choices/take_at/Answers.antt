@@ -2,6 +2,7 @@ use Rattle.std.proofs.Common.{◌∙◌, arith, refl, sym, vec_capacity}
 use Rattle.ink_trail.proofs.Undoing.{stood-trails, trails-unmarked}
 use Rattle.ink_trail.specs.Undo.{trail_of}
 use Rattle.ink_choice.specs.Undo.{choices_back, choices_stood}
+use Rattle.ink_choice.proofs.Settling.{settled-removed}
 use Rattle.ink_choice.proofs.Undoing.{held-now, held-unmarked}
 use Rattle.ink_choice.proofs.choices.Choices.take_at.Goals as goal
 
@@ -13,6 +14,7 @@ invariant_of-self g c =
       omega (arith, c.self.invariant.0, c.remove.ensures.len, old.ok.0, new.ok.0),
       held-unmarked (vec_capacity new) c.self.inside.trail.undo new.items (sym c.is_marked.ensures ∙ c.if-is_marked.false)
           (omega (arith, held.0, c.remove.ensures.len, old.ok.0, new.ok.0), omega (arith, held.1, c.remove.ensures.capacity, c.remove.ensures.len, old.ok.0, new.ok.0)),
+      rw c.remove.ensures.items (settled-removed c.min-self-inside.result c.self.inside.settled c.args.index old.items (omega arith) (omega arith) c.self.invariant.2),
     )
 
 pub returns-clause-trail : goal.returns-clause-trail

@@ -4,6 +4,7 @@ use Rattle.ink_trail.proofs.Undoing.{stood-trails, trails-after, trails-one}
 use Rattle.ink_trail.specs.Undo.{trail_of}
 use Rattle.ink_choice.specs.Undo.{choices_back, choices_stood}
 use Rattle.ink_choice.specs.declared.undo.ChoicePair.TheVariants.{Taken}
+use Rattle.ink_choice.proofs.Settling.{settled-removed}
 use Rattle.ink_choice.proofs.Undoing.{held-as, held-now, held-with, taken_back}
 use Rattle.ink_choice.proofs.choices.Choices.take_marked.Goals as goal
 
@@ -22,6 +23,7 @@ invariant_of-self-2 g c =
       held-with (Taken c.args.index choice) 1 old.items new.items c.ready.new.self.undo (vec_capacity old) (vec_capacity new) back
           (omega (arith, held.0, c.remove-choice.ensures.len, old.ok.0, new.ok.0), omega (arith, held.1, room, c.remove-choice.ensures.len, old.ok.0, new.ok.0)) (omega (arith, room))
           (held-as _ _ c.self.inside.trail.undo _ old.items _ c.ready.ensures.kept.0 refl (omega arith) c.self.invariant.1),
+      rw c.remove-choice.ensures.items (settled-removed c.min-self-inside.result c.self.inside.settled c.args.index old.items (omega arith) (omega arith) c.self.invariant.2),
     )
 
 pub returns-clause-trail : goal.returns-clause-trail
