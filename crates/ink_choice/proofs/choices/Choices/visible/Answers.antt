@@ -14,6 +14,15 @@ returns-in_err-push-clause-memory g c =
     let some : visible cs ≢ [] = some_shown cs i c.choice-item.result inside c.choice-item.is (sym c.is_visible.ensures ∙ c.if-is_visible.true) in
     rw p.1 (rw (← c.self.view_is, ← c.deref-choice-items.ensures.value) some)
 
+pub returns-in_err-shown_choice-clause-memory : goal.returns-in_err-shown_choice-clause-memory
+returns-in_err-shown_choice-clause-memory g c =
+    let p = err_from_is_err_and c.from_residual.result c.from_residual.ensures.1 in
+    let cs = c.deref-choice-items.result.now in
+    let i = c.loop-choice.choice-index in
+    let inside : i < length cs = omega arith in
+    let some : visible cs ≢ [] = some_shown cs i c.choice-item.result inside c.choice-item.is (sym c.is_visible.ensures ∙ c.if-is_visible.true) in
+    rw p.1 (rw (← c.self.view_is, ← c.deref-choice-items.ensures.value) some)
+
 pub loop-choice-preserved : goal.loop-choice-preserved
 loop-choice-preserved g c =
     let cs = c.deref-choice-items.result.now in
