@@ -19,8 +19,8 @@ use std::mem;
 /// Choices, the invisible ones among them, in the order in which they were made: 1,000 at the most; and while a mark stands the
 /// trail of what they were. A contract sees the list and the trail.
 ///
-/// `settled` says how many of the first ones have no number of a mark in their threads, so that a new line looks at those alone
-/// that were added since.
+/// `settled` says how many of the first ones have no number of a mark in their threads, so that the end of a line looks only at
+/// those behind them.
 #[derive(Drop)]
 pub struct Choices<P> {
     pub(crate) items: Vec<Choice<P>>,

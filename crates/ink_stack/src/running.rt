@@ -22,8 +22,8 @@ use std::mem;
 /// such frames fit without memory.
 ///
 /// `quiet` says that of the function frames that are nearest below the top one none is fresh, so that a text need not look at
-/// them; `numbered`, whether a frame below the top one may have the number of its mark, so that a new line need not look at
-/// them where none has.
+/// them. `numbered` says whether a frame below the top one may have the number of its mark, so that the end of a line need not
+/// look at them where none has one.
 #[derive(Drop)]
 pub struct Running<P> {
     pub(crate) frame: Frame<P>,
