@@ -1,10 +1,12 @@
 -- Steps of a loop that looks for a line, by what a step of the machine comes to.
-use Rattle.std.proofs.Common.{◌≡◌, ◌∙◌, ◌⊎◌, ◌||◌, ap, sym, refl, subst, inl, inr, ℕ, suc, List, [], Bool, true, false, Option, Some, Result, Ok, Err}
+use Rattle.std.proofs.Common.{◌≡◌, ◌∙◌, ◌⊎◌, ◌||◌, ap, sym, refl, subst, inl, inr, length, ℕ, suc, List, [], Bool, true, false, Option, None, Some, Result, Ok, Err}
 use Rattle.ink_model.specs.Line.{is_call}
-use Rattle.ink_line.specs.Look.{Looking, Search, look_on, looked, looked_by, looked_on}
+use Rattle.ink_line.specs.Look.{Looking, Search, look_on, looked, looked_by, looked_on, newline_between}
 use Rattle.ink_line.proofs.Opens.{is_open, open_is}
-use Rattle.ink_look.specs.Looking.{StandsAs}
+use Rattle.ink_look.specs.Looking.{FindsAs, MarksHere, StandsAs, StepsOn, found_of, newline_from, stepped}
+use Rattle.ink_look.specs.declared.looking.Looked.{Looked}
 use Rattle.ink_look.specs.declared.looking.Standing.TheVariants as standing
+use Rattle.ink_model.specs.Asks.{asks}
 use Rattle.ink_model.specs.Configuration.{Configuration}
 use Rattle.ink_model.specs.Host.{Bound}
 use Rattle.ink_model.specs.Move.{Outcome, Next, Stop, Faults}
@@ -17,7 +19,10 @@ use Rattle.ink_model.specs.declared.fault.Fault.TheVariants.{OutOfMemory}
 use Rattle.ink_model.specs.declared.host.Event.{Event}
 use Rattle.ink_model.specs.declared.host.Given.{Given}
 use Rattle.ink_model.specs.declared.mark.Mark.{Mark}
-use Rattle.ink_step.specs.Steps.{StepEnds, Steps}
+use Rattle.ink_step.specs.Marks.{marked_in, stood_of, unmarked}
+use Rattle.ink_step.specs.Steps.{StepEnds, StepMakes, Steps}
+use Rattle.ink_step.specs.Words.{config_of}
+use Rattle.ink_step.specs.declared.machine.Machine.{Machine}
 use Rattle.ink_step.specs.declared.flow.StepEnd.{StepEnd}
 use Rattle.ink_step.specs.declared.flow.StepEnd.TheVariants as ends
 use Rattle.ink_step.proofs.Follows.{never_wants}
@@ -101,3 +106,35 @@ stands_past ms newline other shown = (shown, by (more_from ms (suc newline)) ref
     by : (past : Bool) → more_from ms (suc newline) ≡ past → past ≡ true
     by true e = refl
     by false e = absurd (other (is_open ms newline shown e))
+
+-- ---- a newline that a step is found to have
+
+stepped_found : (o : Option ℕ) → stepped (Ok (found_of o)) ≡ Ok ends.Went
+stepped_found None = refl
+stepped_found (Some newline) = refl
+
+finds_found : (kept new : Configuration) (newline o : Option ℕ) → found_of o ≡ found_of newline → MarksHere (found_of o) kept new → FindsAs newline kept new (Ok (found_of o))
+finds_found kept new newline None is here = (is, here)
+finds_found kept new newline (Some i) is here = (is, here)
+
+module _ (s : StoryTree) (b : Bound) (n : ℕ) (es : List Event) (kept old mid kept_then new : Configuration) (same : new ≡ mid) where
+  pub seeks_on : (marks : ℕ) (l : Looked) → length old.page.line ≡ marks → l ≡ found_of (newline_from marks mid.page) → MarksHere l kept_then new
+      → StepMakes s b n false (asks s b old) (step s b old) es old.shared.globals mid (Ok ends.Went) → StepsOn s b n None kept old es kept_then new (Ok l)
+  seeks_on marks l count is here h =
+      let o = newline_from marks mid.page in
+      let newline : o ≡ newline_between old.page new.page = ap (λ k. newline_from k mid.page) (sym count) ∙ ap (λ c. newline_between old.page c.page) (sym same) in
+      let makes : StepMakes s b n false (asks s b old) (step s b old) es old.shared.globals new (stepped (Ok (found_of o))) =
+      subst (λ r. StepMakes s b n false (asks s b old) (step s b old) es old.shared.globals new r) (sym (stepped_found o))
+      (subst (λ c. StepMakes s b n false (asks s b old) (step s b old) es old.shared.globals c (Ok ends.Went)) (sym same) h) in
+      let finds : FindsAs (newline_between old.page new.page) kept_then new (Ok (found_of o)) =
+      finds_found kept_then new (newline_between old.page new.page) o (ap found_of newline) (subst (λ l. MarksHere l kept_then new) is here) in
+      subst (λ l. StepsOn s b n None kept old es kept_then new (Ok l)) (sym is) (makes, finds)
+
+-- no mark stands at a step of a run
+pub unmarked_makes : (s : StoryTree) (b : Bound) (n : ℕ) (m : Machine) (es : List Event) (new : Configuration) (r k : Result StepEnd Fault) → stood_of m ≡ unmarked → r ≡ k
+    → let old = config_of s m in StepMakes s b n (marked_in (stood_of m)) (asks s b old) (step s b old) es old.shared.globals new r
+    → StepMakes s b n false (asks s b old) (step s b old) es old.shared.globals new k
+unmarked_makes s b n m es new r k free is h =
+    let old = config_of s m in
+    subst (λ stood. StepMakes s b n (marked_in stood) (asks s b old) (step s b old) es old.shared.globals new k) free
+    (subst (λ r. StepMakes s b n (marked_in (stood_of m)) (asks s b old) (step s b old) es old.shared.globals new r) is h)
