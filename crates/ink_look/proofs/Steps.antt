@@ -1,5 +1,5 @@
 -- Steps of a loop that looks for a line, by what a step of the machine comes to.
-use Rattle.std.proofs.Common.{◌≡◌, ◌∙◌, ◌⊎◌, ◌||◌, ap, sym, refl, subst, inl, inr, length, ℕ, suc, List, [], Bool, true, false, Option, None, Some, Result, Ok, Err}
+use Rattle.std.proofs.Common.{◌≡◌, ◌∙◌, ◌||◌, ap, sym, refl, subst, length, ℕ, suc, List, [], Bool, true, false, Option, None, Some, Result, Ok, Err}
 use Rattle.ink_model.specs.Line.{is_call}
 use Rattle.ink_line.specs.Look.{Looking, Over, Search, kept_at, look_on, looked, looked_by, looked_on, newline_between}
 use Rattle.ink_line.proofs.Opens.{is_open, open_is}
@@ -11,7 +11,7 @@ use Rattle.ink_model.specs.Asks.{asks}
 use Rattle.ink_model.specs.Configuration.{Configuration}
 use Rattle.ink_model.specs.Host.{Bound}
 use Rattle.ink_model.specs.Move.{Outcome, Next, Stop, Faults}
-use Rattle.ink_model.specs.Run.{Made, Moment, At, Stopped, Faulted, came, moment_after}
+use Rattle.ink_model.specs.Run.{Made, Moment, At, Stopped, came, moment_after}
 use Rattle.ink_model.specs.Shown.{is_shown, more_from, open_newline}
 use Rattle.ink_model.specs.Step.{Stepped, Comes, Wants, step}
 use Rattle.ink_model.specs.Tree.{StoryTree}
