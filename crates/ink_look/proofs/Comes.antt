@@ -1,5 +1,5 @@
 -- What a running command comes to, from the run that it makes.
-use Rattle.std.proofs.Common.{◌≡◌, ◌∙◌, ◌⊎◌, ap, sym, refl, subst, inl, inr, List, [], Bool, true, false, Some, Result, Ok, Err}
+use Rattle.std.proofs.Common.{◌≡◌, ◌∙◌, ◌⊎◌, ap, sym, refl, subst, inl, inr, List, [], true, false, Some, Result, Ok, Err}
 use Rattle.ink_look.specs.Ends.{RunsThrough}
 use Rattle.ink_look.specs.Words.{said, said_asks}
 use Rattle.ink_look.specs.declared.said.Said.{Said}

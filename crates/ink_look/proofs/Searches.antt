@@ -6,8 +6,9 @@ use Rattle.ink_host.specs.declared.objects.Called.{Called}
 use Rattle.ink_host.specs.declared.objects.Seen.{Seen}
 use Rattle.ink_host.proofs.Laws.{bound-same, grew-grew, grew-none}
 use Rattle.ink_model.specs.Line.{NoneBelow}
-use Rattle.ink_line.specs.Look.{Knows, Looking, Over, Search, Seeking, found, kept_at, look_on, newline_between, search, sought}
+use Rattle.ink_line.specs.Look.{Knows, Over, Search, Seeking, found, look_on, newline_between, search, sought}
 use Rattle.ink_line.proofs.Found.{finds, knows, over_is}
+use Rattle.ink_look.proofs.Steps.{kept_found}
 use Rattle.ink_look.specs.LineEnds.{ComesToLine, LineShort, RunsToLine}
 use Rattle.ink_look.specs.Looking.{FindsAs, MarksHere, StepsOn, found_of, search_after, search_at, stepped}
 use Rattle.ink_look.specs.declared.looking.Looked.{Looked}
@@ -123,14 +124,10 @@ module _ (s : StoryTree) (b : Bound) (kept old kept_then new : Configuration) (m
   abbrev comes : List (Option Given) → Moment
   comes left = came s old (step s b old) (answers_of more ++ left) made
 
-  kept_found : (o : Option ℕ) → MarksHere (found_of o) kept_then new → (left : List (Option Given)) (all : List Made) → kept_at (At new left all) o ≡ search_after (found_of o) kept_then new left all
-  kept_found None here left all = refl
-  kept_found (Some i) here left all = ap (λ c. Looking (At c left all) i (At new left all)) (sym here)
-
   went_so : (l : Looked) → ((left : List (Option Given)) → comes left ≡ At new left (made ++ more)) → (l ≡ found_of (newline_between old.page new.page)) × MarksHere l kept_then new
       → (left : List (Option Given)) → look_on s b (search_at None kept old (answers_of more ++ left) made) ≡ search_after l kept_then new left (made ++ more)
   went_so l h is left = ap (sought (At old (answers_of more ++ left) made)) (h left)
-      ∙ (kept_found (newline_between old.page new.page) (subst (λ l. MarksHere l kept_then new) is.0 is.1) left (made ++ more) ∙ ap (λ l. search_after l kept_then new left (made ++ more)) (sym is.0))
+      ∙ (kept_found kept_then new (newline_between old.page new.page) (subst (λ l. MarksHere l kept_then new) is.0 is.1) left (made ++ more) ∙ ap (λ l. search_after l kept_then new left (made ++ more)) (sym is.0))
 
   pub sought_so : (l : Looked) → Ends s b false made more old new (stepped (Ok l)) → FindsAs (newline_between old.page new.page) kept_then new (Ok l)
       → (left : List (Option Given)) → look_on s b (search_at None kept old (answers_of more ++ left) made) ≡ search_after l kept_then new left (made ++ more)

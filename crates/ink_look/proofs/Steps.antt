@@ -1,14 +1,17 @@
 -- Steps of a loop that looks for a line, by what a step of the machine comes to.
-use Rattle.std.proofs.Common.{◌≡◌, ◌∙◌, ◌⊎◌, ◌||◌, ap, sym, refl, subst, inl, inr, ℕ, suc, List, [], Bool, true, false, Option, Some, Result, Ok, Err}
+use Rattle.std.proofs.Common.{◌≡◌, ◌∙◌, ◌||◌, ap, sym, refl, subst, length, ℕ, suc, List, [], Bool, true, false, Option, None, Some, Result, Ok, Err}
 use Rattle.ink_model.specs.Line.{is_call}
-use Rattle.ink_line.specs.Look.{Looking, Search, look_on, looked, looked_by, looked_on}
+use Rattle.ink_line.specs.Look.{Looking, Over, Search, kept_at, look_on, looked, looked_by, looked_on, newline_between}
 use Rattle.ink_line.proofs.Opens.{is_open, open_is}
-use Rattle.ink_look.specs.Looking.{StandsAs}
+use Rattle.ink_look.specs.Looking.{FindsAs, MarksHere, StandsAs, StepsOn, found_of, newline_from, search_after, stepped}
+use Rattle.ink_look.specs.declared.looking.Looked.{Looked}
+use Rattle.ink_look.specs.declared.looking.Looked.TheVariants as after
 use Rattle.ink_look.specs.declared.looking.Standing.TheVariants as standing
+use Rattle.ink_model.specs.Asks.{asks}
 use Rattle.ink_model.specs.Configuration.{Configuration}
 use Rattle.ink_model.specs.Host.{Bound}
 use Rattle.ink_model.specs.Move.{Outcome, Next, Stop, Faults}
-use Rattle.ink_model.specs.Run.{Made, Moment, At, Stopped, Faulted, came, moment_after}
+use Rattle.ink_model.specs.Run.{Made, Moment, At, Stopped, came, moment_after}
 use Rattle.ink_model.specs.Shown.{is_shown, more_from, open_newline}
 use Rattle.ink_model.specs.Step.{Stepped, Comes, Wants, step}
 use Rattle.ink_model.specs.Tree.{StoryTree}
@@ -17,7 +20,10 @@ use Rattle.ink_model.specs.declared.fault.Fault.TheVariants.{OutOfMemory}
 use Rattle.ink_model.specs.declared.host.Event.{Event}
 use Rattle.ink_model.specs.declared.host.Given.{Given}
 use Rattle.ink_model.specs.declared.mark.Mark.{Mark}
-use Rattle.ink_step.specs.Steps.{StepEnds, Steps}
+use Rattle.ink_step.specs.Marks.{marked_in, stood_of, unmarked}
+use Rattle.ink_step.specs.Steps.{StepEnds, StepMakes, Steps}
+use Rattle.ink_step.specs.Words.{config_of}
+use Rattle.ink_step.specs.declared.machine.Machine.{Machine}
 use Rattle.ink_step.specs.declared.flow.StepEnd.{StepEnd}
 use Rattle.ink_step.specs.declared.flow.StepEnd.TheVariants as ends
 use Rattle.ink_step.proofs.Follows.{never_wants}
@@ -89,6 +95,30 @@ module _ (s : StoryTree) (b : Bound) (newline : ℕ) (kept old : Configuration) 
     pub stops : came s old (step s b old) left made ≡ Stopped new left made → by other (Stopped new left made) ≡ x → look_on s b looking ≡ x
     stops e h = comes (Stopped new left made) none e ∙ (ap (λ k. by k (Stopped new left made)) (sym same) ∙ h)
 
+  -- at the newline
+  pub cut_at : (l : Looked) → l ≡ after.Cut → (kept_then new : Configuration) → new ≡ kept → Over (At kept left made) ≡ search_after l kept_then new left made
+  cut_at l is kept_then new same = subst (λ l. Over (At kept left made) ≡ search_after l kept_then new left made) (sym is) (ap (λ c. Over (At c left made)) (sym same))
+
+-- a step that would call, or faults, is not taken
+module _ (s : StoryTree) (b : Bound) (n : ℕ) (marked asking : Bool) (es : List Event) (newline : ℕ) (kept old new : Configuration) where
+  abbrev Cuts : Stepped → Type 0
+  Cuts o = (es ≡ []) × ((left : List (Option Given)) (made : List Made) → looked_on (is_call o) (At kept left made) newline (At old left made) (came s old o left made) ≡ Over (At kept left made))
+
+  pub cuts_call : (o : Stepped) (r : Result StepEnd Fault) → r ≡ Ok ends.WantsCall → Steps true s b n marked asking o es old.shared.globals old new r → Cuts o
+  cuts_call o r is h = by o (subst (λ r. Steps true s b n marked asking o es old.shared.globals old new r) is h)
+    where
+      by : (o : Stepped) → Steps true s b n marked asking o es old.shared.globals old new (Ok ends.WantsCall) → Cuts o
+      by (Wants name arguments f d) h = (h.1, λ left made. refl)
+      by (Comes o) h = absurd (never_wants (marked || asking) o old.shared.globals new h.1)
+
+  pub cuts_fault : (o : Stepped) (r : Result StepEnd Fault) (f : Fault) → r ≡ Err f → (f ≡ OutOfMemory → ⊥) → Steps true s b n marked asking o es old.shared.globals old new r → Cuts o
+  cuts_fault o r f is other h = by o (subst (λ r. Steps true s b n marked asking o es old.shared.globals old new r) is h)
+    where
+      by : (o : Stepped) → Steps true s b n marked asking o es old.shared.globals old new (Err f) → Cuts o
+      by (Wants name arguments g d) h = absurd (err_wants f h.0)
+      by (Comes (Faults g)) h = (h.0, λ left made. refl)
+      by (Comes o) h = absurd (other h.1.0.0)
+
 -- ---- where it stands
 
 pub stands_last : (ms : List Mark) (last newline : ℕ) → Some last ≡ open_newline ms → last ≡ newline → StandsAs standing.Last (is_shown ms newline) (more_from ms (suc newline))
@@ -101,3 +131,51 @@ stands_past ms newline other shown = (shown, by (more_from ms (suc newline)) ref
     by : (past : Bool) → more_from ms (suc newline) ≡ past → past ≡ true
     by true e = refl
     by false e = absurd (other (is_open ms newline shown e))
+
+-- ---- a newline that a step is found to have
+
+module _ (kept new : Configuration) where
+  pub kept_found : (o : Option ℕ) → MarksHere (found_of o) kept new → (left : List (Option Given)) (all : List Made) → kept_at (At new left all) o ≡ search_after (found_of o) kept new left all
+  kept_found None here left all = refl
+  kept_found (Some i) here left all = ap (λ c. Looking (At c left all) i (At new left all)) (sym here)
+
+-- past one that is hidden
+module _ (newline : ℕ) (kept old mid kept_then new : Configuration) (same : new ≡ mid) (left : List (Option Given)) (made : List Made) where
+  pub hidden_so : (marks : ℕ) (l : Looked) → length old.page.line ≡ marks → is_shown mid.page.line newline ≡ false → l ≡ found_of (newline_from marks mid.page) → MarksHere l kept_then new
+      → looked_by (is_shown mid.page.line newline) (more_from mid.page.line (suc newline)) (At kept left made) newline (At old left made) (At mid left made) ≡ search_after l kept_then new left made
+  hidden_so marks l count hidden is here =
+      let found : l ≡ found_of (newline_between old.page mid.page) = is ∙ ap (λ k. found_of (newline_from k mid.page)) (sym count) in
+      ap (λ shown. looked_by shown (more_from mid.page.line (suc newline)) (At kept left made) newline (At old left made) (At mid left made)) hidden
+      ∙ ap (λ c. kept_at (At c left made) (newline_between old.page mid.page)) (sym same)
+      ∙ kept_found kept_then new (newline_between old.page mid.page) (subst (λ l. MarksHere l kept_then new) found here) left made
+      ∙ ap (λ l. search_after l kept_then new left made) (sym found)
+
+stepped_found : (o : Option ℕ) → stepped (Ok (found_of o)) ≡ Ok ends.Went
+stepped_found None = refl
+stepped_found (Some newline) = refl
+
+finds_found : (kept new : Configuration) (newline o : Option ℕ) → found_of o ≡ found_of newline → MarksHere (found_of o) kept new → FindsAs newline kept new (Ok (found_of o))
+finds_found kept new newline None is here = (is, here)
+finds_found kept new newline (Some i) is here = (is, here)
+
+module _ (s : StoryTree) (b : Bound) (n : ℕ) (es : List Event) (kept old mid kept_then new : Configuration) (same : new ≡ mid) where
+  pub seeks_on : (marks : ℕ) (l : Looked) → length old.page.line ≡ marks → l ≡ found_of (newline_from marks mid.page) → MarksHere l kept_then new
+      → StepMakes s b n false (asks s b old) (step s b old) es old.shared.globals mid (Ok ends.Went) → StepsOn s b n None kept old es kept_then new (Ok l)
+  seeks_on marks l count is here h =
+      let o = newline_from marks mid.page in
+      let newline : o ≡ newline_between old.page new.page = ap (λ k. newline_from k mid.page) (sym count) ∙ ap (λ c. newline_between old.page c.page) (sym same) in
+      let makes : StepMakes s b n false (asks s b old) (step s b old) es old.shared.globals new (stepped (Ok (found_of o))) =
+      subst (λ r. StepMakes s b n false (asks s b old) (step s b old) es old.shared.globals new r) (sym (stepped_found o))
+      (subst (λ c. StepMakes s b n false (asks s b old) (step s b old) es old.shared.globals c (Ok ends.Went)) (sym same) h) in
+      let finds : FindsAs (newline_between old.page new.page) kept_then new (Ok (found_of o)) =
+      finds_found kept_then new (newline_between old.page new.page) o (ap found_of newline) (subst (λ l. MarksHere l kept_then new) is here) in
+      subst (λ l. StepsOn s b n None kept old es kept_then new (Ok l)) (sym is) (makes, finds)
+
+-- no mark stands at a step of a run
+pub unmarked_makes : (s : StoryTree) (b : Bound) (n : ℕ) (m : Machine) (es : List Event) (new : Configuration) (r k : Result StepEnd Fault) → stood_of m ≡ unmarked → r ≡ k
+    → let old = config_of s m in StepMakes s b n (marked_in (stood_of m)) (asks s b old) (step s b old) es old.shared.globals new r
+    → StepMakes s b n false (asks s b old) (step s b old) es old.shared.globals new k
+unmarked_makes s b n m es new r k free is h =
+    let old = config_of s m in
+    subst (λ stood. StepMakes s b n (marked_in stood) (asks s b old) (step s b old) es old.shared.globals new k) free
+    (subst (λ r. StepMakes s b n (marked_in (stood_of m)) (asks s b old) (step s b old) es old.shared.globals new r) is h)

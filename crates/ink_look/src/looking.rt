@@ -135,7 +135,8 @@ fn look<P: PureFn, F: TurnFn, O: Watcher>(
         Ok(StepEnd::Went) => Ok(went_on(machine, marks, newline)),
         Ok(StepEnd::Stopped) => Ok(stopped(machine, newline)),
         Err(Fault::OutOfMemory) => Err(Fault::OutOfMemory),
-        _ => Ok(cut(machine)),
+        Ok(StepEnd::WantsCall) => Ok(cut(machine)),
+        Err(_) => Ok(cut(machine)),
     }
 }
 

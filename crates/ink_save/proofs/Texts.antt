@@ -20,6 +20,9 @@ use Rattle.ink_tokens.proofs.Adding.{after, finally, list_whole, more_items}
 pub value_as : {E : Type 0} (r : Result (Unit {0}) E) (a b : Written) (d e : Data) → d ≡ e → OnOk r (Added a b (data_tokens d)) → OnOk r (Added a b (data_tokens e))
 value_as r a b d e same h = subst (λ x. OnOk r (Added a b (data_tokens x))) same h
 
+pub added_as : (a b : Written) (d e : Data) → d ≡ e → Added a b (data_tokens d) → Added a b (data_tokens e)
+added_as a b d e same h = subst (λ x. Added a b (data_tokens x)) same h
+
 pub member_as : (a b : Written) (name : List ℕ) (d e : Data) → d ≡ e → Added a b (token.key name ∷ data_tokens d) → Added a b (token.key name ∷ data_tokens e)
 member_as a b name d e same h = subst (λ x. Added a b (token.key name ∷ data_tokens x)) same h
 

@@ -13,7 +13,7 @@ ghost use Rattle.ink_tree.specs.Nodes.{place_of, story_tree};
 
 use crate::written::{Written, put_member, put_pile, write_pile};
 use ink_model::{Shared, Text, Value};
-use ink_stack::{Frame, Thread, Threads};
+use ink_stack::{Frame, Running, Thread, Threads};
 use ink_tokens::{put, put_flag, put_number};
 use ink_tree::{Spot, Tree};
 use json::{Token, Writer};
@@ -99,39 +99,86 @@ impl Written for Thread<Spot> {
     ghost spelling = { λ s thread. thread_data (map_thread (place_of s) thread) };
 
     fn write(&self, alloc: Global, tree: &Tree) -> Result<Json, AllocError> {
-        let frames = write_frames(alloc, tree, self)?;
-        let previous = self.previous().write(alloc, tree)?;
-        json!(in alloc; {"frames": frames, "previous": previous})
+        write_thread(alloc, tree, self.below(), self.top(), self.previous())
     }
 
     fn put(&self, alloc: Global, tree: &Tree, out: &mut Writer) -> Result<(), AllocError> {
-        put(out, Token::BeginObject)?;
-        put_frames(alloc, tree, out, self)?;
-        put_member(alloc, tree, out, "previous", &self.previous())?;
-        put(out, Token::EndObject)
+        put_thread(alloc, tree, out, self.below(), self.top(), self.previous())
     }
 }
 
-// The member with the frames of a thread, the bottom one first. The one error is a refused request for memory.
+impl Written for Running<Spot> {
+    ghost spelling = { λ s running. thread_data (map_thread (place_of s) running.thread) };
+
+    fn write(&self, alloc: Global, tree: &Tree) -> Result<Json, AllocError> {
+        write_thread(alloc, tree, self.below(), self.top(), self.previous())
+    }
+
+    fn put(&self, alloc: Global, tree: &Tree, out: &mut Writer) -> Result<(), AllocError> {
+        put_thread(alloc, tree, out, self.below(), self.top(), self.previous())
+    }
+}
+
+// A thread of these frames, the bottom one first and then the top one. The one error is a refused request for memory.
+fn write_thread(
+    alloc: Global,
+    tree: &Tree,
+    below: &[Frame<Spot>],
+    top: &Frame<Spot>,
+    previous: Option<Spot>,
+) -> Result<Json, AllocError>
+    ensures { let p = place_of (story_tree tree.now) in
+        IfOk result (λ json. view json ≡ thread_data (map_thread p (record { frame = top.now; below = reverse below.now; previous = previous }))) }
+{
+    let frames = write_frames(alloc, tree, below, top)?;
+    let previous = previous.write(alloc, tree)?;
+    json!(in alloc; {"frames": frames, "previous": previous})
+}
+
+// The same as tokens.
+fn put_thread(
+    alloc: Global,
+    tree: &Tree,
+    out: &mut Writer,
+    below: &[Frame<Spot>],
+    top: &Frame<Spot>,
+    previous: Option<Spot>,
+) -> Result<(), AllocError>
+    ensures { let p = place_of (story_tree tree.now) in
+        OnOk result (Added out.old out.new (data_tokens (thread_data (map_thread p (record { frame = top.now; below = reverse below.now; previous = previous }))))) }
+{
+    put(out, Token::BeginObject)?;
+    put_frames(alloc, tree, out, below, top)?;
+    put_member(alloc, tree, out, "previous", &previous)?;
+    put(out, Token::EndObject)
+}
+
+// The member with these frames, the bottom one first and then the top one. The one error is a refused request for memory.
 fn put_frames(
     alloc: Global,
     tree: &Tree,
     out: &mut Writer,
-    thread: &Thread<Spot>,
+    below: &[Frame<Spot>],
+    top: &Frame<Spot>,
 ) -> Result<(), AllocError>
     ensures { let p = place_of (story_tree tree.now) in
-        OnOk result (Added out.old out.new (tokens.key (codes "frames") ∷ data_tokens (list_data frame_data (reverse (map_frame p thread.now.frame ∷ map (map_frame p) thread.now.below))))) }
+        OnOk result (Added out.old out.new (tokens.key (codes "frames") ∷ data_tokens (list_data frame_data (reverse (map_frame p top.now ∷ map (map_frame p) (reverse below.now)))))) }
 {
     put(out, Token::Key("frames"))?;
-    put_pile(alloc, tree, out, thread.below(), thread.top())
+    put_pile(alloc, tree, out, below, top)
 }
 
-// The frames of a thread, the bottom one first. The one error is a refused request for memory.
-fn write_frames(alloc: Global, tree: &Tree, thread: &Thread<Spot>) -> Result<Json, AllocError>
+// These frames, the bottom one first and then the top one. The one error is a refused request for memory.
+fn write_frames(
+    alloc: Global,
+    tree: &Tree,
+    below: &[Frame<Spot>],
+    top: &Frame<Spot>,
+) -> Result<Json, AllocError>
     ensures { let p = place_of (story_tree tree.now) in
-        IfOk result (λ json. view json ≡ list_data frame_data (reverse (map_frame p thread.now.frame ∷ map (map_frame p) thread.now.below))) }
+        IfOk result (λ json. view json ≡ list_data frame_data (reverse (map_frame p top.now ∷ map (map_frame p) (reverse below.now)))) }
 {
-    write_pile(alloc, tree, thread.below(), thread.top())
+    write_pile(alloc, tree, below, top)
 }
 
 /// Threads, the bottom one first. The one error is a refused request for memory.

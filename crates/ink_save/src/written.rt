@@ -40,14 +40,14 @@ pub(crate) fn write_list<T: Written>(
     Ok(Json::Array(made))
 }
 
-/// The same with one more, which comes last.
-pub(crate) fn write_pile<T: Written>(
+/// The same with one more, which comes last, and is spelled as one of them would be.
+pub(crate) fn write_pile<T: Written, U: Written>(
     alloc: Global,
     tree: &Tree,
     below: &[T],
-    top: &T,
+    top: &U,
 ) -> Result<Json, AllocError>
-    ensures { IfOk result (λ json. view json ≡ list_data (T.spelling (story_tree tree.now)) (reverse (top.now ∷ reverse below.now))) }
+    ensures { let s = story_tree tree.now in (last : T) → U.spelling s top.now ≡ T.spelling s last → IfOk result (λ json. view json ≡ list_data (T.spelling s) (reverse (last ∷ reverse below.now))) }
 {
     let made = write_all(alloc, tree, below, 1)?;
     let last = top.write(alloc, tree)?;
@@ -107,15 +107,15 @@ pub(crate) fn put_list<T: Written>(
     put(out, Token::EndArray)
 }
 
-/// The same with one more, which comes last.
-pub(crate) fn put_pile<T: Written>(
+/// The same with one more, which comes last, and is spelled as one of them would be.
+pub(crate) fn put_pile<T: Written, U: Written>(
     alloc: Global,
     tree: &Tree,
     out: &mut Writer,
     below: &[T],
-    top: &T,
+    top: &U,
 ) -> Result<(), AllocError>
-    ensures { OnOk result (Added out.old out.new (data_tokens (list_data (T.spelling (story_tree tree.now)) (reverse (top.now ∷ reverse below.now))))) }
+    ensures { let s = story_tree tree.now in (last : T) → U.spelling s top.now ≡ T.spelling s last → OnOk result (Added out.old out.new (data_tokens (list_data (T.spelling s) (reverse (last ∷ reverse below.now))))) }
 {
     put(out, Token::BeginArray)?;
     put_items(alloc, tree, out, below)?;

@@ -1,5 +1,5 @@
 -- Going back to a mark.
-use Rattle.std.proofs.Common.{◌≡◌, ◌∙◌, ◌≤◌, ℕ, ap, arith, map, subst, sym, unwrap_or}
+use Rattle.std.proofs.Common.{◌≡◌, ◌∙◌, ◌≤◌, ℕ, ap, arith, map, subst, unwrap_or}
 use Rattle.ink_choice.specs.Undo.{choices_stood}
 use Rattle.ink_model.specs.Configuration.{Configuration, map_choice}
 use Rattle.ink_model.specs.Frames.{map_threads}

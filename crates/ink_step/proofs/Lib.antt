@@ -34,3 +34,4 @@ pub mod Asking
 pub mod Finished
 pub mod Closing
 pub mod Backs
+pub mod Marked

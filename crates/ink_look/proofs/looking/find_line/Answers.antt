@@ -120,11 +120,11 @@ pub returns-clause-line : goal.returns-clause-line
 returns-clause-line g c =
     let s = story_tree c.args.story.now in
     ran_back g.F.TurnFn.log (log_of g.O.Watcher.state) g.P.PureFn.meaning s c.args.desk.now (config_of s c.args.machine.now) c.loop-step._step c.loop-step.desk
-    (config_back s c.loop-step.machine) (config_of s c.loop-step.machine) c.loop-step.waiting c.in-Some._newline (config_of s c.back.new.self) c.in-Some.is (omega arith) c.loop-step.invariant.ran
-    (c.back.ensures.config s)
+    (config_back s c.loop-step.machine) (config_of s c.loop-step.machine) c.loop-step.waiting c.in-Some._newline (config_of s c.back-changes.new.self) c.in-Some.is (omega arith) c.loop-step.invariant.ran
+    (c.back-changes.ensures.config s)
 
 pub returns-clause-watchers : goal.returns-clause-watchers
 returns-clause-watchers g c = c.loop-step.invariant.watchers
 
 pub returns-clause-start : goal.returns-clause-start
-returns-clause-start g c = c.back.ensures.start ∙ c.loop-step.invariant.start
+returns-clause-start g c = c.back-changes.ensures.start ∙ c.loop-step.invariant.start

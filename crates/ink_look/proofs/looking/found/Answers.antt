@@ -1,5 +1,13 @@
+use Rattle.std.proofs.Common.{◌∙◌, ap, sym}
+use Rattle.ink_look.specs.Looking.{found_of, newline_from}
 use Rattle.ink_look.proofs.Marks.{back_here}
 use Rattle.ink_look.proofs.looking.found.Goals as goal
+
+pub returns-in-Some-clause-found : goal.returns-in-Some-clause-found
+returns-in-Some-clause-found c s = ap found_of (sym c.in-Some.is ∙ c.newline_since.ensures ∙ ap (λ d. newline_from c.args.marks d.page) (c.parts.ensures s))
+
+pub returns-in-None-clause-found : goal.returns-in-None-clause-found
+returns-in-None-clause-found c s = ap found_of (sym c.in-None.is ∙ c.newline_since.ensures ∙ ap (λ d. newline_from c.args.marks d.page) (c.parts.ensures s))
 
 -- a mark begins where flow is
 pub returns-in-Some-clause-here : goal.returns-in-Some-clause-here

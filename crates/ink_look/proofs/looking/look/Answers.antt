@@ -1,9 +1,9 @@
-use Rattle.std.proofs.Common.{◌≡◌, ◌∙◌, ap, length, refl, rules, subst, sym, [], Ok, Err}
+use Rattle.std.proofs.Common.{◌≡◌, ◌∙◌, ap, length, refl, rules, sym, Ok, Err}
 use Rattle.ink_check.specs.Words.{story_tree}
 use Rattle.ink_host.specs.Desk.{bound_by}
 use Rattle.ink_look.specs.Looking.{search_after}
 use Rattle.ink_look.proofs.Marks.{back_stays, stays_marked}
-use Rattle.ink_look.proofs.Steps.{goes, quiet_so, stops}
+use Rattle.ink_look.proofs.Steps.{cut_at, cuts_call, cuts_fault, goes, quiet_so, stops}
 use Rattle.ink_look.proofs.looking.look.Goals as goal
 use Rattle.ink_model.specs.Asks.{asks}
 use Rattle.ink_model.specs.Step.{step}
@@ -12,8 +12,8 @@ use Rattle.ink_step.specs.Marks.{config_back, marked_in, stood_of}
 use Rattle.ink_step.specs.Words.{config_of}
 use Rattle.ink_step.specs.declared.flow.StepEnd.TheVariants as ends
 
-pub went_on-requires-waits : goal.went_on-requires-waits
-went_on-requires-waits g c = stays_marked c.args.machine.now c.step.new.self c.requires.waits c.in-Ok-Went.ensures.mark
+pub went_on-requires : goal.went_on-requires
+went_on-requires g c = record { waits = stays_marked c.args.machine.now c.step.new.self c.requires.waits c.in-Ok-Went.ensures.mark }
 
 pub returns-in-Ok-Went-clause-steps : goal.returns-in-Ok-Went-clause-steps
 returns-in-Ok-Went-clause-steps g c =
@@ -61,3 +61,40 @@ returns-in-Err-OutOfMemory-clause-steps g c =
     let h = c.in-Err-OutOfMemory.ensures.step in
     let q = quiet_so s b c.args.desk.now.next (marked_in (stood_of c.args.machine.now)) (asks s b old) h.0 old new (step s b old) (Err c.in-Err-OutOfMemory.field-0) (Err OutOfMemory) (ap Err c.in-Err-OutOfMemory.field-0-is) h.2 in
     (h.0, h.1, (q.0, (refl, q.1)))
+
+pub returns-in-Ok-WantsCall-clause-steps : goal.returns-in-Ok-WantsCall-clause-steps
+returns-in-Ok-WantsCall-clause-steps g c =
+    let s = story_tree c.args.story.now in
+    let b = bound_by g.P.PureFn.meaning c.args.desk.now.functions in
+    let old = config_of s c.args.machine.now in
+    let kept = config_back s c.args.machine.now in
+    let h = c.in-Ok-WantsCall.ensures.step in
+    let q = cuts_call s b c.args.desk.now.next (marked_in (stood_of c.args.machine.now)) (asks s b old) h.0 c.args.newline kept old (config_of s c.step.new.self) (step s b old) (Ok c.in-Ok-WantsCall.field-0)
+    (ap Ok c.in-Ok-WantsCall.field-0-is) h.2 in (
+      h.0,
+      h.1,
+      (
+        q.0,
+        λ left made. q.1 left made ∙ cut_at s b c.args.newline kept old left made c.cut.result c.cut.ensures.cut (config_back s c.cut.new.machine) (config_of s c.cut.new.machine)
+            (c.cut.ensures.config s ∙ back_stays s c.args.machine.now c.step.new.self c.requires.waits c.in-Ok-WantsCall.ensures.mark),
+      ),
+    )
+
+pub returns-in-Err-clause-steps : goal.returns-in-Err-clause-steps
+returns-in-Err-clause-steps g c =
+    let s = story_tree c.args.story.now in
+    let b = bound_by g.P.PureFn.meaning c.args.desk.now.functions in
+    let old = config_of s c.args.machine.now in
+    let kept = config_back s c.args.machine.now in
+    let h = c.step.ensures.step in
+    let other : c.in-Err.field-0 ≡ OutOfMemory → ⊥ = search rules in
+    let q = cuts_fault s b c.args.desk.now.next (marked_in (stood_of c.args.machine.now)) (asks s b old) h.0 c.args.newline kept old (config_of s c.step.new.self) (step s b old) c.step.result
+    c.in-Err.field-0 c.in-Err.is other h.2 in (
+      h.0,
+      h.1,
+      (
+        q.0,
+        λ left made. q.1 left made ∙ cut_at s b c.args.newline kept old left made c.cut-in-Err.result c.cut-in-Err.ensures.cut (config_back s c.cut-in-Err.new.machine) (config_of s c.cut-in-Err.new.machine)
+            (c.cut-in-Err.ensures.config s ∙ back_stays s c.args.machine.now c.step.new.self c.requires.waits c.step.ensures.mark),
+      ),
+    )

@@ -17,10 +17,13 @@ returns-in_err-run-clause-runs g c =
     let old = config_of s c.args.machine.now in
     let new = config_of s c.run.new.self in
     let ran = c.in_err-run.ensures.runs in
-    let is : c.from_residual.result ≡ Err c.in_err-run.field-0.0 = search rules in
-    (ran.0, ran.1, subst (RunsThrough said said_asks s b old ran.0 new) (sym is)
-    (comes_to_fault s b ran.0 old (config_of s c.begin.new.self) (c.begin.ensures.begun s) new c.in_err-run.field-0.0
-    (subst (λ stood. RunFalls s b (marked_in stood) (config_of s c.begin.new.self) ran.0 new.shared.globals c.in_err-run.field-0.0) c.begin.ensures.mark ran.2)))
+    let is : c.from_residual.result ≡ Err c.in_err-run.field-0.0 = search rules in (
+      ran.0,
+      ran.1,
+      subst (RunsThrough said said_asks s b old ran.0 new) (sym is)
+          (comes_to_fault s b ran.0 old (config_of s c.begin.new.self) (c.begin.ensures.begun s) new c.in_err-run.field-0.0
+          (subst (λ stood. RunFalls s b (marked_in stood) (config_of s c.begin.new.self) ran.0 new.shared.globals c.in_err-run.field-0.0) c.begin.ensures.mark ran.2)),
+    )
 
 pub returns-in_err-said-clause-runs : goal.returns-in_err-said-clause-runs
 returns-in_err-said-clause-runs g c =

@@ -16,4 +16,4 @@ returns c =
     choices_built s c.args.choices.now c.in-Some.items.items
     (built (λ (v : Vec (ChoiceOf Spot) Global). map (map_choice (place_of s)) v.items) (AllByRecursion (ChoiceFits s)) c.args.choices.now c.args.choices.now c.in_ok-items.field-0 c.in-Some.items refl c.in-Some.is
     c.in_ok-items.ensures)
-    c.from_vec.result c.from_vec.ensures
+    c.from_vec.result c.from_vec.ensures.items

@@ -14,4 +14,4 @@ returns c =
     let s = story_tree c.args.tree.now in
     stack_built s c.args.values.now c.in-Some.items.items
     (built (λ (v : Vec Value Global). map (λ x. x) v.items) (AllByRecursion (ValueFits s)) c.args.values.now c.args.values.now c.in_ok-items.field-0 c.in-Some.items refl c.in-Some.is c.in_ok-items.ensures)
-    c.from_vec.result c.from_vec.ensures
+    c.from_vec.result c.from_vec.ensures.items

@@ -1,6 +1,6 @@
-use Rattle.std.proofs.Common.{◌≡◌, ◌∙◌, ◌∷◌, refl, reverse}
+use Rattle.std.proofs.Common.{◌∷◌, refl, reverse}
 use Rattle.ink_model.specs.Frames.{map_frame}
-use Rattle.ink_model.specs.Save.Spelling.{frame_data, list_data}
+use Rattle.ink_model.specs.Save.Spelling.{frame_data}
 use Rattle.ink_tokens.proofs.Adding.{finally}
 use Rattle.ink_tree.specs.Nodes.{place_of, story_tree}
 use Rattle.ink_save.proofs.Texts.{value_as}
@@ -10,8 +10,6 @@ use Rattle.ink_save.proofs.frames.put_frames.Goals as goal
 pub returns : goal.returns
 returns c =
     let p = place_of (story_tree c.args.tree.now) in
-    let t = c.args.thread.now in
     let r = c.put_pile.result in
-    let same : list_data (λ f. frame_data (map_frame p f)) (reverse (c.top.result.now ∷ reverse c.below.result.now))
-    ≡ list_data (λ f. frame_data (map_frame p f)) (reverse (t.frame ∷ t.below)) = rw (c.top.ensures, c.below.ensures) refl in
-    finally r _ _ _ _ _ c.in_ok-put.ensures (value_as r _ _ _ _ (same ∙ list_mapped frame_data (map_frame p) (t.frame ∷ t.below)) c.put_pile.ensures)
+    finally r _ _ _ _ _ c.in_ok-put.ensures
+    (value_as r _ _ _ _ (list_mapped frame_data (map_frame p) (c.args.top.now ∷ reverse c.args.below.now)) (c.put_pile.ensures c.args.top.now refl))

@@ -12,6 +12,6 @@ returns c =
     let p = place_of (story_tree c.args.tree.now) in
     let t = c.args.threads.now.threads in
     let r = c.put_pile.result in
-    let same : list_data (λ f. thread_data (map_thread p f)) (reverse (c.top.result.now ∷ reverse c.below.result.now))
+    let same : list_data (λ f. thread_data (map_thread p f)) (reverse (c.top.result.now.thread ∷ reverse c.below.result.now))
     ≡ list_data (λ f. thread_data (map_thread p f)) (reverse (t.thread ∷ t.below)) = rw (c.top.ensures, c.below.ensures) refl in
-    finally r _ _ _ _ _ c.in_ok-put.ensures (value_as r _ _ _ _ (same ∙ list_mapped thread_data (map_thread p) (t.thread ∷ t.below)) c.put_pile.ensures)
+    finally r _ _ _ _ _ c.in_ok-put.ensures (value_as r _ _ _ _ (same ∙ list_mapped thread_data (map_thread p) (t.thread ∷ t.below)) (c.put_pile.ensures c.top.result.now.thread refl))

@@ -10,6 +10,6 @@ pub returns : goal.returns
 returns c =
     let p = place_of (story_tree c.args.tree.now) in
     let t = c.args.threads.now.threads in
-    let same : list_data (λ f. thread_data (map_thread p f)) (reverse (c.top.result.now ∷ reverse c.below.result.now))
+    let same : list_data (λ f. thread_data (map_thread p f)) (reverse (c.top.result.now.thread ∷ reverse c.below.result.now))
     ≡ list_data (λ f. thread_data (map_thread p f)) (reverse (t.thread ∷ t.below)) = rw (c.top.ensures, c.below.ensures) refl in
-    subst (λ q. IfOk c.write_pile.result (λ json. view json ≡ q)) (same ∙ list_mapped thread_data (map_thread p) (t.thread ∷ t.below)) c.write_pile.ensures
+    subst (λ q. IfOk c.write_pile.result (λ json. view json ≡ q)) (same ∙ list_mapped thread_data (map_thread p) (t.thread ∷ t.below)) (c.write_pile.ensures c.top.result.now.thread refl)

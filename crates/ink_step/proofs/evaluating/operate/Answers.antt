@@ -1,4 +1,4 @@
-use Rattle.std.proofs.Common.{◌<◌, arith, inl, inr}
+use Rattle.std.proofs.Common.{arith, inl, inr}
 use Rattle.ink_step.specs.Performs.{fields}
 use Rattle.ink_step.proofs.Effects.{operated}
 use Rattle.ink_step.proofs.evaluating.operate.Goals as goal

@@ -9,5 +9,6 @@ pub invariant_of-result : goal.invariant_of-result
 invariant_of-result g c = record {
   taken = ap (λ d. is_empty d.events) c.start_anew.ensures;
   story = c.story_fits.ensures;
+  unmarked = c.in-Ok.ensures.mark;
   fits = opened_fits (story_tree c.args.story) c.story_fits.ensures (config_of (story_tree c.args.story) c.in-Ok.machine) c.in-Ok.ensures.ok;
 }

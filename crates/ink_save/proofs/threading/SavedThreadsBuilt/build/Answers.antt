@@ -57,4 +57,4 @@ returns c =
     (threads_built s c.in-Some.thread c.in-Some-2.below.items c.self.inside.thread c.self.inside.below.items top rest
     (sym (c.all_placed.ensures ∙ ap (list_all placed) c.as_slice-2.ensures.value) ∙ c.if-not-all_placed.false)
     (sym (c.flows.ensures ∙ ap (λ o. flows o c.as_slice-3.result.now) c.place.ensures ∙ ap (flows c.in-Some.thread.frame.place) c.as_slice-3.ensures.value) ∙ c.if-not-flows.false)
-    c.from_threads.result (c.from_threads.ensures ∙ ap threads_from c.in_ok-push.ensures.items))
+    c.from_threads.result (c.from_threads.ensures.threads ∙ ap threads_from c.in_ok-push.ensures.items))

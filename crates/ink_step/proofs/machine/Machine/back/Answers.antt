@@ -1,4 +1,4 @@
-use Rattle.std.proofs.Common.{◌≡◌, ◌∙◌, ◌≤◌, ap, refl}
+use Rattle.std.proofs.Common.{◌∙◌, ap, refl}
 use Rattle.ink_step.specs.Words.{start_of}
 use Rattle.ink_step.proofs.Backs.{OwnAlone, few_pairs, own_goes_back, pairs_from}
 use Rattle.ink_step.proofs.machine.Machine.back.Goals as goal

@@ -1,13 +1,13 @@
-use Rattle.std.proofs.Common.{◌≡◌, ◌∙◌, ◌||◌, [], ap, false, None, Ok, rules, subst, sym, true}
+use Rattle.std.proofs.Common.{◌≡◌, ◌∙◌, ◌||◌, [], ap, false, None, Ok, rules, subst, sym}
 use Rattle.ink_check.specs.Words.{story_tree}
 use Rattle.ink_model.specs.Configuration.{ended, with_safe, with_threads}
 use Rattle.ink_model.specs.Effect.{fields_of}
 use Rattle.ink_model.specs.Flow.{Written, done, forked, halt, moved_on}
-use Rattle.ink_model.specs.Frames.{base_threads, map_threads, on_top}
+use Rattle.ink_model.specs.Frames.{base_threads, map_threads}
 use Rattle.ink_model.specs.Move.{going, reached_in, written_in}
 use Rattle.ink_model.specs.MoveMemory.{dropped_asks, forked_asks, moved_asks}
 use Rattle.ink_model.specs.Place.{next_place}
-use Rattle.ink_model.specs.Threads.{dropped, staled}
+use Rattle.ink_model.specs.Threads.{dropped}
 use Rattle.ink_step.specs.Marks.{marked_in, stood_of}
 use Rattle.ink_step.specs.Performs.{Performs}
 use Rattle.ink_step.specs.Reaches.{ReachesAs, written}

@@ -7,9 +7,8 @@ use Rattle.ink_step.specs.Marks.{marked_in, stood_of}
 use Rattle.ink_step.specs.Performs.{unstored}
 use Rattle.ink_step.specs.Steps.{StepEnds}
 use Rattle.ink_step.specs.Words.{config_of}
-use Rattle.ink_step.specs.declared.flow.StepEnd.TheVariants as ends
 use Rattle.ink_step.proofs.Follows.{or_assoc}
-use Rattle.ink_step.proofs.Stopping.{broke, stopped_so, went_on}
+use Rattle.ink_step.proofs.Stopping.{broke, stopped_so}
 use Rattle.ink_step.proofs.machine.Machine.go.Goals as goal
 
 pub returns-in_err-follow-clause-ends : goal.returns-in_err-follow-clause-ends
