@@ -7,7 +7,7 @@
 //! such a command. The answer is how many marks there were, one before each move and one at the end, and that all was alike; or the
 //! first difference: the moves before the mark, what was done, and the first line that differs, with that of the twin behind it.
 
-use crate::plays::Play;
+use crate::plays::{Play, Way};
 use crate::sessions::Session;
 use crate::shown::first_other;
 use inkcases::{Answer, NoAnswer};
@@ -65,28 +65,19 @@ struct Twin {
 
 /// Compares what a machine has after so many moves with that of its twin: once it has gone back there, and once it has gone on from
 /// there and forgotten its mark.
-fn compare_at(alloc: Global, session: &Session<'_>, moment: usize) -> Result<(), Failure> {
+fn compare_at(alloc: Global, session: &Session, moment: usize) -> Result<(), Failure> {
     let twin = twin_at(alloc, session, moment)?;
     compare_back(alloc, session, moment, &twin)?;
     compare_forgotten(alloc, session, moment, &twin)
 }
 
 /// The twin. To go back without a mark changes nothing in it, and neither does making room.
-fn twin_at(alloc: Global, session: &Session<'_>, moment: usize) -> Result<Twin, Failure> {
+fn twin_at(alloc: Global, session: &Session, moment: usize) -> Result<Twin, Failure> {
     let mut play = Play::at(alloc, session, moment)?;
     let here = play.shown(alloc)?;
-    let count = play.machine.back();
-    compare_count(alloc, "back without a mark", count, 0)?;
-    compare(alloc, "back without a mark", play.shown(alloc)?.as_str(), here.as_str())?;
-    play.machine.make_room(MOST)?;
-    if play.machine.room() < MOST {
-        return Err(Failure::Differs(String::from_str(alloc, "no room")?));
-    }
-    compare(alloc, "room", play.shown(alloc)?.as_str(), here.as_str())?;
+    compare_unmarked(alloc, &mut play, here.as_str())?;
     let given = play.given();
-    play.renew(alloc, session, given)?;
-    let way = play.go_far(session, MOST);
-    let beyond = play.shown_after(alloc, way)?;
+    let (_way, beyond) = shown_beyond(alloc, session, &mut play, given)?;
     Ok(Twin {
         here,
         beyond,
@@ -94,43 +85,67 @@ fn twin_at(alloc: Global, session: &Session<'_>, moment: usize) -> Result<Twin, 
     })
 }
 
+fn compare_unmarked(alloc: Global, play: &mut Play, here: &str) -> Result<(), Failure> {
+    let count = play.machine.back();
+    compare_count(alloc, "back without a mark", count, 0)?;
+    compare_here(alloc, "back without a mark", play, here)?;
+    play.machine.make_room(MOST)?;
+    if play.machine.room() < MOST {
+        return Err(Failure::Differs(String::from_str(alloc, "no room")?));
+    }
+    compare_here(alloc, "room", play, here)
+}
+
+/// How a play goes on with objects made anew, and what it has then.
+fn shown_beyond(
+    alloc: Global,
+    session: &Session,
+    play: &mut Play,
+    given: usize,
+) -> Result<(Way, String), NoAnswer> {
+    play.renew(alloc, session, given)?;
+    let way = play.go_far(session, MOST);
+    let shown = play.shown_after(alloc, way)?;
+    Ok((way, shown))
+}
+
 /// A machine that goes back to its mark is as the twin, and goes on as the twin does. What happens before it goes back, want of
 /// memory too, is no matter.
 fn compare_back(
     alloc: Global,
-    session: &Session<'_>,
+    session: &Session,
     moment: usize,
     twin: &Twin,
 ) -> Result<(), Failure> {
     let mut play = Play::marked_at(alloc, session, moment)?;
-    compare(alloc, "mark", play.shown(alloc)?.as_str(), twin.here.as_str())?;
+    compare_here(alloc, "mark", &play, twin.here.as_str())?;
     let _way = play.go_far(session, MOST);
+    go_back(alloc, &mut play, twin.here.as_str())?;
+    let (_way, beyond) = shown_beyond(alloc, session, &mut play, twin.given)?;
+    compare(alloc, "beyond", beyond.as_str(), twin.beyond.as_str())
+}
+
+/// Goes back, which leaves a machine as it is shown here, and no mark.
+fn go_back(alloc: Global, play: &mut Play, here: &str) -> Result<(), Failure> {
     let writes = play.machine.writes();
     let count = play.machine.back();
-    compare(alloc, "back", play.shown(alloc)?.as_str(), twin.here.as_str())?;
+    compare_here(alloc, "back", play, here)?;
     if count > writes {
         return Err(Failure::Differs(format!(in alloc; "back: {count} of {writes} writes")?));
     }
-    let left = play.machine.writes();
-    compare_count(alloc, "writes without a mark", left, 0)?;
-    play.renew(alloc, session, twin.given)?;
-    let way = play.go_far(session, MOST);
-    let beyond = play.shown_after(alloc, way)?;
-    compare(alloc, "beyond", beyond.as_str(), twin.beyond.as_str())
+    compare_count(alloc, "writes without a mark", play.machine.writes(), 0)
 }
 
 /// A machine that goes on from its mark and forgets it is as the twin that has gone on.
 fn compare_forgotten(
     alloc: Global,
-    session: &Session<'_>,
+    session: &Session,
     moment: usize,
     twin: &Twin,
 ) -> Result<(), Failure> {
     let mut play = Play::at(alloc, session, moment)?;
-    play.renew(alloc, session, twin.given)?;
     play.machine.mark();
-    let way = play.go_far(session, MOST);
-    let marked = play.shown_after(alloc, way)?;
+    let (way, marked) = shown_beyond(alloc, session, &mut play, twin.given)?;
     compare(alloc, "marked", marked.as_str(), twin.beyond.as_str())?;
     play.machine.forget();
     let forgotten = play.shown_after(alloc, way)?;
@@ -145,6 +160,11 @@ fn compare_count(alloc: Global, what: &str, came: u64, wanted: u64) -> Result<()
         return Ok(());
     }
     Err(Failure::Differs(format!(in alloc; "{what}: {came} for {wanted}")?))
+}
+
+fn compare_here(alloc: Global, what: &str, play: &Play, here: &str) -> Result<(), Failure> {
+    let came = play.shown(alloc)?;
+    compare(alloc, what, came.as_str(), here)
 }
 
 fn compare(alloc: Global, what: &str, came: &str, wanted: &str) -> Result<(), Failure> {

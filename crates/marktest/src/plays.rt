@@ -23,7 +23,7 @@ pub(crate) struct Way {
 
 impl Play {
     // At the story's start, as its first command begins.
-    fn open(alloc: Global, session: &Session<'_>) -> Result<Play, NoAnswer> {
+    fn open(alloc: Global, session: &Session) -> Result<Play, NoAnswer> {
         let desk = session.desk(alloc)?;
         let mut machine = match Machine::open(alloc, &session.story) {
             Ok(machine) => machine,
@@ -38,11 +38,7 @@ impl Play {
     }
 
     /// After so many moves of a session: its steps, and its commands.
-    pub(crate) fn at(
-        alloc: Global,
-        session: &Session<'_>,
-        moves: usize,
-    ) -> Result<Play, NoAnswer> {
+    pub(crate) fn at(alloc: Global, session: &Session, moves: usize) -> Result<Play, NoAnswer> {
         let mut play = Play::open(alloc, session)?;
         for _move in 0..moves {
             play.play_on(session)?;
@@ -53,7 +49,7 @@ impl Play {
     /// The same with a mark. Where there was a move, an older mark stood before the last one.
     pub(crate) fn marked_at(
         alloc: Global,
-        session: &Session<'_>,
+        session: &Session,
         moves: usize,
     ) -> Result<Play, NoAnswer> {
         let mut play = Play::at(alloc, session, moves.saturating_sub(1))?;
@@ -66,7 +62,7 @@ impl Play {
     }
 
     // The next move of a session, where between two commands the text is taken; false at the session's end.
-    fn play_on(&mut self, session: &Session<'_>) -> Result<bool, NoAnswer> {
+    fn play_on(&mut self, session: &Session) -> Result<bool, NoAnswer> {
         if self.machine.can_go_on() {
             return self.go_on(session);
         }
@@ -78,7 +74,7 @@ impl Play {
     }
 
     // A step; where flow has stopped the next command alone, as a mark allows; false where there is none.
-    fn go_on(&mut self, session: &Session<'_>) -> Result<bool, NoAnswer> {
+    fn go_on(&mut self, session: &Session) -> Result<bool, NoAnswer> {
         if self.machine.can_go_on() {
             let _end = self.machine.step(&session.story, &mut self.desk, false)?;
             return Ok(true);
@@ -95,7 +91,7 @@ impl Play {
     /// How many moves a session has up to its end or its fault, of which the last begins none; so many at the most.
     pub(crate) fn count_moves(
         alloc: Global,
-        session: &Session<'_>,
+        session: &Session,
         most: usize,
     ) -> Result<usize, NoAnswer> {
         let mut play = Play::open(alloc, session)?;
@@ -110,7 +106,7 @@ impl Play {
     }
 
     /// Goes on for so many moves at the most, with nothing done between a stop and the next command, as a mark asks for.
-    pub(crate) fn go_far(&mut self, session: &Session<'_>, most: usize) -> Way {
+    pub(crate) fn go_far(&mut self, session: &Session, most: usize) -> Way {
         for moves in 0..most {
             match self.go_on(session) {
                 Ok(true) => {}
@@ -150,7 +146,7 @@ impl Play {
     pub(crate) fn renew(
         &mut self,
         alloc: Global,
-        session: &Session<'_>,
+        session: &Session,
         given: usize,
     ) -> Result<(), NoAnswer> {
         self.desk = session.desk(alloc)?;

@@ -21,19 +21,15 @@ pub(crate) enum Command {
 
 /// A story, the words that bind its functions, and what is done at its stops, one after another.
 #[derive(Drop)]
-pub(crate) struct Session<'q> {
+pub(crate) struct Session {
     pub story: Story,
-    bindings: Vec<&'q str>,
+    bindings: Vec<String>,
     commands: Vec<Command>,
 }
 
-impl<'q> Session<'q> {
+impl Session {
     /// Reads a story and a question.
-    pub(crate) fn read(
-        alloc: Global,
-        story: &str,
-        question: &'q str,
-    ) -> Result<Session<'q>, NoAnswer> {
+    pub(crate) fn read(alloc: Global, story: &str, question: &str) -> Result<Session, NoAnswer> {
         let mut session = Session {
             story: accepted(alloc, story)?,
             bindings: Vec::new(alloc),
@@ -45,11 +41,11 @@ impl<'q> Session<'q> {
         Ok(session)
     }
 
-    fn take(&mut self, alloc: Global, words: &'q str) -> Result<(), NoAnswer> {
+    fn take(&mut self, alloc: Global, words: &str) -> Result<(), NoAnswer> {
         let (word, rest) = first_word(words);
         match word {
             "run" => {}
-            "turn" | "pure" => self.bindings.push(words)?,
+            "turn" | "pure" => self.bindings.push(String::from_str(alloc, words)?)?,
             "choose" => self.commands.push(Command::Choose(number(rest)?))?,
             "jump" => {
                 let spot = landing(alloc, self.story.tree(), rest)?;
@@ -64,7 +60,7 @@ impl<'q> Session<'q> {
     pub(crate) fn desk(&self, alloc: Global) -> Result<TestDesk, NoAnswer> {
         let mut desk = Desk::new(alloc);
         for words in &self.bindings {
-            bind(alloc, &mut desk, *words)?;
+            bind(alloc, &mut desk, words.as_str())?;
         }
         Ok(desk)
     }

@@ -59,11 +59,7 @@ pub(crate) fn show_threads(
     said.push('\n')
 }
 
-fn show_thread(
-    alloc: Global,
-    said: &mut String,
-    thread: &Thread<Spot>,
-) -> Result<(), AllocError> {
+fn show_thread(alloc: Global, said: &mut String, thread: &Thread<Spot>) -> Result<(), AllocError> {
     show_frames(alloc, said, thread.below(), thread.top(), thread.previous())
 }
 
@@ -140,7 +136,11 @@ fn show_choice(alloc: Global, said: &mut String, choice: &Choice<Spot>) -> Resul
 // ---- what all flows share
 
 /// The globals in their order, and the numbers of those that have another value than when the command began.
-pub(crate) fn show_globals(alloc: Global, said: &mut String, globals: &Globals) -> Result<(), AllocError> {
+pub(crate) fn show_globals(
+    alloc: Global,
+    said: &mut String,
+    globals: &Globals,
+) -> Result<(), AllocError> {
     said.push_str("globals")?;
     for number in 0..globals.len() {
         if let Some((name, value)) = globals.pair(number) {
@@ -242,14 +242,18 @@ fn show_number(said: &mut String, number: Option<u64>) -> Result<(), AllocError>
 /// A place by the number of what holds it, and its index there.
 fn show_spot(said: &mut String, spot: Option<Spot>) -> Result<(), AllocError> {
     match spot {
-        Some(Spot {
-            holder,
-            index: Some(index),
-        }) => write!(said, " {}.{index}", holder.number),
-        Some(Spot {
-            holder,
-            index: None,
-        }) => write!(said, " {}", holder.number),
+        Some(
+            Spot {
+                holder,
+                index: Some(index),
+            },
+        ) => write!(said, " {}.{index}", holder.number),
+        Some(
+            Spot {
+                holder,
+                index: None,
+            },
+        ) => write!(said, " {}", holder.number),
         None => said.push_str(" nowhere"),
     }
 }
