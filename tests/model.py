@@ -4,6 +4,7 @@
     tests/model.py [--runs N] [--seed N] [PROGRAM]      2,000 runs of ./inkplay unless other ones are named
     tests/model.py --stories N [--seed N]               prints that many random stories, one a line: small ones that are accepted
     tests/model.py --twins                              prints the stories that it reads as cases of a table of twins for inktest
+    tests/model.py --marks                              prints the table of marks that it reads with its answers, for marktest
 
 The model shares nothing with the program or its definitions. A line is what docs/RUNNING.md ("Lines") says it is: the model runs
 forward, once, keeps all moments of the run, and cuts it behind the first step whose newline is firm; it never goes back. Many
@@ -2197,6 +2198,67 @@ def print_twins():
         print(twin_case(line) if line.startswith("{") else line)
 
 
+class Same:
+    """What a pure function gives that gives the same whatever it is asked."""
+
+    def __init__(self, gift):
+        self.gift = gift
+
+    def get(self, _arguments, _none):
+        return self.gift
+
+
+def gift(word):
+    """What a word of a table says that a function gives."""
+    if word.startswith("^"):
+        return word[1:].translate(str.maketrans("_~|", " \t\n"))
+    return {"void": None, "true": True, "false": False}[word] if word.isalpha() else int(word)
+
+
+# the most moves of a session that marktest plays
+MOST_MOVES = 1000
+
+
+def sent_on(player, words):
+    """Flow is sent on at a stop by the words of a command."""
+    word, _, rest = words.partition(" ")
+    answer = getattr(player, word)(rest)
+    if "refused" in answer:
+        sys.exit("%s: %s" % (words, answer["refused"]))
+    player.machine.begin()
+
+
+def moves_of(root, question):
+    """How many moves a session has: its steps up to a fault, and its commands at stops."""
+    parts = [words.split(" ") for words in question.split("; ")]
+    scripts = {words[1]: list(map(gift, words[2:])) for words in parts if words[0] == "turn"}
+    tables = {words[1]: Same(gift(words[2])) for words in parts if words[0] == "pure"}
+    commands = [" ".join(words) for words in parts if words[0] in ("choose", "jump")]
+    player = Player(root, Host(scripts, tables))
+    for moves in range(MOST_MOVES):
+        try:
+            if player.machine.frame.place is not None:
+                player.machine.step()
+            elif commands:
+                sent_on(player, commands.pop(0))
+            else:
+                return moves
+        except Fault:
+            return moves
+    return MOST_MOVES
+
+
+def print_marks():
+    root = None
+    for line in sys.stdin.read().split("\n")[:-1]:
+        question, is_case, _ = line.rpartition(" => ")
+        if line.startswith("= "):
+            root = json.loads(expanded(line[2:]))["root"]
+        elif is_case and not line.startswith("//"):
+            line = "%s => %d marks: alike" % (question, moves_of(root, question) + 1)
+        print(line)
+
+
 BAD_SAVE = '{"refused":"BadSave"}'
 
 
@@ -2215,10 +2277,13 @@ def main():
     parser.add_argument("--seed", type=int, default=1)
     parser.add_argument("--stories", type=int)
     parser.add_argument("--twins", action="store_true")
+    parser.add_argument("--marks", action="store_true")
     parser.add_argument("program", nargs="?", default=os.path.join(top, "inkplay"))
     words = parser.parse_args()
     if words.twins:
         return print_twins()
+    if words.marks:
+        return print_marks()
     if words.stories is not None:
         return print_stories(words.stories, words.seed)
     sys.setrecursionlimit(20000)

@@ -30,7 +30,7 @@ def program(crate, words=()):
 
 
 # Which program runs the tables whose names begin so (docs/TABLES.md).
-OF_TABLES = {"boxes": "playtest", "players": "playtest", "sessions": "playtest"}
+OF_TABLES = {"boxes": "playtest", "marks": "marktest", "parts": "marktest", "players": "playtest", "sessions": "playtest"}
 
 
 def program_of(table):
@@ -41,4 +41,5 @@ def program_of(table):
 
 def table_programs():
     """The path of each program that runs tables, by its name, built."""
-    return {"inktest": program("inktest", ["data/operators.txt"]), "playtest": program("playtest", ["data/boxes.txt"])}
+    words = {"inktest": "data/operators.txt", "marktest": "data/marks.txt", "playtest": "data/boxes.txt"}
+    return {name: program(name, [table]) for name, table in words.items()}

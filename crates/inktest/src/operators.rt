@@ -75,8 +75,9 @@ fn operator_of(word: &str) -> Option<Op> {
 
 // ---- the evaluation stack
 
-/// The answers of calls: `push:VALUE`, `pop`, `peek:DEPTH`, `apply:OPERATOR`, `len`, and `copy`, after which the copy is
-/// called.
+/// The answers of calls: `push:VALUE`, `pop`, `peek:DEPTH`, `apply:OPERATOR` and `len`; `mark` starts a mark, `back` goes back to
+/// it and answers how many changes were noted, `forget` ends it, `writes` asks how many there were, and `room:COUNT` makes room for
+/// so many.
 fn stack_answers(alloc: Global, calls: &str) -> Answer {
     let mut stack = EvalStack::new(alloc);
     let mut answers = String::new(alloc);
@@ -90,12 +91,12 @@ fn stack_answers(alloc: Global, calls: &str) -> Answer {
 fn stack_answer(alloc: Global, stack: &mut EvalStack, call: &str) -> Answer {
     match call.split_once(':').unwrap_or((call, "")) {
         ("push", value) => pushed(alloc, stack, value),
-        ("copy", _) => copied(alloc, stack),
         ("apply", word) => applied(alloc, stack, word),
         ("peek", depth) => shown_value(alloc, stack.peek(number(depth)?)?),
         ("pop", _) => shown_value(alloc, &stack.pop()?),
         ("len", _) => counted(alloc, stack.len()),
-        _ => Err(NoAnswer::NoQuestion),
+        ("room", count) => made_room(alloc, stack, count),
+        (call, _) => noted(alloc, stack, call),
     }
 }
 
@@ -110,7 +111,29 @@ fn applied(alloc: Global, stack: &mut EvalStack, word: &str) -> Answer {
     text(alloc, "ok")
 }
 
-fn copied(alloc: Global, stack: &mut EvalStack) -> Answer {
-    *stack = stack.clone_in(alloc)?;
-    text(alloc, "ok")
+fn made_room(alloc: Global, stack: &mut EvalStack, count: &str) -> Answer {
+    let count = number::<usize>(count)?;
+    stack.make_room(count)?;
+    text(alloc, if stack.room() < count { "none" } else { "ok" })
+}
+
+/// The calls of a mark.
+fn noted(alloc: Global, stack: &mut EvalStack, call: &str) -> Answer {
+    match call {
+        "mark" => {
+            stack.mark();
+            text(alloc, "ok")
+        }
+        "forget" => {
+            stack.forget();
+            text(alloc, "ok")
+        }
+        "back" => told_count(alloc, stack.back()),
+        "writes" => told_count(alloc, stack.writes()),
+        _ => Err(NoAnswer::NoQuestion),
+    }
+}
+
+fn told_count(alloc: Global, count: u64) -> Answer {
+    Ok(format!(in alloc; "{count}")?)
 }

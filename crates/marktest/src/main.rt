@@ -1,0 +1,59 @@
+//! Runs tables of marks: whether machines, and their parts by themselves, go back to where they stood. Without words it reads its own tables, with words the files
+//! that they name (docs/TABLES.md).
+//!
+//! It prints each case that fails, and last `N cases, M failed`, with the number of cases that found no memory where there
+//! are any. The status is 0 where none failed.
+#![tactic(auto)]
+
+mod marks;
+mod objects;
+mod parts;
+mod plays;
+mod sessions;
+mod shown;
+
+use inkcases::{Answer, Answers, Table, Tables, Tally, run_lines, run_stories, run_tables};
+use std::alloc::Global;
+use std::process::ExitCode;
+
+/// The tables that are read where none are named.
+const TABLES: [&str; 3] = ["marks.txt", "marks_random.txt", "parts.txt"];
+
+/// What kind of cases a table has.
+#[derive(Clone, Copy, Drop)]
+enum Kind {
+    Marks,
+    Parts,
+}
+
+impl Tables for Kind {
+    fn of_name(name: &str) -> Option<Kind> {
+        if name.starts_with("marks") {
+            Some(Kind::Marks)
+        } else if name.starts_with("parts") {
+            Some(Kind::Parts)
+        } else {
+            None
+        }
+    }
+
+    fn run(&self, rt: &impl Print, alloc: Global, table: Table<'_>, tally: &mut Tally) {
+        match self {
+            Kind::Marks => run_stories(rt, alloc, self, table, tally),
+            Kind::Parts => run_lines(rt, alloc, self, table, tally),
+        }
+    }
+}
+
+impl Answers for Kind {
+    fn answer(&self, alloc: Global, story: &str, question: &str) -> Answer {
+        match self {
+            Kind::Marks => marks::answer(alloc, story, question),
+            Kind::Parts => parts::answer(alloc, question),
+        }
+    }
+}
+
+fn main(rt: HostRuntime) -> ExitCode {
+    run_tables::<Kind>(&rt, rt.alloc(), &TABLES)
+}
