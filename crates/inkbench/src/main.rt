@@ -178,6 +178,7 @@ fn writes_functions(alloc: Global, count: u32, lines: u32) -> Result<(), Fault> 
             output.write(&value, false)?;
             output.leave(Some(number))?;
         }
+        output.ready(2)?;
         output.clear();
     }
     Ok(())
