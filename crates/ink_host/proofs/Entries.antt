@@ -39,6 +39,27 @@ module _ {X : Type 0} where
       by true is more k = ap (λ b. if b then Some y else at name (rows_of es)) is
       by false is more k = ap (λ b. if b then Some e.1 else at name (rows_of (set_value (λ k. bytes_eq name (string_bytes k)) es y))) is ∙ more k
 
+  pub none-there : (o : Option X) → None ≡ o → is_some o ≡ true → ⊥
+  none-there None e h = cc
+  none-there (Some x) e h = cc
+
+  pub not-there : (o : Option X) → is_some o ≡ false → o ≡ None
+  not-there None h = refl
+  not-there (Some x) h = absurd (cc)
+
+  -- what is written at a name that is there is put there
+  pub rewritten : (name : List ℕ) (x y : X) (es : List (String Global × X)) → lookup (λ k. bytes_eq name (string_bytes k)) es ≡ Some x
+      → rows_of (set_value (λ k. bytes_eq name (string_bytes k)) es y) ≡ put name y (rows_of es)
+  rewritten name x y [] h = absurd (cc)
+  rewritten name x y (e ∷ es) h = by (bytes_eq name (string_bytes e.0)) (rewritten name x y es) h
+    where
+      by : (b : Bool) → (lookup (λ k. bytes_eq name (string_bytes k)) es ≡ Some x → rows_of (set_value (λ k. bytes_eq name (string_bytes k)) es y) ≡ put name y (rows_of es))
+          → cond b (Some e.1) (lookup (λ k. bytes_eq name (string_bytes k)) es) ≡ Some x
+          → rows_of (cond b ((e.0, y) ∷ es) (e ∷ set_value (λ k. bytes_eq name (string_bytes k)) es y))
+          ≡ (if b then (string_bytes e.0, y) ∷ rows_of es else (string_bytes e.0, e.1) ∷ put name y (rows_of es))
+      by true more k = refl
+      by false more k = ap (λ rows. (string_bytes e.0, e.1) ∷ rows) (more k)
+
   pub kept : (key : String Global) (x : X) (es : List (String Global × X)) → rows_of (insert_entry string_eq es key x) ≡ put (string_bytes key) x (rows_of es)
   kept key x [] = refl
   kept key x (e ∷ es) = by (bytes_eq (string_bytes key) (string_bytes e.0)) (kept key x es)

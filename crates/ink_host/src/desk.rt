@@ -51,12 +51,13 @@ impl<P, T, W> Desk<P, T, W> {
     }
 
     /// Binds a name to a pure function, and hands back what it was bound to before. The one error is a refused request for
-    /// memory; it hands back the function, and nothing has changed.
+    /// memory, which is made only for a name that is not bound; it hands back the function, and nothing has changed.
     pub fn bind_pure(&mut self, name: &str, object: P) -> Result<Option<Bound<P, T>>, P>
         ensures old { IfOk result (λ old. old ≡ at name.now self.old.functions) }
         ensures kept { OnOk result (self.new ≡ record self.old { functions = put name.now (bound.Pure object) self.old.functions }) }
         ensures back { IfErr result (λ p. p ≡ object) }
         ensures err { OnErr result (self.new ≡ self.old) }
+        ensures memory { OnErr result (at name.now self.old.functions ≡ None) }
     {
         match self.bind(name, Bound::Pure(object)) {
             Ok(old) => Ok(old),
@@ -66,12 +67,13 @@ impl<P, T, W> Desk<P, T, W> {
     }
 
     /// Binds a name to a turn function, and hands back what it was bound to before. The one error is a refused request for
-    /// memory; it hands back the function, and nothing has changed.
+    /// memory, which is made only for a name that is not bound; it hands back the function, and nothing has changed.
     pub fn bind_turn(&mut self, name: &str, object: T) -> Result<Option<Bound<P, T>>, T>
         ensures old { IfOk result (λ old. old ≡ at name.now self.old.functions) }
         ensures kept { OnOk result (self.new ≡ record self.old { functions = put name.now (bound.Turn object) self.old.functions }) }
         ensures back { IfErr result (λ t. t ≡ object) }
         ensures err { OnErr result (self.new ≡ self.old) }
+        ensures memory { OnErr result (at name.now self.old.functions ≡ None) }
     {
         match self.bind(name, Bound::Turn(object)) {
             Ok(old) => Ok(old),
@@ -86,6 +88,7 @@ impl<P, T, W> Desk<P, T, W> {
         ensures kept { OnOk result (self.new ≡ record self.old { functions = put name.now object self.old.functions }) }
         ensures back { IfErr result (λ b. b ≡ object) }
         ensures err { OnErr result (self.new ≡ self.old) }
+        ensures memory { OnErr result (at name.now self.old.functions ≡ None) }
     {
         keep(&mut self.functions, self.alloc, name, object)
     }
@@ -208,12 +211,13 @@ impl<P, T: TurnFn, W: Watcher> Desk<P, T, W> {
 
 impl<P, T, W: Watcher> Desk<P, T, W> {
     /// Has a watcher told the new values of a global, and hands back who was told them before. The one error is a refused
-    /// request for memory; it hands back the watcher, and nothing has changed.
+    /// request for memory, which is made only where nobody was; it hands back the watcher, and nothing has changed.
     pub fn watch(&mut self, name: &str, watcher: W) -> Result<Option<W>, W>
         ensures old { IfOk result (λ old. old ≡ at name.now self.old.watchers) }
         ensures kept { OnOk result (self.new ≡ record self.old { watchers = put name.now watcher self.old.watchers }) }
         ensures back { IfErr result (λ w. w ≡ watcher) }
         ensures err { OnErr result (self.new ≡ self.old) }
+        ensures memory { OnErr result (at name.now self.old.watchers ≡ None) }
     {
         keep(&mut self.watchers, self.alloc, name, watcher)
     }

@@ -1,6 +1,6 @@
 //! What the desk does to its parts: maps by name, and the events.
 
-ghost use Rattle.std.specs.Prelude.{◌≡◌, ◌+◌, ◌≤◌, ◌++◌, [], ◌∷◌, None, Some, Ok, Err, string_bytes, vec_capacity, vec_len, IfOk, IfErr, OnOk, OnErr};
+ghost use Rattle.std.specs.Prelude.{◌≡◌, ◌+◌, ◌≤◌, ◌++◌, [], ◌∷◌, None, Some, Ok, Err, string_bytes, vec_capacity, vec_len, IfOk, IfErr, OnOk, OnErr, is_some, true};
 ghost use Rattle.ink_model.specs.Events.{after};
 ghost use Rattle.ink_model.specs.declared.host.Event.TheVariants as event;
 ghost use Rattle.ink_model.specs.declared.host.Given.{Given as Answer};
@@ -12,9 +12,10 @@ use crate::objects::{Bound, PureFn, TurnFn};
 use indexmap::IndexMap;
 use ink_model::{Event, Given, HostFault, Value};
 use std::alloc::Global;
+use std::mem;
 
-/// Puts an object at a name, and hands back what was there. The one error is a refused request for memory, which hands back
-/// the object.
+/// Puts an object at a name, and hands back what was there. The one error is a refused request for memory, which is made only
+/// for a name that is new, and hands back the object.
 pub(crate) fn keep<X>(
     rows: &mut IndexMap<String, X>,
     alloc: Global,
@@ -25,7 +26,11 @@ pub(crate) fn keep<X>(
     ensures kept { OnOk result (shown string_bytes (λ x. x) rows.new.entries ≡ put name.now object (shown string_bytes (λ x. x) rows.old.entries)) }
     ensures back { IfErr result (λ x. x ≡ object) }
     ensures err { OnErr result (rows.new.entries ≡ rows.old.entries) }
+    ensures memory { OnErr result (at name.now (shown string_bytes (λ x. x) rows.old.entries) ≡ None) }
 {
+    if rows.contains_key(name) {
+        return Ok(Some(keep_over(rows, name, object)));
+    }
     let Ok(key) = String::from_str(alloc, name) else {
         return Err(object);
     };
@@ -35,6 +40,18 @@ pub(crate) fn keep<X>(
             let (_, object) = refused.value;
             return Err(object);
         }
+    }
+}
+
+// Puts an object in the place of the one at a name, and hands that one back.
+fn keep_over<X>(rows: &mut IndexMap<String, X>, name: &str, object: X) -> X
+    requires { is_some (at name.now (shown string_bytes (λ x. x) rows.old.entries)) ≡ true }
+    ensures old { Some result ≡ at name.now (shown string_bytes (λ x. x) rows.old.entries) }
+    ensures kept { shown string_bytes (λ x. x) rows.new.entries ≡ put name.now object (shown string_bytes (λ x. x) rows.old.entries) }
+{
+    match rows.get_mut(name) {
+        Some(there) => mem::replace(there, object),
+        None => unreachable!(),
     }
 }
 

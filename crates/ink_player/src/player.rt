@@ -393,12 +393,13 @@ impl<P: PureFn, F: TurnFn, O: Watcher> Player<P, F, O> {
     }
 
     /// Binds a name to a pure function. The function or turn function that was bound to it is handed back; where memory is
-    /// refused the given one is, and nothing has changed.
+    /// refused the given one is, and nothing has changed. Memory is asked for only where nothing was bound to the name.
     pub fn bind_pure(&mut self, name: &str, function: P) -> Result<Option<Bound<P, F>>, P>
         ensures old { IfOk result (λ old. old ≡ at name.now (desk_of self.old).functions) }
         ensures kept { OnOk result (desk_of self.new ≡ record (desk_of self.old) { functions = put name.now (Bound.Pure function) (desk_of self.old).functions }) }
         ensures back { IfErr result (λ back. back ≡ function) }
         ensures err { OnErr result (desk_of self.new ≡ desk_of self.old) }
+        ensures memory { OnErr result (at name.now (desk_of self.old).functions ≡ None) }
         ensures state { state_of self.new ≡ state_of self.old }
         ensures story { story_of self.new ≡ story_of self.old }
     {
@@ -411,6 +412,7 @@ impl<P: PureFn, F: TurnFn, O: Watcher> Player<P, F, O> {
         ensures kept { OnOk result (desk_of self.new ≡ record (desk_of self.old) { functions = put name.now (Bound.Turn function) (desk_of self.old).functions }) }
         ensures back { IfErr result (λ back. back ≡ function) }
         ensures err { OnErr result (desk_of self.new ≡ desk_of self.old) }
+        ensures memory { OnErr result (at name.now (desk_of self.old).functions ≡ None) }
         ensures state { state_of self.new ≡ state_of self.old }
         ensures story { story_of self.new ≡ story_of self.old }
     {
@@ -428,13 +430,14 @@ impl<P: PureFn, F: TurnFn, O: Watcher> Player<P, F, O> {
     }
 
     /// Watches the global of a name, whether it is there or not. The watcher of that name before is handed back; where memory is
-    /// refused the given one is, and nothing has changed.
+    /// refused the given one is, and nothing has changed. Memory is asked for only where nobody watched it.
     pub fn watch(&mut self, name: &str, watcher: O) -> Result<Option<O>, O>
         ensures old { IfOk result (λ old. old ≡ at name.now (desk_of self.old).watchers) }
         ensures old_rest { Resting (rests O.state) (desk_of self.old).watchers → IfOk result (λ old. IfSome old (λ w. rests O.state w ≡ true)) }
         ensures kept { OnOk result (desk_of self.new ≡ record (desk_of self.old) { watchers = put name.now watcher (desk_of self.old).watchers }) }
         ensures back { IfErr result (λ back. back ≡ watcher) }
         ensures err { OnErr result (desk_of self.new ≡ desk_of self.old) }
+        ensures memory { OnErr result (at name.now (desk_of self.old).watchers ≡ None) }
         ensures rest { rests O.state watcher ≡ true → Resting (rests O.state) (desk_of self.old).watchers → Resting (rests O.state) (desk_of self.new).watchers }
         ensures state { state_of self.new ≡ state_of self.old }
         ensures story { story_of self.new ≡ story_of self.old }

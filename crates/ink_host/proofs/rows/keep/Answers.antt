@@ -1,7 +1,18 @@
-use Rattle.std.proofs.Common.{◌∙◌, ap, string_bytes}
+use Rattle.std.proofs.Common.{◌∙◌, ap, is_some, string_bytes, sym}
 use Rattle.ink_host.specs.Desk.{at, put}
-use Rattle.ink_host.proofs.Entries.{found, kept, rows_of}
+use Rattle.ink_host.proofs.Entries.{found, kept, not-there, rows_of}
 use Rattle.ink_host.proofs.rows.keep.Goals as goal
+
+pub keep_over-requires : goal.keep_over-requires
+keep_over-requires g c = ap is_some (sym (found c.args.name.now c.args.rows.now.entries)) ∙ sym c.contains_key.ensures ∙ c.if-contains_key.true
+
+pub returns-in_default-clause-memory : goal.returns-in_default-clause-memory
+returns-in_default-clause-memory g c =
+    not-there (at c.args.name.now (rows_of c.args.rows.now.entries)) (ap is_some (sym (found c.args.name.now c.args.rows.now.entries)) ∙ sym c.contains_key.ensures ∙ c.if-contains_key.false)
+
+pub returns-in-Err-clause-memory : goal.returns-in-Err-clause-memory
+returns-in-Err-clause-memory g c =
+    not-there (at c.args.name.now (rows_of c.args.rows.now.entries)) (ap is_some (sym (found c.args.name.now c.args.rows.now.entries)) ∙ sym c.contains_key.ensures ∙ c.if-contains_key.false)
 
 pub returns-in-Ok-insert-clause-old : goal.returns-in-Ok-insert-clause-old
 returns-in-Ok-insert-clause-old g c =
