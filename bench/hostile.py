@@ -141,6 +141,16 @@ def comparing(operator, first=LONG, second=LONG):
     return named('"ev",{"VAR?":"a"},{"VAR?":"b"},"%s","pop","/ev",{"->":"0"}' % operator, global_decl='"ev"' + texts(first, second) + ',"/ev","end"')
 
 
+def tower(size, divert):
+    """Containers around one another, each counted, that are left and landed in again and again."""
+    deep_in = "0" + ".0" * size
+    return HEAD + "[" * size + divert + ',{"#f":1}]' * size + ',{"->":"%s"},' % deep_in[:-2] + TAIL
+
+
+NAME = "v" * (4 * MIB)
+UP_AND_DOWN = "0" + ".^.0" * (MIB // 4)
+
+
 def many_temporaries(count):
     """Temporaries that are declared in falling order of their names."""
     return HEAD + '"ev",' + "".join('1,{"temp=":"t%06d"},' % n for n in range(count, 0, -1)) + '"/ev","done",' + TAIL
@@ -189,6 +199,17 @@ RUNNING = {
     "a fork beside 100,000 temporaries": (many_temporaries(100000).replace('"done",null]}', '"thread",{"->":"k"},{"->":"l"},{"k":["done",null],"l":["thread",{"->":"k"},{"->":"l"},null]}]}'), THROUGH, MOST_STEPS),
     "499,000 globals": (HEAD + '"done",{"global decl":["ev",' + "".join('1,{"VAR=":"v%06d"},' % n for n in range(499000)) + '"/ev","end",null]}]}', THROUGH, 998000),
     "visits of 400,000 containers": (flat(6 * MIB, '["^",{"#f":7}],'), THROUGH, 400000),
+    "texts in strings, 900 functions": (deep('"ev","str","^x","/str","pop","/ev"', 900), THROUGH, MOST_STEPS),
+    "texts, 900 functions": (deep('"^x"', 900), THROUGH, 200000),
+    "a divert into 118 counted containers": (tower(118, '{"->":"1"}'), THROUGH, MOST_STEPS),
+    "a divert by a variable, a path of 1 MiB": (named('{"->":"v","var":true}', global_decl='"ev",{"^->":"%s"},{"VAR=":"v"},"/ev","end"' % UP_AND_DOWN), THROUGH, MOST_STEPS),
+    "a count by a target, a path of 1 MiB": (named('["ev",{"VAR?":"v"},"readc","pop","/ev",{"->":"0"},{"#f":1}]', global_decl='"ev",{"^->":"%s"},{"VAR=":"v"},"/ev","end"' % UP_AND_DOWN), THROUGH, MOST_STEPS),
+    "equal targets of 1 MiB compared": (named('"ev",{"VAR?":"v"},{"VAR?":"w"},"==","pop","/ev",{"->":"0"}', global_decl='"ev",{"^->":"%s"},{"VAR=":"v"},{"^->":"%s"},{"VAR=":"w"},"/ev","end"' % (UP_AND_DOWN, UP_AND_DOWN)), THROUGH, MOST_STEPS),
+    "a global with a name of 4 MiB, read": (named('"ev",{"VAR?":"%s"},"pop","/ev",{"->":"0"}' % NAME, global_decl='"ev",1,{"VAR=":"%s"},"/ev","end"' % NAME), THROUGH, MOST_STEPS),
+    "a global with a name of 4 MiB, assigned": (named('"ev",1,{"VAR=":"%s","re":true},"/ev",{"->":"0"}' % NAME, global_decl='"ev",1,{"VAR=":"%s"},"/ev","end"' % NAME), THROUGH, MOST_STEPS),
+    "the same through a pointer": (named('"ev",{"VAR?":"p"},"pop","/ev",{"->":"0"}', global_decl='"ev",1,{"VAR=":"%s"},{"^var":"%s","ci":0},{"VAR=":"p"},"/ev","end"' % (NAME, NAME)), THROUGH, MOST_STEPS),
+    "a temporary with a name of 4 MiB": (named('"ev",1,{"temp=":"%s"},{"VAR?":"%s"},"pop","/ev",{"->":"2"}' % (NAME, NAME)), THROUGH, MOST_STEPS),
+    "a host's function with a name of 4 MiB": (named('"ev",{"x()":"%s"},"pop","/ev",{"->":"0"}' % NAME, **{NAME: '"ev",1,"/ev","~ret"'}), THROUGH, MOST_STEPS),
     "pops of an empty stack in choices": (named('{"*":"0","flg":1}'), THROUGH + "restart\n" * 1000, 1000),
 }
 
