@@ -91,11 +91,15 @@ RUNS = (
     ("a story too long", padded(DONE, STORY_LIMIT + 1), refused("Limit at root")),
     ("a fault of the declarations", '{"inkVersion":21,"root":["done",{"global decl":["pop",null]}]}\nthrough\n', ("", "inkplay: story fault: StackEmpty\n", 2)),
     ("a line too long", DONE + "\nbye\n" + "x" * (LINE_LIMIT + 1) + "\nthrough\n", faulted(BAD, "TooLong")),
+    ("a story that is no UTF-8", DONE.replace("done", "^\udcc0\udc80") + "\nthrough\n", refused("NotJson")),
+    ("a story of open brackets", "[" * 100000 + "\nthrough\n", refused("NotJson")),
+    ("a story of NUL bytes", "\0" * 1000 + "\nthrough\n", refused("NotJson")),
+    ("lines that are no UTF-8", DONE + "\nget \udcff\nload \udced\udca0\udc80\n\udcf4\udc90\udc80\udc80\nthrough\n", (BAD * 3 + PASSAGE, "", 0)),
 )
 
 
 def run(program, text, words=()):
-    done = subprocess.run([program] + list(words), input=text.encode(), stdout=subprocess.PIPE, stderr=subprocess.PIPE)
+    done = subprocess.run([program] + list(words), input=text.encode(errors="surrogateescape"), stdout=subprocess.PIPE, stderr=subprocess.PIPE)
     return done.stdout.decode(), done.stderr.decode(), done.returncode
 
 

@@ -155,6 +155,16 @@ SAVES = (
 STORIES += tuple((SAVED, (text, "save", "get x", "through", "save", "choose 0", "through", "save", text, "through", "visits t")) for text in SAVES)
 STORIES += ((SAVED, ("save", "load {}", "load [", "through", "save")),)
 
+SECOND_LINE = '{"choices":[],"format":1,"globals":[],"safe":false,"stack":[],"threads":[{"frames":[{"depth":0,"eval":false,"fresh":false,"kind":"base","place":[0,2],"temps":{}}],"previous":[0,1]}],"turn":0,"turns":[],"visits":[]}'
+# the stories of two threads with a choice each, of a save between lines, of tags and of a choice with a tag
+STORIES += (
+    ('{"inkVersion":21,"root":[["thread",{"->":"a"},"thread",{"->":"b"},"done",null],"done",{"a":["ev","str","^A","/str","/ev",{"*":".^.c-0","flg":20},"done",{"c-0":["^a","\\n","end",{"#f":5}]}],"b":[{"->t->":"c"},"^Back","\\n","end",null],"c":["ev","str","^C","/str","/ev",{"*":".^.c-0","flg":20},"done",{"c-0":["^c","\\n","ev","void","/ev","->->",{"#f":5}]}]}],"listDefs":{}}', ("through", "choose 2", "choose 1", "through")),
+    ('{"inkVersion":21,"root":[["^A","\\n","^B","\\n",["done",{"#n":"g-0"}],null],"done",null],"listDefs":{}}',
+     ("continue", "save", "restart", "load " + SECOND_LINE, "continue", 'load {"format":1', "continue")),
+    ('{"inkVersion":21,"root":[["^Hi ","#","^calm","/#","\\n",["done",{"#n":"g-0"}],null],"done",null],"listDefs":{}}', ("continue", "restart", "through")),
+    ('{"inkVersion":21,"root":["ev","str","^Go ","#","^red","/#","/str","/ev",{"*":".^.c-0","flg":4},"done",{"c-0":["end",null]}],"listDefs":{}}', ("through", "choose 0", "through")),
+)
+
 # stories with objects: the words that bind them, the story and the commands
 GIVING = ["--answer", 'f=[1,"a",null]', "--table", 'g={"[1,\\"b\\"]":"c","[]":2}', "--watch", "x", "--watch", "y"]
 # a line behind another: what it looks at past a newline is strings, calls, threads, choices, visits and globals that are declared
@@ -185,6 +195,10 @@ OBJECTS = (
     (["--table", 'g={"[]":"word"}', "--watch", "x", "--watch", "y"], '{"inkVersion":21,"root":["ev",{"x()":"g"},{"VAR=":"x","re":true},"/ev","^A","\\n","ev",{"x()":"g"},{"VAR=":"y"},"/ev","^B","\\n","end",{"global decl":["ev","^s",{"VAR=":"x"},"/ev","end",null]}]}',
      ("continue", "get x", "get y", "continue", "get y", "restart", "continue", "through")),
     (["--watch", "x", "--watch", "y"], SAVED, ("through", SAVES[4], "get y", SAVES[3], "save", "through")),
+    # a call behind a newline, and a global that is watched
+    (["--answer", "f=[3]"], '{"inkVersion":21,"root":[["^A","\\n","ev",{"x()":"f"},"pop","/ev","<>","^B","\\n",["done",{"#n":"g-0"}],null],"done",null],"listDefs":{}}', ("continue", "continue", "restart", "continue")),
+    (["--table", 'f={"[]":3}'], '{"inkVersion":21,"root":[["^A","\\n","ev",{"x()":"f"},"pop","/ev","<>","^B","\\n",["done",{"#n":"g-0"}],null],"done",null],"listDefs":{}}', ("continue", "restart", "continue")),
+    (["--watch", "x"], '{"inkVersion":21,"root":[["^A","\\n","ev",{"VAR?":"x"},"out","/ev","\\n",["done",{"#n":"g-0"}],null],"done",{"global decl":["ev",1,{"VAR=":"x"},"/ev","end",null]}]}', ("continue", "set x 7", "continue", "get x", "restart", "continue")),
 )
 
 BROKEN = b'{"fault":"OutOfMemory","refused":"Broken"}'
