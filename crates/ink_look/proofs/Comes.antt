@@ -1,5 +1,5 @@
 -- What a running command comes to, from the run that it makes.
-use Rattle.std.proofs.Common.{◌≡◌, ◌∙◌, ◌⊎◌, ap, sym, refl, subst, inl, inr, List, [], true, false, Some, Result, Ok, Err}
+use Rattle.std.proofs.Common.{◌≡◌, ◌∙◌, ◌⊎◌, ap, sym, refl, subst, inl, inr, List, [], true, false, true≢false, Some, Result, Ok, Err}
 use Rattle.ink_look.specs.Ends.{RunsThrough}
 use Rattle.ink_look.specs.Words.{said, said_asks}
 use Rattle.ink_look.specs.declared.said.Said.{Said}
@@ -36,12 +36,12 @@ module _ (s : StoryTree) (b : Bound) (made : List Made) (c begin : Configuration
     leaves = refl;
   }
 
-  pub comes_to_fault : (new : Configuration) (f : Fault) → RunFalls s b false begin made new.shared.globals f → Ran new (Err f)
+  pub comes_to_fault : (new : Configuration) (f : Fault) → RunFalls s b false false begin made new.shared.globals f → Ran new (Err f)
   comes_to_fault new f h = elim h.why [
     | inl faults ↦ inl (Broke f h.before.shared.globals, ends_through _ _ faults refl, (refl, h.kept))
     | inr short ↦ elim short.1 [
       | inl there ↦ inr (ap Err short.0, subst (FallsShort s b c made) (sym h.kept) (fell h.before there))
-      | inr is_marked ↦ absurd (cc)
+      | inr by ↦ elim by [ inl takes ↦ absurd (true≢false (sym takes.1)) | inr pressing ↦ absurd (true≢false (sym pressing)) ]
     ]
   ]
 

@@ -20,13 +20,14 @@ use Rattle.ink_model.specs.declared.fault.Fault.TheVariants.{OutOfMemory}
 use Rattle.ink_model.specs.declared.host.Event.{Event}
 use Rattle.ink_model.specs.declared.host.Given.{Given}
 use Rattle.ink_model.specs.declared.mark.Mark.{Mark}
-use Rattle.ink_step.specs.Marks.{marked_in, stood_of, unmarked}
+use Rattle.ink_step.specs.Marks.{presses, stood_of, unmarked}
 use Rattle.ink_step.specs.Steps.{StepEnds, StepMakes, Steps}
 use Rattle.ink_step.specs.Words.{config_of}
 use Rattle.ink_step.specs.declared.machine.Machine.{Machine}
 use Rattle.ink_step.specs.declared.flow.StepEnd.{StepEnd}
 use Rattle.ink_step.specs.declared.flow.StepEnd.TheVariants as ends
 use Rattle.ink_step.proofs.Follows.{never_wants}
+use Rattle.ink_step.proofs.Marks.{not_presses}
 
 -- ---- quiet steps
 
@@ -59,20 +60,20 @@ QuietEnds s o es old new (Ok ends.Stopped) = (es ≡ []) × (is_call o ≡ false
 QuietEnds s o es old new (Ok ends.WantsCall) = es ≡ []
 QuietEnds s o es old new (Err f) = (es ≡ []) × (new.shared.globals ≡ old.shared.globals)
 
-module _ (s : StoryTree) (b : Bound) (n : ℕ) (marked asking : Bool) (es : List Event) (old new : Configuration) where
-  pub quiet_ends : (o : Stepped) (r : Result StepEnd Fault) → Steps true s b n marked asking o es old.shared.globals old new r → QuietEnds s o es old new r
+module _ (s : StoryTree) (b : Bound) (n : ℕ) (pressed asking : Bool) (es : List Event) (old new : Configuration) where
+  pub quiet_ends : (o : Stepped) (r : Result StepEnd Fault) → Steps true s b n pressed asking o es old.shared.globals old new r → QuietEnds s o es old new r
   quiet_ends (Wants name arguments f d) (Ok ends.Went) h = absurd (went_wants h.0)
   quiet_ends (Wants name arguments f d) (Ok ends.Stopped) h = absurd (stopped_wants h.0)
   quiet_ends (Wants name arguments f d) (Ok ends.WantsCall) h = h.1
   quiet_ends (Wants name arguments f d) (Err g) h = absurd (err_wants g h.0)
-  quiet_ends (Comes o) (Ok ends.Went) h = (h.0, refl, went (marked || asking) old new o h.1)
-  quiet_ends (Comes o) (Ok ends.Stopped) h = (h.0, refl, stopped (marked || asking) old new o h.1)
-  quiet_ends (Comes o) (Ok ends.WantsCall) h = absurd (never_wants (marked || asking) o old.shared.globals new h.1)
-  quiet_ends (Comes o) (Err f) h = (h.0, kept_globals (marked || asking) old new f o h.1)
+  quiet_ends (Comes o) (Ok ends.Went) h = (h.0, refl, went (pressed || asking) old new o h.1)
+  quiet_ends (Comes o) (Ok ends.Stopped) h = (h.0, refl, stopped (pressed || asking) old new o h.1)
+  quiet_ends (Comes o) (Ok ends.WantsCall) h = absurd (never_wants (pressed || asking) o old.shared.globals new h.1)
+  quiet_ends (Comes o) (Err f) h = (h.0, kept_globals (pressed || asking) old new f o h.1)
 
   -- the same by what it returned
-  pub quiet_so : (o : Stepped) (r k : Result StepEnd Fault) → r ≡ k → Steps true s b n marked asking o es old.shared.globals old new r → QuietEnds s o es old new k
-  quiet_so o r k is h = quiet_ends o k (subst (λ r. Steps true s b n marked asking o es old.shared.globals old new r) is h)
+  pub quiet_so : (o : Stepped) (r k : Result StepEnd Fault) → r ≡ k → Steps true s b n pressed asking o es old.shared.globals old new r → QuietEnds s o es old new k
+  quiet_so o r k is h = quiet_ends o k (subst (λ r. Steps true s b n pressed asking o es old.shared.globals old new r) is h)
 
 -- ---- a look past a newline
 
@@ -100,21 +101,21 @@ module _ (s : StoryTree) (b : Bound) (newline : ℕ) (kept old : Configuration) 
   cut_at l is kept_then new same = subst (λ l. Over (At kept left made) ≡ search_after l kept_then new left made) (sym is) (ap (λ c. Over (At c left made)) (sym same))
 
 -- a step that would call, or faults, is not taken
-module _ (s : StoryTree) (b : Bound) (n : ℕ) (marked asking : Bool) (es : List Event) (newline : ℕ) (kept old new : Configuration) where
+module _ (s : StoryTree) (b : Bound) (n : ℕ) (pressed asking : Bool) (es : List Event) (newline : ℕ) (kept old new : Configuration) where
   abbrev Cuts : Stepped → Type 0
   Cuts o = (es ≡ []) × ((left : List (Option Given)) (made : List Made) → looked_on (is_call o) (At kept left made) newline (At old left made) (came s old o left made) ≡ Over (At kept left made))
 
-  pub cuts_call : (o : Stepped) (r : Result StepEnd Fault) → r ≡ Ok ends.WantsCall → Steps true s b n marked asking o es old.shared.globals old new r → Cuts o
-  cuts_call o r is h = by o (subst (λ r. Steps true s b n marked asking o es old.shared.globals old new r) is h)
+  pub cuts_call : (o : Stepped) (r : Result StepEnd Fault) → r ≡ Ok ends.WantsCall → Steps true s b n pressed asking o es old.shared.globals old new r → Cuts o
+  cuts_call o r is h = by o (subst (λ r. Steps true s b n pressed asking o es old.shared.globals old new r) is h)
     where
-      by : (o : Stepped) → Steps true s b n marked asking o es old.shared.globals old new (Ok ends.WantsCall) → Cuts o
+      by : (o : Stepped) → Steps true s b n pressed asking o es old.shared.globals old new (Ok ends.WantsCall) → Cuts o
       by (Wants name arguments f d) h = (h.1, λ left made. refl)
-      by (Comes o) h = absurd (never_wants (marked || asking) o old.shared.globals new h.1)
+      by (Comes o) h = absurd (never_wants (pressed || asking) o old.shared.globals new h.1)
 
-  pub cuts_fault : (o : Stepped) (r : Result StepEnd Fault) (f : Fault) → r ≡ Err f → (f ≡ OutOfMemory → ⊥) → Steps true s b n marked asking o es old.shared.globals old new r → Cuts o
-  cuts_fault o r f is other h = by o (subst (λ r. Steps true s b n marked asking o es old.shared.globals old new r) is h)
+  pub cuts_fault : (o : Stepped) (r : Result StepEnd Fault) (f : Fault) → r ≡ Err f → (f ≡ OutOfMemory → ⊥) → Steps true s b n pressed asking o es old.shared.globals old new r → Cuts o
+  cuts_fault o r f is other h = by o (subst (λ r. Steps true s b n pressed asking o es old.shared.globals old new r) is h)
     where
-      by : (o : Stepped) → Steps true s b n marked asking o es old.shared.globals old new (Err f) → Cuts o
+      by : (o : Stepped) → Steps true s b n pressed asking o es old.shared.globals old new (Err f) → Cuts o
       by (Wants name arguments g d) h = absurd (err_wants f h.0)
       by (Comes (Faults g)) h = (h.0, λ left made. refl)
       by (Comes o) h = absurd (other h.1.0.0)
@@ -172,10 +173,10 @@ module _ (s : StoryTree) (b : Bound) (n : ℕ) (es : List Event) (kept old mid k
       subst (λ l. StepsOn s b n None kept old es kept_then new (Ok l)) (sym is) (makes, finds)
 
 -- no mark stands at a step of a run
-pub unmarked_makes : (s : StoryTree) (b : Bound) (n : ℕ) (m : Machine) (es : List Event) (new : Configuration) (r k : Result StepEnd Fault) → stood_of m ≡ unmarked → r ≡ k
-    → let old = config_of s m in StepMakes s b n (marked_in (stood_of m)) (asks s b old) (step s b old) es old.shared.globals new r
-    → StepMakes s b n false (asks s b old) (step s b old) es old.shared.globals new k
-unmarked_makes s b n m es new r k free is h =
+pub unmarked_makes : (s : StoryTree) (b : Bound) (n : ℕ) (m new : Machine) (es : List Event) (r k : Result StepEnd Fault) → stood_of m ≡ unmarked → stood_of new ≡ stood_of m → r ≡ k
+    → let old = config_of s m in StepMakes s b n (presses s m new) (asks s b old) (step s b old) es old.shared.globals (config_of s new) r
+    → StepMakes s b n false (asks s b old) (step s b old) es old.shared.globals (config_of s new) k
+unmarked_makes s b n m new es r k free same is h =
     let old = config_of s m in
-    subst (λ stood. StepMakes s b n (marked_in stood) (asks s b old) (step s b old) es old.shared.globals new k) free
-    (subst (λ r. StepMakes s b n (marked_in (stood_of m)) (asks s b old) (step s b old) es old.shared.globals new r) is h)
+    subst (λ pressed. StepMakes s b n pressed (asks s b old) (step s b old) es old.shared.globals (config_of s new) k) (not_presses s m new free (same ∙ free))
+    (subst (λ r. StepMakes s b n (presses s m new) (asks s b old) (step s b old) es old.shared.globals (config_of s new) r) is h)

@@ -88,25 +88,30 @@ module _ {P Q : Type 0} (f : P → Q) where
       ∙ first_taken (map (map_choice f) cs) (none_alike cs ∙ none_of cs h)
       ∙ nth_alike (map_choice f) cs 0 ∙ ap (option_map (map_choice f)) first
 
+-- nothing was taken where memory was refused
+pub takes_none : {P : Type 0} → (o : Option (ChoiceOf P × List (ChoiceOf P))) (cs new : List (ChoiceOf P)) (f : Fault) → Takes o cs new (Err f) → (f ≡ OutOfMemory) × (new ≡ cs)
+takes_none None cs new f h = h
+takes_none (Some r) cs new f h = h
+
 -- ---- where flow stops
 
-module _ (s : StoryTree) (marked : Bool) (old new : Configuration) (d : Option (ChoiceOf (List Part))) where
-  pub stays_stopped : d ≡ None → new ≡ old → StepEnds (marked || default_asks s d old) (stopped_by s d old) old.shared.globals new (Ok ends.Stopped)
-  stays_stopped none is = subst (λ o. StepEnds (marked || default_asks s o old) (stopped_by s o old) old.shared.globals new (Ok ends.Stopped)) (sym none) is
+module _ (s : StoryTree) (pressed : Bool) (old new : Configuration) (d : Option (ChoiceOf (List Part))) where
+  pub stays_stopped : d ≡ None → new ≡ old → StepEnds (pressed || default_asks s d old) (stopped_by s d old) old.shared.globals new (Ok ends.Stopped)
+  stays_stopped none is = subst (λ o. StepEnds (pressed || default_asks s o old) (stopped_by s o old) old.shared.globals new (Ok ends.Stopped)) (sym none) is
 
-  -- memory was refused to the mark
-  pub short_marked : (fault : Fault) → fault ≡ OutOfMemory → marked ≡ true → new.shared.globals ≡ old.shared.globals
-      → StepEnds (marked || default_asks s d old) (stopped_by s d old) old.shared.globals new (Err fault)
-  short_marked fault short is same = ends_short (marked || default_asks s d old) (stopped_by s d old) old.shared.globals new fault (short, or_first marked (default_asks s d old) is) same
+  -- memory was refused for what a mark wants
+  pub short_pressed : (fault : Fault) → fault ≡ OutOfMemory → pressed ≡ true → new.shared.globals ≡ old.shared.globals
+      → StepEnds (pressed || default_asks s d old) (stopped_by s d old) old.shared.globals new (Err fault)
+  short_pressed fault short is same = ends_short (pressed || default_asks s d old) (stopped_by s d old) old.shared.globals new fault (short, or_first pressed (default_asks s d old) is) same
 
   module _ (x : ChoiceOf (List Part)) (some : d ≡ Some x) where
-    pub follows_default : new ≡ entering_around s (taken_up x old) → StepEnds (marked || default_asks s d old) (stopped_by s d old) old.shared.globals new (Ok ends.Went)
-    follows_default is = subst (λ o. StepEnds (marked || default_asks s o old) (stopped_by s o old) old.shared.globals new (Ok ends.Went)) (sym some) is
+    pub follows_default : new ≡ entering_around s (taken_up x old) → StepEnds (pressed || default_asks s d old) (stopped_by s d old) old.shared.globals new (Ok ends.Went)
+    follows_default is = subst (λ o. StepEnds (pressed || default_asks s o old) (stopped_by s o old) old.shared.globals new (Ok ends.Went)) (sym some) is
 
-    pub short_of_default : (fault : Fault) → fault ≡ OutOfMemory → (marked || entering_asks s (taken_up x old)) ≡ true → new.shared.globals ≡ old.shared.globals
-        → StepEnds (marked || default_asks s d old) (stopped_by s d old) old.shared.globals new (Err fault)
+    pub short_of_default : (fault : Fault) → fault ≡ OutOfMemory → (pressed || entering_asks s (taken_up x old)) ≡ true → new.shared.globals ≡ old.shared.globals
+        → StepEnds (pressed || default_asks s d old) (stopped_by s d old) old.shared.globals new (Err fault)
     short_of_default fault short adds same =
-        subst (λ o. StepEnds (marked || default_asks s o old) (stopped_by s o old) old.shared.globals new (Err fault)) (sym some) ((short, adds), same)
+        subst (λ o. StepEnds (pressed || default_asks s o old) (stopped_by s o old) old.shared.globals new (Err fault)) (sym some) ((short, adds), same)
 
 -- ---- where a host chooses
 

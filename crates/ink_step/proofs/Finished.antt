@@ -1,8 +1,8 @@
 -- A step at content that holds no other and calls nothing.
-use Rattle.std.proofs.Common.{◌≡◌, ◌||◌, ap, option_map, refl, subst, sym, false, is_some, Bool, Option, Some, None, Result, Ok}
+use Rattle.std.proofs.Common.{◌≡◌, ◌∙◌, ◌||◌, ap, option_map, refl, subst, sym, false, is_some, Bool, List, Option, Some, None, Result, Ok}
 use Rattle.ink_model.specs.Asks.{acting_asks, asks, content_asks, going_in_asks}
 use Rattle.ink_model.specs.Choosing.{following, following_asks}
-use Rattle.ink_model.specs.Configuration.{Configuration}
+use Rattle.ink_model.specs.Configuration.{Configuration, current_place}
 use Rattle.ink_model.specs.Effect.{Effect, context_of, fields_of}
 use Rattle.ink_model.specs.Flow.{moved_on}
 use Rattle.ink_model.specs.Host.{Bound}
@@ -15,6 +15,8 @@ use Rattle.ink_model.specs.Store.{Values}
 use Rattle.ink_model.specs.Tree.{StoryTree, leaf, container, at}
 use Rattle.ink_model.specs.declared.content.Leaf.{Leaf}
 use Rattle.ink_model.specs.declared.fault.Fault.{Fault}
+use Rattle.ink_model.specs.declared.place.Part.{Part}
+use Rattle.ink_step.specs.Marks.{takes_first, takes_there}
 use Rattle.ink_step.specs.Performs.{Keeps, KeepsChoices, Performs, storing_in, unstored}
 use Rattle.ink_step.specs.Steps.{EndsPlainly, StepEnds}
 use Rattle.ink_step.specs.Words.{config_of}
@@ -25,6 +27,7 @@ use Rattle.ink_step.specs.declared.transfer.Transfer.TheVariants as transfer
 use Rattle.ink_step.proofs.Follows.{ends_after, ends_more, ends_where, kept_stays, offered_stay, or_between}
 use Rattle.ink_step.proofs.Goings.{is_in, stays_in}
 use Rattle.ink_step.proofs.Landed.{ends_performed, goes_on, performs_told}
+use Rattle.ink_step.proofs.Marks.{takes_at}
 use Rattle.ink_step.proofs.Stopping.{ends_stored, stores_none}
 use Rattle.ink_tree.specs.Kept.{leaf_in}
 use Rattle.ink_tree.specs.Nodes.{place_of}
@@ -67,23 +70,27 @@ leaf_there (Some (leaf k)) l h = (let is : k ≡ l = cc in ap (λ x. Some (leaf 
 leaf_there (Some (container name flags content named)) l h = absurd cc
 
 module _ (s : StoryTree) (b : Bound) (machine new : Machine) (place : Spot) (l : Leaf) (at_place : machine.flow.threads.threads.thread.frame.place ≡ Some place)
-    (stands : leaf_in (at s (place_of s place)) ≡ Some l) (other : call_at (Some (leaf l)) ≡ None) (marked : Bool) where
-  more : (r : Result StepEnd Fault) (adds asking : Bool) (o : Stepped) → EndsPlainly (marked || asking) o machine.shared.globals.rows (config_of s new) r → EndsPlainly (marked || (adds || asking)) o machine.shared.globals.rows (config_of s new) r
-  more r adds asking (Comes o) h = ends_where _ _ (or_between marked adds asking) o machine.shared.globals.rows (config_of s new) r h
+    (stands : leaf_in (at s (place_of s place)) ≡ Some l) (other : call_at (Some (leaf l)) ≡ None) (pressed : Bool) where
+  more : (r : Result StepEnd Fault) (adds asking : Bool) (o : Stepped) → EndsPlainly (pressed || asking) o machine.shared.globals.rows (config_of s new) r → EndsPlainly (pressed || (adds || asking)) o machine.shared.globals.rows (config_of s new) r
+  more r adds asking (Comes o) h = ends_where _ _ (or_between pressed adds asking) o machine.shared.globals.rows (config_of s new) r h
   more r adds asking (Wants name arguments f c) h = absurd h
 
   -- what such content does is what the step comes to
   pub passed : (r : Result StepEnd Fault)
       → (let e = effect s (place_of s place) (Some (leaf l)) (context_of (config_of s machine)) (fields_of (config_of s machine)) in
-      StepEnds (marked || acting_asks s (content_asks s (place_of s place) (Some (leaf l)) (context_of (config_of s machine)) (fields_of (config_of s machine))) e (config_of s machine)) (acted s e (config_of s machine))
+      StepEnds (pressed || acting_asks s (content_asks s (place_of s place) (Some (leaf l)) (context_of (config_of s machine)) (fields_of (config_of s machine))) e (config_of s machine)) (acted s e (config_of s machine))
       machine.shared.globals.rows (config_of s new) r)
-      → EndsPlainly (marked || asks s b (config_of s machine)) (step s b (config_of s machine)) machine.shared.globals.rows (config_of s new) r
+      → EndsPlainly (pressed || asks s b (config_of s machine)) (step s b (config_of s machine)) machine.shared.globals.rows (config_of s new) r
   passed r acts =
       let p = place_of s place in
       let old = config_of s machine in
-      let Ending : Bool → Stepped → Type 0 = λ asking o. EndsPlainly (marked || asking) o machine.shared.globals.rows (config_of s new) r in
+      let Ending : Bool → Stepped → Type 0 = λ asking o. EndsPlainly (pressed || asking) o machine.shared.globals.rows (config_of s new) r in
       ends_performed s b p old (ap (option_map (place_of s)) at_place) Ending p (Some (leaf l)) old (stays_in s p l stands) (leaf_there (at s p) l stands)
       (is_in s p l stands machine place at_place refl) (more r (going_in_asks s p old)) (performs_told s b Ending p (Some (leaf l)) None old other acts)
+
+-- the step takes a value for that content, if it does for any
+pub takes_here : (s : StoryTree) (c : Configuration) (p : List Part) (l : Leaf) → current_place c ≡ Some p → leaf_in (at s p) ≡ Some l → takes_first s c ≡ takes_there (Some (leaf l))
+takes_here s c p l at_p stands = takes_at s p c (Some (leaf l)) at_p (ap (at s) (sym (stays_in s p l stands)) ∙ sym (leaf_there (at s p) l stands))
 
 pub not_external : (o : Option Call) → is_some o ≡ false → o ≡ None
 not_external None h = refl

@@ -53,17 +53,19 @@ pub or_assoc : (a b x : Bool) → (a || b) || x ≡ a || (b || x)
 or_assoc true b x = refl
 or_assoc false b x = refl
 
--- what asks for memory in a whole step while a mark stands
+pub or_where : (a b x : Bool) → (a ≡ true → b ≡ true) → a || x ≡ true → b || x ≡ true
+or_where true b x allows h = or_first b x (allows refl)
+or_where false b x allows h = or_more b x h
+
+-- what asks for memory in a whole step that may be pressed
 pub or_whole : (m a b x : Bool) → ((m || a) || b) || x ≡ m || ((a || b) || x)
 or_whole true a b x = refl
 or_whole false a b x = refl
 
-pub or_twice : (m a b x : Bool) → m || (((m || a) || b) || x) ≡ m || ((a || b) || x)
-or_twice true a b x = refl
-or_twice false a b x = refl
-
-pub or_along : (a b x : Bool) → a ≡ b → a || x ≡ true → b || x ≡ true
-or_along a b x is h = subst (λ y. y || x ≡ true) is h
+pub or_apart : (m n a b x : Bool) → n || (((m || a) || b) || x) ≡ (m || n) || ((a || b) || x)
+or_apart true true a b x = refl
+or_apart true false a b x = refl
+or_apart false n a b x = refl
 
 -- no step ends so
 pub never_wants : (asking : Bool) (o : Outcome) (globals : Values) (d : Configuration) → StepEnds asking o globals d (Ok ends.WantsCall) → ⊥
@@ -75,6 +77,11 @@ pub ends_short : (asking : Bool) (o : Outcome) (globals : Values) (d : Configura
     → StepEnds asking o globals d (Err f)
 ends_short asking (Faults g) globals d f short same = (inr short, same)
 ends_short asking o globals d f short same = (short, same)
+
+-- for what a mark wants
+pub ends_pressed : (pressed more : Bool) (o : Outcome) (globals : Values) (d : Configuration) (f : Fault) → f ≡ OutOfMemory → pressed ≡ true → d.shared.globals ≡ globals
+    → StepEnds (pressed || more) o globals d (Err f)
+ends_pressed pressed more o globals d f short h same = ends_short (pressed || more) o globals d f (short, or_first pressed more h) same
 
 -- the same where more asks for memory
 module _ (asking more : Bool) where
@@ -93,6 +100,12 @@ ends_where asking more allows (Stop c) globals d (Ok ends.Stopped) h = h
 ends_where asking more allows (Faults g) globals d (Err f) h = (elim h.0 [ inl is ↦ inl is | inr short ↦ inr (short.0, allows short.1) ], h.1)
 ends_where asking more allows o globals d (Err f) h = ((h.0.0, allows h.0.1), h.1)
 ends_where asking more allows o globals d (Ok end) h = absurd h
+
+-- whatever asks for memory, where there was no fault
+pub ends_any : (asking more : Bool) (o : Outcome) (globals : Values) (d : Configuration) (end : StepEnd) → StepEnds asking o globals d (Ok end) → StepEnds more o globals d (Ok end)
+ends_any asking more (Next c) globals d ends.Went h = h
+ends_any asking more (Stop c) globals d ends.Stopped h = h
+ends_any asking more o globals d end h = absurd h
 
 -- ---- where flow went
 
@@ -130,31 +143,31 @@ ends_reached asking c reached ts w (Err f) h = ends_broken asking c (with_flow t
 
 -- ---- flow goes where a content sends it
 
-module _ (s : StoryTree) (marked asking : Bool) (c d : Configuration) (r : Result StepEnd Fault) where
+module _ (s : StoryTree) (pressed asking : Bool) (c d : Configuration) (r : Result StepEnd Fault) where
   abbrev Follows : Effect → Type 0
-  Follows e = StepEnds (marked || (asking || move_asks s e c)) (move s (unstored c.shared.globals e) c) c.shared.globals d r
+  Follows e = StepEnds (pressed || (asking || move_asks s e c)) (move s (unstored c.shared.globals e) c) c.shared.globals d r
 
   abbrev stale_now : Configuration
   stale_now = with_threads (on_top (staled (depth_of (written_in c))) c.flow.threads) c
 
   pub goes_after_text : (e : Effect) → Performs s asking e (fields_of c) (Ok transfer.Wrote)
       → StepEnds (moved_asks (next_place s) stale_now.flow.threads (written_in c)) (going (moved_on (next_place s)) stale_now) c.shared.globals d r → Follows e
-  goes_after_text (Moves f) h go = subst (λ g. Follows (Moves g)) (sym h) (ends_more marked _ _ _ _ r (ends_more asking _ _ _ _ r go))
+  goes_after_text (Moves f) h go = subst (λ g. Follows (Moves g)) (sym h) (ends_more pressed _ _ _ _ r (ends_more asking _ _ _ _ r go))
   goes_after_text e h go = absurd h
 
   pub goes_nowhere : (e : Effect) → Performs s asking e (fields_of c) (Ok transfer.End)
       → StepEnds false (reached_in (ended c) (halt (base_threads None) (written_in c))) c.shared.globals d r → Follows e
-  goes_nowhere (Ends f) h go = subst (λ g. Follows (Ends g)) h (ends_more marked _ _ _ _ r (ends_more asking _ _ _ _ r go))
+  goes_nowhere (Ends f) h go = subst (λ g. Follows (Ends g)) h (ends_more pressed _ _ _ _ r (ends_more asking _ _ _ _ r go))
   goes_nowhere e h go = absurd h
 
   pub goes_forking : (e : Effect) → Performs s asking e (fields_of c) (Ok transfer.Fork)
       → StepEnds (forked_asks (next_place s) c.flow.threads (written_in c)) (going (forked (next_place s)) c) c.shared.globals d r → Follows e
-  goes_forking (Forks f) h go = subst (λ g. Follows (Forks g)) h (ends_more marked _ _ _ _ r (ends_more asking _ _ _ _ r go))
+  goes_forking (Forks f) h go = subst (λ g. Follows (Forks g)) h (ends_more pressed _ _ _ _ r (ends_more asking _ _ _ _ r go))
   goes_forking e h go = absurd h
 
   pub goes_done : (e : Effect) → Performs s asking e (fields_of c) (Ok transfer.Done)
       → StepEnds (dropped_asks (next_place s) (dropped c.flow.threads) (written_in c)) (finish s c) c.shared.globals d r → Follows e
-  goes_done (Done f) h go = subst (λ g. Follows (Done g)) h (ends_more marked _ _ _ _ r (ends_more asking _ _ _ _ r go))
+  goes_done (Done f) h go = subst (λ g. Follows (Done g)) h (ends_more pressed _ _ _ _ r (ends_more asking _ _ _ _ r go))
   goes_done e h go = absurd h
 
 -- ---- a step

@@ -65,9 +65,9 @@ returned_lands after k (Some to) ts w h = returned_goes after k to.place ts w
 
 -- ---- what is around is entered where flow has landed
 
-module _ (s : StoryTree) (marked asking : Bool) (c d : Configuration) (globals : Values) (ts : ThreadsOf (List Part)) (w : Written) where
+module _ (s : StoryTree) (pressed asking : Bool) (c d : Configuration) (globals : Values) (ts : ThreadsOf (List Part)) (w : Written) where
   abbrev Lands_as : Bool → Reached (List Part) → Result StepEnd Fault → Type 0
-  Lands_as enters reached r = StepEnds (marked || (asking || landed_asks s enters c.shared.counts reached)) (landed_in s enters c reached) globals d r
+  Lands_as enters reached r = StepEnds (pressed || (asking || landed_asks s enters c.shared.counts reached)) (landed_in s enters c reached) globals d r
 
   pub lands : (enters : Bool) (reached : Reached (List Part)) (end : StepEnd) → (enters ≡ true → IsGoing reached) → ReachesAs asking reached ts w (Ok end)
       → d ≡ cond enters (entering_around s (with_flow ts w c)) (with_flow ts w c) → Lands_as enters reached (Ok end)
@@ -80,24 +80,24 @@ module _ (s : StoryTree) (marked asking : Bool) (c d : Configuration) (globals :
   module _ (f : Fault) (same : d.shared.globals ≡ globals) where
     -- memory for a row was refused
     pub lands_short : (enters : Bool) (reached : Reached (List Part)) (end : StepEnd) → (enters ≡ true → IsGoing reached) → ReachesAs asking reached ts w (Ok end)
-        → f ≡ OutOfMemory → (marked || (enters && adds_rows s (around s ts) c.shared.counts)) ≡ true → Lands_as enters reached (Err f)
+        → f ≡ OutOfMemory → (pressed || (enters && adds_rows s (around s ts) c.shared.counts)) ≡ true → Lands_as enters reached (Err f)
     lands_short true (Reaches us v) ends.Went goes h short adds =
-        ((short, or_between marked asking _ (ap (λ t. marked || adds_rows s (around s t) c.shared.counts) (sym h.0) ∙ adds)), same)
+        ((short, or_between pressed asking _ (ap (λ t. pressed || adds_rows s (around s t) c.shared.counts) (sym h.0) ∙ adds)), same)
     lands_short true (Halts us v) end goes h short adds = absurd (goes refl)
     lands_short true reached end goes h short adds = absurd h
-    lands_short false reached end goes h short adds = ends_short _ (landed_in s false c reached) globals d f (short, or_first marked _ (or_neither marked adds)) same
+    lands_short false reached end goes h short adds = ends_short _ (landed_in s false c reached) globals d f (short, or_first pressed _ (or_neither pressed adds)) same
 
     -- a fault before
     pub lands_broken : (enters : Bool) (reached : Reached (List Part)) → ReachesAs asking reached ts w (Err f) → Lands_as enters reached (Err f)
-    lands_broken true (Breaks g) h = (elim h [ inl is ↦ inl is | inr short ↦ inr (short.0, or_more marked _ (or_first asking _ short.1)) ], same)
-    lands_broken false (Breaks g) h = (elim h [ inl is ↦ inl is | inr short ↦ inr (short.0, or_more marked _ (or_first asking _ short.1)) ], same)
-    lands_broken enters reached h = ((h.0, or_more marked _ (or_first asking _ h.1)), same)
+    lands_broken true (Breaks g) h = (elim h [ inl is ↦ inl is | inr short ↦ inr (short.0, or_more pressed _ (or_first asking _ short.1)) ], same)
+    lands_broken false (Breaks g) h = (elim h [ inl is ↦ inl is | inr short ↦ inr (short.0, or_more pressed _ (or_first asking _ short.1)) ], same)
+    lands_broken enters reached h = ((h.0, or_more pressed _ (or_first asking _ h.1)), same)
 
 -- ---- flow goes where a content sends it
 
-module _ (s : StoryTree) (marked asking : Bool) (c d : Configuration) (r : Result StepEnd Fault) where
+module _ (s : StoryTree) (pressed asking : Bool) (c d : Configuration) (r : Result StepEnd Fault) where
   abbrev Follows : Effect → Type 0
-  Follows e = StepEnds (marked || (asking || move_asks s e c)) (move s (unstored c.shared.globals e) c) c.shared.globals d r
+  Follows e = StepEnds (pressed || (asking || move_asks s e c)) (move s (unstored c.shared.globals e) c) c.shared.globals d r
 
   -- the thread has the temporaries that the effect stores
   abbrev HasStored : Effect → Type 0
@@ -108,7 +108,7 @@ module _ (s : StoryTree) (marked asking : Bool) (c d : Configuration) (r : Resul
   HasOffered e = c.flow.choices ≡ offered_by e c.flow.choices
 
   abbrev GoesOn : Bool → Configuration → Type 0
-  GoesOn more from = StepEnds (marked || (more || moved_asks (next_place s) from.flow.threads (written_in from))) (going (moved_on (next_place s)) from) c.shared.globals d r
+  GoesOn more from = StepEnds (pressed || (more || moved_asks (next_place s) from.flow.threads (written_in from))) (going (moved_on (next_place s)) from) c.shared.globals d r
 
   pub goes_on : (e : Effect) → Performs s asking e (fields_of c) (Ok transfer.Next) → HasStored e → HasOffered e → GoesOn asking c → Follows e
   goes_on (Moves f) h has offers go = subst (λ g. Follows (Moves g)) h go
@@ -123,28 +123,28 @@ module _ (s : StoryTree) (marked asking : Bool) (c d : Configuration) (r : Resul
     goes_storing e h has go = absurd h
 
   pub goes_there : (to : Landing) (e : Effect) → Performs s asking e (fields_of c) (Ok (transfer.Land to))
-      → StepEnds (marked || landed_asks s to.enters c.shared.counts (reach (place_of s to.place) c.flow.threads (written_in c))) (landing s to.enters (reach (place_of s to.place)) c) c.shared.globals d r
+      → StepEnds (pressed || landed_asks s to.enters c.shared.counts (reach (place_of s to.place) c.flow.threads (written_in c))) (landing s to.enters (reach (place_of s to.place)) c) c.shared.globals d r
       → Follows e
   goes_there to (Lands l f) h go = subst (λ q. Follows (Lands q f)) (sym h.0) (subst (λ g. Follows (Lands (landing_of s to) g)) h.1
-      (ends_where _ _ (or_between marked asking _) (landing s to.enters (reach (place_of s to.place)) c) _ d r go))
+      (ends_where _ _ (or_between pressed asking _) (landing s to.enters (reach (place_of s to.place)) c) _ d r go))
   goes_there to e h go = absurd h
 
   pub goes_into : (kind : CallKind) (to : Landing) (e : Effect) → Performs s asking e (fields_of c) (Ok (transfer.Call kind to))
-      → StepEnds (marked || (nat_lt (frame_count c.flow.threads.thread) MAX_FRAMES || landed_asks s to.enters c.shared.counts (called (frame_kind kind) (place_of s to.place) c.flow.threads (written_in c))))
+      → StepEnds (pressed || (nat_lt (frame_count c.flow.threads.thread) MAX_FRAMES || landed_asks s to.enters c.shared.counts (called (frame_kind kind) (place_of s to.place) c.flow.threads (written_in c))))
       (landing s to.enters (called (frame_kind kind) (place_of s to.place)) c) c.shared.globals d r
       → Follows e
   goes_into kind to (Calls k l f) h go = subst (λ x. Follows (Calls x l f)) (sym h.0) (subst (λ q. Follows (Calls (frame_kind kind) q f)) (sym h.1)
-      (subst (λ g. Follows (Calls (frame_kind kind) (landing_of s to) g)) h.2 (ends_where _ _ (or_between marked asking _) (landing s to.enters (called (frame_kind kind) (place_of s to.place)) c) _ d r go)))
+      (subst (λ g. Follows (Calls (frame_kind kind) (landing_of s to) g)) h.2 (ends_where _ _ (or_between pressed asking _) (landing s to.enters (called (frame_kind kind) (place_of s to.place)) c) _ d r go)))
   goes_into kind to e h go = absurd h
 
   pub goes_back : (kind : FrameKind) (back : Option Landing) (e : Effect) → Performs s asking e (fields_of c) (Ok (transfer.Return kind back))
-      → StepEnds (marked || (returned_asks (next_place s) kind (place_to (option_map (landing_of s) back)) c.flow.threads (written_in c)
+      → StepEnds (pressed || (returned_asks (next_place s) kind (place_to (option_map (landing_of s) back)) c.flow.threads (written_in c)
       || landed_asks s (may_enter (option_map (landing_of s) back)) c.shared.counts (returned (next_place s) kind (place_to (option_map (landing_of s) back)) c.flow.threads (written_in c))))
       (landing s (may_enter (option_map (landing_of s) back)) (returned (next_place s) kind (place_to (option_map (landing_of s) back))) c) c.shared.globals d r
       → Follows e
   goes_back kind back (Returns k l f) h go = subst (λ x. Follows (Returns x l f)) (sym h.0) (subst (λ o. Follows (Returns kind o f)) (sym h.1)
       (subst (λ g. Follows (Returns kind (option_map (landing_of s) back) g)) h.2
-      (ends_where _ _ (or_between marked asking _) (landing s (may_enter (option_map (landing_of s) back)) (returned (next_place s) kind (place_to (option_map (landing_of s) back))) c) _ d r go)))
+      (ends_where _ _ (or_between pressed asking _) (landing s (may_enter (option_map (landing_of s) back)) (returned (next_place s) kind (place_to (option_map (landing_of s) back))) c) _ d r go)))
   goes_back kind back e h go = absurd h
 
 -- ---- a step
@@ -178,7 +178,7 @@ module _ (s : StoryTree) (b : Bound) (p : List Part) (old : Configuration) (at_p
       subst (λ o. Ending (asks_at s b o old) (step_at s b o old)) (sym at_p) (more _ _ entering)
 
   -- memory for a container on the way was refused
-  pub ends_outside : (marked : Bool) (new : Configuration) (f : Fault) → f ≡ OutOfMemory → marked || going_in_asks s p old ≡ true → new.shared.globals ≡ old.shared.globals
-      → (f ≡ OutOfMemory) × ((marked || asks s b old) ≡ true) × (new.shared.globals ≡ old.shared.globals)
+  pub ends_outside : (pressed : Bool) (new : Configuration) (f : Fault) → f ≡ OutOfMemory → pressed || going_in_asks s p old ≡ true → new.shared.globals ≡ old.shared.globals
+      → (f ≡ OutOfMemory) × ((pressed || asks s b old) ≡ true) × (new.shared.globals ≡ old.shared.globals)
   unfolding asks
-  ends_outside marked new f short adds same = (short, subst (λ o. marked || asks_at s b o old ≡ true) (sym at_p) (or_wider marked (going_in_asks s p old) _ adds), same)
+  ends_outside pressed new f short adds same = (short, subst (λ o. pressed || asks_at s b o old ≡ true) (sym at_p) (or_wider pressed (going_in_asks s p old) _ adds), same)

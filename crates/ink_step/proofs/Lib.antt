@@ -6,6 +6,7 @@ pub mod Leading
 pub mod Staled
 pub mod Follows
 pub mod Marks
+pub mod Rooms
 pub mod Landed
 pub mod Stopping
 pub mod Moments

@@ -27,56 +27,65 @@ use Rattle.ink_step.specs.Steps.{EndsPlainly, StepEnds, StepMakes, Steps, ended,
 use Rattle.ink_step.specs.declared.flow.StepEnd.{StepEnd}
 use Rattle.ink_step.specs.declared.flow.StepEnd.TheVariants as ends
 use Rattle.ink_step.specs.declared.transfer.Transfer.{Transfer}
-use Rattle.ink_step.proofs.Follows.{ends_more, ends_short, ends_unperformed, ends_where, never_wants, or_between, or_more}
+use Rattle.ink_step.proofs.Follows.{ends_more, ends_short, ends_unperformed, ends_where, never_wants, or_between, or_more, or_where}
 use Rattle.ink_step.proofs.Plain.{IsPlain, plain_else, plain_if, plain_or}
 use Rattle.ink_step.proofs.Stopping.{broke}
 use Rattle.ink_tree.specs.Kept.{leaf_in}
 
-module _ (s : StoryTree) (b : Bound) (n : ℕ) (marked : Bool) (es : List Event) (globals : Values) (d : Configuration) where
+module _ (s : StoryTree) (b : Bound) (n : ℕ) (pressed : Bool) (es : List Event) (globals : Values) (d : Configuration) where
   -- where more asks for memory
-  pub makes_more : (r : Result StepEnd Fault) (more asking : Bool) (o : Stepped) → StepMakes s b n marked asking o es globals d r → StepMakes s b n marked (more || asking) o es globals d r
+  pub makes_more : (r : Result StepEnd Fault) (more asking : Bool) (o : Stepped) → StepMakes s b n pressed asking o es globals d r → StepMakes s b n pressed (more || asking) o es globals d r
   makes_more r more asking (Wants name arguments f c) h = elim h [
     | inl made ↦ inl made
-    | inr short ↦ inr (short.0, short.1, or_between marked more asking short.2, short.3)
+    | inr short ↦ inr (short.0, short.1, or_between pressed more asking short.2, short.3)
   ]
-  makes_more r more asking (Comes o) h = (h.0, ends_where _ _ (or_between marked more asking) o globals d r h.1)
+  makes_more r more asking (Comes o) h = (h.0, ends_where _ _ (or_between pressed more asking) o globals d r h.1)
 
   -- only a quiet step says that a call is wanted
-  makes_said : (asking : Bool) (o : Stepped) → StepMakes s b n marked asking o es globals d (Ok ends.WantsCall) → ⊥
+  makes_said : (asking : Bool) (o : Stepped) → StepMakes s b n pressed asking o es globals d (Ok ends.WantsCall) → ⊥
   makes_said asking (Wants name arguments f c) h = elim h [
     | inl made ↦ never_wants _ (answered s f c made.0) globals d made.3
     | inr short ↦ absurd (cc)
   ]
-  makes_said asking (Comes o) h = never_wants (marked || asking) o globals d h.1
+  makes_said asking (Comes o) h = never_wants (pressed || asking) o globals d h.1
 
   -- so whether flow went on is all that it tells
-  pub makes_went : (asking : Bool) (o : Stepped) (end : StepEnd) → StepMakes s b n marked asking o es globals d (Ok end) → StepMakes s b n marked asking o es globals d (ended (Ok (went end)))
+  pub makes_went : (asking : Bool) (o : Stepped) (end : StepEnd) → StepMakes s b n pressed asking o es globals d (Ok end) → StepMakes s b n pressed asking o es globals d (ended (Ok (went end)))
   makes_went asking o ends.Went h = h
   makes_went asking o ends.Stopped h = h
   makes_went asking o ends.WantsCall h = absurd (makes_said asking o h)
 
   -- a quiet step that wants no call
-  pub quieted : (old : Configuration) (r : Result StepEnd Fault) (quiet asking : Bool) (o : Stepped) → (quiet ≡ true → wants o ≡ false) → StepMakes s b n marked asking o es globals d r
-      → Steps quiet s b n marked asking o es globals old d r
+  pub quieted : (old : Configuration) (r : Result StepEnd Fault) (quiet asking : Bool) (o : Stepped) → (quiet ≡ true → wants o ≡ false) → StepMakes s b n pressed asking o es globals d r
+      → Steps quiet s b n pressed asking o es globals old d r
   quieted old r true asking (Wants name arguments f c) unwanted h = absurd (let is = unwanted refl in cc)
   quieted old r quiet asking o unwanted h = h
 
+-- where it is pressed for more
+pub makes_where : (s : StoryTree) (b : Bound) (n : ℕ) (es : List Event) (globals : Values) (d : Configuration) (r : Result StepEnd Fault) (pressed more : Bool) → (pressed ≡ true → more ≡ true) → (asking : Bool) (o : Stepped)
+    → StepMakes s b n pressed asking o es globals d r → StepMakes s b n more asking o es globals d r
+makes_where s b n es globals d r pressed more allows asking (Wants name arguments f c) h = elim h [
+  | inl made ↦ inl (made.0, made.1, made.2, ends_where _ _ (or_where pressed more _ allows) (answered s f c made.0) globals d r made.3)
+  | inr short ↦ inr (short.0, short.1, or_where pressed more asking allows short.2, short.3)
+]
+makes_where s b n es globals d r pressed more allows asking (Comes o) h = (h.0, ends_where _ _ (or_where pressed more asking allows) o globals d r h.1)
+
 -- and one that does
-pub said : (s : StoryTree) (b : Bound) (n : ℕ) (marked asking : Bool) (o : Stepped) (globals : Values) (c : Configuration) → wants o ≡ true → Steps true s b n marked asking o [] globals c c (Ok ends.WantsCall)
-said s b n marked asking (Wants name arguments f d) globals c is = (refl, refl, refl)
-said s b n marked asking (Comes o) globals c is = absurd (cc)
+pub said : (s : StoryTree) (b : Bound) (n : ℕ) (pressed asking : Bool) (o : Stepped) (globals : Values) (c : Configuration) → wants o ≡ true → Steps true s b n pressed asking o [] globals c c (Ok ends.WantsCall)
+said s b n pressed asking (Wants name arguments f d) globals c is = (refl, refl, refl)
+said s b n pressed asking (Comes o) globals c is = absurd (cc)
 
 -- a step that wants no call makes none
-pub makes_plainly : (s : StoryTree) (b : Bound) (n : ℕ) (marked asking : Bool) (o : Stepped) (globals : Values) (d : Configuration) (r : Result StepEnd Fault) → EndsPlainly (marked || asking) o globals d r
-    → StepMakes s b n marked asking o [] globals d r
-makes_plainly s b n marked asking (Comes o) globals d r h = (refl, h)
-makes_plainly s b n marked asking (Wants name arguments f c) globals d r h = absurd h
+pub makes_plainly : (s : StoryTree) (b : Bound) (n : ℕ) (pressed asking : Bool) (o : Stepped) (globals : Values) (d : Configuration) (r : Result StepEnd Fault) → EndsPlainly (pressed || asking) o globals d r
+    → StepMakes s b n pressed asking o [] globals d r
+makes_plainly s b n pressed asking (Comes o) globals d r h = (refl, h)
+makes_plainly s b n pressed asking (Wants name arguments f c) globals d r h = absurd h
 
 -- where memory was refused, nothing was called
-pub makes_short : (s : StoryTree) (b : Bound) (n : ℕ) (marked asking : Bool) (o : Stepped) (globals : Values) (d : Configuration) (f : Fault) → (f ≡ OutOfMemory) × ((marked || asking) ≡ true) → d.shared.globals ≡ globals
-    → StepMakes s b n marked asking o [] globals d (Err f)
-makes_short s b n marked asking (Comes o) globals d f short same = (refl, ends_short (marked || asking) o globals d f short same)
-makes_short s b n marked asking (Wants name arguments k c) globals d f short same = inr (refl, ap Err short.0, short.1, same)
+pub makes_short : (s : StoryTree) (b : Bound) (n : ℕ) (pressed asking : Bool) (o : Stepped) (globals : Values) (d : Configuration) (f : Fault) → (f ≡ OutOfMemory) × ((pressed || asking) ≡ true) → d.shared.globals ≡ globals
+    → StepMakes s b n pressed asking o [] globals d (Err f)
+makes_short s b n pressed asking (Comes o) globals d f short same = (refl, ends_short (pressed || asking) o globals d f short same)
+makes_short s b n pressed asking (Wants name arguments k c) globals d f short same = inr (refl, ap Err short.0, short.1, same)
 
 -- ---- effects of calls
 
@@ -113,32 +122,32 @@ module _ (b : Bound) (s : StoryTree) where
 
 -- ---- a call that was performed
 
-module _ (s : StoryTree) (b : Bound) (n : ℕ) (marked asking : Bool) (c d : Configuration) (new : Fields) (globals : Values) (transfer : Result Transfer Fault) (r : Result StepEnd Fault) where
+module _ (s : StoryTree) (b : Bound) (n : ℕ) (pressed asking : Bool) (c d : Configuration) (new : Fields) (globals : Values) (transfer : Result Transfer Fault) (r : Result StepEnd Fault) where
   abbrev Ended : Bool → Effect → Type 0
-  Ended asks e = StepEnds (marked || acting_asks s asks e c) (acted s e c) globals d r
+  Ended asks e = StepEnds (pressed || acting_asks s asks e c) (acted s e c) globals d r
 
   module _ (goes : (asks : Bool) (e : Effect) → IsPlain e → Performs s asks e new transfer → Ended asks e) (failed : transfer ≡ Err OutOfMemory → (r ≡ Err OutOfMemory) × (d.shared.globals ≡ globals)) where
-    pub makes : (k : CallEffect) (es : List Event) → IsCall b k → PerformsCall s n asking k es new transfer → StepMakes s b n marked (calling_asks s asking k c) (call_made s k c) es globals d r
+    pub makes : (k : CallEffect) (es : List Event) → IsCall b k → PerformsCall s n asking k es new transfer → StepMakes s b n pressed (calling_asks s asking k c) (call_made s k c) es globals d r
     makes (Asks name arguments left) es is h = elim h [
       | inl made ↦ inl (made.0, is, made.1, goes (given_asks arguments left made.0) (answering made.0 left) (answering_plain made.0 left) made.2)
-      | inr short ↦ inr (short.0, (failed short.1).0, or_more marked asking short.2, (failed short.1).1)
+      | inr short ↦ inr (short.0, (failed short.1).0, or_more pressed asking short.2, (failed short.1).1)
     ]
     makes (Acts e) es is h = (h.0, goes asking e is h.1)
 
 err_same : (f g : Fault) → let r : Result Transfer Fault = Err f in r ≡ Err g → f ≡ g
 err_same f g e = cc
 
-module _ (s : StoryTree) (b : Bound) (n : ℕ) (marked asking : Bool) (c d : Configuration) (new : Fields) (globals : Values) where
+module _ (s : StoryTree) (b : Bound) (n : ℕ) (pressed asking : Bool) (c d : Configuration) (new : Fields) (globals : Values) where
   -- performing it faulted
   pub makes_broken : (f : Fault) → d.shared.globals ≡ globals → (k : CallEffect) (es : List Event) → IsCall b k → PerformsCall s n asking k es new (Err f)
-      → StepMakes s b n marked (calling_asks s asking k c) (call_made s k c) es globals d (Err f)
-  makes_broken f same = makes s b n marked asking c d new globals (Err f) (Err f)
-      (λ asks e call performs. ends_more marked _ (acted s e c) globals d (Err f) (broke s _ (move s e c) globals d f (ends_unperformed s asks _ e new c d globals f performs same))) (λ is. (ap Err (err_same f OutOfMemory is), same))
+      → StepMakes s b n pressed (calling_asks s asking k c) (call_made s k c) es globals d (Err f)
+  makes_broken f same = makes s b n pressed asking c d new globals (Err f) (Err f)
+      (λ asks e call performs. ends_more pressed _ (acted s e c) globals d (Err f) (broke s _ (move s e c) globals d f (ends_unperformed s asks _ e new c d globals f performs same))) (λ is. (ap Err (err_same f OutOfMemory is), same))
 
   -- flow went on from it
-  pub makes_ended : (t : Transfer) (r : Result StepEnd Fault) → ((asks : Bool) (e : Effect) → IsPlain e → Performs s asks e new (Ok t) → Ended s b n marked asking c d new globals (Ok t) r asks e)
-      → (k : CallEffect) (es : List Event) → IsCall b k → PerformsCall s n asking k es new (Ok t) → StepMakes s b n marked (calling_asks s asking k c) (call_made s k c) es globals d r
-  makes_ended t r goes = makes s b n marked asking c d new globals (Ok t) r goes (λ is. absurd (cc))
+  pub makes_ended : (t : Transfer) (r : Result StepEnd Fault) → ((asks : Bool) (e : Effect) → IsPlain e → Performs s asks e new (Ok t) → Ended s b n pressed asking c d new globals (Ok t) r asks e)
+      → (k : CallEffect) (es : List Event) → IsCall b k → PerformsCall s n asking k es new (Ok t) → StepMakes s b n pressed (calling_asks s asking k c) (call_made s k c) es globals d r
+  makes_ended t r goes = makes s b n pressed asking c d new globals (Ok t) r goes (λ is. absurd (cc))
 
 -- ---- whether a step wants a call
 

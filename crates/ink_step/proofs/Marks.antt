@@ -1,13 +1,199 @@
--- A mark in one part is a mark.
-use Rattle.std.proofs.Common.{◌≡◌, ◌&&◌, ◌||◌, Bool, true, false, is_some, refl}
-use Rattle.ink_step.specs.Marks.{Stood, marked_in}
+-- What memory is asked for while a mark stands.
+use Rattle.std.proofs.Common.{◌≡◌, ◌∙◌, ◌⊎◌, ◌≤◌, ◌<◌, ◌+◌, ◌*◌, ◌&&◌, ◌||◌, ℕ, nat_lt, List, length, ap, arith, inl, inr, refl, sym, Bool, true, false, Option, None, Some, is_some, option_and_then, option_map}
+use Rattle.std.proofs.lemmas.Bool.{lt-ltb, ltb-true}
+use Rattle.ink_choice.specs.Undo.{choices_spare, choices_stood}
+use Rattle.ink_model.specs.Choices.{only_invisible}
+use Rattle.ink_model.specs.Configuration.{Configuration, current_place}
+use Rattle.ink_model.specs.Frames.{map_threads}
+use Rattle.ink_model.specs.Place.{entered}
+use Rattle.ink_model.specs.Threads.{frame_count}
+use Rattle.ink_model.specs.Tree.{StoryTree, leaf, container, at}
+use Rattle.ink_model.specs.Effect.{Fields}
+use Rattle.ink_model.specs.Host.{Bound}
+use Rattle.ink_model.specs.Step.{Wants, gone_in, performed, step, step_at}
+use Rattle.ink_model.specs.Step.Host.{Call, call_at}
+use Rattle.ink_model.specs.Visits.{around}
+use Rattle.ink_model.specs.declared.content.Leaf.TheVariants as leaves
+use Rattle.ink_model.specs.declared.value.Value.{Value}
+use Rattle.ink_model.specs.declared.place.Part.{Part}
+use Rattle.ink_stack.specs.Undo.{threads_spare, threads_stood}
+use Rattle.ink_step.specs.Marks.{Stood, choices_lack, counts_lack, lacks, landing_lacks, marked_in, own_lacks, own_spare, own_stood, pressed, presses, stack_lacks, stood_of, takes_first, takes_there, threads_lack, unmarked}
+use Rattle.ink_step.specs.Words.{config_of}
+use Rattle.ink_step.specs.declared.flow.TheConstants.{MOVING}
+use Rattle.ink_step.specs.declared.machine.Machine.{Machine}
+use Rattle.ink_step.specs.declared.step.TheConstants.{STEPPING}
 use Rattle.ink_step.proofs.Follows.{or_first, or_more}
+use Rattle.ink_tree.specs.Kept.{leaf_in}
+use Rattle.ink_tree.specs.Nodes.{place_of}
+use Rattle.ink_value.specs.Undo.{stack_spare}
+use Rattle.ink_vars.specs.Undo.{counts_spare}
 
-pub stack_marked : (t : Stood) → is_some t.stack ≡ true → marked_in t ≡ true
-stack_marked t h = or_more (is_some t.own) _ (or_more (is_some t.threads) _ (or_first (is_some t.stack) _ h))
+-- ---- a part that lacks room
 
--- what asks where a value is taken while the stack is marked, asks where a mark stands
-pub taken_marked : (marked takes there asks : Bool) → (there ≡ true → marked ≡ true) → (takes && there) || asks ≡ true → marked || asks ≡ true
-taken_marked marked false there asks stands h = or_more marked asks h
-taken_marked marked true true asks stands h = or_first marked asks (stands refl)
-taken_marked marked true false asks stands h = or_more marked asks h
+and_first : (a b : Bool) → a && b ≡ true → a ≡ true
+and_first true b h = refl
+and_first false b h = h
+
+and_second : (a b : Bool) → a && b ≡ true → b ≡ true
+and_second true b h = h
+and_second false b h = absurd (cc)
+
+or_split : (a b : Bool) → a || b ≡ true → (a ≡ true) ⊎ (b ≡ true)
+or_split true b h = inl refl
+or_split false b h = inr h
+
+and_both : (a b : Bool) → a ≡ true → b ≡ true → a && b ≡ true
+and_both true b h k = k
+and_both false b h k = absurd (cc)
+
+module _ {A : Type 0} (stood : Option A) (spare n : ℕ) where
+  -- a mark stands in it
+  pub lacks_mark : lacks stood spare n ≡ true → is_some stood ≡ true
+  lacks_mark h = and_first (is_some stood) (nat_lt spare n) h
+
+  pub lacks_few : is_some stood ≡ true → spare < n → lacks stood spare n ≡ true
+  lacks_few marked few = and_both (is_some stood) (nat_lt spare n) marked (lt-ltb spare n few)
+
+  -- so it lacks room for more
+  pub lacks_more : (k : ℕ) → n ≤ k → lacks stood spare n ≡ true → lacks stood spare k ≡ true
+  lacks_more k most h =
+      let few : spare < n = ltb-true spare n (and_second (is_some stood) (nat_lt spare n) h) in
+      and_both (is_some stood) (nat_lt spare k) (lacks_mark h) (lt-ltb spare k (omega arith))
+
+-- what was refused for a part that lacks room, while a mark stood in it before
+pub marked_or : {A : Type 0} → (left before : Option A) (spare n : ℕ) (X : Type 0) → left ≡ before → X ⊎ (lacks left spare n ≡ true) → X ⊎ (is_some before ≡ true)
+marked_or left before spare n X same (inl x) = inl x
+marked_or left before spare n X same (inr h) = inr (ap is_some (sym same) ∙ lacks_mark left spare n h)
+
+-- ---- a machine that is pressed
+
+module _ (s : StoryTree) (m : Machine) where
+  abbrev frames : ℕ
+  frames = frame_count m.flow.threads.threads.thread
+
+  pub pressed_threads : (n : ℕ) → n ≤ frames + STEPPING → threads_lack n m ≡ true → pressed s m ≡ true
+  unfolding pressed
+  pressed_threads n most h = or_first _ _ (lacks_more (threads_stood m.flow.threads) (threads_spare m.flow.threads) n (frames + STEPPING) most h)
+
+  -- for the end of freshness
+  pub pressed_fresh : threads_lack (frames + MOVING) m ≡ true → pressed s m ≡ true
+  pressed_fresh h = pressed_threads (frames + MOVING) (omega arith) h
+
+  pub pressed_stack : stack_lacks (length m.flow.stack.items + 2) m ≡ true → pressed s m ≡ true
+  unfolding pressed
+  pressed_stack h = or_more (threads_lack (frames + STEPPING) m) _ (or_first _ _ h)
+
+  -- where there is no room at the beginning of a step
+  pub step_pressed : threads_lack STEPPING m || stack_lacks (length m.flow.stack.items + 2) m ≡ true → pressed s m ≡ true
+  step_pressed h = elim (or_split (threads_lack STEPPING m) _ h) [
+    | inl t ↦ pressed_threads STEPPING (omega arith) t
+    | inr k ↦ pressed_stack k
+  ]
+
+  -- beside these two
+  more_than : (b : Bool) → b ≡ true → threads_lack (frames + STEPPING) m || (stack_lacks (length m.flow.stack.items + 2) m || b) ≡ true
+  more_than b h = or_more (threads_lack (frames + STEPPING) m) _ (or_more (stack_lacks (length m.flow.stack.items + 2) m) b h)
+
+  pub pressed_choices : choices_lack 1 m ≡ true → pressed s m ≡ true
+  unfolding pressed
+  pressed_choices h = more_than _ (or_first _ _ h)
+
+  pub pressed_own : own_lacks 2 m ≡ true → pressed s m ≡ true
+  unfolding pressed
+  pressed_own h = more_than _ (or_more (choices_lack 1 m) _ (or_first _ _ h))
+
+  pub pressed_counts : counts_lack 2 m ≡ true → pressed s m ≡ true
+  unfolding pressed
+  pressed_counts h = more_than _ (or_more (choices_lack 1 m) _ (or_more (own_lacks 2 m) _ (or_first _ _ h)))
+
+  pub pressed_landing : landing_lacks s m ≡ true → pressed s m ≡ true
+  unfolding pressed
+  pressed_landing h = more_than _ (or_more (choices_lack 1 m) _ (or_more (own_lacks 2 m) _ (or_more (counts_lack 2 m) _ (or_first _ _ h))))
+
+  pub pressed_default : is_some (choices_stood m.flow.choices) ≡ true → only_invisible m.flow.choices.items ≡ true → pressed s m ≡ true
+  unfolding pressed
+  pressed_default marked all =
+      more_than _ (or_more (choices_lack 1 m) _ (or_more (own_lacks 2 m) _ (or_more (counts_lack 2 m) _ (or_more (landing_lacks s m) _
+      (and_both (is_some (choices_stood m.flow.choices)) (only_invisible m.flow.choices.items) marked all)))))
+
+  -- no machine is without a mark
+  pub not_pressed : stood_of m ≡ unmarked → pressed s m ≡ false
+  unfolding pressed
+  not_pressed free = ap pressed_so free
+    where
+      pressed_so : Stood → Bool
+      pressed_so t =
+          lacks t.threads (threads_spare m.flow.threads) (frames + STEPPING)
+          || (lacks t.stack (stack_spare m.flow.stack) (length m.flow.stack.items + 2)
+          || (lacks t.choices (choices_spare m.flow.choices) 1
+          || (lacks t.own (own_spare m.trail) 2
+          || (lacks t.counts (counts_spare m.shared.counts) 2
+          || (lacks t.counts (counts_spare m.shared.counts) (4 * length (around s (map_threads (place_of s) m.flow.threads.threads)))
+          || (is_some t.choices && only_invisible m.flow.choices.items))))))
+
+and_none : (b : Bool) → b && false ≡ false
+and_none true = refl
+and_none false = refl
+
+-- so no step is
+pub not_presses : (s : StoryTree) (old new : Machine) → stood_of old ≡ unmarked → stood_of new ≡ unmarked → presses s old new ≡ false
+not_presses s old new free left =
+    ap (λ (t : Stood). (takes_first s (config_of s old) && is_some t.stack) || pressed s new) free
+    ∙ ap (λ b. b || pressed s new) (and_none (takes_first s (config_of s old))) ∙ not_pressed s new left
+
+-- ---- a content that takes a value
+
+-- found at the end of the way in
+pub takes_at : (s : StoryTree) (p : List Part) (c : Configuration) (found : Option StoryTree) → current_place c ≡ Some p → at s (entered s p) ≡ found → takes_first s c ≡ takes_there found
+unfolding takes_first
+takes_at s p c found at_p is = ap (λ o. takes_there (option_and_then (λ p. at s (entered s p)) o)) at_p ∙ ap takes_there is
+
+-- an empty container takes none, as nothing does
+pub takes_alike : (o : Option StoryTree) → takes_there (option_map leaf (leaf_in o)) ≡ takes_there o
+takes_alike None = refl
+takes_alike (Some (leaf l)) = refl
+takes_alike (Some (container name flags content named)) = refl
+
+-- it calls nothing
+takes_no_call : (o : Option StoryTree) → takes_there o ≡ true → call_at o ≡ None
+takes_no_call (Some (leaf (leaves.Declare name))) h = refl
+takes_no_call (Some (leaf (leaves.DeclareTemp name))) h = refl
+takes_no_call (Some (leaf (leaves.Assign name))) h = refl
+takes_no_call (Some (leaf (leaves.AssignTemp name))) h = refl
+takes_no_call o h = absurd (cc)
+
+calls_none : (s : StoryTree) (b : Bound) (p : List Part) (c : Configuration) (k : Option Call) → k ≡ None → (name : List ℕ) (arguments : List Value) (f : Fields) (d : Configuration)
+    → performed s b (entered s p) (at s (entered s p)) k c ≡ Wants name arguments f d → ⊥
+calls_none s b p c None none name arguments f d is = cc
+calls_none s b p c (Some k) none name arguments f d is = absurd (cc)
+
+-- so its step wants no call
+pub takes_calls : (s : StoryTree) (b : Bound) (c : Configuration) (name : List ℕ) (arguments : List Value) (f : Fields) (d : Configuration) → takes_first s c ≡ true → step s b c ≡ Wants name arguments f d → ⊥
+unfolding takes_first step
+takes_calls s b c name arguments f d takes is = by (current_place c) takes is
+  where
+    by : (o : Option (List Part)) → takes_there (option_and_then (λ p. at s (entered s p)) o) ≡ true → step_at s b o c ≡ Wants name arguments f d → ⊥
+    by None h wants = absurd (cc)
+    by (Some p) h wants = calls_none s b p (gone_in s p c) (call_at (at s (entered s p))) (takes_no_call (at s (entered s p)) h) name arguments f d wants
+
+-- ---- a turn
+
+-- what lacks room for a turn is marked
+module _ (m : Machine) where
+  marked_threads : is_some (threads_stood m.flow.threads) ≡ true → marked_in (stood_of m) ≡ true
+  marked_threads h = or_more (is_some (stood_of m).own) _ (or_first _ _ h)
+
+  pub marked_choices : is_some (choices_stood m.flow.choices) ≡ true → marked_in (stood_of m) ≡ true
+  marked_choices h = or_more (is_some (stood_of m).own) _ (or_more (is_some (stood_of m).threads) _ (or_more (is_some (stood_of m).stack) _ (or_first _ _ h)))
+
+  marked_own : is_some (stood_of m).own ≡ true → marked_in (stood_of m) ≡ true
+  marked_own h = or_first _ _ h
+
+  pub turn_marked : threads_lack 2 m || (choices_lack 2 m || own_lacks 2 m) ≡ true → marked_in (stood_of m) ≡ true
+  turn_marked h = elim (or_split (threads_lack 2 m) _ h) [
+    | inl t ↦ marked_threads (lacks_mark (threads_stood m.flow.threads) _ 2 t)
+    | inr k ↦ elim (or_split (choices_lack 2 m) (own_lacks 2 m) k) [
+      | inl c ↦ marked_choices (lacks_mark (choices_stood m.flow.choices) _ 2 c)
+      | inr o ↦ marked_own (lacks_mark (own_stood m.trail m.shared.turn m.flow.safe) _ 2 o)
+    ]
+  ]

@@ -1,5 +1,5 @@
 -- Runs, moment by moment.
-use Rattle.std.proofs.Common.{◌≡◌, ◌∙◌, ◌⊎◌, ◌++◌, ◌∷◌, ◌||◌, ℕ, zero, suc, Bool, true, false, List, Option, Some, None, Result, ◌+◌, ◌-◌, ◌≤◌, ◌<◌, ap, sym, refl, subst, inl, inr, [], Ok, Err, arith, append_assoc}
+use Rattle.std.proofs.Common.{◌≡◌, ◌∙◌, ◌⊎◌, ◌++◌, ◌∷◌, ◌&&◌, ◌||◌, ℕ, zero, suc, Bool, true, false, List, Option, Some, None, Result, ◌+◌, ◌-◌, ◌≤◌, ◌<◌, ap, sym, refl, subst, inl, inr, [], Ok, Err, arith, append_assoc}
 use Rattle.std.proofs.lemmas.List.{append-nil, map-append}
 use Rattle.ink_model.specs.Configuration.{Configuration}
 use Rattle.ink_model.specs.Effect.{Fields}
@@ -17,11 +17,13 @@ use Rattle.ink_model.specs.declared.host.Event.{Event}
 use Rattle.ink_model.specs.declared.host.Given.{Given}
 use Rattle.ink_model.specs.declared.limits.TheConstants.{MAX_STEPS}
 use Rattle.ink_model.specs.declared.value.Value.{Value}
-use Rattle.ink_step.specs.Runs.{AreBound, RunFalls}
+use Rattle.ink_step.specs.Marks.{takes_first}
+use Rattle.ink_step.specs.Runs.{AreBound, RunFalls, TakesAt}
 use Rattle.ink_step.specs.Steps.{StepEnds, StepMakes}
 use Rattle.ink_step.specs.declared.flow.StepEnd.{StepEnd}
 use Rattle.ink_step.specs.declared.flow.StepEnd.TheVariants as ends
 use Rattle.ink_step.proofs.Follows.{never_wants}
+use Rattle.ink_step.proofs.Marks.{takes_calls}
 
 -- ---- the moment after an outcome
 
@@ -49,52 +51,72 @@ kept_globals asking globals new f o h = h.1
 
 -- ---- what a step did in a run
 
--- memory was refused before a call that the step wants, or for what came of its answer; or anywhere, while a mark stands
-abbrev pub Short : StoryTree → Bound → Bool → Configuration → List Made → Type 0
-Short s b marked old more = (((more ≡ []) × (asks s b old ≡ true))
+-- a step is pressed: its stack keeps a mark, and it takes a value, or for what a mark wants
+abbrev pub is_pressed : StoryTree → Bool → Bool → Configuration → Bool
+is_pressed s marked pressed old = (takes_first s old && marked) || pressed
+
+-- memory was refused before a call that the step wants, or for what came of its answer; or where it was pressed
+abbrev pub Short : StoryTree → Bound → Bool → Bool → Configuration → List Made → Type 0
+Short s b marked pressed old more = (((more ≡ []) × (asks s b old ≡ true))
     ⊎ ((name : List ℕ) × (arguments : List Value) × (given : Given) × (f : Fields) × (d : Configuration)
     × (step s b old ≡ Wants name arguments f d) × (more ≡ (record { name = name; arguments = arguments; gave = Some given }) ∷ []) × (answered_asks s arguments f d (Some given) ≡ true)))
-    ⊎ (marked ≡ true)
+    ⊎ (((more ≡ []) × (takes_first s old ≡ true) × (marked ≡ true)) ⊎ (pressed ≡ true))
 
 -- the moment after a step with these calls, by what it returned
-abbrev pub Ends : StoryTree → Bound → Bool → List Made → List Made → Configuration → Configuration → Result StepEnd Fault → Type 0
-Ends s b marked made more old new (Ok ends.Went) = (left : List (Option Given)) → came s old (step s b old) (answers_of more ++ left) made ≡ At new left (made ++ more)
-Ends s b marked made more old new (Ok ends.Stopped) = (left : List (Option Given)) → came s old (step s b old) (answers_of more ++ left) made ≡ Stopped new left (made ++ more)
-Ends s b marked made more old new (Ok ends.WantsCall) = ⊥
-Ends s b marked made more old new (Err f) = (new.shared.globals ≡ old.shared.globals)
-    × (((left : List (Option Given)) → came s old (step s b old) (answers_of more ++ left) made ≡ Faulted f old left (made ++ more)) ⊎ ((f ≡ OutOfMemory) × Short s b marked old more))
+abbrev pub Ends : StoryTree → Bound → Bool → Bool → List Made → List Made → Configuration → Configuration → Result StepEnd Fault → Type 0
+Ends s b marked pressed made more old new (Ok ends.Went) = (left : List (Option Given)) → came s old (step s b old) (answers_of more ++ left) made ≡ At new left (made ++ more)
+Ends s b marked pressed made more old new (Ok ends.Stopped) = (left : List (Option Given)) → came s old (step s b old) (answers_of more ++ left) made ≡ Stopped new left (made ++ more)
+Ends s b marked pressed made more old new (Ok ends.WantsCall) = ⊥
+Ends s b marked pressed made more old new (Err f) = (new.shared.globals ≡ old.shared.globals)
+    × (((left : List (Option Given)) → came s old (step s b old) (answers_of more ++ left) made ≡ Faulted f old left (made ++ more)) ⊎ ((f ≡ OutOfMemory) × Short s b marked pressed old more))
 
-pub record Did (s : StoryTree) (b : Bound) (marked : Bool) (made : List Made) (n : ℕ) (es : List Event) (old new : Configuration) (result : Result StepEnd Fault) : Type 0 where
+pub record Did (s : StoryTree) (b : Bound) (marked pressed : Bool) (made : List Made) (n : ℕ) (es : List Event) (old new : Configuration) (result : Result StepEnd Fault) : Type 0 where
   pub more : List Made
   pub events : es ≡ calls n more
   pub bound : AreBound b more
-  pub ends : Ends s b marked made more old new result
+  pub ends : Ends s b marked pressed made more old new result
 
--- what asks for memory, by itself or by the mark
-either : (marked asking : Bool) → marked || asking ≡ true → (asking ≡ true) ⊎ (marked ≡ true)
+-- what asks for memory, by itself or as it is pressed
+either : (by asking : Bool) → by || asking ≡ true → (asking ≡ true) ⊎ (by ≡ true)
 either true asking h = inr refl
 either false asking h = inl h
 
-module _ (s : StoryTree) (b : Bound) (marked : Bool) (made : List Made) (n : ℕ) (es : List Event) (old new : Configuration) where
+-- why it is pressed
+taken_or : (takes marked pressed : Bool) → (takes && marked) || pressed ≡ true → ((takes ≡ true) × (marked ≡ true)) ⊎ (pressed ≡ true)
+taken_or true true pressed h = inl (refl, refl)
+taken_or true false pressed h = inr h
+taken_or false marked pressed h = inr h
+
+module _ (s : StoryTree) (b : Bound) (marked pressed : Bool) (made : List Made) (n : ℕ) (es : List Event) (old new : Configuration) where
+  abbrev by_mark : Bool
+  by_mark = is_pressed s marked pressed old
+
+  -- refused without a call
+  short_plainly : by_mark || asks s b old ≡ true → Short s b marked pressed old []
+  short_plainly h = elim (either by_mark (asks s b old) h) [
+    | inl asking ↦ inl (inl (refl, asking))
+    | inr by ↦ inr (elim (taken_or (takes_first s old) marked pressed by) [ inl takes ↦ inl (refl, takes.0, takes.1) | inr is ↦ inr is ])
+  ]
+
   -- ---- without a call
 
   module _ (o : Outcome) (is : step s b old ≡ Comes o) where
     came_so : (left : List (Option Given)) (m : List Made → Moment) → moment_after old o left made ≡ m made → came s old (step s b old) left made ≡ m (made ++ [])
     came_so left m h = ap (λ x. came s old x left made) is ∙ h ∙ ap m (sym (append-nil made))
 
-    ends_plainly : (result : Result StepEnd Fault) → StepEnds (marked || asks s b old) o old.shared.globals new result → Ends s b marked made [] old new result
-    ends_plainly (Ok ends.Went) h = λ left. came_so left (At new left) (went left made (marked || asks s b old) old new o h)
-    ends_plainly (Ok ends.Stopped) h = λ left. came_so left (Stopped new left) (stopped left made (marked || asks s b old) old new o h)
-    ends_plainly (Ok ends.WantsCall) h = never_wants (marked || asks s b old) o old.shared.globals new h
+    ends_plainly : (result : Result StepEnd Fault) → StepEnds (by_mark || asks s b old) o old.shared.globals new result → Ends s b marked pressed made [] old new result
+    ends_plainly (Ok ends.Went) h = λ left. came_so left (At new left) (went left made (by_mark || asks s b old) old new o h)
+    ends_plainly (Ok ends.Stopped) h = λ left. came_so left (Stopped new left) (stopped left made (by_mark || asks s b old) old new o h)
+    ends_plainly (Ok ends.WantsCall) h = never_wants (by_mark || asks s b old) o old.shared.globals new h
     ends_plainly (Err f) h = (
-      kept_globals (marked || asks s b old) old.shared.globals new f o h,
-      elim (faulted made (marked || asks s b old) old new f o h) [
+      kept_globals (by_mark || asks s b old) old.shared.globals new f o h,
+      elim (faulted made (by_mark || asks s b old) old new f o h) [
         | inl faults ↦ inl (λ left. came_so left (Faulted f old left) (faults left))
-        | inr short ↦ inr (short.0, elim (either marked (asks s b old) short.1) [ inl asking ↦ inl (inl (refl, asking)) | inr is_marked ↦ inr is_marked ])
+        | inr short ↦ inr (short.0, short_plainly short.1)
       ],
     )
 
-    did_plainly : (result : Result StepEnd Fault) → (es ≡ []) × StepEnds (marked || asks s b old) o old.shared.globals new result → Did s b marked made n es old new result
+    did_plainly : (result : Result StepEnd Fault) → (es ≡ []) × StepEnds (by_mark || asks s b old) o old.shared.globals new result → Did s b marked pressed made n es old new result
     did_plainly result h = record { more = []; events = h.0; bound = tt; ends = ends_plainly result h.1 }
 
   -- ---- with a call
@@ -109,9 +131,9 @@ module _ (s : StoryTree) (b : Bound) (marked : Bool) (made : List Made) (n : ℕ
       came_calling left m h = ap (λ x. came s old x (gave ∷ left) made) is ∙ h
 
       abbrev asking : Bool
-      asking = marked || answered_asks s arguments f d gave
+      asking = by_mark || answered_asks s arguments f d gave
 
-      ends_calling : (result : Result StepEnd Fault) → StepEnds asking (answered s f d gave) old.shared.globals new result → Ends s b marked made (call gave ∷ []) old new result
+      ends_calling : (result : Result StepEnd Fault) → StepEnds asking (answered s f d gave) old.shared.globals new result → Ends s b marked pressed made (call gave ∷ []) old new result
       ends_calling (Ok ends.Went) h = λ left. came_calling left _ (went left (made ++ call gave ∷ []) asking old new (answered s f d gave) h)
       ends_calling (Ok ends.Stopped) h = λ left. came_calling left _ (stopped left (made ++ call gave ∷ []) asking old new (answered s f d gave) h)
       ends_calling (Ok ends.WantsCall) h = never_wants asking (answered s f d gave) old.shared.globals new h
@@ -119,7 +141,14 @@ module _ (s : StoryTree) (b : Bound) (marked : Bool) (made : List Made) (n : ℕ
         kept_globals asking old.shared.globals new g (answered s f d gave) h,
         elim (faulted (made ++ call gave ∷ []) asking old new g (answered s f d gave) h) [
           | inl faults ↦ inl (λ left. came_calling left _ (faults left))
-          | inr short ↦ inr (short.0, elim (either marked (answered_asks s arguments f d gave) short.1) [ inl asked ↦ inl (inr (by gave refl asked)) | inr is_marked ↦ inr is_marked ])
+          | inr short ↦
+              inr (
+                short.0,
+                elim (either by_mark (answered_asks s arguments f d gave) short.1) [
+                  | inl asked ↦ inl (inr (by gave refl asked))
+                  | inr pressing ↦ inr (elim (taken_or (takes_first s old) marked pressed pressing) [ inl takes ↦ absurd (takes_calls s b old name arguments f d takes.0 is) | inr so ↦ inr so ])
+                ],
+              )
         ],
       )
         where
@@ -129,25 +158,25 @@ module _ (s : StoryTree) (b : Bound) (marked : Bool) (made : List Made) (n : ℕ
           by None at h = absurd (cc)
           by (Some given) at h = (name, arguments, given, f, d, is, ap (λ o. call o ∷ []) at, h)
 
-    did_calling : (result : Result StepEnd Fault) → ((gave : Option Given) × (b name ≡ Some turn_function) × (es ≡ calls n (call gave ∷ [])) × StepEnds (marked || answered_asks s arguments f d gave) (answered s f d gave) old.shared.globals new result)
-        ⊎ ((es ≡ []) × (result ≡ Err OutOfMemory) × ((marked || asks s b old) ≡ true) × (new.shared.globals ≡ old.shared.globals)) → Did s b marked made n es old new result
+    did_calling : (result : Result StepEnd Fault) → ((gave : Option Given) × (b name ≡ Some turn_function) × (es ≡ calls n (call gave ∷ [])) × StepEnds (by_mark || answered_asks s arguments f d gave) (answered s f d gave) old.shared.globals new result)
+        ⊎ ((es ≡ []) × (result ≡ Err OutOfMemory) × ((by_mark || asks s b old) ≡ true) × (new.shared.globals ≡ old.shared.globals)) → Did s b marked pressed made n es old new result
     did_calling result h = elim h [
       | inl called ↦ record { more = call called.0 ∷ []; events = called.2; bound = (called.1, tt); ends = ends_calling called.0 result called.3 }
-      | inr short ↦ subst (Did s b marked made n es old new) (sym short.1) (record { more = []; events = short.0; bound = tt; ends = (short.3, inr (refl, elim (either marked (asks s b old) short.2) [ inl asking ↦ inl (inl (refl, asking)) | inr is_marked ↦ inr is_marked ])) })
+      | inr short ↦ subst (Did s b marked pressed made n es old new) (sym short.1) (record { more = []; events = short.0; bound = tt; ends = (short.3, inr (refl, short_plainly short.2)) })
     ]
 
   -- ---- a step in a run
 
-  did_so : (result : Result StepEnd Fault) (o : Stepped) → step s b old ≡ o → StepMakes s b n marked (asks s b old) o es old.shared.globals new result → Did s b marked made n es old new result
+  did_so : (result : Result StepEnd Fault) (o : Stepped) → step s b old ≡ o → StepMakes s b n by_mark (asks s b old) o es old.shared.globals new result → Did s b marked pressed made n es old new result
   did_so result (Comes o) is h = did_plainly o is result h
   did_so result (Wants name arguments f d) is h = did_calling name arguments f d is result h
 
-  pub did : (result : Result StepEnd Fault) → StepMakes s b n marked (asks s b old) (step s b old) es old.shared.globals new result → Did s b marked made n es old new result
+  pub did : (result : Result StepEnd Fault) → StepMakes s b n by_mark (asks s b old) (step s b old) es old.shared.globals new result → Did s b marked pressed made n es old new result
   did result h = did_so result (step s b old) refl h
 
 -- ---- from moment to moment
 
-module _ (s : StoryTree) (b : Bound) (marked : Bool) (start : Configuration) where
+module _ (s : StoryTree) (b : Bound) (start : Configuration) where
   -- after n steps the run has come here, with these calls made, whatever answers are left
   abbrev pub GotTo : ℕ → Configuration → List Made → Type 0
   GotTo n now made = (left : List (Option Given)) → moment s b start (answers_of made ++ left) n ≡ At now left made
@@ -187,18 +216,18 @@ module _ (s : StoryTree) (b : Bound) (marked : Bool) (start : Configuration) whe
   alone : (made : List Made) (n : ℕ) → moment s b start (answers_of made) n ≡ moment s b start (answers_of made ++ []) n
   alone made n = ap (λ answers. moment s b start answers n) (sym (append-nil (answers_of made)))
 
-  pub run_went : (n : ℕ) (old new : Configuration) (made more : List Made) → GotTo n old made → Ends s b marked made more old new (Ok ends.Went) → GotTo (n + 1) new (made ++ more)
-  run_went n old new made more h so = λ left. one_more n old made more left (At new left (made ++ more)) h (so left)
+  pub run_went : (marked pressed : Bool) (n : ℕ) (old new : Configuration) (made more : List Made) → GotTo n old made → Ends s b marked pressed made more old new (Ok ends.Went) → GotTo (n + 1) new (made ++ more)
+  run_went marked pressed n old new made more h so = λ left. one_more n old made more left (At new left (made ++ more)) h (so left)
 
-  pub run_stopped : (n k : ℕ) (old new : Configuration) (made more : List Made) → n < k → GotTo n old made → Ends s b marked made more old new (Ok ends.Stopped)
+  pub run_stopped : (marked pressed : Bool) (n k : ℕ) (old new : Configuration) (made more : List Made) → n < k → GotTo n old made → Ends s b marked pressed made more old new (Ok ends.Stopped)
       → moment s b start (answers_of (made ++ more)) k ≡ Stopped new [] (made ++ more)
-  run_stopped n k old new made more below h so =
+  run_stopped marked pressed n k old new made more below h so =
       alone (made ++ more) k ∙ stays_to (answers_of (made ++ more) ++ []) (n + 1) k (Stopped new [] (made ++ more)) refl (omega arith)
       (one_more n old made more [] (Stopped new [] (made ++ more)) h (so []))
 
-  pub run_faulted : (n : ℕ) (old new : Configuration) (made more : List Made) (f : Fault) → n < MAX_STEPS → GotTo n old made → Ends s b marked made more old new (Err f)
-      → RunFalls s b marked start (made ++ more) new.shared.globals f
-  run_faulted n old new made more f below h so = record {
+  pub run_faulted : (marked pressed : Bool) (n : ℕ) (old new : Configuration) (made more : List Made) (f : Fault) → n < MAX_STEPS → GotTo n old made → Ends s b marked pressed made more old new (Err f)
+      → RunFalls s b marked pressed start (made ++ more) new.shared.globals f
+  run_faulted marked pressed n old new made more f below h so = record {
     before = old;
     kept = so.0;
     why = elim so.1 [
@@ -208,7 +237,14 @@ module _ (s : StoryTree) (b : Bound) (marked : Bool) (start : Configuration) whe
       | inr short ↦ inr (
         short.0,
         elim short.1 [
-          | inr is_marked ↦ inr is_marked
+          | inr by ↦ inr (elim by [
+            | inl takes ↦ inl (
+              subst (λ all. TakesAt s b start all old) (ap (λ more. made ++ more) (sym takes.0))
+                  (subst (λ all. TakesAt s b start all old) (sym (append-nil made)) (record { steps = n; within = below; got_there = alone made n ∙ h []; takes = takes.1 })),
+              takes.2,
+            )
+            | inr pressing ↦ inr pressing
+          ])
           | inl asked ↦ inl (elim asked [
             | inl before ↦ inl (subst (λ all. GetsTo s b start all old) (ap (λ more. made ++ more) (sym before.0))
                 (subst (λ all. GetsTo s b start all old) (sym (append-nil made)) (record { steps = n; within = below; got_there = alone made n ∙ h []; asking = before.1 })))
@@ -233,8 +269,8 @@ module _ (s : StoryTree) (b : Bound) (marked : Bool) (start : Configuration) whe
   }
 
   -- the run needs one more step than it may take
-  pub run_out : (n : ℕ) (now : Configuration) (made : List Made) → MAX_STEPS ≡ n → GotTo n now made → RunFalls s b marked start made now.shared.globals OutOfSteps
-  run_out n now made e h = record {
+  pub run_out : (marked pressed : Bool) (n : ℕ) (now : Configuration) (made : List Made) → MAX_STEPS ≡ n → GotTo n now made → RunFalls s b marked pressed start made now.shared.globals OutOfSteps
+  run_out marked pressed n now made e h = record {
     before = now;
     kept = refl;
     why = inl (ap (λ k. cut_off (moment s b start (answers_of made) k)) e ∙ ap cut_off (alone made n ∙ h []));

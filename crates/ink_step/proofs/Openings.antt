@@ -1,5 +1,5 @@
 -- Opening a story, from the run of its declarations.
-use Rattle.std.proofs.Common.{◌≡◌, ◌∙◌, ◌⊎◌, ◌++◌, ◌∷◌, ap, sym, refl, subst, inl, inr, Bool, true, false, List, [], Option, Some, None, option_map, Result, Ok, Err}
+use Rattle.std.proofs.Common.{◌≡◌, ◌∙◌, ◌⊎◌, ◌++◌, ◌∷◌, ap, sym, refl, subst, inl, inr, Bool, true, false, true≢false, List, [], Option, Some, None, option_map, Result, Ok, Err}
 use Rattle.ink_model.specs.Tree.{StoryTree}
 use Rattle.ink_model.specs.Place.{landed}
 use Rattle.ink_model.specs.Configuration.{Configuration, fresh_at, start, begun, with_globals}
@@ -11,7 +11,7 @@ use Rattle.ink_model.specs.declared.limits.TheConstants.{MAX_STEPS}
 use Rattle.ink_model.specs.Opening.{declarations, declaring, opening, opened_by, opened_from}
 use Rattle.ink_model.specs.declared.fault.Fault.{Fault}
 use Rattle.ink_model.specs.declared.place.Part.{Part}
-use Rattle.ink_step.specs.Runs.{AreBound, RunFalls, RunsToStop}
+use Rattle.ink_step.specs.Runs.{AreBound, RunFalls, RunsToStop, TakesAt}
 use Rattle.ink_step.specs.Steps.{FailsToOpen}
 
 -- a machine at a place where nothing has happened yet, without globals
@@ -35,11 +35,12 @@ never_bound : (made : List Made) → AreBound nothing_bound made → made ≡ []
 never_bound [] h = refl
 never_bound (m ∷ made) h = let none = h.0 in absurd (cc)
 
-pub runs_alone : (s : StoryTree) (b : Bound) (marked : Bool) (old new : Configuration) (made : List Made) (result : Result (Unit {0}) Fault) → b ≡ nothing_bound → marked ≡ false
-    → RunsToStop s b marked old made new result → AreBound b made → RunsToStop s nothing_bound false old [] new result
-runs_alone s b marked old new made result none unmarked runs bound =
-    subst (λ made. RunsToStop s nothing_bound false old made new result) (never_bound made (subst (λ b. AreBound b made) none bound))
-    (subst (λ b. RunsToStop s b false old made new result) none (subst (λ m. RunsToStop s b m old made new result) unmarked runs))
+pub runs_alone : (s : StoryTree) (b : Bound) (marked pressed : Bool) (old new : Configuration) (made : List Made) (result : Result (Unit {0}) Fault) → b ≡ nothing_bound → marked ≡ false → pressed ≡ false
+    → RunsToStop s b marked pressed old made new result → AreBound b made → RunsToStop s nothing_bound false false old [] new result
+runs_alone s b marked pressed old new made result none unmarked free runs bound =
+    subst (λ made. RunsToStop s nothing_bound false false old made new result) (never_bound made (subst (λ b. AreBound b made) none bound))
+    (subst (λ b. RunsToStop s b false false old made new result) none
+    (subst (λ p. RunsToStop s b false p old made new result) free (subst (λ m. RunsToStop s b m pressed old made new result) unmarked runs)))
 
 module _ (s : StoryTree) (found : Option (List Part)) (is : found ≡ option_map (landed s) (declarations s)) where
   begins_at : declaring s ≡ option_map fresh_at found
@@ -50,9 +51,9 @@ module _ (s : StoryTree) (found : Option (List Part)) (is : found ≡ option_map
   opens_plainly c globals none starts empty =
       ap (opened_from s) (begins_at ∙ ap (option_map fresh_at) none) ∙ ap Ok (sym (starts ∙ ap (start s) empty))
 
-  never_calls : (start reached : Configuration) → (GetsTo s nothing_bound start [] reached ⊎ CallsAt s nothing_bound start [] reached) ⊎ (false ≡ true) → GetsTo s nothing_bound start [] reached
+  never_calls : (start reached : Configuration) → (GetsTo s nothing_bound start [] reached ⊎ CallsAt s nothing_bound start [] reached) ⊎ ((TakesAt s nothing_bound start [] reached × (false ≡ true)) ⊎ (false ≡ true)) → GetsTo s nothing_bound start [] reached
   never_calls start reached (inl there) = elim there [ inl at ↦ at | inr calling ↦ absurd (not_last calling.before _ calling.calls) ]
-  never_calls start reached (inr is_marked) = absurd (cc)
+  never_calls start reached (inr by) = elim by [ inl takes ↦ absurd (true≢false (sym takes.1)) | inr pressing ↦ absurd (true≢false (sym pressing)) ]
 
   module _ (q : List Part) (begin : Configuration) (some : found ≡ Some q) (begins : begin ≡ begun (fresh_at q)) where
     first : declaring s ≡ Some (fresh_at q)
@@ -67,7 +68,7 @@ module _ (s : StoryTree) (found : Option (List Part)) (is : found ≡ option_map
     unfolding opening
     opens stop c stops starts = by_run _ (ap cut_off stops) ∙ ap Ok (sym starts)
 
-    pub fails : (globals : Values) (f : Fault) → RunFalls s nothing_bound false begin [] globals f → FailsToOpen s f globals
+    pub fails : (globals : Values) (f : Fault) → RunFalls s nothing_bound false false begin [] globals f → FailsToOpen s f globals
     unfolding opening
     fails globals f h = elim h.why [
       | inl faults ↦ inl (by_run _ faults ∙ ap (λ vs. Err (record { fault = f; globals = vs })) (sym h.kept))

@@ -237,15 +237,18 @@ module _ (s : StoryTree) (turn : ℕ) (p : List Part) (all more : List (List Par
 
 -- ---- where a mark stands
 
--- all can be noted where no mark stands
-few_marked : (v : CountsView) (o : Option (CountsOf ℕ)) → counts_stood v ≡ o → counts_spare v < 2 → is_some (counts_stood v) ≡ true
-few_marked v (Some c) is few = ap is_some is
-few_marked v None is few = absurd (let free : 2 ^ 64 ≤ counts_spare v = counts_free v is in omega arith)
+-- where there is room for the notes, a visit lacks memory for a row
+pub lacks_row : (A B : Type 0) (v : CountsView) → (A → B) → 2 ≤ counts_spare v → A ⊎ (counts_spare v < 2) → B
+lacks_row A B v on room (inl h) = on h
+lacks_row A B v on room (inr few) = absurd (omega arith)
 
--- a visit lacks memory for a row, or for its notes where a mark stands
-pub lacks_marked : (A B : Type 0) (v : CountsView) → (A → B) → A ⊎ (counts_spare v < 2) → B ⊎ (is_some (counts_stood v) ≡ true)
-lacks_marked A B v on (inl h) = inl (on h)
-lacks_marked A B v on (inr few) = inr (few_marked v (counts_stood v) refl few)
+-- there is room for a visit where there is room for more, or no mark stands
+pub has_room : (v : CountsView) (n m : ℕ) → n ≡ suc m → (is_some (counts_stood v) ≡ true → 4 * n ≤ counts_spare v) → 2 ≤ counts_spare v
+has_room v n m is room = by (counts_stood v) refl
+  where
+    by : (o : Option (CountsOf ℕ)) → counts_stood v ≡ o → 2 ≤ counts_spare v
+    by (Some c) stood = let enough : 4 * n ≤ counts_spare v = room (ap is_some stood) in omega arith
+    by None stood = let free : 2 ^ 64 ≤ counts_spare v = counts_free v stood in omega arith
 
 -- after a visit and others, as many as there was room for, there is room to take it back
 pub room_back : (old mid new : CountsView) (n m : ℕ) → (is_some (counts_stood old) ≡ true → 4 * n ≤ counts_spare old) → n ≡ suc m → counts_spare old ≤ counts_spare mid + 2
@@ -255,9 +258,3 @@ room_back old mid new n m room is visit others mark = by (counts_stood old) refl
     by : (o : Option (CountsOf ℕ)) → counts_stood old ≡ o → 2 ≤ counts_spare new
     by (Some c) stood = let enough : 4 * n ≤ counts_spare old = room (ap is_some stood) in omega arith
     by None stood = let free : 2 ^ 64 ≤ counts_spare new = counts_free new (mark ∙ stood) in omega arith
-
--- what was lacking, of the same containers and counts
-pub lacks_same : (s : StoryTree) (ps qs : List (List Part)) (v w : CountsView) → ps ≡ qs → v.rows ≡ w.rows → counts_stood v ≡ counts_stood w
-    → (adds_rows s ps (counts_in s v.rows) ≡ true) ⊎ (is_some (counts_stood v) ≡ true) → (adds_rows s qs (counts_in s w.rows) ≡ true) ⊎ (is_some (counts_stood w) ≡ true)
-lacks_same s ps qs v w places rows mark (inl adds) = inl (ap (adds_rows s qs) (ap (counts_in s) (sym rows)) ∙ ap (λ xs. adds_rows s xs (counts_in s v.rows)) (sym places) ∙ adds)
-lacks_same s ps qs v w places rows mark (inr marked) = inr (ap is_some (sym mark) ∙ marked)

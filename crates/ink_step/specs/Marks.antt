@@ -1,26 +1,31 @@
 -- What a mark keeps of a machine: each part of its configuration as it stood there, none where no mark stands.
-use Rattle.std.specs.Prelude.{ℕ, ◌+◌, ◌-◌, ◌^◌, min, List, length, map, Bool, true, false, ◌||◌, Option, None, Some, is_some, unwrap_or}
-use Rattle.ink_choice.specs.Undo.{choices_stood}
-use Rattle.ink_model.specs.Configuration.{ChoiceOf, Configuration, map_choice}
+use Rattle.std.specs.Prelude.{ℕ, ◌+◌, ◌-◌, ◌*◌, ◌^◌, min, nat_lt, List, length, map, Bool, true, false, ◌&&◌, ◌||◌, Option, None, Some, is_some, option_and_then, unwrap_or}
+use Rattle.ink_choice.specs.Undo.{choices_spare, choices_stood}
+use Rattle.ink_model.specs.Choices.{only_invisible}
+use Rattle.ink_model.specs.Configuration.{ChoiceOf, Configuration, current_place, map_choice}
 use Rattle.ink_model.specs.Counts.{CountsOf}
 use Rattle.ink_model.specs.Frames.{ThreadsOf, map_threads}
 use Rattle.ink_model.specs.Page.{Page}
+use Rattle.ink_model.specs.Place.{entered}
 use Rattle.ink_model.specs.Store.{Values}
+use Rattle.ink_model.specs.Threads.{frame_count}
+use Rattle.ink_model.specs.Visits.{around}
 use Rattle.ink_model.specs.declared.content.Leaf.{Leaf}
 use Rattle.ink_model.specs.declared.content.Leaf.TheVariants as leaves
 use Rattle.ink_model.specs.declared.value.Value.{Value}
 use Rattle.ink_out.specs.Undo.{output_stood}
-use Rattle.ink_stack.specs.Undo.{threads_stood}
+use Rattle.ink_stack.specs.Undo.{threads_spare, threads_stood}
 use Rattle.ink_step.specs.declared.machine.Machine.{Machine}
 use Rattle.ink_step.specs.declared.own.OwnPair.{OwnPair}
 use Rattle.ink_step.specs.declared.own.OwnPair.TheVariants.{Safe, Turned}
-use Rattle.ink_model.specs.Tree.{StoryTree}
-use Rattle.ink_step.specs.Words.{counts_in}
+use Rattle.ink_step.specs.declared.step.TheConstants.{STEPPING}
+use Rattle.ink_model.specs.Tree.{StoryTree, leaf, at}
+use Rattle.ink_step.specs.Words.{config_of, counts_in}
 use Rattle.ink_trail.specs.Undo.{KeepsTrail, TrailView, spare, stood_at, trail_of, writes_of}
 use Rattle.ink_tree.specs.Nodes.{place_of}
 use Rattle.ink_tree.specs.declared.spot.Spot.{Spot}
-use Rattle.ink_value.specs.Undo.{stack_stood}
-use Rattle.ink_vars.specs.Undo.{counts_stood, globals_stood}
+use Rattle.ink_value.specs.Undo.{stack_spare, stack_stood}
+use Rattle.ink_vars.specs.Undo.{counts_spare, counts_stood, globals_stood}
 
 -- ---- a machine's own fields
 
@@ -81,6 +86,61 @@ takes_value (leaves.DeclareTemp name) = true
 takes_value (leaves.Assign name) = true
 takes_value (leaves.AssignTemp name) = true
 takes_value l = false
+
+-- what stands at a place is such a content
+abbrev pub takes_there : Option StoryTree → Bool
+takes_there (Some (leaf l)) = takes_value l
+takes_there o = false
+
+-- the first content of the step at a configuration is one
+unfoldable pub takes_first : StoryTree → Configuration → Bool
+takes_first s c = takes_there (option_and_then (λ p. at s (entered s p)) (current_place c))
+
+-- ---- what notes want
+
+-- a mark stands in a part, and fewer than n changes of it can be noted without memory
+abbrev pub lacks : {A : Type 0} → Option A → ℕ → ℕ → Bool
+lacks stood spare n = is_some stood && nat_lt spare n
+
+abbrev pub threads_lack : ℕ → Machine → Bool
+threads_lack n m = lacks (threads_stood m.flow.threads) (threads_spare m.flow.threads) n
+
+abbrev pub stack_lacks : ℕ → Machine → Bool
+stack_lacks n m = lacks (stack_stood m.flow.stack) (stack_spare m.flow.stack) n
+
+abbrev pub choices_lack : ℕ → Machine → Bool
+choices_lack n m = lacks (choices_stood m.flow.choices) (choices_spare m.flow.choices) n
+
+abbrev pub counts_lack : ℕ → Machine → Bool
+counts_lack n m = lacks (counts_stood m.shared.counts) (counts_spare m.shared.counts) n
+
+abbrev pub own_lacks : ℕ → Machine → Bool
+own_lacks n m = lacks (own_stood m.trail m.shared.turn m.flow.safe) (own_spare m.trail) n
+
+-- where flow has landed: the containers around are entered, which is two changes of counts each, and may be taken back
+abbrev pub landing_lacks : StoryTree → Machine → Bool
+landing_lacks s m = counts_lack (4 * length (around s (map_threads (place_of s) m.flow.threads.threads))) m
+
+-- A machine as a step leaves it to which memory was refused because a mark stands: a part where the mark stands has less room
+-- than the step wants there for its notes; or all choices are invisible, the first of which flow takes, and so copies, where it
+-- stops.
+unfoldable pub pressed : StoryTree → Machine → Bool
+pressed s m =
+    threads_lack (frame_count m.flow.threads.threads.thread + STEPPING) m
+    || (stack_lacks (length m.flow.stack.items + 2) m
+    || (choices_lack 1 m
+    || (own_lacks 2 m
+    || (counts_lack 2 m
+    || (landing_lacks s m
+    || (is_some (choices_stood m.flow.choices) && only_invisible m.flow.choices.items))))))
+
+-- the same of the whole step from one machine to another, which takes a copy of a value where the stack keeps a mark
+abbrev pub presses : StoryTree → Machine → Machine → Bool
+presses s old new = (takes_first s (config_of s old) && is_some (stack_stood old.flow.stack)) || pressed s new
+
+-- a turn begins, from a machine, for which so many containers are entered
+abbrev pub turn_lacks : ℕ → Machine → Bool
+turn_lacks n m = threads_lack 2 m || (choices_lack 2 m || (own_lacks 2 m || counts_lack (4 * n) m))
 
 -- ---- going back
 

@@ -1,30 +1,41 @@
 -- How runs of steps end, with the calls that they made.
-use Rattle.std.specs.Prelude.{◌≡◌, ◌⊎◌, List, [], Bool, true, Some, Result, Ok, Err}
+use Rattle.std.specs.Prelude.{◌≡◌, ◌<◌, ◌⊎◌, ℕ, List, [], Bool, true, Some, Result, Ok, Err}
 use Rattle.std.specs.List.{AllByRecursion}
 use Rattle.ink_model.specs.Configuration.{Configuration}
 use Rattle.ink_model.specs.Host.{Bound, turn_function}
 use Rattle.ink_model.specs.Memory.{CallsAt, GetsTo}
 use Rattle.ink_model.specs.Run as run
-use Rattle.ink_model.specs.Run.{Faulted, Made, answers_of, cut_off, moment}
+use Rattle.ink_model.specs.Run.{At, Faulted, Made, answers_of, cut_off, moment}
 use Rattle.ink_model.specs.Store.{Values}
 use Rattle.ink_model.specs.Tree.{StoryTree}
 use Rattle.ink_model.specs.declared.fault.Fault.{Fault}
 use Rattle.ink_model.specs.declared.fault.Fault.TheVariants.{OutOfMemory}
 use Rattle.ink_model.specs.declared.limits.TheConstants.{MAX_STEPS}
+use Rattle.ink_step.specs.Marks.{takes_first}
 
 -- what is called is bound to a turn function
 abbrev pub AreBound : Bound → List Made → Type 0
 AreBound b made = AllByRecursion (λ m. b m.name ≡ Some turn_function) made
 
+-- A run got to a configuration whose step takes a value off the stack, of which it takes a copy while a mark stands, within the
+-- steps of a command.
+pub record TakesAt (s : StoryTree) (b : Bound) (c : Configuration) (made : List Made) (reached : Configuration) : Type 0 where
+  pub steps : ℕ
+  pub within : steps < MAX_STEPS
+  pub got_there : moment s b c (answers_of made) steps ≡ At reached [] made
+  pub takes : takes_first s reached ≡ true
+
 -- A run, with these calls made, ended with a fault, or memory was refused to a step that asks for it, or for what came of its
--- last call, at a configuration with these globals. While a mark stands any step may be refused memory.
-pub record RunFalls (s : StoryTree) (b : Bound) (marked : Bool) (start : Configuration) (made : List Made) (globals : Values) (f : Fault) : Type 0 where
+-- last call, at a configuration with these globals. Where the stack keeps a mark memory may be refused for the copy of a value,
+-- and where the machine is pressed by a mark, for that.
+pub record RunFalls (s : StoryTree) (b : Bound) (marked pressed : Bool) (start : Configuration) (made : List Made) (globals : Values) (f : Fault) : Type 0 where
   pub before : Configuration
   pub kept : globals ≡ before.shared.globals
   pub why : (cut_off (moment s b start (answers_of made) MAX_STEPS) ≡ Faulted f before [] made)
-      ⊎ ((f ≡ OutOfMemory) × ((GetsTo s b start made before ⊎ CallsAt s b start made before) ⊎ (marked ≡ true)))
+      ⊎ ((f ≡ OutOfMemory)
+      × ((GetsTo s b start made before ⊎ CallsAt s b start made before) ⊎ ((TakesAt s b start made before × (marked ≡ true)) ⊎ (pressed ≡ true))))
 
 -- A run, with these calls made, to its stop, with what it leaves, or to a fault, with the globals that it leaves.
-abbrev pub RunsToStop : StoryTree → Bound → Bool → Configuration → List Made → Configuration → Result (Unit {0}) Fault → Type 0
-RunsToStop s b marked old made new (Ok u) = moment s b old (answers_of made) MAX_STEPS ≡ run.Stopped new [] made
-RunsToStop s b marked old made new (Err f) = RunFalls s b marked old made new.shared.globals f
+abbrev pub RunsToStop : StoryTree → Bound → Bool → Bool → Configuration → List Made → Configuration → Result (Unit {0}) Fault → Type 0
+RunsToStop s b marked pressed old made new (Ok u) = moment s b old (answers_of made) MAX_STEPS ≡ run.Stopped new [] made
+RunsToStop s b marked pressed old made new (Err f) = RunFalls s b marked pressed old made new.shared.globals f

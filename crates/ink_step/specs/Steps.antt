@@ -48,19 +48,20 @@ ended (Ok true) = Ok ends.Went
 ended (Ok false) = Ok ends.Stopped
 ended (Err f) = Err f
 
--- The same of a step that may call turn functions. While a mark stands it may ask for memory at any place. Where it wants one, the name is bound to one, which was called once,
--- and the step ends as with what it gave; or memory was refused before that, and nothing was called. The events of the step
--- count on from a stamp.
+-- The same of a step that may call turn functions. It may also end with OutOfMemory where it is pressed: where a mark stands,
+-- for which memory was refused. Where it wants a call, the name is bound to a turn function, which was called once, and the step
+-- ends as with what it gave; or memory was refused before that, and nothing was called. The events of the step count on from a
+-- stamp.
 abbrev pub StepMakes : StoryTree → Bound → ℕ → Bool → Bool → Stepped → List Event → Values → Configuration → Result StepEnd Fault → Type 0
-StepMakes s b n marked asks (Wants name arguments f d) es globals new result =
-    ((gave : Option Given) × (b name ≡ Some turn_function) × (es ≡ calls n (made_call name arguments gave ∷ [])) × StepEnds (marked || answered_asks s arguments f d gave) (answered s f d gave) globals new result)
-    ⊎ ((es ≡ []) × (result ≡ Err OutOfMemory) × ((marked || asks) ≡ true) × (new.shared.globals ≡ globals))
-StepMakes s b n marked asks (Comes outcome) es globals new result = (es ≡ []) × StepEnds (marked || asks) outcome globals new result
+StepMakes s b n pressed asks (Wants name arguments f d) es globals new result =
+    ((gave : Option Given) × (b name ≡ Some turn_function) × (es ≡ calls n (made_call name arguments gave ∷ [])) × StepEnds (pressed || answered_asks s arguments f d gave) (answered s f d gave) globals new result)
+    ⊎ ((es ≡ []) × (result ≡ Err OutOfMemory) × ((pressed || asks) ≡ true) × (new.shared.globals ≡ globals))
+StepMakes s b n pressed asks (Comes outcome) es globals new result = (es ≡ []) × StepEnds (pressed || asks) outcome globals new result
 
 -- A quiet step calls none: where it wants one, it says so and has changed nothing.
 abbrev pub Steps : Bool → StoryTree → Bound → ℕ → Bool → Bool → Stepped → List Event → Values → Configuration → Configuration → Result StepEnd Fault → Type 0
-Steps true s b n marked asks (Wants name arguments f d) es globals old new result = (result ≡ Ok ends.WantsCall) × (es ≡ []) × (new ≡ old)
-Steps quiet s b n marked asks stepped es globals old new result = StepMakes s b n marked asks stepped es globals new result
+Steps true s b n pressed asks (Wants name arguments f d) es globals old new result = (result ≡ Ok ends.WantsCall) × (es ≡ []) × (new ≡ old)
+Steps quiet s b n pressed asks stepped es globals old new result = StepMakes s b n pressed asks stepped es globals new result
 
 -- A step that wants no call ends so.
 abbrev pub EndsPlainly : Bool → Stepped → Values → Configuration → Result StepEnd Fault → Type 0
@@ -78,7 +79,7 @@ abbrev pub FailsToOpen : StoryTree → Fault → Values → Type 0
 FailsToOpen s f globals = (opening s ≡ Err (record { fault = f; globals = globals })) ⊎ ((f ≡ OutOfMemory) × OpensShort s)
 
 -- A choice is taken, with the containers that its landing enters; or there is none, or memory is refused for a first visit, and
--- nothing has changed.
+-- nothing has changed. While a mark stands a copy of the choice is taken, for which memory may be refused too.
 abbrev pub Chooses : StoryTree → Bool → Option (ChoiceOf (List Part)) → Configuration → Configuration → Result (Unit {0}) Refusal → Type 0
 Chooses s marked None old new (Ok u) = ⊥
 Chooses s marked None old new (Err r) = (r ≡ refusal.NotAChoice) × (new ≡ old)

@@ -2,13 +2,13 @@
 
 ghost use Rattle.ink_stack.specs.Undo.{threads_spare};
 ghost use Rattle.ink_choice.specs.Undo.{choices_spare, choices_stood};
-ghost use Rattle.std.specs.Prelude.{◌≡◌, is_some, false, Some, true, MatchOption, OnErr, OnOk, ◌≤◌, ◌||◌, IfErr, IfOk};
+ghost use Rattle.std.specs.Prelude.{◌≡◌, is_some, false, Some, true, MatchOption, OnErr, OnOk, ◌≤◌, ◌||◌, IfErr, IfOk, length};
 ghost use Rattle.ink_check.specs.Words.{story_tree};
 ghost use Rattle.ink_model.specs.Choosing.{default_asks, default_choice, jumped, open_choice, stopped_by, taken_up};
 ghost use Rattle.ink_model.specs.Configuration.{map_choice};
 ghost use Rattle.ink_model.specs.Tree.{StoryTree};
-ghost use Rattle.ink_model.specs.Visits.{entering_around, entering_asks};
-ghost use Rattle.ink_step.specs.Marks.{marked_in, stood_of, own_spare};
+ghost use Rattle.ink_model.specs.Visits.{around, entering_around, entering_asks};
+ghost use Rattle.ink_step.specs.Marks.{choices_lack, marked_in, own_lacks, own_spare, pressed, stood_of, threads_lack, turn_lacks};
 ghost use Rattle.ink_step.specs.Steps.{Chooses, StepEnds};
 ghost use Rattle.ink_step.specs.Words.{config_of, start_of};
 ghost use Rattle.ink_tree.specs.Nodes.{place_of};
@@ -16,6 +16,7 @@ ghost use Rattle.ink_tree.specs.Nodes.{place_of};
 use crate::counting::enter_landed;
 use crate::flow::StepEnd;
 use crate::machine::Machine;
+use crate::noting::{ready_choices, ready_threads};
 use ink_check::Story;
 use ink_choice::Choice;
 use ink_model::{Fault, Refusal};
@@ -30,7 +31,7 @@ impl Machine {
     pub(crate) fn follow_default(&mut self, story: &Story) -> Result<StepEnd, Fault>
         requires room { 2 ≤ threads_spare self.old.flow.threads }
         ensures ends { let s = story_tree story.now in let c = config_of s self.old in let choice = default_choice c.flow.choices in
-            StepEnds (marked_in (stood_of self.old) || default_asks s choice c) (stopped_by s choice c) self.old.shared.globals.rows (config_of s self.new) result }
+            StepEnds (pressed s self.new || default_asks s choice c) (stopped_by s choice c) self.old.shared.globals.rows (config_of s self.new) result }
         ensures globals { self.new.shared.globals.rows ≡ self.old.shared.globals.rows }
         ensures start { start_of self.new ≡ start_of self.old }
         ensures mark { stood_of self.new ≡ stood_of self.old }
@@ -40,7 +41,7 @@ impl Machine {
         }
         match self.flow.choices.take(0)? {
             Some(choice) => {
-                self.flow.choices.ready(1)?;
+                ready_choices(&mut self.flow.choices, 1)?;
                 self.take_up(choice);
                 match self.enter_around(story.tree(), true) {
                     Ok(()) => Ok(StepEnd::Went),
@@ -128,7 +129,7 @@ impl Machine {
     fn copied_choice(&self, choice: &Choice<Spot>) -> Result<Option<Choice<Spot>>, Refusal>
         ensures copy { IfOk result (λ copied. MatchOption copied (is_some (choices_stood self.now.flow.choices) ≡ false) (λ copy. copy ≡ choice.now)) }
         ensures fault { IfErr result (λ r. r ≡ Refusal.OutOfMemory) }
-        ensures memory { OnErr result (marked_in (stood_of self.now) ≡ true) }
+        ensures memory { OnErr result (is_some (choices_stood self.now.flow.choices) ≡ true) }
     {
         if !self.flow.choices.is_marked() {
             return Ok(None);
@@ -149,10 +150,10 @@ impl Machine {
         ensures choices { OnOk result (2 ≤ choices_spare self.new.flow.choices) }
         ensures own { OnOk result (2 ≤ own_spare self.new.trail) }
         ensures fault { IfErr result (λ r. r ≡ Refusal.OutOfMemory) }
-        ensures memory { OnErr result (marked_in (stood_of self.old) ≡ true) }
+        ensures memory { OnErr result (threads_lack 2 self.new || (choices_lack 2 self.new || own_lacks 2 self.new) ≡ true) }
     {
-        if self.flow.threads.ready(2).is_err()
-            || self.flow.choices.ready(2).is_err()
+        if ready_threads(&mut self.flow.threads, 2).is_err()
+            || ready_choices(&mut self.flow.choices, 2).is_err()
             || self.make_own_room().is_err()
         {
             return Err(Refusal::OutOfMemory);
@@ -166,7 +167,8 @@ impl Machine {
     pub fn jump(&mut self, story: &Story, place: Spot) -> Result<(), AllocError>
         ensures ok { let s = story_tree story.now in OnOk result (config_of s self.new ≡ entering_around s (jumped (place_of s place) (config_of s self.old))) }
         ensures err { let s = story_tree story.now in OnErr result (config_of s self.new ≡ config_of s self.old) }
-        ensures memory { let s = story_tree story.now in OnErr result ((marked_in (stood_of self.old) || entering_asks s (jumped (place_of s place) (config_of s self.old))) ≡ true) }
+        ensures memory { let s = story_tree story.now in let there = jumped (place_of s place) (config_of s self.old) in
+            OnErr result ((turn_lacks (length (around s there.flow.threads)) self.new || entering_asks s there) ≡ true) }
         ensures mark { stood_of self.new ≡ stood_of self.old }
     {
         if self.make_choosing_room().is_err() {

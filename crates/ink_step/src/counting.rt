@@ -1,7 +1,7 @@
 //! Containers that are entered, and what that counts (docs/RUNNING.md, "Visits").
 
 ghost use Rattle.ink_vars.specs.Undo.{counts_spare, counts_stood};
-ghost use Rattle.std.specs.Prelude.{◌≡◌, ◌&&◌, true, IfOk, IfErr, OnOk, OnErr, option_map, if◌then◌else◌, ◌≤◌, ◌+◌, ◌*◌, ◌⊎◌, is_some, length, ◌||◌, IfSome};
+ghost use Rattle.std.specs.Prelude.{◌≡◌, ◌&&◌, true, IfOk, IfErr, OnOk, OnErr, option_map, if◌then◌else◌, ◌≤◌, ◌+◌, ◌*◌, ◌^◌, ◌⊎◌, is_some, length, ◌||◌, MatchOption};
 ghost use Rattle.ink_check.specs.Words as check;
 ghost use Rattle.ink_model.specs.Counts as rules;
 ghost use Rattle.ink_model.specs.Entered.{entered_places, flags_at, passed_places};
@@ -12,13 +12,14 @@ ghost use Rattle.ink_model.specs.Step.{gone_in};
 ghost use Rattle.ink_model.specs.Tree.{at};
 ghost use Rattle.ink_model.specs.Visits.{adds_rows, all_visited, around, entering_around};
 ghost use Rattle.ink_stack.specs.Undo.{threads_spare};
-ghost use Rattle.ink_step.specs.Marks.{marked_in, stood_of};
+ghost use Rattle.ink_step.specs.Marks.{counts_lack, lacks, landing_lacks, stood_of};
 ghost use Rattle.ink_step.specs.Words.{config_of, counts_in, start_of};
 ghost use Rattle.ink_tree.specs.Kept.{leaf_in};
 ghost use Rattle.ink_tree.specs.Nodes.{node_place, place_of, story_tree};
 ghost use Rattle.ink_tree.specs.Walks.{still_entered};
 
 use crate::machine::Machine;
+use crate::noting::ready_counts;
 use ink_check::Story;
 use ink_model::{Fault, Leaf};
 use ink_tree::{NodeId, Spot, Tree, Upward};
@@ -47,16 +48,17 @@ pub(crate) fn turns_since(
 }
 
 // A container is entered in a turn, as at its start. The one error is a refused request for memory, which is made only for a row
-// that is not there, and while a mark stands.
+// that is not there, and where a mark stands and there is no room for its notes.
 #[inline(never)]
 fn enter(tree: &Tree, counts: &mut Counts, container: NodeId, turn: Turn) -> Result<(), Fault>
     ensures ok { let s = story_tree tree.now in let q = node_place s container in
         OnOk result (counts_in s counts.new.rows ≡ rules.visited place_order q (flags_at (at s q)) true turn (counts_in s counts.old.rows)) }
     ensures fault { IfErr result (λ f. f ≡ Fault.OutOfMemory) }
     ensures memory { let s = story_tree tree.now in let q = node_place s container in
-        OnErr result ((rules.adds_row place_order q (flags_at (at s q)) (counts_in s counts.old.rows) ≡ true) ⊎ (is_some (counts_stood counts.old) ≡ true)) }
+        OnErr result ((rules.adds_row place_order q (flags_at (at s q)) (counts_in s counts.old.rows) ≡ true) ⊎ (lacks (counts_stood counts.new) (counts_spare counts.new) 2 ≡ true)) }
     ensures mark { counts_stood counts.new ≡ counts_stood counts.old }
 {
+    ready_counts(counts, 2)?;
     counts.visit(tree.number_of(container), tree.flags(container), true, turn)
 }
 
@@ -73,7 +75,7 @@ fn enter_passed<'a>(
     ensures found { let s = story_tree tree.now in IfOk result (λ r. option_map (λ l. l.now) r.1 ≡ leaf_in (at s (place_of s r.0))) }
     ensures ok { let s = story_tree tree.now in OnOk result (counts_in s counts.new.rows ≡ all_visited s turn (passed_places s (node_place s node)) (counts_in s counts.old.rows)) }
     ensures fault { IfErr result (λ f. f ≡ Fault.OutOfMemory) }
-    ensures memory { let s = story_tree tree.now in OnErr result ((adds_rows s (passed_places s (node_place s node)) (counts_in s counts.old.rows) ≡ true) ⊎ (is_some (counts_stood counts.old) ≡ true)) }
+    ensures memory { let s = story_tree tree.now in OnErr result ((adds_rows s (passed_places s (node_place s node)) (counts_in s counts.old.rows) ≡ true) ⊎ (lacks (counts_stood counts.new) (counts_spare counts.new) 2 ≡ true)) }
     ensures mark { counts_stood counts.new ≡ counts_stood counts.old }
 {
     let mut last = node;
@@ -93,7 +95,8 @@ fn enter_passed<'a>(
 }
 
 /// The containers around a place are entered in a turn where flow lands there from another place. The one error is a refused
-/// request for memory, which is made only for a row that is not there, and while a mark stands; nothing has changed then.
+/// request for memory, which is made only for a row that is not there, and where a mark stands and there is no room for the
+/// notes; nothing has changed then.
 #[inline(always)]
 pub(crate) fn enter_landed(
     tree: &Tree,
@@ -105,7 +108,8 @@ pub(crate) fn enter_landed(
     ensures ok { let s = story_tree tree.now in OnOk result (counts_in s counts.new.rows ≡ all_visited s turn (entered_places s (option_map (place_of s) previous) (place_of s place)) (counts_in s counts.old.rows)) }
     ensures fault { IfErr result (λ f. f ≡ Fault.OutOfMemory) }
     ensures kept { OnErr result (counts.new.rows ≡ counts.old.rows) }
-    ensures memory { let s = story_tree tree.now in OnErr result ((adds_rows s (entered_places s (option_map (place_of s) previous) (place_of s place)) (counts_in s counts.old.rows) ≡ true) ⊎ (is_some (counts_stood counts.old) ≡ true)) }
+    ensures memory { let s = story_tree tree.now in let ps = entered_places s (option_map (place_of s) previous) (place_of s place) in
+        OnErr result ((adds_rows s ps (counts_in s counts.old.rows) ≡ true) ⊎ (lacks (counts_stood counts.new) (counts_spare counts.new) (4 * length ps) ≡ true)) }
     ensures mark { counts_stood counts.new ≡ counts_stood counts.old }
 {
     let rest = tree.upward(place);
@@ -124,21 +128,25 @@ fn make_entering_room(
     previous: Option<Spot>,
     rest: Upward,
 ) -> Result<(), Fault>
+    requires marked { is_some (counts_stood counts.old) ≡ true }
     ensures rows { counts.new.rows ≡ counts.old.rows }
     ensures mark { counts_stood counts.new ≡ counts_stood counts.old }
     ensures fault { IfErr result (λ f. f ≡ Fault.OutOfMemory) }
     ensures ok { let s = story_tree tree.now in OnOk result (4 * length (still_entered s (option_map (place_of s) previous) rest) ≤ counts_spare counts.new) }
+    ensures memory { let s = story_tree tree.now in OnErr result (lacks (counts_stood counts.new) (counts_spare counts.new) (4 * length (still_entered s (option_map (place_of s) previous) rest)) ≡ true) }
 {
-    let Some(room) = entering_room(tree, previous, rest) else {
-        return Err(Fault::OutOfMemory);
-    };
-    counts.ready(room)?;
-    Ok(())
+    match entering_room(tree, previous, rest) {
+        Some(room) => ready_counts(counts, room),
+        None => {
+            let _room = counts.room();
+            Err(Fault::OutOfMemory)
+        }
+    }
 }
 
 // How many changes entering the containers of a walk upward makes, and taking that back; none for a number that no machine holds.
 fn entering_room(tree: &Tree, previous: Option<Spot>, rest: Upward) -> Option<usize>
-    ensures { let s = story_tree tree.now in IfSome result (λ room. room ≡ 4 * length (still_entered s (option_map (place_of s) previous) rest)) }
+    ensures { let s = story_tree tree.now in let n = 4 * length (still_entered s (option_map (place_of s) previous) rest) in MatchOption result (2 ^ 64 ≤ n) (λ room. room ≡ n) }
 {
     let Some(next) = tree.next_entered(previous, rest) else {
         return Some(0);
@@ -158,7 +166,7 @@ fn enter_all(
     ensures ok { let s = story_tree tree.now in OnOk result (counts_in s counts.new.rows ≡ all_visited s turn (still_entered s (option_map (place_of s) previous) rest) (counts_in s counts.old.rows)) }
     ensures fault { IfErr result (λ f. f ≡ Fault.OutOfMemory) }
     ensures kept { OnErr result (counts.new.rows ≡ counts.old.rows) }
-    ensures memory { let s = story_tree tree.now in OnErr result ((adds_rows s (still_entered s (option_map (place_of s) previous) rest) (counts_in s counts.old.rows) ≡ true) ⊎ (is_some (counts_stood counts.old) ≡ true)) }
+    ensures memory { let s = story_tree tree.now in OnErr result (adds_rows s (still_entered s (option_map (place_of s) previous) rest) (counts_in s counts.old.rows) ≡ true) }
     ensures mark { counts_stood counts.new ≡ counts_stood counts.old }
     ensures spare { let s = story_tree tree.now in counts_spare counts.old ≤ counts_spare counts.new + 4 * length (still_entered s (option_map (place_of s) previous) rest) }
 {
@@ -189,7 +197,8 @@ impl Machine {
 
     /// Flow goes down from its place to the first content that holds no other by index, and enters the containers on the way. And
     /// that content, none for an empty container, and where nothing stands there. The one error is a refused request for memory,
-    /// which is made only for a container that is entered for the first time, and while a mark stands.
+    /// which is made only for a container that is entered for the first time, and where a mark stands and there is no room for the
+    /// notes.
     #[inline(always)]
     pub(crate) fn go_in<'a>(
         &mut self,
@@ -201,7 +210,7 @@ impl Machine {
         ensures found { let s = story_tree tree.now in IfOk result (λ r. option_map (λ l. l.now) r.1 ≡ leaf_in (at s (place_of s r.0))) }
         ensures ok { let s = story_tree tree.now in OnOk result (config_of s self.new ≡ gone_in s (place_of s place) (config_of s self.old)) }
         ensures fault { IfErr result (λ f. f ≡ Fault.OutOfMemory) }
-        ensures memory { let s = story_tree tree.now in OnErr result ((marked_in (stood_of self.old) || going_in_asks s (place_of s place) (config_of s self.old)) ≡ true) }
+        ensures memory { let s = story_tree tree.now in OnErr result ((counts_lack 2 self.new || going_in_asks s (place_of s place) (config_of s self.old)) ≡ true) }
         ensures globals { self.new.shared.globals.rows ≡ self.old.shared.globals.rows }
         ensures start { start_of self.new ≡ start_of self.old }
         ensures stack { self.new.flow.stack ≡ self.old.flow.stack }
@@ -218,14 +227,14 @@ impl Machine {
     }
 
     /// Flow has landed: the containers around are entered, where the landing enters any. The one error is a refused request for
-    /// memory, which is made only for a container that is entered for the first time, and while a mark stands; nothing has
-    /// changed then.
+    /// memory, which is made only for a container that is entered for the first time, and where a mark stands and there is no room
+    /// for the notes; nothing has changed then.
     #[inline(always)]
     pub(crate) fn enter_around(&mut self, tree: &Tree, enters: bool) -> Result<(), Fault>
         ensures ok { let s = story_tree tree.now in OnOk result (config_of s self.new ≡ (if enters then entering_around s (config_of s self.old) else config_of s self.old)) }
         ensures fault { IfErr result (λ f. f ≡ Fault.OutOfMemory) }
         ensures memory { let s = story_tree tree.now in let c = config_of s self.old in
-            OnErr result ((marked_in (stood_of self.old) || (enters && adds_rows s (around s c.flow.threads) c.shared.counts)) ≡ true) }
+            OnErr result ((landing_lacks s self.new || (enters && adds_rows s (around s c.flow.threads) c.shared.counts)) ≡ true) }
         ensures kept { let s = story_tree tree.now in OnErr result (config_of s self.new ≡ config_of s self.old) }
         ensures globals { self.new.shared.globals.rows ≡ self.old.shared.globals.rows }
         ensures start { start_of self.new ≡ start_of self.old }

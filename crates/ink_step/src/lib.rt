@@ -10,6 +10,7 @@ mod flow;
 mod frames;
 mod machine;
 mod marking;
+mod noting;
 mod offering;
 mod opening;
 mod operands;

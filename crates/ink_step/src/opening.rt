@@ -58,7 +58,7 @@ impl Machine {
     /// Steps to the stop, with nothing bound, where no mark stands.
     fn run_alone(&mut self, alloc: Global, story: &Story) -> Result<(), Fault>
         requires unmarked { stood_of self.old ≡ unmarked }
-        ensures runs { let s = story_tree story.now in RunsToStop s nothing_bound false (config_of s self.old) [] (config_of s self.new) result }
+        ensures runs { let s = story_tree story.now in RunsToStop s nothing_bound false false (config_of s self.old) [] (config_of s self.new) result }
         ensures mark { stood_of self.new ≡ stood_of self.old }
     {
         let mut desk: Desk<Nobody, Nobody, Nobody> = Desk::new(alloc);

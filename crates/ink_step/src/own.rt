@@ -1,7 +1,7 @@
 //! The machine's own fields, and what they were at the mark.
 
 ghost use Rattle.std.specs.Prelude.{◌≡◌, ◌≤◌, ◌+◌, true, length, None, Some, unwrap_or, IfErr, OnErr, OnOk};
-ghost use Rattle.ink_step.specs.Marks.{marked_in, own_of, own_spare, own_stood, stood_of};
+ghost use Rattle.ink_step.specs.Marks.{own_lacks, own_of, own_spare, own_stood, stood_of};
 ghost use Rattle.ink_trail.specs.Undo.{trail_of, writes_of};
 
 use crate::machine::Machine;
@@ -23,7 +23,7 @@ impl Machine {
         ensures safe { OnOk result (self.new.flow.safe ≡ safe) }
         ensures mark { stood_of self.new ≡ stood_of self.old }
         ensures fault { IfErr result (λ f. f ≡ Fault.OutOfMemory) }
-        ensures memory { OnErr result (marked_in (stood_of self.old) ≡ true) }
+        ensures memory { OnErr result (own_lacks 2 self.new ≡ true) }
     {
         self.make_own_room()?;
         self.set_safe(safe);
@@ -38,10 +38,12 @@ impl Machine {
         ensures mark { stood_of self.new ≡ stood_of self.old }
         ensures room { OnOk result (2 ≤ own_spare self.new.trail) }
         ensures fault { IfErr result (λ f. f ≡ Fault.OutOfMemory) }
-        ensures memory { OnErr result (marked_in (stood_of self.old) ≡ true) }
+        ensures memory { OnErr result (own_lacks 2 self.new ≡ true) }
     {
-        self.trail.ready(2)?;
-        Ok(())
+        match self.trail.ready(2) {
+            Err(_) if self.trail.room() < 2 => Err(Fault::OutOfMemory),
+            _ => Ok(()),
+        }
     }
 
     // Starts a mark of the fields. Takes no memory.

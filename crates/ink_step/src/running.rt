@@ -1,14 +1,15 @@
 //! The run of a command: steps to the stop, and the choices that are open there (docs/RUNNING.md, "Runs").
 
-ghost use Rattle.std.specs.Prelude.{◌≡◌, ◌≢◌, [], List, IfOk, OnErr};
+ghost use Rattle.std.specs.Prelude.{◌≡◌, ◌≢◌, [], List, IfOk, OnErr, is_some};
 ghost use Rattle.ink_check.specs.Words.{story_tree};
 ghost use Rattle.ink_host.specs.Desk.{Grew, bound_by};
 ghost use Rattle.ink_host.specs.Telling.{log_of};
 ghost use Rattle.ink_model.specs.Events.{Made, calls};
 ghost use Rattle.ink_model.specs.Tree.{StoryTree};
 ghost use Rattle.ink_model.specs.Turns.{open_choices};
-ghost use Rattle.ink_step.specs.Marks.{marked_in, stood_of};
+ghost use Rattle.ink_step.specs.Marks.{pressed, stood_of};
 ghost use Rattle.ink_step.specs.Runs.{AreBound, RunsToStop};
+ghost use Rattle.ink_value.specs.Undo.{stack_stood};
 
 use crate::machine::Machine;
 use ink_check::Story;
@@ -21,16 +22,15 @@ impl Machine {
 
     /// Steps to the stop, from where a running command has begun. The fault is that of the step that faulted, `OutOfSteps` after
     /// 1,000,000 steps, or `OutOfMemory` where memory was refused to a step that asks for it, or for what came of a call that it
-    /// made, or to any step while a mark stands; the globals are then as they were before that step, and the machine is of use for
-    /// them alone (docs/RUNNING.md,
-    /// "Runs").
+    /// made, or for what a mark wants of a step; the globals are then as they were before that step, and the machine is of use for
+    /// them alone (docs/RUNNING.md, "Runs").
     pub fn run<P: PureFn, T: TurnFn, W: Watcher>(
         &mut self,
         story: &Story,
         desk: &mut Desk<P, T, W>,
     ) -> Result<(), Fault>
         ensures runs { let s = story_tree story.now in let b = bound_by P.meaning desk.old.functions in
-            (made : List Made) × Grew T.log (log_of W.state) desk.old (calls desk.old.next made) desk.new × RunsToStop s b (marked_in (stood_of self.old)) (config_of s self.old) made (config_of s self.new) result × AreBound b made }
+            (made : List Made) × Grew T.log (log_of W.state) desk.old (calls desk.old.next made) desk.new × RunsToStop s b (is_some (stack_stood self.old.flow.stack)) (pressed s self.new) (config_of s self.old) made (config_of s self.new) result × AreBound b made }
         ensures watchers { desk.new.watchers ≡ desk.old.watchers }
         ensures start { start_of self.new ≡ start_of self.old }
         ensures mark { stood_of self.new ≡ stood_of self.old }

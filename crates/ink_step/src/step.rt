@@ -23,7 +23,7 @@ ghost use Rattle.ink_model.specs.Tree.{StoryTree, at, leaf};
 ghost use Rattle.ink_model.specs.declared.host.Event.{Event as Happening};
 ghost use Rattle.ink_model.specs.declared.limits.TheConstants.{MAX_FRAMES};
 ghost use Rattle.ink_stack.specs.Calls.{frame_kind};
-ghost use Rattle.ink_step.specs.Marks.{marked_in, stood_of, takes_value};
+ghost use Rattle.ink_step.specs.Marks.{pressed, presses, stack_lacks, stood_of, takes_there, takes_value, threads_lack};
 ghost use Rattle.ink_step.specs.Performs.{Keeps, KeepsChoices, Performs, landing_of, leading, storing_in, unstored};
 ghost use Rattle.ink_step.specs.External.{call_of};
 ghost use Rattle.ink_step.specs.Steps.{Passes, StepEnds, StepMakes, Steps, ended, wants};
@@ -39,6 +39,7 @@ use crate::external::{External, external_in, is_external, would_call};
 use crate::flow::{MOVING, StepEnd, done, end, fork, give_back, land, move_on, move_to, next_of};
 use crate::frames::{call, return_tunnel};
 use crate::machine::Machine;
+use crate::noting::{ready_choices, ready_stack, ready_threads};
 use crate::offering::{offer, push_choice_count};
 use crate::questions::{push_count, push_read_count, push_turn, push_turns, push_visit};
 use crate::sections::{begin_string, begin_tag, end_string, end_tag};
@@ -54,7 +55,7 @@ use ink_tree::Spot;
 use std::mem;
 
 /// How many changes of threads a step makes at the most before it makes room again.
-const STEPPING: usize = 120;
+pub(crate) const STEPPING: usize = 120;
 
 impl Machine {
     /// One step: goes down to the first content, performs it and moves; where flow stops so, it may follow a choice. Where flow had
@@ -70,7 +71,7 @@ impl Machine {
         quiet: bool,
     ) -> Result<StepEnd, Fault>
         ensures step { let s = story_tree story.now in let b = bound_by P.meaning desk.old.functions in let c = config_of s self.old in
-            (es : List Happening) × Grew T.log (log_of W.state) desk.old es desk.new × Steps quiet s b desk.old.next (marked_in (stood_of self.old)) (asks s b c) (step s b c) es (globals_of self.old) c (config_of s self.new) result }
+            (es : List Happening) × Grew T.log (log_of W.state) desk.old es desk.new × Steps quiet s b desk.old.next (presses s self.old self.new) (asks s b c) (step s b c) es (globals_of self.old) c (config_of s self.new) result }
         ensures watchers { desk.new.watchers ≡ desk.old.watchers }
         ensures machine { result ≡ Ok WantsCall → self.new ≡ self.old }
         ensures desk { result ≡ Ok WantsCall → desk.new ≡ desk.old }
@@ -95,7 +96,7 @@ impl Machine {
         desk: &mut Desk<P, T, W>,
     ) -> Result<bool, Fault>
         ensures step { let s = story_tree story.now in let b = bound_by P.meaning desk.old.functions in let c = config_of s self.old in
-            (es : List Happening) × Grew T.log (log_of W.state) desk.old es desk.new × StepMakes s b desk.old.next (marked_in (stood_of self.old)) (asks s b c) (step s b c) es self.old.shared.globals.rows (config_of s self.new) (ended result) }
+            (es : List Happening) × Grew T.log (log_of W.state) desk.old es desk.new × StepMakes s b desk.old.next (presses s self.old self.new) (asks s b c) (step s b c) es self.old.shared.globals.rows (config_of s self.new) (ended result) }
         ensures watchers { desk.new.watchers ≡ desk.old.watchers }
         ensures start { start_of self.new ≡ start_of self.old }
         ensures mark { stood_of self.new ≡ stood_of self.old }
@@ -119,7 +120,7 @@ impl Machine {
         requires room { STEPPING ≤ threads_spare self.old.flow.threads }
         requires stack_room { length self.old.flow.stack.items + 2 ≤ stack_spare self.old.flow.stack }
         ensures step { let s = story_tree story.now in let b = bound_by P.meaning desk.old.functions in let c = config_of s self.old in
-            (es : List Happening) × Grew T.log (log_of W.state) desk.old es desk.new × StepMakes s b desk.old.next (marked_in (stood_of self.old)) (asks s b c) (step s b c) es self.old.shared.globals.rows (config_of s self.new) (ended result) }
+            (es : List Happening) × Grew T.log (log_of W.state) desk.old es desk.new × StepMakes s b desk.old.next (presses s self.old self.new) (asks s b c) (step s b c) es self.old.shared.globals.rows (config_of s self.new) (ended result) }
         ensures watchers { desk.new.watchers ≡ desk.old.watchers }
         ensures start { start_of self.new ≡ start_of self.old }
         ensures mark { stood_of self.new ≡ stood_of self.old }
@@ -145,7 +146,7 @@ impl Machine {
         requires stack_room { length self.old.flow.stack.items + 2 ≤ stack_spare self.old.flow.stack }
         requires room { STEPPING ≤ threads_spare self.old.flow.threads }
         ensures step { let s = story_tree story.now in let b = bound_by P.meaning desk.old.functions in let c = config_of s self.old in
-            (es : List Happening) × Grew T.log (log_of W.state) desk.old es desk.new × StepMakes s b desk.old.next (marked_in (stood_of self.old)) (asks s b c) (step s b c) es self.old.shared.globals.rows (config_of s self.new) result }
+            (es : List Happening) × Grew T.log (log_of W.state) desk.old es desk.new × StepMakes s b desk.old.next (presses s self.old self.new) (asks s b c) (step s b c) es self.old.shared.globals.rows (config_of s self.new) result }
         ensures watchers { desk.new.watchers ≡ desk.old.watchers }
         ensures start { start_of self.new ≡ start_of self.old }
         ensures mark { stood_of self.new ≡ stood_of self.old }
@@ -164,7 +165,7 @@ impl Machine {
         requires at { self.old.flow.threads.threads.thread.frame.place ≡ Some place }
         requires stack_room { length self.old.flow.stack.items + 2 ≤ stack_spare self.old.flow.stack }
         requires room { STEPPING ≤ threads_spare self.old.flow.threads }
-        ensures passes { (b : Bound) → let s = story_tree story.now in let c = config_of s self.old in Passes (marked_in (stood_of self.old) || asks s b c) (step s b c) self.old.shared.globals.rows (config_of s self.new) result }
+        ensures passes { (b : Bound) → let s = story_tree story.now in let c = config_of s self.old in Passes (presses s self.old self.new || asks s b c) (step s b c) self.old.shared.globals.rows (config_of s self.new) result }
         ensures kept { result ≡ Ok None → self.new ≡ self.old }
         ensures start { start_of self.new ≡ start_of self.old }
         ensures mark { stood_of self.new ≡ stood_of self.old }
@@ -210,7 +211,7 @@ impl Machine {
         ensures step { let s = story_tree story.now in let b = bound_by P.meaning desk.old.functions in let c = config_of s self.old in let k = call_of call.now in
             let called = call_external s b k.name k.arguments k.conditional (fields_of c) in
             (es : List Happening) × Grew T.log (log_of W.state) desk.old es desk.new
-            × StepMakes s b desk.old.next (marked_in (stood_of self.old)) (calling_asks s (external_asks (b k.name) k.arguments k.conditional (fields_of c)) called c) (call_made s called c) es self.old.shared.globals.rows (config_of s self.new) result }
+            × StepMakes s b desk.old.next (pressed s self.new) (calling_asks s (external_asks (b k.name) k.arguments k.conditional (fields_of c)) called c) (call_made s called c) es self.old.shared.globals.rows (config_of s self.new) result }
         ensures watchers { desk.new.watchers ≡ desk.old.watchers }
         ensures start { start_of self.new ≡ start_of self.old }
         ensures mark { stood_of self.new ≡ stood_of self.old }
@@ -233,7 +234,7 @@ impl Machine {
         requires room { MOVING + 8 ≤ threads_spare self.old.flow.threads }
         ensures ends { let s = story_tree story.now in let p = place_of s here in let stands = option_map (λ l. leaf l.now) found.entry in let c = config_of s self.old in
             let e = effect s p stands (context_of c) (fields_of c) in
-            StepEnds (marked_in (stood_of self.old) || acting_asks s (content_asks s p stands (context_of c) (fields_of c)) e c) (acted s e c) self.old.shared.globals.rows (config_of s self.new) result }
+            StepEnds (((takes_there stands && is_some (stack_stood self.old.flow.stack)) || pressed s self.new) || acting_asks s (content_asks s p stands (context_of c) (fields_of c)) e c) (acted s e c) self.old.shared.globals.rows (config_of s self.new) result }
         ensures start { start_of self.new ≡ start_of self.old }
         ensures mark { stood_of self.new ≡ stood_of self.old }
     {
@@ -278,7 +279,7 @@ impl Machine {
         requires room { MOVING + 4 ≤ threads_spare self.old.flow.threads }
         ensures ends { let s = story_tree story.now in (old : Before) (asks : Bool) (e : Effect) → Performs s asks e (fields_of (config_of s self.old)) (Ok transfer.old) → Keeps s e old.flow.threads.threads self.old.flow.threads.threads → KeepsChoices s e old.flow.choices.items self.old.flow.choices.items
             → self.old.flow.safe ≡ old.flow.safe → self.old.shared.counts.rows ≡ old.shared.counts.rows → self.old.shared.turn ≡ old.shared.turn → self.old.shared.globals.rows ≡ old.shared.globals.rows → let c = config_of s old in
-            StepEnds (marked_in (stood_of self.old) || ((asks || move_asks s e c) || following_asks s (moved s e c))) (following s (moved s e c)) old.shared.globals.rows (config_of s self.new) result }
+            StepEnds (pressed s self.new || ((asks || move_asks s e c) || following_asks s (moved s e c))) (following s (moved s e c)) old.shared.globals.rows (config_of s self.new) result }
         ensures start { start_of self.new ≡ start_of self.old }
         ensures mark { stood_of self.new ≡ stood_of self.old }
     {
@@ -292,7 +293,7 @@ impl Machine {
         requires room { MOVING + 4 ≤ threads_spare self.old.flow.threads }
         ensures ends { let s = story_tree story.now in (asks : Bool) (e : Effect) → Performs s asks e (fields_of (config_of s self.old)) (Ok transfer.now) → Keeps s e self.old.flow.threads.threads self.old.flow.threads.threads → KeepsChoices s e self.old.flow.choices.items self.old.flow.choices.items
             → let o = moved s (unstored self.old.shared.globals.rows e) (config_of s self.old) in
-            StepEnds (marked_in (stood_of self.old) || ((asks || move_asks s e (config_of s self.old)) || following_asks s o)) (following s o) self.old.shared.globals.rows (config_of s self.new) result }
+            StepEnds (pressed s self.new || ((asks || move_asks s e (config_of s self.old)) || following_asks s o)) (following s o) self.old.shared.globals.rows (config_of s self.new) result }
         ensures globals { self.new.shared.globals.rows ≡ self.old.shared.globals.rows }
         ensures start { start_of self.new ≡ start_of self.old }
         ensures mark { stood_of self.new ≡ stood_of self.old }
@@ -339,7 +340,7 @@ impl Machine {
         requires stack_room { length self.old.flow.stack.items + 2 ≤ stack_spare self.old.flow.stack }
         requires room { 1 ≤ threads_spare self.old.flow.threads }
         ensures effect { let s = story_tree story.now in let p = place_of s here in let stands = option_map (λ l. leaf l.now) found.entry in let c = config_of s self.old in
-            Performs s (marked_in (stood_of self.old) || content_asks s p stands (context_of c) (fields_of c)) (effect s p stands (context_of c) (fields_of c)) (fields_of (config_of s self.new)) (leading result transfer.new) }
+            Performs s ((takes_there stands && is_some (stack_stood self.old.flow.stack)) || content_asks s p stands (context_of c) (fields_of c)) (effect s p stands (context_of c) (fields_of c)) (fields_of (config_of s self.new)) (leading result transfer.new) }
         ensures threads { let s = story_tree story.now in let stands = option_map (λ l. leaf l.now) found.entry in let c = config_of s self.old in
             OnOk result (Keeps s (effect s (place_of s here) stands (context_of c) (fields_of c)) self.old.flow.threads.threads self.new.flow.threads.threads) }
         ensures choices { let s = story_tree story.now in let stands = option_map (λ l. leaf l.now) found.entry in let c = config_of s self.old in
@@ -590,7 +591,7 @@ impl Machine {
     fn follow(&mut self, story: &Story, transfer: &Transfer<'_>) -> Result<StepEnd, Fault>
         requires room { MOVING + 4 ≤ threads_spare self.old.flow.threads }
         ensures ends { let s = story_tree story.now in (asks : Bool) (e : Effect) → Performs s asks e (fields_of (config_of s self.old)) (Ok transfer.now) → Keeps s e self.old.flow.threads.threads self.old.flow.threads.threads → KeepsChoices s e self.old.flow.choices.items self.old.flow.choices.items
-            → StepEnds (marked_in (stood_of self.old) || (asks || move_asks s e (config_of s self.old))) (moved s (unstored self.old.shared.globals.rows e) (config_of s self.old)) self.old.shared.globals.rows (config_of s self.new) result }
+            → StepEnds (pressed s self.new || (asks || move_asks s e (config_of s self.old))) (moved s (unstored self.old.shared.globals.rows e) (config_of s self.old)) self.old.shared.globals.rows (config_of s self.new) result }
         ensures globals { self.new.shared.globals.rows ≡ self.old.shared.globals.rows }
         ensures start { start_of self.new ≡ start_of self.old }
         ensures mark { stood_of self.new ≡ stood_of self.old }
@@ -624,7 +625,7 @@ impl Machine {
             }
             Transfer::End => {
                 self.change_safe(true)?;
-                self.flow.choices.ready(1)?;
+                ready_choices(&mut self.flow.choices, 1)?;
                 self.flow.choices.clear();
                 end(&mut self.flow.threads, &self.output)
             }
@@ -642,12 +643,11 @@ impl Machine {
         ensures threads_room { OnOk result (STEPPING ≤ threads_spare self.new.flow.threads) }
         ensures stack_room { OnOk result (length self.new.flow.stack.items + 2 ≤ stack_spare self.new.flow.stack) }
         ensures fault { IfErr result (λ f. f ≡ Fault.OutOfMemory) }
-        ensures memory { OnErr result (marked_in (stood_of self.old) ≡ true) }
+        ensures memory { OnErr result ((threads_lack STEPPING self.new || stack_lacks (length self.new.flow.stack.items + 2) self.new) ≡ true) }
     {
-        self.flow.threads.ready(STEPPING)?;
+        ready_threads(&mut self.flow.threads, STEPPING)?;
         let count = self.flow.stack.len() + 2;
-        self.flow.stack.ready(count)?;
-        Ok(())
+        ready_stack(&mut self.flow.stack, count)
     }
 
     // A text was written in the open section, which ends the freshness of functions. The one error is `OutOfMemory` for a refused
@@ -659,10 +659,10 @@ impl Machine {
         ensures mark { stood_of self.new ≡ stood_of self.old }
         ensures enough { OnOk result (MOVING ≤ threads_spare self.new.flow.threads) }
         ensures fault { IfErr result (λ f. f ≡ Fault.OutOfMemory) }
-        ensures memory { OnErr result (marked_in (stood_of self.old) ≡ true) }
+        ensures memory { OnErr result (threads_lack (frame_count self.new.flow.threads.threads.thread + MOVING) self.new ≡ true) }
     {
         let frames = self.flow.threads.top().frames();
-        self.flow.threads.ready(frames + MOVING)?;
+        ready_threads(&mut self.flow.threads, frames + MOVING)?;
         self.flow.threads.end_freshness(self.output.depth());
         Ok(())
     }
@@ -672,7 +672,7 @@ impl Machine {
     fn go_to(&mut self, story: &Story, to: Landing) -> Result<StepEnd, Fault>
         requires room { 2 ≤ threads_spare self.old.flow.threads }
         ensures ends { let s = story_tree story.now in let c = config_of s self.old in let how = reach (place_of s to.place) in
-            StepEnds (marked_in (stood_of self.old) || landed_asks s to.enters c.shared.counts (how c.flow.threads (written_in c))) (landing s to.enters how c) self.old.shared.globals.rows (config_of s self.new) result }
+            StepEnds (pressed s self.new || landed_asks s to.enters c.shared.counts (how c.flow.threads (written_in c))) (landing s to.enters how c) self.old.shared.globals.rows (config_of s self.new) result }
         ensures globals { self.new.shared.globals.rows ≡ self.old.shared.globals.rows }
         ensures start { start_of self.new ≡ start_of self.old }
         ensures mark { stood_of self.new ≡ stood_of self.old }
@@ -688,7 +688,7 @@ impl Machine {
     fn go_into(&mut self, story: &Story, kind: CallKind, to: Landing) -> Result<StepEnd, Fault>
         requires room { 4 ≤ threads_spare self.old.flow.threads }
         ensures ends { let s = story_tree story.now in let c = config_of s self.old in let how = called (frame_kind kind) (place_of s to.place) in
-            StepEnds (marked_in (stood_of self.old) || (nat_lt (frame_count c.flow.threads.thread) MAX_FRAMES || landed_asks s to.enters c.shared.counts (how c.flow.threads (written_in c))))
+            StepEnds (pressed s self.new || (nat_lt (frame_count c.flow.threads.thread) MAX_FRAMES || landed_asks s to.enters c.shared.counts (how c.flow.threads (written_in c))))
             (landing s to.enters how c) self.old.shared.globals.rows (config_of s self.new) result }
         ensures globals { self.new.shared.globals.rows ≡ self.old.shared.globals.rows }
         ensures start { start_of self.new ≡ start_of self.old }
@@ -710,7 +710,7 @@ impl Machine {
     ) -> Result<StepEnd, Fault>
         requires room { MOVING + 2 ≤ threads_spare self.old.flow.threads }
         ensures ends { let s = story_tree story.now in let c = config_of s self.old in let goal = option_map (landing_of s) to in let how = returned (next_place s) kind (place_to goal) in
-            StepEnds (marked_in (stood_of self.old) || (returned_asks (next_place s) kind (place_to goal) c.flow.threads (written_in c) || landed_asks s (may_enter goal) c.shared.counts (how c.flow.threads (written_in c))))
+            StepEnds (pressed s self.new || (returned_asks (next_place s) kind (place_to goal) c.flow.threads (written_in c) || landed_asks s (may_enter goal) c.shared.counts (how c.flow.threads (written_in c))))
             (landing s (may_enter goal) how c) self.old.shared.globals.rows (config_of s self.new) result }
         ensures globals { self.new.shared.globals.rows ≡ self.old.shared.globals.rows }
         ensures start { start_of self.new ≡ start_of self.old }

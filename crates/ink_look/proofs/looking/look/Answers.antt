@@ -8,7 +8,7 @@ use Rattle.ink_look.proofs.looking.look.Goals as goal
 use Rattle.ink_model.specs.Asks.{asks}
 use Rattle.ink_model.specs.Step.{step}
 use Rattle.ink_model.specs.declared.fault.Fault.TheVariants.{OutOfMemory}
-use Rattle.ink_step.specs.Marks.{config_back, marked_in, stood_of}
+use Rattle.ink_step.specs.Marks.{config_back, presses}
 use Rattle.ink_step.specs.Words.{config_of}
 use Rattle.ink_step.specs.declared.flow.StepEnd.TheVariants as ends
 
@@ -22,7 +22,7 @@ returns-in-Ok-Went-clause-steps g c =
     let old = config_of s c.args.machine.now in
     let new = config_of s c.step.new.self in
     let h = c.in-Ok-Went.ensures.step in
-    let q = quiet_so s b c.args.desk.now.next (marked_in (stood_of c.args.machine.now)) (asks s b old) h.0 old new (step s b old) (Ok c.in-Ok-Went.field-0) (Ok ends.Went) (ap Ok c.in-Ok-Went.field-0-is) h.2 in (
+    let q = quiet_so s b c.args.desk.now.next (presses s c.args.machine.now c.step.new.self) (asks s b old) h.0 old new (step s b old) (Ok c.in-Ok-Went.field-0) (Ok ends.Went) (ap Ok c.in-Ok-Went.field-0-is) h.2 in (
       h.0,
       h.1,
       (
@@ -41,7 +41,7 @@ returns-in-Ok-Stopped-clause-steps g c =
     let old = config_of s c.args.machine.now in
     let new = config_of s c.step.new.self in
     let h = c.in-Ok-Stopped.ensures.step in
-    let q = quiet_so s b c.args.desk.now.next (marked_in (stood_of c.args.machine.now)) (asks s b old) h.0 old new (step s b old) (Ok c.in-Ok-Stopped.field-0) (Ok ends.Stopped) (ap Ok c.in-Ok-Stopped.field-0-is) h.2 in (
+    let q = quiet_so s b c.args.desk.now.next (presses s c.args.machine.now c.step.new.self) (asks s b old) h.0 old new (step s b old) (Ok c.in-Ok-Stopped.field-0) (Ok ends.Stopped) (ap Ok c.in-Ok-Stopped.field-0-is) h.2 in (
       h.0,
       h.1,
       (
@@ -59,7 +59,7 @@ returns-in-Err-OutOfMemory-clause-steps g c =
     let old = config_of s c.args.machine.now in
     let new = config_of s c.step.new.self in
     let h = c.in-Err-OutOfMemory.ensures.step in
-    let q = quiet_so s b c.args.desk.now.next (marked_in (stood_of c.args.machine.now)) (asks s b old) h.0 old new (step s b old) (Err c.in-Err-OutOfMemory.field-0) (Err OutOfMemory) (ap Err c.in-Err-OutOfMemory.field-0-is) h.2 in
+    let q = quiet_so s b c.args.desk.now.next (presses s c.args.machine.now c.step.new.self) (asks s b old) h.0 old new (step s b old) (Err c.in-Err-OutOfMemory.field-0) (Err OutOfMemory) (ap Err c.in-Err-OutOfMemory.field-0-is) h.2 in
     (h.0, h.1, (q.0, (refl, q.1)))
 
 pub returns-in-Ok-WantsCall-clause-steps : goal.returns-in-Ok-WantsCall-clause-steps
@@ -69,7 +69,7 @@ returns-in-Ok-WantsCall-clause-steps g c =
     let old = config_of s c.args.machine.now in
     let kept = config_back s c.args.machine.now in
     let h = c.in-Ok-WantsCall.ensures.step in
-    let q = cuts_call s b c.args.desk.now.next (marked_in (stood_of c.args.machine.now)) (asks s b old) h.0 c.args.newline kept old (config_of s c.step.new.self) (step s b old) (Ok c.in-Ok-WantsCall.field-0)
+    let q = cuts_call s b c.args.desk.now.next (presses s c.args.machine.now c.step.new.self) (asks s b old) h.0 c.args.newline kept old (config_of s c.step.new.self) (step s b old) (Ok c.in-Ok-WantsCall.field-0)
     (ap Ok c.in-Ok-WantsCall.field-0-is) h.2 in (
       h.0,
       h.1,
@@ -88,7 +88,7 @@ returns-in-Err-clause-steps g c =
     let kept = config_back s c.args.machine.now in
     let h = c.step.ensures.step in
     let other : c.in-Err.field-0 ≡ OutOfMemory → ⊥ = search rules in
-    let q = cuts_fault s b c.args.desk.now.next (marked_in (stood_of c.args.machine.now)) (asks s b old) h.0 c.args.newline kept old (config_of s c.step.new.self) (step s b old) c.step.result
+    let q = cuts_fault s b c.args.desk.now.next (presses s c.args.machine.now c.step.new.self) (asks s b old) h.0 c.args.newline kept old (config_of s c.step.new.self) (step s b old) c.step.result
     c.in-Err.field-0 c.in-Err.is other h.2 in (
       h.0,
       h.1,

@@ -1,4 +1,4 @@
-use Rattle.std.proofs.Common.{◌≡◌, ◌∙◌, rules, subst, sym, Err}
+use Rattle.std.proofs.Common.{◌≡◌, ◌∙◌, false, is_some, rules, subst, sym, Err}
 use Rattle.ink_check.specs.Words.{story_tree}
 use Rattle.ink_host.specs.Desk.{bound_by}
 use Rattle.ink_look.proofs.Comes.{comes_to, comes_to_fault, falls_after}
@@ -6,7 +6,8 @@ use Rattle.ink_look.proofs.running.through.Goals as goal
 use Rattle.ink_look.specs.Ends.{RunsThrough}
 use Rattle.ink_look.specs.Words.{said, said_asks}
 use Rattle.ink_model.specs.declared.fault.Fault.TheVariants.{OutOfMemory}
-use Rattle.ink_step.specs.Marks.{marked_in}
+use Rattle.ink_step.specs.Marks.{Stood, pressed}
+use Rattle.ink_step.proofs.Marks.{not_pressed}
 use Rattle.ink_step.specs.Runs.{RunFalls}
 use Rattle.ink_step.specs.Words.{config_of}
 
@@ -22,7 +23,8 @@ returns-in_err-run-clause-runs g c =
       ran.1,
       subst (RunsThrough said said_asks s b old ran.0 new) (sym is)
           (comes_to_fault s b ran.0 old (config_of s c.begin.new.self) (c.begin.ensures.begun s) new c.in_err-run.field-0.0
-          (subst (λ stood. RunFalls s b (marked_in stood) (config_of s c.begin.new.self) ran.0 new.shared.globals c.in_err-run.field-0.0) c.begin.ensures.mark ran.2)),
+          (subst (λ pressed. RunFalls s b false pressed (config_of s c.begin.new.self) ran.0 new.shared.globals c.in_err-run.field-0.0) (not_pressed s c.run.new.self (c.in_err-run.ensures.mark ∙ c.begin.ensures.mark))
+          (subst (λ (t : Stood). RunFalls s b (is_some t.stack) (pressed s c.run.new.self) (config_of s c.begin.new.self) ran.0 new.shared.globals c.in_err-run.field-0.0) c.begin.ensures.mark ran.2))),
     )
 
 pub returns-in_err-said-clause-runs : goal.returns-in_err-said-clause-runs

@@ -1,7 +1,7 @@
-use Rattle.std.proofs.Common.{◌∙◌, ap, inl, inr, is_some, length, sym, true}
+use Rattle.std.proofs.Common.{◌∙◌, ap, length, sym, true}
 use Rattle.std.proofs.lemmas.Result.{err_from_is_err_and}
 use Rattle.ink_step.specs.Words.{counts_in}
-use Rattle.ink_step.proofs.Visits.{adds_at, first_adds, first_entered, lacks_marked, room_back, visited_at}
+use Rattle.ink_step.proofs.Visits.{adds_at, first_adds, first_entered, has_room, lacks_row, room_back, visited_at}
 use Rattle.ink_step.proofs.counting.+enter_all.Goals as goal
 use Rattle.ink_tree.specs.Nodes.{story_tree}
 
@@ -11,7 +11,7 @@ returns-in_err-visit-clause-memory t c =
     let found = c.number_of-container.ensures.found in
     let adds = adds_at s c.number_of-container.ensures.order c.number_of-container.result found.0 c.args.counts.now.rows _ _ _ found.1 c.flags.ensures in
     let p = err_from_is_err_and c.from_residual.result c.from_residual.ensures.1 in
-    rw p.1 (lacks_marked _ _ c.args.counts.now (λ h. first_adds s c.args.turn _ _ _ c.in-Some.ensures.1 c.args.counts.now.rows (sym adds ∙ h)) c.in_err-visit.ensures.memory)
+    rw p.1 (lacks_row _ _ c.args.counts.now (λ h. first_adds s c.args.turn _ _ _ c.in-Some.ensures.1 c.args.counts.now.rows (sym adds ∙ h)) (has_room c.args.counts.now _ _ (ap length c.in-Some.ensures.1) c.requires.room) c.in_err-visit.ensures.memory)
 
 pub restore-requires : goal.restore-requires
 restore-requires t c =
@@ -37,7 +37,4 @@ returns-in-Err-clause-memory t c =
     let found = c.number_of-container.ensures.found in
     let visit = ap (counts_in s) c.in_ok-visit.ensures.ok
     ∙ visited_at s c.number_of-container.ensures.order c.number_of-container.result found.0 c.args.counts.now.rows _ _ _ found.1 c.flags.ensures c.args.turn in
-    elim c.in-Err.ensures.memory [
-      | inl adds ↦ inl ((first_entered s c.args.turn _ _ _ c.in-Some.ensures.1 c.args.counts.now.rows c.visit.new.self.rows visit).1 adds)
-      | inr marked ↦ inr (ap is_some (sym c.in_ok-visit.ensures.stood) ∙ marked)
-    ]
+    (first_entered s c.args.turn _ _ _ c.in-Some.ensures.1 c.args.counts.now.rows c.visit.new.self.rows visit).1 c.in-Err.ensures.memory

@@ -1,13 +1,17 @@
-use Rattle.std.proofs.Common.{◌≡◌, rules}
+use Rattle.std.proofs.Common.{◌≡◌, ◌∙◌, ap, inl, option_map, rules, sym}
 use Rattle.std.proofs.lemmas.Result.{on_err_weaker}
-use Rattle.ink_step.proofs.Visits.{lacks_same}
+use Rattle.ink_model.specs.Visits.{adds_rows}
+use Rattle.ink_step.specs.Words.{counts_in}
 use Rattle.ink_step.proofs.counting.enter_landed.Goals as goal
-use Rattle.ink_tree.specs.Nodes.{story_tree}
-use Rattle.ink_vars.specs.Undo.{counts_stood}
+use Rattle.ink_tree.specs.Nodes.{place_of, story_tree}
+use Rattle.ink_tree.specs.Walks.{still_entered}
 
 pub returns-clause-memory : goal.returns-clause-memory
 returns-clause-memory c =
     let s = story_tree c.args.tree.now in
-    let rows : c.if-is_marked.counts.rows ≡ c.args.counts.now.rows = search rules in
-    let mark : counts_stood c.if-is_marked.counts ≡ counts_stood c.args.counts.now = search rules in
-    on_err_weaker c.enter_all.result (lacks_same s _ _ c.if-is_marked.counts c.args.counts.now (c.upward-rest.ensures _) rows mark) c.enter_all.ensures.memory
+    let before = c.if-is_marked.counts in
+    let rest = still_entered s (option_map (place_of s) c.args.previous) c.upward-rest.result in
+    let rows : before.rows ≡ c.args.counts.now.rows = search rules in
+    on_err_weaker c.enter_all.result
+    (λ adds. inl (ap (λ ps. adds_rows s ps (counts_in s c.args.counts.now.rows)) (sym (c.upward-rest.ensures (option_map (place_of s) c.args.previous))) ∙ ap (λ xs. adds_rows s rest (counts_in s xs)) (sym rows) ∙ adds))
+    c.enter_all.ensures.memory

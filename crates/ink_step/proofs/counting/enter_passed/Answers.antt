@@ -1,4 +1,4 @@
-use Rattle.std.proofs.Common.{◌≡◌, ◌∙◌, ap, inl, inr, is_some, None, rules, sym}
+use Rattle.std.proofs.Common.{◌≡◌, ◌∙◌, ap, inl, inr, None, rules, sym}
 use Rattle.std.proofs.lemmas.Result.{err_from_is_err_and}
 use Rattle.ink_model.specs.Entered.{passed_places}
 use Rattle.ink_model.specs.Tree.{at}
@@ -27,7 +27,7 @@ returns-in_err-enter-clause-memory c =
     let p = err_from_is_err_and c.from_residual.result c.from_residual.ensures.1 in
     rw p.1 (elim c.in_err-enter.ensures.memory [
       | inl adds ↦ inl (enters_adds s c.args.turn all c.args.counts.now.rows _ _ _ c.loop-first.counts.rows c.in-Some.ensures.goes_in.1 c.loop-first.invariant.still adds)
-      | inr marked ↦ inr (ap is_some (sym c.loop-first.invariant.mark) ∙ marked)
+      | inr lacks ↦ inr lacks
     ])
 
 pub returns-in_err-enter-2-clause-memory : goal.returns-in_err-enter-2-clause-memory
@@ -39,5 +39,5 @@ returns-in_err-enter-2-clause-memory c =
     rw p.1 (elim c.in_err-enter-2.ensures.memory [
       | inl adds ↦ inl (c.loop-first.invariant.still.1 (ap (λ ps. adds_rows s ps (counts_in s c.loop-first.counts.rows)) way.1
           ∙ last_adds s (node_place s c.loop-first.last) (counts_in s c.loop-first.counts.rows) none adds))
-      | inr marked ↦ inr (ap is_some (sym c.loop-first.invariant.mark) ∙ marked)
+      | inr lacks ↦ inr lacks
     ])

@@ -1,4 +1,4 @@
-use Rattle.std.proofs.Common.{◌≡◌, ◌||◌, ap, option_map, rules, sym, subst, Err, Ok}
+use Rattle.std.proofs.Common.{◌≡◌, ◌&&◌, ◌||◌, is_some, option_map, rules, sym, subst, Err, Ok}
 use Rattle.ink_check.specs.Words.{story_tree}
 use Rattle.ink_model.specs.Asks.{acting_asks}
 use Rattle.ink_model.specs.Effect.{context_of, fields_of}
@@ -8,60 +8,66 @@ use Rattle.ink_model.specs.Move.{move}
 use Rattle.ink_model.specs.MoveMemory.{move_asks}
 use Rattle.ink_model.specs.Step.{acted, effect}
 use Rattle.ink_model.specs.Tree.{leaf}
-use Rattle.ink_step.specs.Marks.{marked_in, stood_of}
+use Rattle.ink_step.specs.Marks.{pressed, takes_there}
 use Rattle.ink_step.specs.Steps.{StepEnds}
 use Rattle.ink_step.specs.declared.flow.StepEnd.TheVariants as ends
 use Rattle.ink_step.specs.Words.{config_of}
 use Rattle.ink_step.specs.Performs.{Performs}
 use Rattle.ink_step.proofs.Finished.{finished}
-use Rattle.ink_step.proofs.Follows.{ends_unperformed, or_twice, or_whole}
+use Rattle.ink_step.proofs.Follows.{ends_any, ends_unperformed, ends_where, or_apart, or_first, or_where, or_whole}
 use Rattle.ink_step.proofs.Stopping.{broke}
 use Rattle.ink_step.proofs.machine.Machine.act.Goals as goal
 use Rattle.ink_tree.specs.Nodes.{place_of}
+use Rattle.ink_value.specs.Undo.{stack_stood}
 
 pub returns-in_err-perform-clause-ends : goal.returns-in_err-perform-clause-ends
 returns-in_err-perform-clause-ends c =
     let s = story_tree c.args.story.now in
     let p = place_of s c.args.here in
-    let m = marked_in (stood_of c.args.self.now) in
-    let before = config_of s c.args.self.now in
+    let old = c.args.self.now in
+    let before = config_of s old in
     let found = option_map (λ x. leaf x.now) c.args.found in
+    let takes = takes_there found && is_some (stack_stood old.flow.stack) in
+    let there = pressed s c.perform.new.self in
     let asking = content_asks s p found (context_of before) (fields_of before) in
     let e = effect s p found (context_of before) (fields_of before) in
     let new = config_of s c.perform.new.self in
-    let is : c.from_residual.result ≡ Err c.in_err-perform.field-0.0 = search rules in
-    subst (λ r. StepEnds (m || acting_asks s asking e before) (acted s e before) before.shared.globals new r) (sym is)
-    (subst (λ b. StepEnds b (acted s e before) before.shared.globals new (Err c.in_err-perform.field-0.0)) (or_whole m asking (move_asks s e before) (following_asks s (move s e before)))
-    (broke s _ (move s e before) _ new _ (ends_unperformed s (m || asking) _ e _ before new before.shared.globals _ c.in_err-perform.ensures.effect c.in_err-perform.ensures.globals)))
+    let f = c.in_err-perform.field-0.0 in
+    let is : c.from_residual.result ≡ Err f = search rules in
+    let acting = acting_asks s asking e before in
+    subst (λ r. StepEnds ((takes || there) || acting) (acted s e before) before.shared.globals new r) (sym is)
+    (ends_where (takes || acting) ((takes || there) || acting) (or_where takes (takes || there) acting (or_first takes there)) (acted s e before) before.shared.globals new (Err f)
+    (subst (λ b. StepEnds b (acted s e before) before.shared.globals new (Err f)) (or_whole takes asking (move_asks s e before) (following_asks s (move s e before)))
+    (broke s _ (move s e before) _ new _ (ends_unperformed s (takes || asking) _ e _ before new before.shared.globals _ c.in_err-perform.ensures.effect c.in_err-perform.ensures.globals))))
 
 pub returns-clause-ends : goal.returns-clause-ends
 returns-clause-ends c =
     let s = story_tree c.args.story.now in
     let p = place_of s c.args.here in
     let old = c.args.self.now in
-    let m = marked_in (stood_of old) in
     let before = config_of s old in
     let mid = c.perform.new.self in
+    let new = c.go_to_next.new.self in
     let found = option_map (λ x. leaf x.now) c.args.found in
+    let takes = takes_there found && is_some (stack_stood old.flow.stack) in
     let asking = content_asks s p found (context_of before) (fields_of before) in
     let e = effect s p found (context_of before) (fields_of before) in
     let performs = c.in_ok-perform.ensures in
-    subst (λ b. StepEnds b (acted s e before) before.shared.globals (config_of s c.go_to_next.new.self) (Ok ends.Went)) (or_whole m asking (move_asks s e before) (following_asks s (move s e before)))
-    (finished s old mid c.go_to_next.new.self performs.safe performs.counts performs.turn performs.globals c.go_to_next.ensures.globals (m || asking) e
-    (subst (λ t. Performs s (m || asking) e (fields_of (config_of s mid)) (Ok t)) c.in-Some.ensures.0 performs.effect) performs.threads performs.choices c.go_to_next.ensures.ends)
+    ends_any _ ((takes || pressed s new) || acting_asks s asking e before) (acted s e before) before.shared.globals (config_of s new) ends.Went
+    (finished s old mid new performs.safe performs.counts performs.turn performs.globals c.go_to_next.ensures.globals (takes || asking) e
+    (subst (λ t. Performs s (takes || asking) e (fields_of (config_of s mid)) (Ok t)) c.in-Some.ensures.0 performs.effect) performs.threads performs.choices c.go_to_next.ensures.ends)
 
 pub returns-in_default-clause-ends : goal.returns-in_default-clause-ends
 returns-in_default-clause-ends c =
     let s = story_tree c.args.story.now in
     let p = place_of s c.args.here in
     let old = c.args.self.now in
-    let m = marked_in (stood_of old) in
     let before = config_of s old in
     let new = config_of s c.finish.new.self in
     let found = option_map (λ x. leaf x.now) c.args.found in
+    let takes = takes_there found && is_some (stack_stood old.flow.stack) in
     let performs = c.in_ok-perform.ensures in
     let asking = content_asks s p found (context_of before) (fields_of before) in
     let e = effect s p found (context_of before) (fields_of before) in
-    let ends = c.finish.ensures.ends old (m || asking) e performs.effect performs.threads performs.choices performs.safe performs.counts performs.turn performs.globals in
-    let alike = subst (λ k. StepEnds (k || (((m || asking) || move_asks s e before) || following_asks s (move s e before))) (acted s e before) before.shared.globals new c.finish.result) (ap marked_in performs.mark) ends in
-    subst (λ b. StepEnds b (acted s e before) before.shared.globals new c.finish.result) (or_twice m asking (move_asks s e before) (following_asks s (move s e before))) alike
+    let ends = c.finish.ensures.ends old (takes || asking) e performs.effect performs.threads performs.choices performs.safe performs.counts performs.turn performs.globals in
+    subst (λ b. StepEnds b (acted s e before) before.shared.globals new c.finish.result) (or_apart takes (pressed s c.finish.new.self) asking (move_asks s e before) (following_asks s (move s e before))) ends

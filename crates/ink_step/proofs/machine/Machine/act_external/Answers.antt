@@ -1,13 +1,13 @@
-use Rattle.std.proofs.Common.{◌≡◌, ◌||◌, ap, refl, rules, sym, subst, Err}
+use Rattle.std.proofs.Common.{◌≡◌, refl, rules, sym, subst, Err}
 use Rattle.ink_check.specs.Words.{story_tree}
 use Rattle.ink_host.specs.Desk.{bound_by}
-use Rattle.ink_model.specs.Asks.{acting_asks, calling_asks, external_asks}
+use Rattle.ink_model.specs.Asks.{calling_asks, external_asks}
 use Rattle.ink_model.specs.Effect.{fields_of}
-use Rattle.ink_model.specs.Step.{acted, call_made}
+use Rattle.ink_model.specs.Step.{call_made}
 use Rattle.ink_model.specs.Step.Host.{call_external}
 use Rattle.ink_step.specs.External.{call_of}
-use Rattle.ink_step.specs.Marks.{marked_in, stood_of}
-use Rattle.ink_step.specs.Steps.{StepEnds, StepMakes}
+use Rattle.ink_step.specs.Marks.{pressed}
+use Rattle.ink_step.specs.Steps.{StepMakes}
 use Rattle.ink_step.specs.Words.{config_of}
 use Rattle.ink_step.proofs.Makes.{external_call, makes_broken, makes_ended}
 use Rattle.ink_step.proofs.Plain.{keeps_plain, offers_plain}
@@ -24,12 +24,13 @@ returns-in_err-transfer-clause-step g c =
     let e = call_external s b k.name k.arguments k.conditional f in
     let asking = external_asks (b k.name) k.arguments k.conditional f in
     let called = c.in_err-transfer.ensures.call f.evaluating f.fresh f.globals in
-    let d = config_of s (record c.args.self.now { flow = record c.args.self.now.flow { stack = c.call_external.new.stack } }) in
+    let left = record c.args.self.now { flow = record c.args.self.now.flow { stack = c.call_external.new.stack } } in
+    let d = config_of s left in
     let is : c.from_residual.result ≡ Err c.in_err-transfer.field-0.0 = search rules in (
       called.0,
       called.1,
-      subst (λ r. StepMakes s b desk.next (marked_in (stood_of c.args.self.now)) (calling_asks s asking e before) (call_made s e before) called.0 before.shared.globals d r) (sym is)
-          (makes_broken s b desk.next (marked_in (stood_of c.args.self.now)) asking before d _ before.shared.globals _ refl e called.0 (external_call b s k.name k.arguments k.conditional f) called.2),
+      subst (λ r. StepMakes s b desk.next (pressed s left) (calling_asks s asking e before) (call_made s e before) called.0 before.shared.globals d r) (sym is)
+          (makes_broken s b desk.next (pressed s left) asking before d _ before.shared.globals _ refl e called.0 (external_call b s k.name k.arguments k.conditional f) called.2),
     )
 
 pub returns-clause-step : goal.returns-clause-step
@@ -43,12 +44,10 @@ returns-clause-step g c =
     let k = call_of c.args.call.now in
     let e = call_external s b k.name k.arguments k.conditional f in
     let asking = external_asks (b k.name) k.arguments k.conditional f in
-    let mid = record old { flow = record old.flow { stack = c.call_external.new.stack } } in
-    let alike : stood_of mid ≡ stood_of old = search rules in
     let called = c.in_ok-transfer.ensures.call f.evaluating f.fresh f.globals in (
       called.0,
       called.1,
-      makes_ended s b desk.next (marked_in (stood_of old)) asking before (config_of s c.finish.new.self) _ before.shared.globals _ c.finish.result
-          (λ asks e plain performs. subst (λ k. StepEnds (k || acting_asks s asks e before) (acted s e before) before.shared.globals (config_of s c.finish.new.self) c.finish.result) (ap marked_in alike) (c.finish.ensures.ends old asks e performs (keeps_plain s e old.flow.threads.threads old.flow.threads.threads plain refl) (offers_plain s e old.flow.choices.items plain) refl refl refl refl))
+      makes_ended s b desk.next (pressed s c.finish.new.self) asking before (config_of s c.finish.new.self) _ before.shared.globals _ c.finish.result
+          (λ asks e plain performs. c.finish.ensures.ends old asks e performs (keeps_plain s e old.flow.threads.threads old.flow.threads.threads plain refl) (offers_plain s e old.flow.choices.items plain) refl refl refl refl)
           e called.0 (external_call b s k.name k.arguments k.conditional f) called.2,
     )

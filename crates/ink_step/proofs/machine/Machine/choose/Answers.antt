@@ -1,4 +1,4 @@
-use Rattle.std.proofs.Common.{◌≡◌, ◌∙◌, ◌⊎◌, ◌||◌, List, ap, refl, rules, subst, sym, true, false, is_some, slice_get, option_map, MatchOption, Some, None, Ok, Err, unwrap_or}
+use Rattle.std.proofs.Common.{◌≡◌, ◌∙◌, ◌⊎◌, ◌*◌, ◌||◌, List, length, ap, refl, rules, subst, sym, true, false, is_some, slice_get, option_map, MatchOption, Some, None, Ok, Err, unwrap_or}
 use Rattle.ink_check.specs.Words.{story_tree}
 use Rattle.ink_choice.specs.Undo.{choices_stood}
 use Rattle.ink_choice.specs.Words.{Takes}
@@ -9,16 +9,17 @@ use Rattle.ink_model.specs.Entered.{entered_places}
 use Rattle.ink_model.specs.Tree.{StoryTree}
 use Rattle.ink_model.specs.Visits.{adds_rows, all_visited}
 use Rattle.ink_model.specs.declared.place.Part.{Part}
-use Rattle.ink_step.specs.Marks.{marked_in, stood_of}
+use Rattle.ink_step.specs.Marks.{lacks, marked_in, stood_of}
 use Rattle.ink_step.specs.Steps.{Chooses}
 use Rattle.ink_step.specs.Words.{config_of, counts_in}
 use Rattle.ink_step.proofs.Chosen.{asks_or_marked, chooses_none, chooses_one, chooses_short, chosen_lands, open_alike, takes_any, takes_visible}
 use Rattle.ink_step.proofs.Follows.{or_first}
+use Rattle.ink_step.proofs.Marks.{marked_choices, marked_or, turn_marked}
 use Rattle.ink_step.proofs.machine.Machine.choose.Goals as goal
 use Rattle.ink_step.proofs.machine.Machine.choose.Goals.{After-enter_landed, Else-can_go_on}
 use Rattle.ink_tree.specs.Nodes as Nodes
 use Rattle.ink_tree.specs.Nodes.{place_of}
-use Rattle.ink_vars.specs.Undo.{counts_stood}
+use Rattle.ink_vars.specs.Undo.{counts_spare, counts_stood}
 
 -- flow has stopped
 stopped : (c : Else-can_go_on) → can_go_on (config_of (story_tree c.args.story.now) c.args.self.now) ≡ false
@@ -55,7 +56,7 @@ returns-in_err-copied-clause-chooses c =
     let some = open_alike (place_of s) machine.flow.choices.items c.args.number (Some x) c.in-Some.ensures in
     let is : c.from_residual.result ≡ Err c.in_err-copied.field-0.0 = search rules in
     subst (λ r. Chooses s marked (open_choice c.args.number old) old old r) (sym (is ∙ ap Err c.in_err-copied.ensures.fault))
-    (chooses_short s marked c.args.number old old (stopped (goal.at.returns-in_err-copied-clause-chooses c).Else-can_go_on) (map_choice (place_of s) x) some (or_first marked _ c.in_err-copied.ensures.memory) refl)
+    (chooses_short s marked c.args.number old old (stopped (goal.at.returns-in_err-copied-clause-chooses c).Else-can_go_on) (map_choice (place_of s) x) some (or_first marked _ (marked_choices machine c.in_err-copied.ensures.memory)) refl)
 
 pub returns-in_err-make_choosing_room-clause-chooses : goal.returns-in_err-make_choosing_room-clause-chooses
 returns-in_err-make_choosing_room-clause-chooses c =
@@ -69,7 +70,7 @@ returns-in_err-make_choosing_room-clause-chooses c =
     let is : c.from_residual-in_err-make_choosing_room.result ≡ Err c.in_err-make_choosing_room.field-0.0 = search rules in
     subst (λ r. Chooses s marked (open_choice c.args.number old) old new r) (sym (is ∙ ap Err c.in_err-make_choosing_room.ensures.fault))
     (chooses_short s marked c.args.number old new (stopped (goal.at.returns-in_err-make_choosing_room-clause-chooses c).Else-can_go_on) (map_choice (place_of s) x) some
-    (or_first marked _ c.in_err-make_choosing_room.ensures.memory) (c.make_choosing_room.ensures.config s))
+    (or_first marked _ (subst (λ t. marked_in t ≡ true) c.make_choosing_room.ensures.mark (turn_marked c.make_choosing_room.new.self c.in_err-make_choosing_room.ensures.memory))) (c.make_choosing_room.ensures.config s))
 
 pub returns-in-Err-clause-chooses : goal.returns-in-Err-clause-chooses
 returns-in-Err-clause-chooses c =
@@ -79,7 +80,9 @@ returns-in-Err-clause-chooses c =
     let at = goal.at.returns-in-Err-clause-chooses c in
     let x = c.in-Some.choice.now in
     let some = open_alike (place_of s) machine.flow.choices.items c.args.number (Some x) c.in-Some.ensures in
-    let adds = entered_as at.After-enter_landed (λ t ps. (adds_rows t ps (counts_in t mid.shared.counts.rows) ≡ true) ⊎ (is_some (counts_stood mid.shared.counts) ≡ true)) c.in-Err.ensures.memory in
+    let left = c.enter_landed.new.counts in
+    let short = entered_as at.After-enter_landed (λ t ps. (adds_rows t ps (counts_in t mid.shared.counts.rows) ≡ true) ⊎ (lacks (counts_stood left) (counts_spare left) (4 * length ps) ≡ true)) c.in-Err.ensures.memory in
+    let adds = marked_or (counts_stood left) (counts_stood mid.shared.counts) (counts_spare left) _ _ c.in-Err.ensures.mark short in
     let there = asks_or_marked (stood_of machine) (stood_of mid) _ c.make_choosing_room.ensures.mark adds in
     let asks = subst (λ d. (marked_in (stood_of machine) || adds_rows s (entered_places s (option_map (place_of s) x.thread.previous) (place_of s x.target)) d.shared.counts) ≡ true) (c.make_choosing_room.ensures.config s) there in
     chooses_short s (marked_in (stood_of machine)) c.args.number (config_of s machine) _ (stopped at.Else-can_go_on) (map_choice (place_of s) x) some asks

@@ -4,11 +4,11 @@ use Rattle.ink_model.specs.Choosing.{following, following_asks}
 use Rattle.ink_model.specs.Effect.{fields_of}
 use Rattle.ink_model.specs.Move.{move}
 use Rattle.ink_model.specs.MoveMemory.{move_asks}
-use Rattle.ink_step.specs.Marks.{marked_in, stood_of}
+use Rattle.ink_step.specs.Marks.{pressed}
 use Rattle.ink_step.specs.Performs.{storing_in, unstored}
 use Rattle.ink_step.specs.Steps.{StepEnds}
 use Rattle.ink_step.specs.Words.{config_of}
-use Rattle.ink_step.proofs.Follows.{ends_after, kept_stays, offered_stay, or_assoc, or_first, or_more, or_whole}
+use Rattle.ink_step.proofs.Follows.{ends_after, ends_any, kept_stays, offered_stay, or_assoc, or_first, or_more, or_whole}
 use Rattle.ink_step.proofs.Stopping.{broke_storing, ends_stored}
 use Rattle.ink_step.proofs.machine.Machine.finish.Goals as goal
 
@@ -16,7 +16,7 @@ pub returns-in_err-end-clause-ends : goal.returns-in_err-end-clause-ends
 returns-in_err-end-clause-ends c old asking e performs keeps offers safely counted turned kept =
     let s = story_tree c.args.story.now in
     let mid = c.args.self.now in
-    let m = marked_in (stood_of mid) in
+    let m = pressed s c.go.new.self in
     let before = config_of s old in
     let during = config_of s mid in
     let new = config_of s c.go.new.self in
@@ -37,7 +37,7 @@ pub returns-clause-ends : goal.returns-clause-ends
 returns-clause-ends c old asking e performs keeps offers safely counted turned same =
     let s = story_tree c.args.story.now in
     let mid = c.args.self.now in
-    let m = marked_in (stood_of mid) in
+    let m = pressed s c.store.new.self in
     let before = config_of s old in
     let during = config_of s mid in
     let flowed = c.go.new.self in
@@ -45,7 +45,8 @@ returns-clause-ends c old asking e performs keeps offers safely counted turned s
     let whole = (m || (asking || move_asks s e during)) || following_asks s o in
     let allows : asking ≡ true → whole ≡ true = λ h. or_first _ _ (or_more m _ (or_first asking _ h)) in
     let new = config_of s c.store.new.self in
-    let flows = c.in_ok-end.ensures.ends asking e performs (kept_stays s e old.flow.threads.threads mid.flow.threads.threads keeps) (offered_stay s e old.flow.choices.items mid.flow.choices.items offers) in
+    let flows = ends_any _ (m || ((asking || move_asks s e during) || following_asks s o)) (following s o) mid.shared.globals.rows (config_of s flowed) c.in_ok-end.end
+    (c.in_ok-end.ensures.ends asking e performs (kept_stays s e old.flow.threads.threads mid.flow.threads.threads keeps) (offered_stay s e old.flow.choices.items mid.flow.choices.items offers)) in
     let by_parts = subst (λ b. StepEnds b (following s o) mid.shared.globals.rows (config_of s flowed) (Ok c.in_ok-end.end)) (sym (or_assoc m (asking || move_asks s e during) (following_asks s o))) flows in
     let kept = c.in_ok-end.ensures.globals in
     let stores = c.store.ensures.stored s asking whole e (fields_of during) (following s o) allows (sym kept) performs

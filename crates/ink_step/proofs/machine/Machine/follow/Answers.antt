@@ -1,21 +1,26 @@
-use Rattle.std.proofs.Common.{◌≡◌, ◌∙◌, ◌||◌, [], ap, false, None, Ok, rules, subst, sym}
+use Rattle.std.proofs.Common.{◌≡◌, ◌∙◌, ◌||◌, [], ap, Bool, false, true, None, Result, Err, Ok, rules, subst, sym}
 use Rattle.ink_check.specs.Words.{story_tree}
 use Rattle.ink_model.specs.Configuration.{ended, with_safe, with_threads}
-use Rattle.ink_model.specs.Effect.{fields_of}
+use Rattle.ink_model.specs.Effect.{Effect, fields_of}
 use Rattle.ink_model.specs.Flow.{Written, done, forked, halt, moved_on}
 use Rattle.ink_model.specs.Frames.{base_threads, map_threads}
-use Rattle.ink_model.specs.Move.{going, reached_in, written_in}
-use Rattle.ink_model.specs.MoveMemory.{dropped_asks, forked_asks, moved_asks}
+use Rattle.ink_model.specs.Move.{going, move, reached_in, written_in}
+use Rattle.ink_model.specs.MoveMemory.{dropped_asks, forked_asks, move_asks, moved_asks}
 use Rattle.ink_model.specs.Place.{next_place}
 use Rattle.ink_model.specs.Threads.{dropped}
-use Rattle.ink_step.specs.Marks.{marked_in, stood_of}
-use Rattle.ink_step.specs.Performs.{Performs}
+use Rattle.ink_model.specs.Tree.{StoryTree}
+use Rattle.ink_model.specs.declared.fault.Fault.{Fault}
+use Rattle.ink_model.specs.declared.fault.Fault.TheVariants.{OutOfMemory}
+use Rattle.ink_step.specs.Marks.{pressed}
+use Rattle.ink_step.specs.Performs.{Performs, unstored}
 use Rattle.ink_step.specs.Reaches.{ReachesAs, written}
 use Rattle.ink_step.specs.Steps.{StepEnds}
 use Rattle.ink_step.specs.Words.{config_of}
+use Rattle.ink_step.specs.declared.flow.StepEnd.{StepEnd}
 use Rattle.ink_step.specs.declared.machine.Machine.{Machine}
-use Rattle.ink_step.proofs.Follows.{ends_more, ends_reached, goes_after_text, goes_done, goes_forking, goes_nowhere, last_alike}
+use Rattle.ink_step.proofs.Follows.{ends_more, ends_pressed, ends_reached, goes_after_text, goes_done, goes_forking, goes_nowhere, last_alike}
 use Rattle.ink_step.proofs.Landed.{goes_back, goes_into, goes_on, goes_storing, goes_there}
+use Rattle.ink_step.proofs.Marks.{pressed_choices, pressed_fresh, pressed_own}
 use Rattle.ink_step.proofs.Staled.{staled_alike}
 use Rattle.ink_step.proofs.machine.Machine.follow.Goals as goal
 use Rattle.ink_tree.specs.Nodes.{place_of}
@@ -25,8 +30,56 @@ returns-in-Next-clause-ends c asks e h has offers =
     let s = story_tree c.args.story.now in
     let old = config_of s c.args.self.now in
     let new = config_of s c.go_on.new.self in
-    goes_on s (marked_in (stood_of c.args.self.now)) asks old new c.go_on.result e (subst (λ t. Performs s asks e (fields_of old) (Ok t)) c.in-Next.is h) has offers
-    (ends_more (marked_in (stood_of c.args.self.now)) _ (going (moved_on (next_place s)) old) _ new c.go_on.result (ends_more asks _ (going (moved_on (next_place s)) old) _ new c.go_on.result c.go_on.ensures.ends))
+    goes_on s (pressed s c.go_on.new.self) asks old new c.go_on.result e (subst (λ t. Performs s asks e (fields_of old) (Ok t)) c.in-Next.is h) has offers
+    (ends_more (pressed s c.go_on.new.self) _ (going (moved_on (next_place s)) old) _ new c.go_on.result (ends_more asks _ (going (moved_on (next_place s)) old) _ new c.go_on.result c.go_on.ensures.ends))
+
+-- memory was refused for what a mark wants
+falls_short : (s : StoryTree) (old left : Machine) (f : Fault) (r : Result StepEnd Fault) (asks : Bool) (e : Effect) → r ≡ Err f → f ≡ OutOfMemory → pressed s left ≡ true → left.shared.globals.rows ≡ old.shared.globals.rows
+    → let c = config_of s old in StepEnds (pressed s left || (asks || move_asks s e c)) (move s (unstored c.shared.globals e) c) c.shared.globals (config_of s left) r
+falls_short s old left f r asks e is short pressing same =
+    let c = config_of s old in
+    subst (λ k. StepEnds (pressed s left || (asks || move_asks s e c)) (move s (unstored c.shared.globals e) c) c.shared.globals (config_of s left) k) (sym is)
+    (ends_pressed (pressed s left) (asks || move_asks s e c) (move s (unstored c.shared.globals e) c) c.shared.globals (config_of s left) f short pressing same)
+
+pub returns-in_err-end_freshness-in-Wrote-clause-ends : goal.returns-in_err-end_freshness-in-Wrote-clause-ends
+returns-in_err-end_freshness-in-Wrote-clause-ends c asks e h has offers =
+    let s = story_tree c.args.story.now in
+    let left = c.end_freshness.new.self in
+    let short = c.in_err-end_freshness-in-Wrote.ensures in
+    let f = c.in_err-end_freshness-in-Wrote.field-0.0 in
+    let is : c.from_residual.result ≡ Err f = search rules in
+    falls_short s c.args.self.now left f c.from_residual.result asks e is short.fault (pressed_fresh s left short.memory) (ap (λ (m : Machine). m.shared.globals.rows) short.same)
+
+pub returns-in_err-change_safe-in-Done-clause-ends : goal.returns-in_err-change_safe-in-Done-clause-ends
+returns-in_err-change_safe-in-Done-clause-ends c asks e h has offers =
+    let s = story_tree c.args.story.now in
+    let left = c.change_safe.new.self in
+    let short = c.in_err-change_safe-in-Done.ensures in
+    let f = c.in_err-change_safe-in-Done.field-0.0 in
+    let r = c.from_residual-in_err-change_safe-in-Done.result in
+    let is : r ≡ Err f = search rules in
+    falls_short s c.args.self.now left f r asks e is short.fault (pressed_own s left short.memory) (ap (λ (m : Machine). m.shared.globals.rows) short.same)
+
+pub returns-in_err-change_safe-in-End-clause-ends : goal.returns-in_err-change_safe-in-End-clause-ends
+returns-in_err-change_safe-in-End-clause-ends c asks e h has offers =
+    let s = story_tree c.args.story.now in
+    let left = c.change_safe-in-End.new.self in
+    let short = c.in_err-change_safe-in-End.ensures in
+    let f = c.in_err-change_safe-in-End.field-0.0 in
+    let r = c.from_residual-in_err-change_safe-in-End.result in
+    let is : r ≡ Err f = search rules in
+    falls_short s c.args.self.now left f r asks e is short.fault (pressed_own s left short.memory) (ap (λ (m : Machine). m.shared.globals.rows) short.same)
+
+pub returns-in_err-ready_choices-in-End-clause-ends : goal.returns-in_err-ready_choices-in-End-clause-ends
+returns-in_err-ready_choices-in-End-clause-ends c asks e h has offers =
+    let s = story_tree c.args.story.now in
+    let mid = c.change_safe-in-End.new.self in
+    let left = record mid { flow = record mid.flow { choices = c.ready_choices.new.choices } } in
+    let short = c.in_err-ready_choices-in-End.ensures in
+    let f = c.in_err-ready_choices-in-End.field-0.0 in
+    let r = c.from_residual-in_err-ready_choices-in-End.result in
+    let is : r ≡ Err f = search rules in
+    falls_short s c.args.self.now left f r asks e is short.fault (pressed_choices s left short.memory) (ap (λ (m : Machine). m.shared.globals.rows) c.change_safe-in-End.ensures.same)
 
 pub returns-in_ok-end_freshness-in-Wrote-clause-ends : goal.returns-in_ok-end_freshness-in-Wrote-clause-ends
 returns-in_ok-end_freshness-in-Wrote-clause-ends c asks e h has offers =
@@ -38,7 +91,7 @@ returns-in_ok-end_freshness-in-Wrote-clause-ends c asks e h has offers =
     let stale = ap (config_of s) c.end_freshness.ensures.same
     ∙ ap (λ ts. with_threads (map_threads (place_of s) ts) old) c.in_ok-end_freshness-in-Wrote.ensures.threads
     ∙ ap (λ ts. with_threads ts old) (staled_alike (place_of s) _ machine.flow.threads.threads) in
-    goes_after_text s (marked_in (stood_of machine)) asks old new c.go_on-in-Wrote.result e (subst (λ t. Performs s asks e (fields_of old) (Ok t)) c.in-Wrote.is h)
+    goes_after_text s (pressed s c.go_on-in-Wrote.new.self) asks old new c.go_on-in-Wrote.result e (subst (λ t. Performs s asks e (fields_of old) (Ok t)) c.in-Wrote.is h)
     (subst (λ d. StepEnds (moved_asks (next_place s) d.flow.threads (written_in d)) (going (moved_on (next_place s)) d) d.shared.globals new c.go_on-in-Wrote.result) stale c.go_on-in-Wrote.ensures.ends)
 
 pub returns-in-Store-clause-ends : goal.returns-in-Store-clause-ends
@@ -46,36 +99,37 @@ returns-in-Store-clause-ends c asks e h has offers =
     let s = story_tree c.args.story.now in
     let old = config_of s c.args.self.now in
     let new = config_of s c.go_on-in-Store.new.self in
-    goes_storing s (marked_in (stood_of c.args.self.now)) asks old new c.go_on-in-Store.result _ e (subst (λ t. Performs s asks e (fields_of old) (Ok t)) c.in-Store.is h) has
-    (ends_more (marked_in (stood_of c.args.self.now)) _ (going (moved_on (next_place s)) old) _ new c.go_on-in-Store.result (ends_more asks _ (going (moved_on (next_place s)) old) _ new c.go_on-in-Store.result c.go_on-in-Store.ensures.ends))
+    goes_storing s (pressed s c.go_on-in-Store.new.self) asks old new c.go_on-in-Store.result _ e (subst (λ t. Performs s asks e (fields_of old) (Ok t)) c.in-Store.is h) has
+    (ends_more (pressed s c.go_on-in-Store.new.self) _ (going (moved_on (next_place s)) old) _ new c.go_on-in-Store.result (ends_more asks _ (going (moved_on (next_place s)) old) _ new c.go_on-in-Store.result c.go_on-in-Store.ensures.ends))
 
 pub returns-in-Land-clause-ends : goal.returns-in-Land-clause-ends
 returns-in-Land-clause-ends c asks e h has offers =
     let s = story_tree c.args.story.now in
     let old = config_of s c.args.self.now in
-    goes_there s (marked_in (stood_of c.args.self.now)) asks old (config_of s c.go_to.new.self) c.go_to.result c.in-Land.to e (subst (λ t. Performs s asks e (fields_of old) (Ok t)) c.in-Land.is h) c.go_to.ensures.ends
+    goes_there s (pressed s c.go_to.new.self) asks old (config_of s c.go_to.new.self) c.go_to.result c.in-Land.to e (subst (λ t. Performs s asks e (fields_of old) (Ok t)) c.in-Land.is h) c.go_to.ensures.ends
 
 pub returns-in-Call-clause-ends : goal.returns-in-Call-clause-ends
 returns-in-Call-clause-ends c asks e h has offers =
     let s = story_tree c.args.story.now in
     let old = config_of s c.args.self.now in
-    goes_into s (marked_in (stood_of c.args.self.now)) asks old (config_of s c.go_into.new.self) c.go_into.result c.in-Call.kind c.in-Call.to e (subst (λ t. Performs s asks e (fields_of old) (Ok t)) c.in-Call.is h) c.go_into.ensures.ends
+    goes_into s (pressed s c.go_into.new.self) asks old (config_of s c.go_into.new.self) c.go_into.result c.in-Call.kind c.in-Call.to e (subst (λ t. Performs s asks e (fields_of old) (Ok t)) c.in-Call.is h) c.go_into.ensures.ends
 
 pub returns-in-Return-clause-ends : goal.returns-in-Return-clause-ends
 returns-in-Return-clause-ends c asks e h has offers =
     let s = story_tree c.args.story.now in
     let old = config_of s c.args.self.now in
-    goes_back s (marked_in (stood_of c.args.self.now)) asks old (config_of s c.go_back.new.self) c.go_back.result c.in-Return.kind c.in-Return.to e (subst (λ t. Performs s asks e (fields_of old) (Ok t)) c.in-Return.is h) c.go_back.ensures.ends
+    goes_back s (pressed s c.go_back.new.self) asks old (config_of s c.go_back.new.self) c.go_back.result c.in-Return.kind c.in-Return.to e (subst (λ t. Performs s asks e (fields_of old) (Ok t)) c.in-Return.is h) c.go_back.ensures.ends
 
 pub returns-in-Fork-clause-ends : goal.returns-in-Fork-clause-ends
 returns-in-Fork-clause-ends c asks e h has offers =
     let s = story_tree c.args.story.now in
     let machine = c.args.self.now in
     let old = config_of s machine in
-    let new = config_of s (record machine { flow = record machine.flow { threads = c.fork.new.threads; stack = c.fork.new.stack }; output = c.fork.new.output }) in
+    let left = record machine { flow = record machine.flow { threads = c.fork.new.threads; stack = c.fork.new.stack }; output = c.fork.new.output } in
+    let new = config_of s left in
     let reached : ReachesAs (forked_asks (next_place s) old.flow.threads (written_in old)) (forked (next_place s) old.flow.threads (written_in old))
     (map_threads (place_of s) c.fork.new.threads.threads) (written c.fork.new.stack c.fork.new.output) c.fork.result = search rules in
-    goes_forking s (marked_in (stood_of machine)) asks old new c.fork.result e (subst (λ t. Performs s asks e (fields_of old) (Ok t)) c.in-Fork.is h)
+    goes_forking s (pressed s left) asks old new c.fork.result e (subst (λ t. Performs s asks e (fields_of old) (Ok t)) c.in-Fork.is h)
     (ends_reached _ old _ (map_threads (place_of s) c.fork.new.threads.threads) (written c.fork.new.stack c.fork.new.output) c.fork.result reached)
 
 pub returns-in_ok-change_safe-in-Done-clause-ends : goal.returns-in_ok-change_safe-in-Done-clause-ends
@@ -96,12 +150,12 @@ returns-in_ok-change_safe-in-Done-clause-ends c asks e h has offers =
     let ends = ends_reached _ (with_safe mid.flow.safe old) _ ts w r reached in
     let there = subst (λ (m : Machine). StepEnds (dropped_asks (next_place s) (dropped old.flow.threads) (written_in old)) (going (done (next_place s)) (with_safe mid.flow.safe old)) old.shared.globals
     (config_of s (record m { flow = record m.flow { threads = c.done.new.threads; stack = c.done.new.stack }; output = c.done.new.output })) r) (sym same) ends in
-    goes_done s (marked_in (stood_of machine)) asks old _ r e (subst (λ t. Performs s asks e (fields_of old) (Ok t)) c.in-Done.is h)
+    goes_done s (pressed s (record mid { flow = record mid.flow { threads = c.done.new.threads; stack = c.done.new.stack }; output = c.done.new.output })) asks old _ r e (subst (λ t. Performs s asks e (fields_of old) (Ok t)) c.in-Done.is h)
     (subst (λ b. StepEnds (dropped_asks (next_place s) (dropped old.flow.threads) (written_in old)) (going (done (next_place s)) (with_safe b old)) old.shared.globals
     (config_of s (record mid { flow = record mid.flow { threads = c.done.new.threads; stack = c.done.new.stack }; output = c.done.new.output })) r) safely there)
 
-pub returns-in_ok-ready-in-End-clause-ends : goal.returns-in_ok-ready-in-End-clause-ends
-returns-in_ok-ready-in-End-clause-ends c asks e h has offers =
+pub returns-in_ok-ready_choices-in-End-clause-ends : goal.returns-in_ok-ready_choices-in-End-clause-ends
+returns-in_ok-ready_choices-in-End-clause-ends c asks e h has offers =
     let s = story_tree c.args.story.now in
     let machine = c.args.self.now in
     let old = config_of s machine in
@@ -118,5 +172,5 @@ returns-in_ok-ready-in-End-clause-ends c asks e h has offers =
     (sym c.in_ok-change_safe-in-End.ensures.safe) ends in
     let cleared = subst (λ cs. StepEnds false halted old.shared.globals (config_of s (record machine { flow = record machine.flow { threads = threads; choices = record left { items = cs }; safe = mid.flow.safe } })) r)
     (sym c.clear.ensures.items) safely in
-    goes_nowhere s (marked_in (stood_of machine)) asks old _ r e (subst (λ t. Performs s asks e (fields_of old) (Ok t)) c.in-End.is h)
+    goes_nowhere s (pressed s (record mid { flow = record mid.flow { threads = threads; choices = left } })) asks old _ r e (subst (λ t. Performs s asks e (fields_of old) (Ok t)) c.in-End.is h)
     (subst (λ (m : Machine). StepEnds false halted old.shared.globals (config_of s (record m { flow = record m.flow { threads = threads; choices = left } })) r) (sym same) cleared)

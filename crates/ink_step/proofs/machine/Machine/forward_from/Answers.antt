@@ -5,7 +5,7 @@ use Rattle.ink_host.specs.Desk.{bound_by}
 use Rattle.ink_host.specs.Telling.{log_of}
 use Rattle.ink_model.specs.Asks.{asks}
 use Rattle.ink_model.specs.Step.{step}
-use Rattle.ink_step.specs.Marks.{marked_in, stood_of}
+use Rattle.ink_step.specs.Marks.{presses}
 use Rattle.ink_step.specs.Steps.{Passes, StepMakes, ended}
 use Rattle.ink_step.specs.Words.{config_of}
 use Rattle.ink_step.proofs.Makes.{makes_plainly, makes_went}
@@ -22,8 +22,8 @@ returns-in_err-end-clause-step g c =
     let is : c.from_residual.result ≡ Err f = search rules in (
       [],
       grew-none g.T.TurnFn.log (log_of g.W.Watcher.state) desk,
-      subst (λ r. StepMakes s b desk.next (marked_in (stood_of c.args.self.now)) (asks s b before) (step s b before) [] before.shared.globals new (ended r)) (sym is)
-          (makes_plainly s b desk.next (marked_in (stood_of c.args.self.now)) (asks s b before) (step s b before) before.shared.globals new (Err f) (c.in_err-end.ensures.passes b)),
+      subst (λ r. StepMakes s b desk.next (presses s c.args.self.now c.pass.new.self) (asks s b before) (step s b before) [] before.shared.globals new (ended r)) (sym is)
+          (makes_plainly s b desk.next (presses s c.args.self.now c.pass.new.self) (asks s b before) (step s b before) before.shared.globals new (Err f) (c.in_err-end.ensures.passes b)),
     )
 
 pub returns-in-Some-clause-step : goal.returns-in-Some-clause-step
@@ -34,9 +34,9 @@ returns-in-Some-clause-step g c =
     let before = config_of s c.args.self.now in
     let new = config_of s c.pass.new.self in
     let end = c.in-Some.end in
-    let passes = subst (λ o. Passes (marked_in (stood_of c.args.self.now) || asks s b before) (step s b before) before.shared.globals new (Ok o)) c.in-Some.is (c.in_ok-end.ensures.passes b) in (
+    let passes = subst (λ o. Passes (presses s c.args.self.now c.pass.new.self || asks s b before) (step s b before) before.shared.globals new (Ok o)) c.in-Some.is (c.in_ok-end.ensures.passes b) in (
       [],
       grew-none g.T.TurnFn.log (log_of g.W.Watcher.state) desk,
-      subst (λ on. StepMakes s b desk.next (marked_in (stood_of c.args.self.now)) (asks s b before) (step s b before) [] before.shared.globals new (ended (Ok on))) (sym c.went.ensures)
-          (makes_went s b desk.next (marked_in (stood_of c.args.self.now)) [] before.shared.globals new (asks s b before) (step s b before) end (makes_plainly s b desk.next (marked_in (stood_of c.args.self.now)) (asks s b before) (step s b before) before.shared.globals new (Ok end) passes)),
+      subst (λ on. StepMakes s b desk.next (presses s c.args.self.now c.pass.new.self) (asks s b before) (step s b before) [] before.shared.globals new (ended (Ok on))) (sym c.went.ensures)
+          (makes_went s b desk.next (presses s c.args.self.now c.pass.new.self) [] before.shared.globals new (asks s b before) (step s b before) end (makes_plainly s b desk.next (presses s c.args.self.now c.pass.new.self) (asks s b before) (step s b before) before.shared.globals new (Ok end) passes)),
     )

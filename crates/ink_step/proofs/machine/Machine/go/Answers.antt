@@ -1,13 +1,13 @@
-use Rattle.std.proofs.Common.{◌≡◌, ◌||◌, Err, Ok, ap, rules, subst, sym}
+use Rattle.std.proofs.Common.{◌≡◌, ◌||◌, Err, Ok, rules, subst, sym}
 use Rattle.ink_check.specs.Words.{story_tree}
 use Rattle.ink_model.specs.Choosing.{default_asks, default_choice, following, following_asks, stopped_by}
 use Rattle.ink_model.specs.Move.{move}
 use Rattle.ink_model.specs.MoveMemory.{move_asks}
-use Rattle.ink_step.specs.Marks.{marked_in, stood_of}
+use Rattle.ink_step.specs.Marks.{pressed}
 use Rattle.ink_step.specs.Performs.{unstored}
 use Rattle.ink_step.specs.Steps.{StepEnds}
 use Rattle.ink_step.specs.Words.{config_of}
-use Rattle.ink_step.proofs.Follows.{or_assoc}
+use Rattle.ink_step.proofs.Follows.{ends_any, or_assoc}
 use Rattle.ink_step.proofs.Stopping.{broke, stopped_so}
 use Rattle.ink_step.proofs.machine.Machine.go.Goals as goal
 
@@ -15,7 +15,7 @@ pub returns-in_err-follow-clause-ends : goal.returns-in_err-follow-clause-ends
 returns-in_err-follow-clause-ends c asks e performs has offers =
     let s = story_tree c.args.story.now in
     let machine = c.args.self.now in
-    let m = marked_in (stood_of machine) in
+    let m = pressed s c.follow.new.self in
     let old = config_of s machine in
     let new = config_of s c.follow.new.self in
     let o = move s (unstored machine.shared.globals.rows e) old in
@@ -29,13 +29,14 @@ pub returns-in-Stopped-clause-ends : goal.returns-in-Stopped-clause-ends
 returns-in-Stopped-clause-ends c asks e performs has offers =
     let s = story_tree c.args.story.now in
     let machine = c.args.self.now in
-    let m = marked_in (stood_of machine) in
+    let m = pressed s c.follow_default.new.self in
     let old = config_of s machine in
     let mid = config_of s c.follow.new.self in
     let new = config_of s c.follow_default.new.self in
     let choice = default_choice mid.flow.choices in
     let o = move s (unstored machine.shared.globals.rows e) old in
-    let went = subst (λ end. StepEnds (m || (asks || move_asks s e old)) o machine.shared.globals.rows mid (Ok end)) c.in-Stopped.is (c.in_ok-follow.ensures.ends asks e performs has offers) in
-    let marked = subst (λ k. StepEnds (k || default_asks s choice mid) (stopped_by s choice mid) c.follow.new.self.shared.globals.rows new c.follow_default.result) (ap marked_in c.follow.ensures.mark) c.follow_default.ensures.ends in
-    let follows = subst (λ vs. StepEnds (m || default_asks s choice mid) (stopped_by s choice mid) vs new c.follow_default.result) c.follow.ensures.globals marked in
+    let asking = m || (asks || move_asks s e old) in
+    let stops = ends_any _ asking o machine.shared.globals.rows mid _ (c.in_ok-follow.ensures.ends asks e performs has offers) in
+    let went = subst (λ end. StepEnds asking o machine.shared.globals.rows mid (Ok end)) c.in-Stopped.is stops in
+    let follows = subst (λ vs. StepEnds (m || default_asks s choice mid) (stopped_by s choice mid) vs new c.follow_default.result) c.follow.ensures.globals c.follow_default.ensures.ends in
     stopped_so s m (asks || move_asks s e old) o machine.shared.globals.rows machine.shared.globals.rows mid new c.follow_default.result went follows

@@ -5,13 +5,14 @@ use Rattle.ink_model.specs.Frames.{map_threads}
 use Rattle.ink_model.specs.Move.{landing, may_enter, place_to, written_in}
 use Rattle.ink_model.specs.MoveMemory.{landed_asks, returned_asks}
 use Rattle.ink_model.specs.Place.{next_place}
-use Rattle.ink_step.specs.Marks.{marked_in, stood_of}
+use Rattle.ink_step.specs.Marks.{landing_lacks, pressed}
 use Rattle.ink_step.specs.Performs.{landing_of}
 use Rattle.ink_step.specs.Reaches.{ReachesAs, written}
 use Rattle.ink_step.specs.Steps.{StepEnds}
 use Rattle.ink_step.specs.Words.{config_of, counts_in}
 use Rattle.ink_model.specs.Visits.{adds_rows, around}
-use Rattle.ink_step.proofs.Follows.{or_along}
+use Rattle.ink_step.proofs.Marks.{pressed_landing}
+use Rattle.ink_step.proofs.Follows.{or_where}
 use Rattle.ink_step.proofs.Landed.{lands_broken, lands_short, returned_lands}
 use Rattle.ink_step.proofs.machine.Machine.go_back.Goals as goal
 use Rattle.ink_tree.specs.Nodes.{place_of}
@@ -24,7 +25,8 @@ returns-in_err-end-clause-ends c =
     let kind = c.args.kind in
     let goal = option_map (landing_of s) c.args.to in
     let back = c.give_back.new in
-    let new = config_of s (record machine { flow = record machine.flow { threads = back.threads; stack = back.stack }; output = back.output }) in
+    let left = record machine { flow = record machine.flow { threads = back.threads; stack = back.stack }; output = back.output } in
+    let new = config_of s left in
     let ts = map_threads (place_of s) back.threads.threads in
     let w = written back.stack back.output in
     let f = c.in_err-end.field-0.0 in
@@ -34,7 +36,7 @@ returns-in_err-end-clause-ends c =
     let reached = subst (λ q. ReachesAs (returned_asks (next_place s) kind q old.flow.threads (written_in old)) (returned (next_place s) kind q old.flow.threads (written_in old)) ts w (Err f))
     (c.place_to.ensures s) short in
     let is : c.from_residual.result ≡ Err f = search rules in
-    subst (λ r. StepEnds (marked_in (stood_of machine) || (returned_asks (next_place s) kind (place_to goal) old.flow.threads (written_in old)
+    subst (λ r. StepEnds (pressed s left || (returned_asks (next_place s) kind (place_to goal) old.flow.threads (written_in old)
     || landed_asks s (may_enter goal) old.shared.counts (returned (next_place s) kind (place_to goal) old.flow.threads (written_in old))))
     (landing s (may_enter goal) (returned (next_place s) kind (place_to goal)) old) machine.shared.globals.rows new r) (sym is)
     (lands_broken s _ _ old new machine.shared.globals.rows ts w f refl (may_enter goal) _ reached)
@@ -48,7 +50,8 @@ returns-in_err-enter_around-clause-ends c =
     let goal = option_map (landing_of s) c.args.to in
     let back = c.give_back.new in
     let mid = record machine { flow = record machine.flow { threads = back.threads; stack = back.stack }; output = back.output } in
-    let new = config_of s c.enter_around.new.self in
+    let left = c.enter_around.new.self in
+    let new = config_of s left in
     let ts = map_threads (place_of s) back.threads.threads in
     let w = written back.stack back.output in
     let end = c.in_ok-end.end in
@@ -59,14 +62,12 @@ returns-in_err-enter_around-clause-ends c =
     let reached = subst (λ q. ReachesAs (returned_asks (next_place s) kind q old.flow.threads (written_in old)) (returned (next_place s) kind q old.flow.threads (written_in old)) ts w (Ok end))
     (c.place_to.ensures s) went in
     let short = c.in_err-enter_around.ensures in
-    let alike : stood_of mid ≡ stood_of machine = search rules in
     let enters = may_enter goal in
-    let adds_there = subst (λ t. (marked_in (stood_of machine) || (c.may_enter.result && adds_rows t (around t (map_threads (place_of t) back.threads.threads)) (counts_in t machine.shared.counts.rows))) ≡ true) c.tree-2.ensures.tree
-    (or_along _ _ _ (ap marked_in alike) short.memory) in
-    let adds = subst (λ b. (marked_in (stood_of machine) || (b && adds_rows s (around s ts) (counts_in s machine.shared.counts.rows))) ≡ true) (c.may_enter.ensures s) adds_there in
+    let adds_there = or_where _ (pressed s left) _ (pressed_landing s left) (subst (λ t. (landing_lacks t left || (c.may_enter.result && adds_rows t (around t (map_threads (place_of t) back.threads.threads)) (counts_in t machine.shared.counts.rows))) ≡ true) c.tree-2.ensures.tree short.memory) in
+    let adds = subst (λ b. (pressed s left || (b && adds_rows s (around s ts) (counts_in s machine.shared.counts.rows))) ≡ true) (c.may_enter.ensures s) adds_there in
     let is : c.from_residual-in_err-enter_around.result ≡ Err f = search rules in
-    subst (λ r. StepEnds (marked_in (stood_of machine) || (returned_asks (next_place s) kind (place_to goal) old.flow.threads (written_in old)
+    subst (λ r. StepEnds (pressed s left || (returned_asks (next_place s) kind (place_to goal) old.flow.threads (written_in old)
     || landed_asks s enters old.shared.counts (returned (next_place s) kind (place_to goal) old.flow.threads (written_in old))))
     (landing s enters (returned (next_place s) kind (place_to goal)) old) machine.shared.globals.rows new r) (sym is)
-    (lands_short s (marked_in (stood_of machine)) _ old new machine.shared.globals.rows ts w f short.globals enters _ end
+    (lands_short s (pressed s left) _ old new machine.shared.globals.rows ts w f short.globals enters _ end
     (returned_lands (next_place s) kind goal old.flow.threads (written_in old)) reached short.fault adds)

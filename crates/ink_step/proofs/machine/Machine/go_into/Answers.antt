@@ -8,10 +8,11 @@ use Rattle.ink_model.specs.Threads.{frame_count}
 use Rattle.ink_model.specs.Visits.{adds_rows, around, entering_around}
 use Rattle.ink_model.specs.declared.limits.TheConstants.{MAX_FRAMES}
 use Rattle.ink_stack.specs.Calls.{frame_kind}
-use Rattle.ink_step.specs.Marks.{marked_in, stood_of}
+use Rattle.ink_step.specs.Marks.{landing_lacks, pressed}
 use Rattle.ink_step.specs.Steps.{StepEnds}
 use Rattle.ink_step.specs.Words.{config_of, counts_in}
-use Rattle.ink_step.proofs.Follows.{or_along}
+use Rattle.ink_step.proofs.Marks.{pressed_landing}
+use Rattle.ink_step.proofs.Follows.{or_where}
 use Rattle.ink_step.proofs.Landed.{called_goes, lands, lands_broken, lands_short}
 use Rattle.ink_step.proofs.machine.Machine.go_into.Goals as goal
 use Rattle.ink_tree.specs.Nodes.{place_of}
@@ -23,12 +24,13 @@ returns-in_err-end-clause-ends c =
     let old = config_of s machine in
     let to = c.args.to in
     let f = c.in_err-end.field-0.0 in
-    let new = config_of s (record machine { flow = record machine.flow { threads = c.call.new.threads }; output = c.call.new.output }) in
+    let left = record machine { flow = record machine.flow { threads = c.call.new.threads }; output = c.call.new.output } in
+    let new = config_of s left in
     let w : Written = record { stack = machine.flow.stack.items; page = c.call.new.output.page } in
     let is : c.from_residual.result ≡ Err f = search rules in
-    subst (λ r. StepEnds (marked_in (stood_of machine) || (nat_lt (frame_count old.flow.threads.thread) MAX_FRAMES || landed_asks s to.enters old.shared.counts (called (frame_kind c.args.kind) (place_of s to.place) old.flow.threads (written_in old))))
+    subst (λ r. StepEnds (pressed s left || (nat_lt (frame_count old.flow.threads.thread) MAX_FRAMES || landed_asks s to.enters old.shared.counts (called (frame_kind c.args.kind) (place_of s to.place) old.flow.threads (written_in old))))
     (landing s to.enters (called (frame_kind c.args.kind) (place_of s to.place)) old) machine.shared.globals.rows new r) (sym is)
-    (lands_broken s (marked_in (stood_of machine)) _ old new machine.shared.globals.rows (map_threads (place_of s) c.call.new.threads.threads) w f refl to.enters _ (c.in_err-end.ensures.flow s machine.flow.stack.items))
+    (lands_broken s (pressed s left) _ old new machine.shared.globals.rows (map_threads (place_of s) c.call.new.threads.threads) w f refl to.enters _ (c.in_err-end.ensures.flow s machine.flow.stack.items))
 
 pub returns-in_err-enter_around-clause-ends : goal.returns-in_err-enter_around-clause-ends
 returns-in_err-enter_around-clause-ends c =
@@ -37,18 +39,17 @@ returns-in_err-enter_around-clause-ends c =
     let old = config_of s machine in
     let to = c.args.to in
     let f = c.in_err-enter_around.field-0.0 in
-    let new = config_of s c.enter_around.new.self in
+    let left = c.enter_around.new.self in
+    let new = config_of s left in
     let called_threads = c.call.new.threads.threads in
     let mid = record machine { flow = record machine.flow { threads = c.call.new.threads }; output = c.call.new.output } in
     let w : Written = record { stack = machine.flow.stack.items; page = c.call.new.output.page } in
     let short = c.in_err-enter_around.ensures in
-    let alike : stood_of mid ≡ stood_of machine = search rules in
-    let adds = subst (λ t. (marked_in (stood_of machine) || (to.enters && adds_rows t (around t (map_threads (place_of t) called_threads)) (counts_in t machine.shared.counts.rows))) ≡ true) c.tree.ensures.tree
-    (or_along _ _ _ (ap marked_in alike) short.memory) in
+    let adds = or_where _ (pressed s left) _ (pressed_landing s left) (subst (λ t. (landing_lacks t left || (to.enters && adds_rows t (around t (map_threads (place_of t) called_threads)) (counts_in t machine.shared.counts.rows))) ≡ true) c.tree.ensures.tree short.memory) in
     let is : c.from_residual-in_err-enter_around.result ≡ Err f = search rules in
-    subst (λ r. StepEnds (marked_in (stood_of machine) || (nat_lt (frame_count old.flow.threads.thread) MAX_FRAMES || landed_asks s to.enters old.shared.counts (called (frame_kind c.args.kind) (place_of s to.place) old.flow.threads (written_in old))))
+    subst (λ r. StepEnds (pressed s left || (nat_lt (frame_count old.flow.threads.thread) MAX_FRAMES || landed_asks s to.enters old.shared.counts (called (frame_kind c.args.kind) (place_of s to.place) old.flow.threads (written_in old))))
     (landing s to.enters (called (frame_kind c.args.kind) (place_of s to.place)) old) machine.shared.globals.rows new r) (sym is)
-    (lands_short s (marked_in (stood_of machine)) _ old new machine.shared.globals.rows (map_threads (place_of s) called_threads) w f short.globals to.enters _ c.in_ok-end.end
+    (lands_short s (pressed s left) _ old new machine.shared.globals.rows (map_threads (place_of s) called_threads) w f short.globals to.enters _ c.in_ok-end.end
     (λ e. called_goes (frame_kind c.args.kind) (place_of s to.place) old.flow.threads (written_in old)) (c.in_ok-end.ensures.flow s machine.flow.stack.items) short.fault adds)
 
 pub returns-clause-ends : goal.returns-clause-ends
@@ -61,5 +62,5 @@ returns-clause-ends c =
     let after = c.enter_around.new.self in
     let w : Written = record { stack = machine.flow.stack.items; page = c.call.new.output.page } in
     let entered = subst (λ t. config_of t after ≡ cond to.enters (entering_around t (config_of t mid)) (config_of t mid)) c.tree.ensures.tree c.in_ok-enter_around.ensures.ok in
-    lands s (marked_in (stood_of machine)) _ old (config_of s after) machine.shared.globals.rows (map_threads (place_of s) c.call.new.threads.threads) w to.enters _ c.in_ok-end.end
+    lands s (pressed s after) _ old (config_of s after) machine.shared.globals.rows (map_threads (place_of s) c.call.new.threads.threads) w to.enters _ c.in_ok-end.end
     (λ e. called_goes (frame_kind c.args.kind) (place_of s to.place) old.flow.threads (written_in old)) (c.in_ok-end.ensures.flow s machine.flow.stack.items) entered

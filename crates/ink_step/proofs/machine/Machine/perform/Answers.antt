@@ -1,17 +1,16 @@
-use Rattle.std.proofs.Common.{◌≡◌, ◌||◌, OnOk, Some, ap, option_map, subst, sym}
+use Rattle.std.proofs.Common.{◌≡◌, ◌&&◌, ◌||◌, OnOk, Some, ap, is_some, option_map, subst, sym}
 use Rattle.ink_check.specs.Words.{story_tree}
 use Rattle.ink_model.specs.Effect.{context_of, fields_of}
-use Rattle.ink_model.specs.Memory.{content_asks, leaf_asks}
+use Rattle.ink_model.specs.Memory.{content_asks}
 use Rattle.ink_model.specs.Step.{effect}
 use Rattle.ink_model.specs.Tree.{leaf}
-use Rattle.ink_step.specs.Marks.{marked_in, stood_of, takes_value}
-use Rattle.ink_step.proofs.Effects.{performs_where}
-use Rattle.ink_step.proofs.Marks.{stack_marked, taken_marked}
+use Rattle.ink_step.specs.Marks.{takes_there}
 use Rattle.ink_step.specs.Performs.{Keeps, KeepsChoices, Performs, leading}
 use Rattle.ink_step.specs.Words.{config_of}
 use Rattle.ink_step.proofs.machine.Machine.perform.Goals as goal
 use Rattle.ink_step.proofs.machine.Machine.perform.Goals.{In-Some}
 use Rattle.ink_tree.specs.Nodes.{place_of}
+use Rattle.ink_value.specs.Undo.{stack_stood}
 
 -- what was found is that leaf
 leaf_found : (c : In-Some) → option_map (λ x. leaf x.now) c.args.found ≡ Some (leaf c.in-Some.content.now)
@@ -24,9 +23,8 @@ returns-in-Some-clause-effect c =
     let machine = c.args.self.now in
     let seen = context_of (config_of s machine) in
     let old = fields_of (config_of s machine) in
-    let there = performs_where s _ (marked_in (stood_of machine) || leaf_asks s p seen c.in-Some.content.now old)
-    (taken_marked _ (takes_value c.in-Some.content.now) _ _ (stack_marked (stood_of machine))) _ _ _ c.perform_leaf.ensures.effect in
-    subst (λ o. Performs s (marked_in (stood_of machine) || content_asks s p o seen old) (effect s p o seen old) (fields_of (config_of s c.perform_leaf.new.self)) (leading c.perform_leaf.result c.perform_leaf.new.transfer)) (sym (leaf_found (goal.at.returns-in-Some-clause-effect c).In-Some)) there
+    let marked = is_some (stack_stood machine.flow.stack) in
+    subst (λ o. Performs s ((takes_there o && marked) || content_asks s p o seen old) (effect s p o seen old) (fields_of (config_of s c.perform_leaf.new.self)) (leading c.perform_leaf.result c.perform_leaf.new.transfer)) (sym (leaf_found (goal.at.returns-in-Some-clause-effect c).In-Some)) c.perform_leaf.ensures.effect
 
 pub returns-in-Some-clause-threads : goal.returns-in-Some-clause-threads
 returns-in-Some-clause-threads c =

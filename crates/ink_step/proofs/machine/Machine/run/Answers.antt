@@ -1,21 +1,22 @@
-use Rattle.std.proofs.Common.{◌≡◌, ◌∙◌, ap, arith, refl, rules, subst, sym, Err}
+use Rattle.std.proofs.Common.{◌≡◌, ◌∙◌, ap, arith, is_some, refl, rules, subst, sym, Err}
 use Rattle.ink_host.specs.Telling.{log_of}
 use Rattle.ink_check.specs.Words.{story_tree}
-use Rattle.ink_step.specs.Marks.{marked_in, stood_of}
+use Rattle.ink_step.specs.Marks.{Stood, pressed}
 use Rattle.ink_step.specs.Words.{config_of}
 use Rattle.ink_step.proofs.Runnings.{EndsRun, ran_none, ran_on, ran_out, ran_to_fault, ran_to_stop}
 use Rattle.ink_step.proofs.machine.Machine.run.Goals as goal
+use Rattle.ink_value.specs.Undo.{stack_stood}
 
 pub loop-step-init : goal.loop-step-init
 loop-step-init g c =
     let s = story_tree c.args.story.now in
-    record { ran = ran_none g.T.TurnFn.log (log_of g.W.Watcher.state) g.P.PureFn.meaning s (marked_in (stood_of c.args.self.now)) c.args.desk.now (config_of s c.args.self.now); watchers = refl; start = refl; mark = refl }
+    record { ran = ran_none g.T.TurnFn.log (log_of g.W.Watcher.state) g.P.PureFn.meaning s c.args.desk.now (config_of s c.args.self.now); watchers = refl; start = refl; mark = refl }
 
 pub loop-step-preserved : goal.loop-step-preserved
 loop-step-preserved g c =
     let s = story_tree c.args.story.now in
     record {
-      ran = ran_on g.T.TurnFn.log (log_of g.W.Watcher.state) g.P.PureFn.meaning s (marked_in (stood_of c.args.self.now)) c.args.desk.now (config_of s c.args.self.now) c.loop-step._step _ (ap marked_in c.loop-step.invariant.mark) c.loop-step.desk c.forward.new.desk
+      ran = ran_on g.T.TurnFn.log (log_of g.W.Watcher.state) g.P.PureFn.meaning s c.args.desk.now (config_of s c.args.self.now) c.loop-step._step _ _ _ (ap (λ (t : Stood). is_some t.stack) c.loop-step.invariant.mark) c.loop-step.desk c.forward.new.desk
           (config_of s c.loop-step.self) (config_of s c.forward.new.self) c.loop-step.invariant.ran _ c.if-not-branch.false c.in_ok-forward.ensures.step;
       watchers = c.in_ok-forward.ensures.watchers ∙ c.loop-step.invariant.watchers;
       start = c.in_ok-forward.ensures.start ∙ c.loop-step.invariant.start;
@@ -25,8 +26,8 @@ loop-step-preserved g c =
 pub returns-then-not-branch-clause-runs : goal.returns-then-not-branch-clause-runs
 returns-then-not-branch-clause-runs g c =
     let s = story_tree c.args.story.now in
-    ran_to_stop g.T.TurnFn.log (log_of g.W.Watcher.state) g.P.PureFn.meaning s (marked_in (stood_of c.args.self.now)) c.args.desk.now (config_of s c.args.self.now) c.loop-step._step _ (ap marked_in c.loop-step.invariant.mark) c.loop-step.desk c.forward.new.desk
-    (config_of s c.loop-step.self) (config_of s c.forward.new.self) c.loop-step.invariant.ran _ (omega arith) c.if-not-branch.true c.in_ok-forward.ensures.step
+    ran_to_stop g.T.TurnFn.log (log_of g.W.Watcher.state) g.P.PureFn.meaning s c.args.desk.now (config_of s c.args.self.now) c.loop-step._step _ _ _ (ap (λ (t : Stood). is_some t.stack) c.loop-step.invariant.mark) c.loop-step.desk c.forward.new.desk
+    (config_of s c.loop-step.self) (config_of s c.forward.new.self) c.loop-step.invariant.ran _ (omega arith) c.if-not-branch.true c.in_ok-forward.ensures.step (is_some (stack_stood c.args.self.now.flow.stack)) (pressed s c.forward.new.self)
 
 pub returns-then-not-branch-clause-watchers : goal.returns-then-not-branch-clause-watchers
 returns-then-not-branch-clause-watchers g c = c.in_ok-forward.ensures.watchers ∙ c.loop-step.invariant.watchers
@@ -38,8 +39,8 @@ pub returns-in_err-forward-clause-runs : goal.returns-in_err-forward-clause-runs
 returns-in_err-forward-clause-runs g c =
     let s = story_tree c.args.story.now in
     let is : c.from_residual.result ≡ Err c.in_err-forward.field-0.0 = search rules in
-    subst (λ r. EndsRun g.T.TurnFn.log (log_of g.W.Watcher.state) g.P.PureFn.meaning s (marked_in (stood_of c.args.self.now)) c.args.desk.now (config_of s c.args.self.now) c.forward.new.desk (config_of s c.forward.new.self) r) (sym is)
-    (ran_to_fault g.T.TurnFn.log (log_of g.W.Watcher.state) g.P.PureFn.meaning s (marked_in (stood_of c.args.self.now)) c.args.desk.now (config_of s c.args.self.now) c.loop-step._step _ (ap marked_in c.loop-step.invariant.mark) c.loop-step.desk c.forward.new.desk
+    subst (λ r. EndsRun g.T.TurnFn.log (log_of g.W.Watcher.state) g.P.PureFn.meaning s c.args.desk.now (config_of s c.args.self.now) (is_some (stack_stood c.args.self.now.flow.stack)) (pressed s c.forward.new.self) c.forward.new.desk (config_of s c.forward.new.self) r) (sym is)
+    (ran_to_fault g.T.TurnFn.log (log_of g.W.Watcher.state) g.P.PureFn.meaning s c.args.desk.now (config_of s c.args.self.now) c.loop-step._step _ _ _ (ap (λ (t : Stood). is_some t.stack) c.loop-step.invariant.mark) c.loop-step.desk c.forward.new.desk
     (config_of s c.loop-step.self) (config_of s c.forward.new.self) c.loop-step.invariant.ran _ (omega arith) c.in_err-forward.ensures.step)
 
 pub returns-in_err-forward-clause-watchers : goal.returns-in_err-forward-clause-watchers
@@ -51,7 +52,7 @@ returns-in_err-forward-clause-start g c = c.in_err-forward.ensures.start ∙ c.l
 pub returns-clause-runs : goal.returns-clause-runs
 returns-clause-runs g c =
     let s = story_tree c.args.story.now in
-    ran_out g.T.TurnFn.log (log_of g.W.Watcher.state) g.P.PureFn.meaning s (marked_in (stood_of c.args.self.now)) c.args.desk.now (config_of s c.args.self.now) c.loop-step._step c.loop-step.desk (config_of s c.loop-step.self) (omega arith) c.loop-step.invariant.ran
+    ran_out g.T.TurnFn.log (log_of g.W.Watcher.state) g.P.PureFn.meaning s c.args.desk.now (config_of s c.args.self.now) (is_some (stack_stood c.args.self.now.flow.stack)) (pressed s c.loop-step.self) c.loop-step._step c.loop-step.desk (config_of s c.loop-step.self) (omega arith) c.loop-step.invariant.ran
 
 pub returns-clause-watchers : goal.returns-clause-watchers
 returns-clause-watchers g c = c.loop-step.invariant.watchers

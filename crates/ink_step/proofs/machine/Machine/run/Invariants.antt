@@ -1,7 +1,7 @@
 use Rattle.std.proofs.Common.{◌≡◌}
 use Rattle.ink_host.specs.Telling.{log_of}
 use Rattle.ink_check.specs.Words.{story_tree}
-use Rattle.ink_step.specs.Marks.{marked_in, stood_of}
+use Rattle.ink_step.specs.Marks.{stood_of}
 use Rattle.ink_step.specs.Words.{config_of, start_of}
 use Rattle.ink_step.proofs.Runnings.{Ran}
 use Rattle.ink_step.proofs.machine.Machine.run.Given as goal
@@ -11,7 +11,7 @@ abbrev pub invariant-loop-step : goal.invariant-loop-step
 invariant-loop-step g l =
     let s = story_tree l.story in
     record {
-      ran : Ran g.T.TurnFn.log (log_of g.W.Watcher.state) g.P.PureFn.meaning s (marked_in (stood_of l.initial.self)) l.initial.desk (config_of s l.initial.self) l._step l.desk (config_of s l.self);
+      ran : Ran g.T.TurnFn.log (log_of g.W.Watcher.state) g.P.PureFn.meaning s l.initial.desk (config_of s l.initial.self) l._step l.desk (config_of s l.self);
       watchers : l.desk.watchers ≡ l.initial.desk.watchers;
       start : start_of l.self ≡ start_of l.initial.self;
       mark : stood_of l.self ≡ stood_of l.initial.self;

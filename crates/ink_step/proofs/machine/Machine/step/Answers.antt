@@ -5,7 +5,7 @@ use Rattle.ink_host.specs.Desk.{bound_by}
 use Rattle.ink_host.specs.Telling.{log_of}
 use Rattle.ink_model.specs.Asks.{asks}
 use Rattle.ink_model.specs.Step.{step}
-use Rattle.ink_step.specs.Marks.{marked_in, stood_of}
+use Rattle.ink_step.specs.Marks.{presses}
 use Rattle.ink_step.specs.Steps.{Steps, wants}
 use Rattle.ink_step.specs.Words.{config_of}
 use Rattle.ink_step.specs.declared.flow.StepEnd.TheVariants as ends
@@ -30,6 +30,6 @@ returns-then-wants_call-clause-step g c =
     let before = config_of s c.args.self.now in (
       [],
       grew-none g.T.TurnFn.log (log_of g.W.Watcher.state) desk,
-      subst (λ q. Steps q s b desk.next (marked_in (stood_of c.args.self.now)) (asks s b before) (step s b before) [] before.shared.globals before before (Ok ends.WantsCall)) (sym c.if-quiet.true)
-          (said s b desk.next (marked_in (stood_of c.args.self.now)) (asks s b before) (step s b before) before.shared.globals before (sym c.wants_call.ensures ∙ c.if-wants_call.true)),
+      subst (λ q. Steps q s b desk.next (presses s c.args.self.now c.args.self.now) (asks s b before) (step s b before) [] before.shared.globals before before (Ok ends.WantsCall)) (sym c.if-quiet.true)
+          (said s b desk.next (presses s c.args.self.now c.args.self.now) (asks s b before) (step s b before) before.shared.globals before (sym c.wants_call.ensures ∙ c.if-wants_call.true)),
     )
