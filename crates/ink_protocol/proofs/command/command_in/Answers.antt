@@ -1,8 +1,34 @@
-use Rattle.std.proofs.Common.{◌≡◌, IfOk, option_map, subst, sym}
+use Rattle.std.proofs.Common.{◌≡◌, ◌∙◌, IfOk, OnErr, option_map, subst, sym, true}
+use Rattle.ink_model.specs.Command.{line_asks}
 use Rattle.ink_protocol.specs.Commands.{command_by}
-use Rattle.ink_protocol.proofs.Commands.{set_word}
+use Rattle.ink_protocol.proofs.Commands.{choose_word, get_word, jump_word, load_word, set_word, visits_word}
 use Rattle.ink_protocol.proofs.command.command_in.Goals as goal
+
+pub returns-in-Some-clause-command : goal.returns-in-Some-clause-command
+returns-in-Some-clause-command c = c.get_command.ensures ∙ sym (get_word c.args.text.now c.in-Some.name.now (sym c.in-Some.ensures))
 
 pub returns-in-Some-after-clause-command : goal.returns-in-Some-after-clause-command
 returns-in-Some-after-clause-command c =
     subst (λ k. IfOk c.set_line.result (λ command. option_map command_by command ≡ k)) (sym (set_word c.args.text.now c.in-Some-after.rest.now (sym c.in-Some-after.ensures))) c.set_line.ensures.command
+
+pub returns-in-Some-after-clause-memory : goal.returns-in-Some-after-clause-memory
+returns-in-Some-after-clause-memory c =
+    subst (λ k. OnErr c.set_line.result (line_asks k ≡ true)) (sym (set_word c.args.text.now c.in-Some-after.rest.now (sym c.in-Some-after.ensures))) c.set_line.ensures.memory
+
+pub returns-in-Some-after-2-clause-command : goal.returns-in-Some-after-2-clause-command
+returns-in-Some-after-2-clause-command c = c.visits_command.ensures ∙ sym (visits_word c.args.text.now c.in-Some-after-2.path.now (sym c.in-Some-after-2.ensures))
+
+pub returns-in-Some-after-3-clause-command : goal.returns-in-Some-after-3-clause-command
+returns-in-Some-after-3-clause-command c = c.choose_command.ensures ∙ sym (choose_word c.args.text.now c.in-Some-after-3.number.now (sym c.in-Some-after-3.ensures))
+
+pub returns-in-Some-after-4-clause-command : goal.returns-in-Some-after-4-clause-command
+returns-in-Some-after-4-clause-command c = c.jump_command.ensures ∙ sym (jump_word c.args.text.now c.in-Some-after-4.path.now (sym c.in-Some-after-4.ensures))
+
+pub returns-in-Some-after-5-clause-command : goal.returns-in-Some-after-5-clause-command
+returns-in-Some-after-5-clause-command c =
+    subst (λ k. IfOk c.load_command.result (λ command. option_map command_by command ≡ k)) (sym (load_word c.args.text.now c.in-Some-after-5.json.now (sym c.in-Some-after-5.ensures)))
+    c.load_command.ensures.command
+
+pub returns-in-Some-after-5-clause-memory : goal.returns-in-Some-after-5-clause-memory
+returns-in-Some-after-5-clause-memory c =
+    subst (λ k. OnErr c.load_command.result (line_asks k ≡ true)) (sym (load_word c.args.text.now c.in-Some-after-5.json.now (sym c.in-Some-after-5.ensures))) c.load_command.ensures.memory
