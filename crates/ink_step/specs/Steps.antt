@@ -48,9 +48,9 @@ ended (Ok true) = Ok ends.Went
 ended (Ok false) = Ok ends.Stopped
 ended (Err f) = Err f
 
--- The same of a step that may call turn functions. While a mark stands it may ask for memory at any place. Where it wants one, the name is bound to one, which was called once,
--- and the step ends as with what it gave; or memory was refused before that, and nothing was called. The events of the step
--- count on from a stamp.
+-- The same of a step that may call turn functions. Where it wants one, the name is bound to one, which was called once, and the
+-- step ends as with what it gave; or memory was refused before that, and nothing was called. The events of the step count on from
+-- a stamp. While a mark stands, the step may ask for memory at any place.
 abbrev pub StepMakes : StoryTree → Bound → ℕ → Bool → Bool → Stepped → List Event → Values → Configuration → Result StepEnd Fault → Type 0
 StepMakes s b n marked asks (Wants name arguments f d) es globals new result =
     ((gave : Option Given) × (b name ≡ Some turn_function) × (es ≡ calls n (made_call name arguments gave ∷ [])) × StepEnds (marked || answered_asks s arguments f d gave) (answered s f d gave) globals new result)

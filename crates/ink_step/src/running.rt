@@ -22,8 +22,7 @@ impl Machine {
     /// Steps to the stop, from where a running command has begun. The fault is that of the step that faulted, `OutOfSteps` after
     /// 1,000,000 steps, or `OutOfMemory` where memory was refused to a step that asks for it, or for what came of a call that it
     /// made, or to any step while a mark stands; the globals are then as they were before that step, and the machine is of use for
-    /// them alone (docs/RUNNING.md,
-    /// "Runs").
+    /// them alone (docs/RUNNING.md, "Runs").
     pub fn run<P: PureFn, T: TurnFn, W: Watcher>(
         &mut self,
         story: &Story,
