@@ -48,7 +48,7 @@ abbrev pub waiting_after : Looked → Option ℕ
 waiting_after (looked.Newline newline) = Some newline
 waiting_after l = None
 
--- at each part of a machine it has stood so
+-- a mark stands, and there each part was as it is in some machine
 abbrev pub IsMarked : Machine → Type 0
 IsMarked m = (there : Machine) × (stood_of m ≡ marked_at there)
 
