@@ -14,3 +14,5 @@ pub mod Framing
 pub mod Staling
 pub mod Holding
 pub mod Backs
+pub mod Unmarked
+pub mod Keeping

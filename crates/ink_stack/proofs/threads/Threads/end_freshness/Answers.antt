@@ -33,3 +33,6 @@ returns-clause-trail g c =
 
 pub returns-clause-stood : goal.returns-clause-stood
 returns-clause-stood g c = stood-of (frame_count c.args.self.now.threads.thread) _ _ (returns-clause-trail g c)
+
+pub returns-clause-spare : goal.returns-clause-spare
+returns-clause-spare g c = spare-of (frame_count c.args.self.now.threads.thread) _ _ (returns-clause-trail g c)

@@ -5,7 +5,7 @@ use Rattle.ink_model.specs.Frames.{gone, on_top}
 use Rattle.ink_stack.specs.Running.{threads_in}
 use Rattle.ink_stack.specs.Undo.{Rooms, threads_back}
 use Rattle.ink_stack.specs.declared.undo.ThreadsPair.TheVariants.{Placed, Previous}
-use Rattle.ink_stack.proofs.Backs.{going, gone-back, went-back}
+use Rattle.ink_stack.proofs.Backs.{going, gone-back, spare-of, stood-of, went-back}
 use Rattle.ink_stack.proofs.Holding.{held-now, held-top, more-refl, within-same}
 use Rattle.ink_stack.proofs.threads.Threads.go_marked.Goals as goal
 
@@ -37,3 +37,9 @@ returns-clause-trail g c =
     (trails-one threads_back (Previous previous) 1 ts (going ts) _ _ (omega arith) (went-back ts previous c.previous-previous.ensures) c.note.ensures.undo c.note.ensures.room)
     (trails-one threads_back (Placed left) 1 (going ts) (on_top (gone c.args.place) ts) _ _ (omega arith) (gone-back ts c.args.place left c.place-left.ensures)
     c.note-2.ensures.undo c.note-2.ensures.room))
+
+pub returns-clause-stood : goal.returns-clause-stood
+returns-clause-stood g c = stood-of 2 _ _ (returns-clause-trail g c)
+
+pub returns-clause-spare : goal.returns-clause-spare
+returns-clause-spare g c = spare-of 2 _ _ (returns-clause-trail g c)

@@ -4,7 +4,7 @@ use Rattle.ink_trail.proofs.Undoing.{trails-unmarked}
 use Rattle.ink_trail.specs.Undo.{trail_of}
 use Rattle.ink_stack.specs.Running.{threads_in}
 use Rattle.ink_stack.specs.Undo.{Rooms, threads_back}
-use Rattle.ink_stack.proofs.Backs.{changed-kept, changed-ok, stood-of}
+use Rattle.ink_stack.proofs.Backs.{changed-kept, changed-ok, spare-of, stood-of, stood-same}
 use Rattle.ink_stack.proofs.Bases.{top_changes}
 use Rattle.ink_stack.proofs.Holding.{held-now, held-unmarked}
 use Rattle.ink_stack.proofs.threads.Threads.pop_frame.Goals as goal
@@ -38,3 +38,19 @@ returns-clause-trail g c = rw (← c.self.view_is) (trails-unmarked threads_back
 
 pub returns-clause-stood : goal.returns-clause-stood
 returns-clause-stood g c = stood-of 1 _ _ (returns-clause-trail g c)
+
+pub returns-clause-spare : goal.returns-clause-spare
+returns-clause-spare g c = spare-of 1 _ _ (returns-clause-trail g c)
+
+pub returns-in-Err-clause-stood : goal.returns-in-Err-clause-stood
+returns-in-Err-clause-stood g c = stood-same _ _ (returns-in-Err-clause-trail g c)
+
+pub invariant_of-self : goal.invariant_of-self
+invariant_of-self g c =
+    let r : Rooms = record { frames = c.self.inside.running.room; threads = vec_capacity c.self.inside.below } in
+    let s : Rooms = record { frames = c.pop-popped.new.self.room; threads = vec_capacity c.self.inside.below } in
+    let now = held-now r (trail_of c.self.inside.trail.undo) (threads_in c.self.inside.running c.self.inside.below.items) c.self.invariant.1 in (
+      c.self.invariant.0,
+      held-unmarked c.self.inside.trail.undo s (threads_in c.pop-popped.new.self c.self.inside.below.items) (sym c.is_marked.ensures ∙ c.if-is_marked.false)
+          (record { thread = c.within.ensures; few = now.few; fit = now.fit }),
+    )

@@ -6,7 +6,7 @@ use Rattle.ink_stack.specs.Cells.{unpopped}
 use Rattle.ink_stack.specs.Running.{threads_in}
 use Rattle.ink_stack.specs.Undo.{Rooms, threads_back}
 use Rattle.ink_stack.specs.declared.undo.ThreadsPair.TheVariants.{FramePopped}
-use Rattle.ink_stack.proofs.Backs.{changed-err, changed-kept, changed-ok, stood-of, stood-same, unpopped-changed}
+use Rattle.ink_stack.proofs.Backs.{changed-err, changed-kept, changed-ok, spare-of, stood-of, stood-same, unpopped-changed}
 use Rattle.ink_stack.proofs.Bases.{top_changes}
 use Rattle.ink_stack.proofs.Holding.{held-as, held-now, held-with}
 use Rattle.ink_stack.proofs.threads.Threads.pop_frame_marked.Given.{Over}
@@ -86,3 +86,6 @@ returns-in-Err-clause-stood g c = stood-same _ _ (returns-in-Err-clause-trail g 
 
 pub returns-clause-stood : goal.returns-clause-stood
 returns-clause-stood g c = stood-of 1 _ _ (returns-clause-trail g c)
+
+pub returns-clause-spare : goal.returns-clause-spare
+returns-clause-spare g c = spare-of 1 _ _ (returns-clause-trail g c)

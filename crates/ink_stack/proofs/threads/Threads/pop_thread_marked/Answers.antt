@@ -1,12 +1,12 @@
-use Rattle.std.proofs.Common.{◌≡◌, ◌∙◌, ◌+◌, ◌≤◌, [], ◌∷◌, ap, arith, length, vec_capacity}
-use Rattle.std.proofs.lemmas.List.{length-append}
+use Rattle.std.proofs.Common.{[], ap, arith, length, option_to_list, refl, sym, vec_capacity, ◌++◌, ◌+◌, ◌∙◌, ◌∷◌, ◌≡◌, ◌≤◌}
+use Rattle.std.proofs.lemmas.List.{append-nil, length-append}
 use Rattle.ink_trail.proofs.Undoing.{trails-one}
 use Rattle.ink_trail.specs.Undo.{trail_of}
 use Rattle.ink_stack.specs.Running.{threads_in}
 use Rattle.ink_stack.specs.Undo.{Rooms, threads_back}
 use Rattle.ink_stack.specs.declared.undo.ThreadsPair.TheVariants.{ThreadPopped}
-use Rattle.ink_stack.proofs.Backs.{stood-of, thread-popped-back}
-use Rattle.ink_stack.proofs.Holding.{held-next, held-now, held-with}
+use Rattle.ink_stack.proofs.Backs.{spare-of, stood-of, thread-popped-back}
+use Rattle.ink_stack.proofs.Holding.{held-as, held-next, held-now, held-with}
 use Rattle.ink_stack.proofs.threads.Threads.pop_thread_marked.Given.{Over}
 use Rattle.ink_stack.proofs.threads.Threads.pop_thread_marked.Goals.{After-note}
 use Rattle.ink_stack.proofs.threads.Threads.pop_thread_marked.Goals as goal
@@ -44,3 +44,19 @@ returns-clause-trail g c =
 
 pub returns-clause-stood : goal.returns-clause-stood
 returns-clause-stood g c = stood-of 1 _ _ (returns-clause-trail g c)
+
+pub returns-clause-spare : goal.returns-clause-spare
+returns-clause-spare g c = spare-of 1 _ _ (returns-clause-trail g c)
+
+pub invariant_of-self : goal.invariant_of-self
+invariant_of-self g c =
+    let items = c.self.inside.below.items in
+    let rest = c.pop.new.self.items in
+    let u = c.self.inside.trail.undo in
+    let r : Rooms = record { frames = c.self.inside.running.room; threads = vec_capacity c.self.inside.below } in
+    let s : Rooms = record { frames = c.self.inside.running.room; threads = vec_capacity c.pop.new.self } in
+    let same : rest ≡ items = sym (c.pop.ensures.items ∙ ap (λ o. rest ++ option_to_list o) c.in_default.is ∙ append-nil rest) in (
+      omega (arith, ap length same, c.self.invariant.0),
+      held-as u u r s (threads_in c.self.inside.running items) (threads_in c.self.inside.running rest) refl (ap (threads_in c.self.inside.running) same)
+          (record { frames = omega arith; threads = omega (arith, c.pop.ensures.capacity) }) c.self.invariant.1,
+    )

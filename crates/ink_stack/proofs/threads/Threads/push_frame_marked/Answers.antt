@@ -9,7 +9,7 @@ use Rattle.ink_stack.specs.Running.{threads_in}
 use Rattle.ink_stack.specs.Undo.{Rooms, threads_back}
 use Rattle.ink_stack.specs.declared.undo.ThreadsPair.TheVariants.{FramePushed}
 use Rattle.ink_stack.specs.Words.{Grows}
-use Rattle.ink_stack.proofs.Backs.{grown-kept, grown-refused, stood-of, stood-same, unpushed-grown}
+use Rattle.ink_stack.proofs.Backs.{grown-kept, grown-refused, spare-of, stood-of, stood-same, unpushed-grown}
 use Rattle.ink_stack.proofs.Bases.{top_grows}
 use Rattle.ink_stack.proofs.Holding.{held-as, held-now, held-with}
 use Rattle.ink_stack.proofs.threads.Threads.push_frame_marked.Given.{Over}
@@ -106,3 +106,6 @@ returns-clause-trail g c =
 
 pub returns-clause-stood : goal.returns-clause-stood
 returns-clause-stood g c = stood-of 1 _ _ (returns-clause-trail g c)
+
+pub returns-clause-spare : goal.returns-clause-spare
+returns-clause-spare g c = spare-of 1 _ _ (returns-clause-trail g c)

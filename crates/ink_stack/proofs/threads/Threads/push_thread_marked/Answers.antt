@@ -7,7 +7,7 @@ use Rattle.ink_stack.specs.Running.{threads_in}
 use Rattle.ink_stack.specs.Undo.{Rooms, threads_back}
 use Rattle.ink_stack.specs.Words.{Grows}
 use Rattle.ink_stack.specs.declared.undo.ThreadsPair.TheVariants.{ThreadPushed}
-use Rattle.ink_stack.proofs.Backs.{doubled-back, grown-kept, grown-refused, popped-drop, stood-of, stood-same}
+use Rattle.ink_stack.proofs.Backs.{doubled-back, grown-kept, grown-refused, popped-drop, spare-of, stood-of, stood-same}
 use Rattle.ink_stack.proofs.Holding.{held-as, held-now, held-with}
 use Rattle.ink_stack.proofs.threads.Threads.push_thread_marked.Given.{Over}
 use Rattle.ink_stack.proofs.threads.Threads.push_thread_marked.Goals.{After-add, After-pop-copy}
@@ -96,3 +96,6 @@ returns-clause-trail g c =
 
 pub returns-clause-stood : goal.returns-clause-stood
 returns-clause-stood g c = stood-of 1 _ _ (returns-clause-trail g c)
+
+pub returns-clause-spare : goal.returns-clause-spare
+returns-clause-spare g c = spare-of 1 _ _ (returns-clause-trail g c)

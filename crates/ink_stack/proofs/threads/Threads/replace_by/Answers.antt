@@ -2,7 +2,7 @@ use Rattle.std.proofs.Common.{◌∙◌, [], arith, refl, sym}
 use Rattle.ink_trail.proofs.Undoing.{trails-unmarked}
 use Rattle.ink_stack.specs.Running.{threads_in}
 use Rattle.ink_stack.specs.Undo.{threads_back}
-use Rattle.ink_stack.proofs.Backs.{stood-of}
+use Rattle.ink_stack.proofs.Backs.{spare-of, stood-of}
 use Rattle.ink_stack.proofs.Holding.{held-unmarked}
 use Rattle.ink_stack.proofs.threads.Threads.replace_by.Goals as goal
 
@@ -19,3 +19,6 @@ returns-clause-trail g c = rw (← c.self.view_is) (trails-unmarked threads_back
 
 pub returns-clause-stood : goal.returns-clause-stood
 returns-clause-stood g c = stood-of 1 _ _ (returns-clause-trail g c)
+
+pub returns-clause-spare : goal.returns-clause-spare
+returns-clause-spare g c = spare-of 1 _ _ (returns-clause-trail g c)

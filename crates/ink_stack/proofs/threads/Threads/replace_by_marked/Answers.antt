@@ -3,7 +3,7 @@ use Rattle.ink_trail.proofs.Undoing.{trails-one}
 use Rattle.ink_stack.specs.Running.{threads_in}
 use Rattle.ink_stack.specs.Undo.{Rooms, threads_back}
 use Rattle.ink_stack.specs.declared.undo.ThreadsPair.TheVariants.{Replaced}
-use Rattle.ink_stack.proofs.Backs.{stood-of}
+use Rattle.ink_stack.proofs.Backs.{spare-of, stood-of}
 use Rattle.ink_stack.proofs.Holding.{held-with}
 use Rattle.ink_stack.proofs.threads.Threads.replace_by_marked.Given.{Over}
 use Rattle.ink_stack.proofs.threads.Threads.replace_by_marked.Goals.{After-note}
@@ -37,3 +37,6 @@ returns-clause-trail g c =
 
 pub returns-clause-stood : goal.returns-clause-stood
 returns-clause-stood g c = stood-of 1 _ _ (returns-clause-trail g c)
+
+pub returns-clause-spare : goal.returns-clause-spare
+returns-clause-spare g c = spare-of 1 _ _ (returns-clause-trail g c)

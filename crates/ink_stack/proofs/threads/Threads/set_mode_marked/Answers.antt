@@ -5,7 +5,7 @@ use Rattle.ink_model.specs.Frames.{mode_in}
 use Rattle.ink_stack.specs.Running.{threads_in}
 use Rattle.ink_stack.specs.Undo.{Rooms, threads_back}
 use Rattle.ink_stack.specs.declared.undo.ThreadsPair.TheVariants.{Evaluating}
-use Rattle.ink_stack.proofs.Backs.{mode-back}
+use Rattle.ink_stack.proofs.Backs.{mode-back, spare-of, stood-of}
 use Rattle.ink_stack.proofs.Holding.{held-now, held-top, more-refl, within-same}
 use Rattle.ink_stack.proofs.threads.Threads.set_mode_marked.Goals as goal
 
@@ -27,3 +27,9 @@ returns-clause-trail g c =
     let ts = threads_in c.self.inside.running c.self.inside.below.items in
     rw (← c.self.view_is, c.set_mode.ensures)
     (trails-one threads_back (Evaluating c.is_evaluating-was.result) 1 _ _ _ _ (omega arith) (mode-back ts c.args.evaluating c.is_evaluating-was.result c.is_evaluating-was.ensures) c.note.ensures.undo c.note.ensures.room)
+
+pub returns-clause-stood : goal.returns-clause-stood
+returns-clause-stood g c = stood-of 1 _ _ (returns-clause-trail g c)
+
+pub returns-clause-spare : goal.returns-clause-spare
+returns-clause-spare g c = spare-of 1 _ _ (returns-clause-trail g c)

@@ -5,7 +5,7 @@ use Rattle.ink_model.specs.Threads.{number_in}
 use Rattle.ink_stack.specs.Running.{threads_in}
 use Rattle.ink_stack.specs.Undo.{Rooms, threads_back}
 use Rattle.ink_stack.specs.declared.undo.ThreadsPair.TheVariants.{Numbered}
-use Rattle.ink_stack.proofs.Backs.{numbered-back}
+use Rattle.ink_stack.proofs.Backs.{numbered-back, spare-of, stood-of}
 use Rattle.ink_stack.proofs.Holding.{held-now, held-top, more-refl, within-same}
 use Rattle.ink_stack.proofs.threads.Threads.set_number_marked.Goals as goal
 
@@ -27,3 +27,9 @@ returns-clause-trail g c =
     let ts = threads_in c.self.inside.running c.self.inside.below.items in
     rw (← c.self.view_is, c.set_number.ensures)
     (trails-one threads_back (Numbered c.number-was.result) 1 _ _ _ _ (omega arith) (numbered-back ts c.args.number c.number-was.result c.number-was.ensures) c.note.ensures.undo c.note.ensures.room)
+
+pub returns-clause-stood : goal.returns-clause-stood
+returns-clause-stood g c = stood-of 1 _ _ (returns-clause-trail g c)
+
+pub returns-clause-spare : goal.returns-clause-spare
+returns-clause-spare g c = spare-of 1 _ _ (returns-clause-trail g c)

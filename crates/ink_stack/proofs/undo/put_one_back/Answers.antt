@@ -1,0 +1,51 @@
+use Rattle.std.proofs.Common.{ap, arith}
+use Rattle.ink_stack.specs.Running.{threads_in}
+use Rattle.ink_stack.proofs.undo.put_one_back.Goals as goal
+
+pub returns-in-Placed-clause-threads : goal.returns-in-Placed-clause-threads
+returns-in-Placed-clause-threads g c = rw c.in-Placed.is (ap (λ v. threads_in v c.args.below.now.items) c.put.ensures)
+
+pub returns-in-Placed-clause-room : goal.returns-in-Placed-clause-room
+returns-in-Placed-clause-room g c = rw c.in-Placed.is (record { frames = omega (arith, ap (λ v. v.room) c.put.ensures); threads = omega arith })
+
+pub returns-in-Previous-clause-threads : goal.returns-in-Previous-clause-threads
+returns-in-Previous-clause-threads g c = rw c.in-Previous.is (ap (λ v. threads_in v c.args.below.now.items) c.put_previous_back.ensures)
+
+pub returns-in-Previous-clause-room : goal.returns-in-Previous-clause-room
+returns-in-Previous-clause-room g c = rw c.in-Previous.is (record { frames = omega (arith, ap (λ v. v.room) c.put_previous_back.ensures); threads = omega arith })
+
+pub returns-in-Evaluating-clause-threads : goal.returns-in-Evaluating-clause-threads
+returns-in-Evaluating-clause-threads g c = rw c.in-Evaluating.is (ap (λ v. threads_in v c.args.below.now.items) c.set_mode.ensures)
+
+pub returns-in-Evaluating-clause-room : goal.returns-in-Evaluating-clause-room
+returns-in-Evaluating-clause-room g c = rw c.in-Evaluating.is (record { frames = omega (arith, ap (λ v. v.room) c.set_mode.ensures); threads = omega arith })
+
+pub returns-in-Numbered-clause-threads : goal.returns-in-Numbered-clause-threads
+returns-in-Numbered-clause-threads g c = rw c.in-Numbered.is (ap (λ v. threads_in v c.args.below.now.items) c.put_number_back.ensures)
+
+pub returns-in-Numbered-clause-room : goal.returns-in-Numbered-clause-room
+returns-in-Numbered-clause-room g c = rw c.in-Numbered.is (record { frames = omega (arith, ap (λ v. v.room) c.put_number_back.ensures); threads = omega arith })
+
+pub returns-in-Fresh-clause-threads : goal.returns-in-Fresh-clause-threads
+returns-in-Fresh-clause-threads g c = rw c.in-Fresh.is (ap (λ v. threads_in v c.args.below.now.items) c.freshen.ensures)
+
+pub returns-in-Fresh-clause-room : goal.returns-in-Fresh-clause-room
+returns-in-Fresh-clause-room g c = rw c.in-Fresh.is (record { frames = omega (arith, ap (λ v. v.room) c.freshen.ensures); threads = omega arith })
+
+pub returns-in-Temp-clause-threads : goal.returns-in-Temp-clause-threads
+returns-in-Temp-clause-threads g c = rw c.in-Temp.is (ap (λ v. threads_in v c.args.below.now.items) c.put_temp_back.ensures)
+
+pub returns-in-Temp-clause-room : goal.returns-in-Temp-clause-room
+returns-in-Temp-clause-room g c = rw c.in-Temp.is (record { frames = omega (arith, ap (λ v. v.room) c.put_temp_back.ensures); threads = omega arith })
+
+pub returns-in-FramePushed-clause-threads : goal.returns-in-FramePushed-clause-threads
+returns-in-FramePushed-clause-threads g c = rw c.in-FramePushed.is (ap (λ v. threads_in v c.args.below.now.items) c.unpush.ensures)
+
+pub returns-in-FramePushed-clause-room : goal.returns-in-FramePushed-clause-room
+returns-in-FramePushed-clause-room g c = rw c.in-FramePushed.is (record { frames = omega (arith, ap (λ v. v.room) c.unpush.ensures); threads = omega arith })
+
+pub returns-in-FramePopped-clause-threads : goal.returns-in-FramePopped-clause-threads
+returns-in-FramePopped-clause-threads g c = rw c.in-FramePopped.is (ap (λ v. threads_in v c.args.below.now.items) c.unpop.ensures)
+
+pub returns-in-FramePopped-clause-room : goal.returns-in-FramePopped-clause-room
+returns-in-FramePopped-clause-room g c = rw c.in-FramePopped.is (record { frames = omega (arith, ap (λ v. v.room) c.unpop.ensures); threads = omega arith })
