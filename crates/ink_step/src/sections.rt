@@ -96,7 +96,7 @@ fn add_tag(stack: &mut EvalStack, output: &mut Output, text: &str) -> Result<(),
     ensures output_mark { output_stood output.new ≡ output_stood output.old }
 {
     match output.tag(text) {
-        Ok(Some(text)) => push(stack, Value::Tag(text)),
+        Ok(Some(tag)) => push(stack, Value::Tag(tag)),
         Ok(None) => Ok(()),
         Err(fault) => Err(fault),
     }
@@ -107,10 +107,10 @@ fn check_string_room(stack: &EvalStack, output: &Output) -> Result<(), Fault>
     ensures room { OnOk result (has_tag_room output.now.page.sections stack.now.items ≡ true) }
     ensures full { IfErr result (λ f. (f ≡ Fault.TooDeep) × (has_tag_room output.now.page.sections stack.now.items ≡ false)) }
 {
-    if output.in_string() {
-        return check_room(stack);
+    if !output.in_string() {
+        return Ok(());
     }
-    Ok(())
+    check_room(stack)
 }
 
 /// Closes a tag where one is on top, and else does nothing.
