@@ -74,11 +74,7 @@ pub(crate) fn end_tag(stack: &mut EvalStack, output: &mut Output) -> Result<(), 
 
 /// A tag is given whole, whatever the mode; one that is on top is closed first. Where there is no room for it in a string, that
 /// is found before a text is made.
-pub(crate) fn write_tag(
-    stack: &mut EvalStack,
-    output: &mut Output,
-    text: &str,
-) -> Result<(), Fault>
+pub(crate) fn write_tag(stack: &mut EvalStack, output: &mut Output, text: &str) -> Result<(), Fault>
     ensures effect { (evaluating : Bool) (fresh : Option ℕ) (globals : Values)
         → Changes (has_tag_room output.old.page.sections stack.old.items) (write_tag text.now (fields evaluating fresh stack.old.items output.old.page globals)) (fields evaluating fresh stack.new.items output.new.page globals) result }
     ensures stack_mark { stack_stood stack.new ≡ stack_stood stack.old }
