@@ -503,12 +503,18 @@ class Machine:
             raise Fault("BadMode")
         return shown(self.sections.pop()[1])
 
-    def close_tag(self):
-        text = Tag(cleaned(self.close("tag")))
+    def tag(self, text):
         if self.sections:
-            self.push(text)
+            self.push(Tag(cleaned(text)))
         else:
-            self.mark(("tag", text))
+            self.mark(("tag", Tag(cleaned(text))))
+
+    def close_tag(self):
+        self.tag(self.close("tag"))
+
+    def close_tag_on_top(self):
+        if self.sections and self.sections[-1][0] == "tag":
+            self.close_tag()
 
     def section(self, word):
         if word == "str":
@@ -520,8 +526,7 @@ class Machine:
         elif word == "/#":
             self.close_tag()
         else:
-            if self.sections and self.sections[-1][0] == "tag":
-                self.close_tag()
+            self.close_tag_on_top()
             self.sections.append(("tag", []))
 
     # ---- variables
@@ -883,6 +888,9 @@ class Machine:
             self.push(self.visits_at(target(self.root, self.frame.place, path_of(content["CNT?"]))))
         elif isinstance(content, dict) and ("VAR=" in content or "temp=" in content):
             stored = self.to_store(content)
+        elif isinstance(content, dict) and "#" in content:
+            self.close_tag_on_top()
+            self.tag(content["#"])
         elif isinstance(content, dict):
             self.push(self.read(content["VAR?"]))
         elif isinstance(content, int) and self.frame.evaluating:
@@ -1683,7 +1691,7 @@ def scenes_story(chance):
         if isinstance(knot[-1], dict) and not knot[:-1]:
             knot.insert(0, "^.")
     root = [scene_bits(chance) + [{"->": "c0"}, None], "done", names]
-    return {"inkVersion": 21, "root": root, "listDefs": {}}
+    return {"inkVersion": version_of(chance, root), "root": root, "listDefs": {}}
 
 
 # the knots of a story that is played line by line, in order
@@ -1790,7 +1798,23 @@ def lines_story(chance):
     names["t"] = line_group(chance, FUNCTIONS) + chance.choice(([], ["done"])) + [None]
     declared = [part for name in chance.sample("xyz", chance.choice((2, 3, 3, 3, 3, 3))) for part in (random_number(chance), {"VAR=": name})]
     names["global decl"] = ["ev"] + declared + [0, {"VAR=": "n"}, "/ev", "end", None]
-    return {"inkVersion": 21, "root": [line_group(chance, FUNCTIONS) + [{"->": "p0"}, None], "done", names], "listDefs": {}}
+    root = [line_group(chance, FUNCTIONS) + [{"->": "p0"}, None], "done", names]
+    return {"inkVersion": version_of(chance, root), "root": root, "listDefs": {}}
+
+
+def version_of(chance, root):
+    """The version of a story with this root. A third are of version 20: there tags are given whole, in the place of others and here
+    and there, in strings and evaluations too."""
+    if chance.random() < 2 / 3:
+        return 21
+    for container in [content for content in (found(root, place) for place in list(places(root))) if isinstance(content, list)]:
+        for at in reversed(range(len(container) - 1)):
+            words = container[at:at + 3]
+            if words[0] == "#" and words[2:] == ["/#"] and isinstance(words[1], str) and words[1].startswith("^") and chance.random() < 0.7:
+                container[at:at + 3] = [{"#": words[1][1:]}]
+            elif chance.random() < 0.04:
+                container.insert(at, {"#": random_text(chance)[1:]})
+    return 20
 
 
 def random_story(chance):
@@ -1812,13 +1836,14 @@ def random_story(chance):
         root[-1] = dict(root[-1] or {}, **{"global decl": declarations + [None]})
     elif where < 0.7:
         root.insert(chance.randrange(len(root)), declarations + [{"#n": "global decl"}])
+    version = version_of(chance, root)
     for place in list(places(root)):
         content = found(root, place)
         if isinstance(content, dict):
             for head in ("->", "^->", "f()", "->t->", "CNT?", "*"):
                 if content.get(head) in (WAY, BACK):
                     content[head] = random_path(chance, root, place, head)
-    return {"inkVersion": 21, "root": root, "listDefs": {}}
+    return {"inkVersion": version, "root": root, "listDefs": {}}
 
 
 def counted(root):

@@ -72,6 +72,8 @@ STORIES = (
      ("through", "get v", "restart", "through")),
     ('{"inkVersion":21,"root":["^A","#","^ x  y ","#","^z","/#","\\n","<>","ev","str","^s","#","^t","/#","/str",{"VAR=":"v"},"pop","/ev","^B","\\n","end",null]}',
      ("through", "get v")),
+    ('{"inkVersion":20,"root":["^A",{"#":" x  y "},"#","^z",{"#":"w"},"\\n","ev","str","^s","#","^t",{"#":" u "},"/str",{"VAR=":"v"},"pop",{"VAR=":"g"},{"#":"e"},"/ev","^B","\\n",{"#":"f"},"end",null]}',
+     ("continue", "get v", "get g", "through", "save", "restart", "through")),
     (HELLO, ("through", "through", "bye", "through")),
     ("\ufeff" + HELLO, ("bye", "through")),
     ('{"inkVersion":21,"root":["done",null],"listDefs":{}}', ("through", "through", "bye")),

@@ -1,3 +1,4 @@
+pub mod Adding
 pub mod Narrow
 pub mod Size
 pub mod Sets

@@ -2,7 +2,7 @@
 use Rattle.std.specs.Prelude.{◌≡◌, ◌≤◌, ℕ, List, [], ◌∷◌, ◌++◌, length, Bool, Result}
 use Rattle.serde_json.specs.Data.{Data}
 use Rattle.ink_json.specs.Value.{json_data}
-use Rattle.ink_model.specs.Leaves.{read_jump, read_external, read_choice, read_plain, read_pointer, read_store}
+use Rattle.ink_model.specs.Leaves.{read_jump, read_external, read_choice, read_plain, read_pointer, read_store, read_tag}
 use Rattle.ink_model.specs.declared.content.Destination.{Destination}
 use Rattle.ink_model.specs.declared.content.Leaf.{Leaf}
 use Rattle.ink_model.specs.declared.content.Leaf.TheVariants as leaves
@@ -40,6 +40,7 @@ reading heads.Target = read_plain leaves.Target
 reading heads.Pointer = read_pointer
 reading heads.Variable = read_plain leaves.Variable
 reading heads.Count = read_plain leaves.Count
+reading heads.Tag = read_tag
 reading (heads.Store scope) = read_store (declares scope) (assigns scope)
 
 -- how many readings an object has, and where it is one, by which head

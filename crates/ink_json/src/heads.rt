@@ -18,6 +18,7 @@ pub(crate) enum Head {
     Pointer,
     Variable,
     Count,
+    Tag,
     Store(Scope),
 }
 
@@ -57,7 +58,8 @@ fn add_values<'t, 'a>(found: Found<'t, 'a>, object: &Value<'t, 'a>) -> Found<'t,
     let found = add(found, object, "^->", Head::Target);
     let found = add(found, object, "^var", Head::Pointer);
     let found = add(found, object, "VAR?", Head::Variable);
-    add(found, object, "CNT?", Head::Count)
+    let found = add(found, object, "CNT?", Head::Count);
+    add(found, object, "#", Head::Tag)
 }
 
 #[tactic(auto, unfolding(ink_model::specs::Leaves::store_readings))]

@@ -9,8 +9,8 @@ ghost use Rattle.ink_json.specs.Heads.{reading};
 use crate::error::{ReadFailure, refused};
 use crate::heads::{Found, Head, heads};
 use crate::readings::{
-    read_choice, read_count, read_external, read_jump, read_pointer, read_store, read_target,
-    read_variable,
+    read_choice, read_count, read_external, read_jump, read_pointer, read_store, read_tag,
+    read_target, read_variable,
 };
 use crate::value::Value;
 use ink_model::{Cause, InkVersion, Leaf};
@@ -39,6 +39,7 @@ fn is_beyond(version: InkVersion, object: &Value<'_, '_>) -> bool
     ensures { result ≡ is_beyond version (json_data object.now) }
 {
     match version {
+        InkVersion::V20 => object.get("list").is_some(),
         InkVersion::V21 => object.get("list").is_some() || object.get("#").is_some(),
     }
 }
@@ -60,6 +61,7 @@ fn read_by(
         Head::Pointer => read_pointer(alloc, object, value),
         Head::Variable => read_variable(alloc, value),
         Head::Count => read_count(alloc, value),
+        Head::Tag => read_tag(alloc, value),
         Head::Store(scope) => read_store(alloc, object, value, scope),
     }
 }

@@ -3,7 +3,7 @@
 ghost use Rattle.std.specs.Prelude.{◌≡◌, List, ℕ, if◌then◌else◌, IfOk};
 ghost use Rattle.serde_json.specs.Find.{as_str};
 ghost use Rattle.ink_json.specs.Value.{json_data};
-ghost use Rattle.ink_model.specs.Leaves.{read_jump, read_external, read_choice, plain_leaf, read_pointer, read_store, pointer_to, pointer_frame};
+ghost use Rattle.ink_model.specs.Leaves.{read_jump, read_external, read_choice, plain_leaf, read_pointer, read_store, pointer_to, pointer_frame, tag_leaf};
 ghost use Rattle.ink_model.specs.declared.content.Leaf.{Leaf};
 ghost use Rattle.ink_json.specs.Heads.{jumps, declares, assigns};
 ghost use Rattle.ink_json.specs.Reading.{Reads, placed};
@@ -12,7 +12,7 @@ use crate::error::{ReadFailure, refused};
 use crate::limits::MOST;
 use crate::options::{frame, is_on, whole_or};
 use crate::value::Value;
-use ink_model::{Cause, Destination, Leaf, Shared, Text};
+use ink_model::{Cause, Destination, Leaf, MAX_TEXT, Shared, Text};
 use std::alloc::{AllocError, Global};
 
 /// The flags of a choice that gives none.
@@ -178,6 +178,17 @@ pub(crate) fn read_count(alloc: Global, head: &Value<'_, '_>) -> Result<Leaf, Re
     ensures { Reads (λ l. l) result (placed (plain_leaf Leaf.Count (as_str (json_data head.now)))) }
 {
     Ok(Leaf::Count(read_name(alloc, head)?))
+}
+
+/// A tag that is given whole.
+pub(crate) fn read_tag(alloc: Global, head: &Value<'_, '_>) -> Result<Leaf, ReadFailure>
+    ensures { Reads (λ l. l) result (placed (tag_leaf (as_str (json_data head.now)))) }
+{
+    match head.as_str() {
+        Some(text) if text.len() <= MAX_TEXT => Ok(Leaf::Tag(shared_text(alloc, text)?)),
+        Some(_) => Err(refused(alloc, Cause::Limit)),
+        None => Err(refused(alloc, Cause::Shape)),
+    }
 }
 
 /// A text, to be shared.

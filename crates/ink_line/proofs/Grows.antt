@@ -30,7 +30,7 @@ use Rattle.ink_model.specs.Step.Choices.{offering, was_visited}
 use Rattle.ink_model.specs.Step.Counts.{asking, less_one, pushing_count, visits_at}
 use Rattle.ink_model.specs.Step.Evaluation.{output_popped, push_value}
 use Rattle.ink_model.specs.Step.Host.{Acts, Asks, Call, CallEffect, answering, arguments_of, arguments_on, arguments_taken, call_at, call_bound, call_external, has_string, is_argument, or_fails}
-use Rattle.ink_model.specs.Step.Text.{begin_tag, in_tag}
+use Rattle.ink_model.specs.Step.Text.{begin_tag, in_tag, write_tag}
 use Rattle.ink_model.specs.Step.Variables.{storing}
 use Rattle.ink_model.specs.Tree.{StoryTree, at, leaf, container}
 use Rattle.ink_model.specs.declared.content.Control.{Control}
@@ -43,7 +43,7 @@ use Rattle.ink_model.specs.Step.Diverts.{condition, divert_to, landing_by, leavi
 use Rattle.ink_model.specs.Step.Text.{beside, closed_tag, keeps_tag}
 use Rattle.ink_model.specs.declared.value.Value.TheVariants as value
 use Rattle.ink_model.specs.Mark.{cut}
-use Rattle.ink_model.specs.Output.{begins_function, closes_string, closes_string_of, closes_tag, closes_tag_of, ends_function, is_crowded, is_line, is_string, is_text, kept_text, let_through, noted, noted_in, opens, tagged, with_next, writes_glue, writes_marks, writes_newline, writes_printed, writes_text, writes_value}
+use Rattle.ink_model.specs.Output.{begins_function, closes_string, closes_string_of, closes_tag, closes_tag_of, ends_function, is_crowded, is_line, is_string, is_text, kept_text, let_through, noted, noted_in, opens, tagged, with_next, writes_glue, writes_marks, writes_newline, writes_printed, writes_tag, writes_text, writes_value}
 use Rattle.ink_model.specs.Page.{Page, Section, SectionKind, string_section, tag_section}
 use Rattle.ink_model.specs.Shown.{shown_text}
 use Rattle.ink_model.specs.Value.{is_true, printed}
@@ -230,13 +230,27 @@ module _ (Holds : List Mark → Type 0) (grow : (k ms : List Mark) → Holds k �
   output_holds None f h = h
   output_holds (Some r) f h = page_fault_holds (writes_value (is_fresh f) r.0 f.page) _ (value_holds (is_fresh f) r.0 f.page h) (λ page k. k)
 
-  begin_tag_holds : (f : Fields) → Holds f.page.line → EffectHolds (begin_tag f)
-  begin_tag_holds f h = closed_fault_holds (if in_tag f.page.sections then closed_tag f.stack f.page else Ok (f.stack, f.page)) _ (by (in_tag f.page.sections))
-      (λ x k. page_fault_holds (opens tag_section x.1) _ (opens_holds tag_section x.1 k) (λ page j. j))
+  -- where a tag is on top it is closed
+  no_tag_on_top_holds : (f : Fields) → Holds f.page.line → ClosedHolds (if in_tag f.page.sections then closed_tag f.stack f.page else Ok (f.stack, f.page))
+  no_tag_on_top_holds f h = by (in_tag f.page.sections)
     where
       by : (b : Bool) → ClosedHolds (if b then closed_tag f.stack f.page else Ok (f.stack, f.page))
       by true = closed_tag_holds f.stack f.page h
       by false = h
+
+  whole_tag_holds : (t : List ℕ) (page : Page) → Holds page.line → ClosedHolds (writes_tag t page)
+  whole_tag_holds t page h = elim (cases_Bool (fits_text (clean t))) [
+    | inl e ↦ rw e (tagged_holds (clean t) page h)
+    | inr e ↦ rw e tt
+  ]
+
+  write_tag_holds : (t : List ℕ) (f : Fields) → Holds f.page.line → EffectHolds (write_tag t f)
+  write_tag_holds t f h = closed_fault_holds (if in_tag f.page.sections then closed_tag f.stack f.page else Ok (f.stack, f.page)) _ (no_tag_on_top_holds f h)
+      (λ x k. closed_fault_holds (keeps_tag x.0 (writes_tag t x.1)) _ (keeps_tag_holds x.0 (writes_tag t x.1) (whole_tag_holds t x.1 k)) (λ y j. j))
+
+  begin_tag_holds : (f : Fields) → Holds f.page.line → EffectHolds (begin_tag f)
+  begin_tag_holds f h = closed_fault_holds (if in_tag f.page.sections then closed_tag f.stack f.page else Ok (f.stack, f.page)) _ (no_tag_on_top_holds f h)
+      (λ x k. page_fault_holds (opens tag_section x.1) _ (opens_holds tag_section x.1 k) (λ page j. j))
 
   module _ (s : StoryTree) (seen : Context) where
     asking_holds : (so : List Part → Result ℤ Fault) (f : Fields) → Holds f.page.line → EffectHolds (asking s seen so f)
@@ -314,6 +328,7 @@ module _ (Holds : List Mark → Type 0) (grow : (k ms : List Mark) → Holds k �
     leaf_holds p leaves.Newline f h = if_holds f.evaluating (pushing (value.Text (10 ∷ [])) f) (writing (writes_newline (is_fresh f) f.page) f)
         (pushing_holds (value.Text (10 ∷ [])) f h) (writing_holds (writes_newline (is_fresh f) f.page) f (marks_holds (let_through (is_fresh f) (Newline ∷ [])) f.page h))
     leaf_holds p leaves.Glue f h = if_holds f.evaluating (Fails BadMode) (writing (writes_glue f.page) f) tt (writing_holds (writes_glue f.page) f (marks_holds (Glue ∷ []) f.page h))
+    leaf_holds p (leaves.Tag t) f h = write_tag_holds t f h
     leaf_holds p (leaves.Int z) f h = value_pushed_holds (value.Int z) f h
     leaf_holds p (leaves.Bool truth) f h = value_pushed_holds (value.Bool truth) f h
     leaf_holds p leaves.Void f h = value_pushed_holds value.Void f h

@@ -84,7 +84,7 @@ abbrev pub output_asks : Option (Value × List Value) → Bool
 output_asks None = false
 output_asks (Some r) = prints_bytes r.0
 
--- there is room for a tag that ends: in a string it is pushed
+-- there is room for a tag that ends, or is given whole: in a string it is pushed
 abbrev pub has_tag_room : List Section → List Value → Bool
 has_tag_room sections vs = not (has_string sections) || has_room vs
 
@@ -152,6 +152,7 @@ abbrev pub leaf_asks : StoryTree → List Part → Context → Leaf → Fields �
 leaf_asks s p seen (leaves.Text t) f = if f.evaluating then has_room f.stack else has_bytes t
 leaf_asks s p seen leaves.Newline f = if f.evaluating then has_room f.stack else not (is_fresh f)
 leaf_asks s p seen leaves.Glue f = not f.evaluating
+leaf_asks s p seen (leaves.Tag t) f = has_tag_room f.page.sections f.stack
 leaf_asks s p seen (leaves.Int z) f = push_asks f
 leaf_asks s p seen (leaves.Bool truth) f = push_asks f
 leaf_asks s p seen leaves.Void f = push_asks f

@@ -10,7 +10,7 @@ use Rattle.ink_model.specs.Tree.{StoryTree, leaf, container, Trees, no_trees, tr
 use Rattle.ink_model.specs.Place.{entered, next_place, landed, knot}
 use Rattle.ink_model.specs.Grammar as grammar
 use Rattle.ink_model.specs.Grammar.{here, of_json, of_value}
-use Rattle.ink_model.specs.Leaves.{string_leaf}
+use Rattle.ink_model.specs.Leaves.{object_leaf, jump_readings, store_readings, string_leaf, value_readings}
 use Rattle.ink_model.specs.Word.{word, operator_word}
 use Rattle.ink_model.specs.Mark.{cut}
 use Rattle.ink_model.specs.Clean.{clean}
@@ -168,8 +168,23 @@ no_object : of_value (array no_items) ≡ Err (here Shape)
 no_object = refl
 
 -- the version is looked at before the root
-other_version : of_value (file (number (unsigned 20)) null) ≡ Err (here Version)
-other_version = refl
+earlier_version : of_value (file (number (unsigned 19)) null) ≡ Err (here Version)
+earlier_version = refl
+
+later_version : of_value (file (number (unsigned 22)) null) ≡ Err (here Version)
+later_version = refl
+
+-- a tag given whole is read in version 20 alone
+abbrev tag_object : Data
+tag_object = object (member (codes "#") (string (codes " calm ")) no_members)
+
+tag_read : of_value (file (number (unsigned 20)) (array (item tag_object (item null no_items)))) ≡ Ok (list (tree (leaf (leaves.Tag (codes " calm "))) no_trees))
+unfolding object_leaf jump_readings value_readings store_readings
+tag_read = refl
+
+tag_beyond : of_value (file version_21 (array (item tag_object (item null no_items)))) ≡ Err (record { cause = Unsupported; place = Index 0 ∷ [] })
+unfolding object_leaf
+tag_beyond = refl
 
 with_lists : of_value (object (member (codes "inkVersion") version_21 (member (codes "listDefs") (object (member (codes "l") null no_members)) (member (codes "root") null no_members)))) ≡ Err (here Unsupported)
 with_lists = refl

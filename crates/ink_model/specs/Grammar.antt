@@ -17,7 +17,7 @@ use Rattle.ink_model.specs.declared.fault.ReadRefusal.{ReadRefusal}
 use Rattle.ink_model.specs.declared.place.Part.{Part}
 use Rattle.ink_model.specs.declared.place.Part.TheVariants.{Index, Name}
 use Rattle.ink_model.specs.declared.version.InkVersion.{InkVersion}
-use Rattle.ink_model.specs.declared.version.InkVersion.TheVariants.{V21}
+use Rattle.ink_model.specs.declared.version.InkVersion.TheVariants.{V20, V21}
 
 -- ---- refusals
 
@@ -215,7 +215,7 @@ is_object (object ms) = true
 
 -- the version that has this number, where its stories are read
 abbrev pub version_numbered : ℕ → Option InkVersion
-version_numbered n = if n == 21 then Some V21 else None
+version_numbered n = if n == 20 then Some V20 else if n == 21 then Some V21 else None
 
 abbrev pub version_of : Data → Option InkVersion
 version_of d = option_and_then version_numbered (whole (get (codes "inkVersion") d))

@@ -12,7 +12,7 @@ use Rattle.ink_model.specs.declared.content.Leaf.TheVariants as leaves
 use Rattle.ink_model.specs.declared.fault.Cause.{Cause}
 use Rattle.ink_model.specs.declared.fault.Cause.TheVariants.{Shape, Unsupported, Limit}
 use Rattle.ink_model.specs.declared.version.InkVersion.{InkVersion}
-use Rattle.ink_model.specs.declared.version.InkVersion.TheVariants.{V21}
+use Rattle.ink_model.specs.declared.version.InkVersion.TheVariants.{V20, V21}
 
 -- ---- texts and numbers
 
@@ -115,6 +115,14 @@ plain_leaf make (Some t) = Ok (make t)
 abbrev pub read_plain : (List ℕ → Leaf) → Data → Data → Result Leaf Cause
 read_plain make d v = plain_leaf make (as_str v)
 
+-- a tag by its text, which is within the limit
+abbrev pub tag_leaf : Option (List ℕ) → Result Leaf Cause
+tag_leaf None = Err Shape
+tag_leaf (Some t) = if nat_lt MAX_TEXT (length t) then Err Limit else Ok (leaves.Tag t)
+
+abbrev pub read_tag : Data → Data → Result Leaf Cause
+read_tag d v = tag_leaf (as_str v)
+
 -- what an object is by a head, where it has that
 abbrev pub under_head : (Data → Data → Result Leaf Cause) → Data → Option Data → List (Result Leaf Cause)
 under_head read d None = []
@@ -129,7 +137,7 @@ jump_readings d = by_head (codes "->") (read_jump leaves.Divert) d ++ by_head (c
 
 unfoldable pub value_readings : Data → List (Result Leaf Cause)
 value_readings d = by_head (codes "^->") (read_plain leaves.Target) d ++ by_head (codes "^var") read_pointer d
-    ++ by_head (codes "VAR?") (read_plain leaves.Variable) d ++ by_head (codes "CNT?") (read_plain leaves.Count) d
+    ++ by_head (codes "VAR?") (read_plain leaves.Variable) d ++ by_head (codes "CNT?") (read_plain leaves.Count) d ++ by_head (codes "#") read_tag d
 
 unfoldable pub store_readings : Data → List (Result Leaf Cause)
 store_readings d = by_head (codes "VAR=") (read_store leaves.Declare leaves.Assign) d
@@ -143,6 +151,7 @@ sole (r ∷ q ∷ rs) = Err Shape
 
 -- the heads that ink has in a version beyond what is supported
 abbrev pub is_beyond : InkVersion → Data → Bool
+is_beyond V20 d = is_some (get (codes "list") d)
 is_beyond V21 d = is_some (get (codes "list") d) || is_some (get (codes "#") d)
 
 unfoldable pub object_leaf : InkVersion → Data → Result Leaf Cause

@@ -132,6 +132,10 @@ closes_tag_of page (x ∷ rest) = closes_tag_kind x.kind (clean (shown_text x.ma
 abbrev pub closes_tag : Page → Result (Option (List ℕ) × Page) Fault
 closes_tag page = closes_tag_of page page.sections
 
+-- a tag that is given whole, by its cleaned text
+abbrev pub writes_tag : List ℕ → Page → Result (Option (List ℕ) × Page) Fault
+writes_tag t page = if fits_text (clean t) then tagged (clean t) page else Err TooDeep
+
 -- ---- what is asked of a page
 
 -- The line alone is open, and a Newline is shown in it that no Text or Tag follows.

@@ -1,5 +1,5 @@
 -- Strings, tags and glue in small steps, each proved by computation (docs/TEXT.md, "Sections").
-use Rattle.std.specs.Prelude.{◌≡◌, List, [], ◌∷◌, refl, codes, true, false, Some, None, Ok, Err}
+use Rattle.std.specs.Prelude.{◌≡◌, ℕ, List, [], ◌∷◌, refl, codes, true, false, Some, None, Ok, Err}
 use Rattle.ink_model.specs.Entered.{entered_places, passed_places}
 use Rattle.ink_model.specs.Tree.{StoryTree, leaf, container, no_trees, tree, no_keys}
 use Rattle.ink_model.specs.Place.{entered, next_place}
@@ -8,7 +8,7 @@ use Rattle.ink_model.specs.Clean.{clean}
 use Rattle.ink_model.specs.Configuration.{Configuration, with_safe, put_at, fresh_at, moved}
 use Rattle.ink_model.specs.Effect.{with_mode, with_page, with_stack}
 use Rattle.ink_model.specs.Page.{Page, string_section, tag_section}
-use Rattle.ink_model.specs.Output.{let_through, writes_text, writes_newline, begins_function, ends_function, closes_string, closes_tag, ends_line, empty_page}
+use Rattle.ink_model.specs.Output.{let_through, writes_text, writes_newline, begins_function, ends_function, closes_string, closes_tag, writes_tag, ends_line, empty_page}
 use Rattle.ink_model.specs.Step.{step, nothing_bound, Next, Stop, Faults, Comes}
 use Rattle.ink_model.specs.Value.{printed}
 use Rattle.ink_model.specs.declared.content.Control.{Control}
@@ -80,6 +80,15 @@ a_strings_tag = refl
 no_tag_on_top : closes_tag (in_string [] []) ≡ Err fault.BadMode
 no_tag_on_top = refl
 
+-- a tag that is given whole is cleaned too
+a_whole_tag : writes_tag (codes " calm  sea ") (line_of (a ∷ [])) ≡ Ok (None, line_of (a ∷ Tag (codes "calm sea") ∷ []))
+unfolding clean
+a_whole_tag = refl
+
+a_whole_tag_in_a_string : writes_tag (codes " t ") (in_string [] (a ∷ [])) ≡ Ok (Some (codes "t"), in_string [] (a ∷ []))
+unfolding clean
+a_whole_tag_in_a_string = refl
+
 a_line_ends : ends_line (line_of (a ∷ Newline ∷ [])) ≡ true
 a_line_ends = refl
 
@@ -126,6 +135,26 @@ another_tag_begins = refl
 a_tag_ends_in_a_string : step (story control.EndTag) nothing_bound (at_first (tag_in_string [] (a ∷ [])) []) ≡ Comes (Next (at_second (at_first (in_string [] []) (value.Tag (codes "a") ∷ []))))
 unfolding step fresh_at entered next_place clean passed_places entered_places
 a_tag_ends_in_a_string = refl
+
+abbrev tags : List ℕ → StoryTree
+tags t = container None 0 (tree (leaf (leaves.Tag t)) (tree (leaf leaves.Newline) no_trees)) no_keys
+
+a_tag_in_evaluation : step (tags (codes " b ")) nothing_bound (with_mode true (at_first (line_of (a ∷ [])) [])) ≡ Comes (Next (at_second (with_mode true (at_first (line_of (a ∷ Tag (codes "b") ∷ [])) []))))
+unfolding step fresh_at entered next_place clean passed_places entered_places
+a_tag_in_evaluation = refl
+
+a_tag_is_pushed : step (tags (codes " b ")) nothing_bound (at_first (in_string [] (a ∷ [])) []) ≡ Comes (Next (at_second (at_first (in_string [] (a ∷ [])) (value.Tag (codes "b") ∷ []))))
+unfolding step fresh_at entered next_place clean passed_places entered_places
+a_tag_is_pushed = refl
+
+-- and closes one that is on top
+an_open_tag_before : step (tags (codes "b")) nothing_bound (at_first (in_tag [] (a ∷ [])) []) ≡ Comes (Next (at_second (at_first (line_of (Tag (codes "a") ∷ Tag (codes "b") ∷ [])) [])))
+unfolding step fresh_at entered next_place clean passed_places entered_places
+an_open_tag_before = refl
+
+an_open_tag_in_a_string : step (tags (codes "b")) nothing_bound (at_first (tag_in_string [] (a ∷ [])) []) ≡ Comes (Next (at_second (at_first (in_string [] []) (value.Tag (codes "a") ∷ value.Tag (codes "b") ∷ []))))
+unfolding step fresh_at entered next_place clean passed_places entered_places
+an_open_tag_in_a_string = refl
 
 stopped_in_a_string : step (story control.Done) nothing_bound (at_first (in_string [] []) []) ≡ Comes (Faults fault.StopInString)
 unfolding step fresh_at entered passed_places entered_places

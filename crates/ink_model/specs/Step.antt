@@ -13,7 +13,7 @@ use Rattle.ink_model.specs.Step.Choices.{offer, push_choice_count}
 use Rattle.ink_model.specs.Step.Counts.{push_count, push_read_count, push_turn, push_turns, push_visit}
 use Rattle.ink_model.specs.Step.Diverts.{divert, path_of}
 use Rattle.ink_model.specs.Step.Evaluation.{begin_eval, duplicate, end_eval, operate, output_value, pop, push_value}
-use Rattle.ink_model.specs.Step.Text.{begin_string, begin_tag, end_string, end_tag, write_glue, write_newline, write_text}
+use Rattle.ink_model.specs.Step.Text.{begin_string, begin_tag, end_string, end_tag, write_glue, write_newline, write_tag, write_text}
 use Rattle.ink_model.specs.Step.Variables.{assign, declare, push_pointer, push_variable}
 use Rattle.ink_model.specs.Tree.{StoryTree, leaf, container, at}
 use Rattle.ink_model.specs.Visits.{entering_at}
@@ -62,6 +62,7 @@ abbrev pub leaf_effect : StoryTree → List Part → Context → Leaf → Fields
 leaf_effect s p seen (leaves.Text t) f = write_text t f
 leaf_effect s p seen leaves.Newline f = write_newline f
 leaf_effect s p seen leaves.Glue f = write_glue f
+leaf_effect s p seen (leaves.Tag t) f = write_tag t f
 leaf_effect s p seen (leaves.Int z) f = push_value (value.Int z) f
 leaf_effect s p seen (leaves.Bool truth) f = push_value (value.Bool truth) f
 leaf_effect s p seen leaves.Void f = push_value value.Void f

@@ -21,7 +21,7 @@ use Rattle.ink_model.specs.declared.fault.Fault.TheVariants as fault
 use Rattle.ink_model.specs.declared.place.Part.TheVariants.{Index, Name}
 use Rattle.ink_model.specs.declared.value.Value.{Value}
 use Rattle.ink_model.specs.declared.value.Value.TheVariants as value
-use Rattle.ink_model.specs.declared.version.InkVersion.TheVariants.{V21}
+use Rattle.ink_model.specs.declared.version.InkVersion.TheVariants.{V20, V21}
 
 -- ---- causes at one place, in their order
 
@@ -81,6 +81,30 @@ another_heads_option = refl
 a_choice : object_leaf V21 (object (of (codes "*") (text (codes "k")) no_members)) ≡ Ok (leaves.Choice (codes "k") 16)
 unfolding object_leaf jump_readings value_readings store_readings
 a_choice = refl
+
+-- ---- tags that are given whole
+
+a_tag : object_leaf V20 (object (of (codes "#") (text (codes " calm  sea ")) no_members)) ≡ Ok (leaves.Tag (codes " calm  sea "))
+unfolding object_leaf jump_readings value_readings store_readings
+a_tag = refl
+
+-- not in version 21, whatever else is wrong
+no_tag_in_21 : object_leaf V21 (object (of (codes "#") (count 1) no_members)) ≡ Err Unsupported
+unfolding object_leaf
+no_tag_in_21 = refl
+
+tag_without_text : object_leaf V20 (object (of (codes "#") (count 1) no_members)) ≡ Err Shape
+unfolding object_leaf jump_readings value_readings store_readings
+tag_without_text = refl
+
+tag_with_another_head : object_leaf V20 (object (of (codes "#") (text (codes "a")) (of (codes "VAR?") (text (codes "x")) no_members))) ≡ Err Shape
+unfolding object_leaf jump_readings value_readings store_readings
+tag_with_another_head = refl
+
+-- lists are beyond both versions
+list_in_20 : object_leaf V20 (object (of (codes "#") (text (codes "a")) (of (codes "list") null no_members))) ≡ Err Unsupported
+unfolding object_leaf
+list_in_20 = refl
 
 -- ---- a story: [x, ["-> k" by a condition, x, null], {"k": [x, null], "n": [x, {"#f": 1}]}]
 

@@ -39,12 +39,13 @@ pub enum Destination {
 
 /// Content that holds no other, one variant for each form (docs/STORY_FORMAT.md, "Content"). Paths are kept as they are
 /// spelled. `Declare` and `Assign` pop a value for a variable of that name, which is a temporary in the two after them;
-/// `Variable` pushes what a variable holds, and `Count` the visits of a container.
+/// `Variable` pushes what a variable holds, and `Count` the visits of a container. `Tag` is a tag given whole, by its text.
 #[derive(Drop)]
 pub enum Leaf {
     Text(Shared<Text>),
     Newline,
     Glue,
+    Tag(Shared<Text>),
     Int(i32),
     Bool(bool),
     Void,

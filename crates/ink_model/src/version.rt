@@ -3,6 +3,7 @@
 /// A version of compiled ink whose stories are read.
 #[derive(Clone, Copy, Debug, PartialEq, Eq)]
 pub enum InkVersion {
+    V20,
     V21,
 }
 
@@ -15,6 +16,7 @@ impl InkVersion {
         ensures { result ≡ version_numbered number }
     {
         match number {
+            20 => Some(InkVersion::V20),
             21 => Some(InkVersion::V21),
             _ => None,
         }

@@ -3,10 +3,20 @@
 ghost use Rattle.std.specs.Prelude.{◌≡◌, ℕ, List, [], ◌∷◌, ◌++◌, Bool, not, IfOk, IsTrue, OnOk, string_bytes};
 ghost use Rattle.std.specs.List.{prefix_len};
 ghost use Rattle.ink_model.specs.Bytes.{is_white};
+ghost use Rattle.ink_model.specs.Clean.{clean};
 ghost use Rattle.ink_out.specs.Cleaning.{Holds, cleaned_on, shown_as, space};
 
 use ink_model::Text;
 use std::alloc::{AllocError, Global};
+
+/// A text, cleaned. The one error is a refused request for memory.
+pub(crate) fn cleaned(alloc: Global, text: &str) -> Result<Text, AllocError>
+    ensures { IfOk result (λ cleaned. cleaned ≡ clean text.now) }
+{
+    let mut shown = Shown::new(alloc, true);
+    shown.push_str(text)?;
+    Ok(shown.into_text())
+}
 
 /// What stands on a line before a character.
 #[derive(Clone, Copy)]

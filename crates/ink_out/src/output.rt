@@ -7,7 +7,7 @@ ghost use Rattle.ink_model.specs.Clean.{clean};
 ghost use Rattle.ink_model.specs.Configuration.{string_section, tag_section};
 ghost use Rattle.ink_model.specs.Mark.{cut, piece, tags};
 ghost use Rattle.ink_model.specs.Memory.{Gives, Hands, Leaves};
-ghost use Rattle.ink_model.specs.Output.{writes_marks, writes_value, writes_text, writes_newline, writes_glue, begins_function, ends_function, opens, closes_string, closes_tag, prints_text, ends_line, empty_page, is_string, is_text, kept_text, let_through};
+ghost use Rattle.ink_model.specs.Output.{writes_marks, writes_value, writes_text, writes_newline, writes_glue, begins_function, ends_function, opens, closes_string, closes_tag, writes_tag, prints_text, ends_line, empty_page, is_string, is_text, kept_text, let_through};
 ghost use Rattle.ink_model.specs.declared.limits.TheConstants.{MAX_MARKS};
 ghost use Rattle.ink_model.specs.Shown.{shown_text, shows_more, is_shown, open_newline, more_from};
 ghost use Rattle.ink_model.specs.Step.Host as host;
@@ -19,6 +19,7 @@ ghost use Rattle.ink_out.specs.Undo.{GoesBack, output_back, output_spare, output
 ghost use Rattle.ink_out.specs.Writing.{Notes, closed, marks_of, page_of, prints_nothing};
 ghost use Rattle.ink_trail.specs.Undo.{Begins, Ends, KeepsTrail, Trails, TrailsOrKeeps, trail_of, writes_of};
 
+use crate::cleaning::cleaned;
 use crate::cutting::{Piece, cut_text, is_cut};
 use crate::opened::{Kind, Opened, note, note_all, note_below, note_in, open_state};
 use crate::section::Section;
@@ -279,6 +280,23 @@ impl Output {
             return Ok(Some(text));
         }
         self.close_with(Mark::Tag(text))?;
+        Ok(None)
+    }
+
+    /// Writes a tag that is given whole. Its cleaned text is handed out where a string is open, and else is a mark in what is
+    /// open. `TooDeep` for a text over 1 MiB or more than 100,000 marks in the line, `OutOfMemory` for a refused request for
+    /// memory; nothing has changed then.
+    pub fn tag(&mut self, text: &str) -> Result<Option<Shared<Text>>, Fault>
+        ensures page { Hands (writes_tag text.now self.old.page) self.old.page self.new.page result }
+        ensures trail { TrailsOrKeeps output_back 1 self.old.page self.old.trail self.new.page self.new.trail result }
+        ensures stood { output_stood self.new ≡ output_stood self.old }
+        ensures spare { output_spare self.old ≤ output_spare self.new + 1 }
+    {
+        let text = within(self.alloc, cleaned(self.alloc, text)?)?;
+        if self.in_string() {
+            return Ok(Some(text));
+        }
+        self.note(Mark::Tag(text))?;
         Ok(None)
     }
 

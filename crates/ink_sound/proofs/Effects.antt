@@ -18,7 +18,7 @@ use Rattle.ink_sound.proofs.Questions.{push_count_fits, push_read_count_fits, pu
 use Rattle.ink_sound.proofs.Offers.{offer_fits}
 use Rattle.ink_sound.proofs.Operators.{operate_fits}
 use Rattle.ink_sound.proofs.Places.{Stands}
-use Rattle.ink_sound.proofs.Texts.{begin_eval_fits, begin_string_fits, begin_tag_fits, duplicate_fits, end_eval_fits, end_string_fits, end_tag_fits, output_fits, pop_fits, write_glue_fits, write_newline_fits, write_text_fits}
+use Rattle.ink_sound.proofs.Texts.{begin_eval_fits, begin_string_fits, begin_tag_fits, duplicate_fits, end_eval_fits, end_string_fits, end_tag_fits, output_fits, pop_fits, write_glue_fits, write_newline_fits, write_tag_fits, write_text_fits}
 use Rattle.ink_sound.proofs.Values.{pushing_fits}
 use Rattle.ink_sound.proofs.Variables.{assign_fits, declare_fits, pointer_fits, push_value_fits, variable_fits}
 
@@ -49,6 +49,7 @@ module _ (s : StoryTree) (p : List Part) (seen : Context) (context : ContextFits
   leaf_fits (leaves.Text t) stand k = write_text_fits s f h t k
   leaf_fits leaves.Newline stand k = write_newline_fits s f h
   leaf_fits leaves.Glue stand k = write_glue_fits s f h
+  leaf_fits (leaves.Tag t) stand k = write_tag_fits s f h t
   leaf_fits (leaves.Int z) stand k = push_value_fits s seen context f h (value.Int z) k
   leaf_fits (leaves.Bool truth) stand k = push_value_fits s seen context f h (value.Bool truth) tt
   leaf_fits leaves.Void stand k = push_value_fits s seen context f h value.Void tt

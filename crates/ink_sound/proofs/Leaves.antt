@@ -6,7 +6,7 @@ use Rattle.std.specs.List.{AllByRecursion as Each, list_all}
 use Rattle.std.specs.Option.{ok_or, option_or}
 use Rattle.serde_json.specs.Data.{Data, null, boolean, number, string, array, object}
 use Rattle.serde_json.specs.Find.{as_integer, as_str, get}
-use Rattle.ink_model.specs.Leaves.{by_head, choice_leaf, external_leaf, frame_option, integer_leaf, is_beyond, is_small, jump_leaf, jump_readings, leading_to, leaf_of, object_leaf, plain_leaf, pointer_frame, pointer_leaf, pointer_to, read_choice, read_external, read_jump, read_plain, read_pointer, read_store, sole, store_leaf, store_readings, string_leaf, switch, under_head, value_readings, whole_or}
+use Rattle.ink_model.specs.Leaves.{by_head, choice_leaf, external_leaf, frame_option, integer_leaf, is_beyond, is_small, jump_leaf, jump_readings, leading_to, leaf_of, object_leaf, plain_leaf, pointer_frame, pointer_leaf, pointer_to, read_choice, read_external, read_jump, read_plain, read_pointer, read_store, read_tag, sole, store_leaf, store_readings, string_leaf, switch, tag_leaf, under_head, value_readings, whole_or}
 use Rattle.ink_model.specs.Word.{arithmetic_words, comparison_words, count_words, evaluation_words, flow_words, frame_words, logic_words, meant, number_words, operator_word, section_words, word}
 use Rattle.ink_model.specs.declared.content.Destination.{Destination}
 use Rattle.ink_model.specs.declared.content.Leaf.{Leaf}
@@ -23,12 +23,14 @@ use Rattle.ink_sound.proofs.Values.{each_append}
 -- the leaf has no text
 abbrev has_none : Leaf → Bool
 has_none (leaves.Text t) = false
+has_none (leaves.Tag t) = false
 has_none (leaves.Int z) = false
 has_none (leaves.Pointer name frame) = false
 has_none l = true
 
 none_fits : (l : Leaf) → has_none l ≡ true → TextsFit l
 none_fits (leaves.Text t) e = absurd (true≢false (sym e))
+none_fits (leaves.Tag t) e = absurd (true≢false (sym e))
 none_fits (leaves.Int z) e = absurd (true≢false (sym e))
 none_fits (leaves.Pointer name frame) e = absurd (true≢false (sym e))
 none_fits l e = tt
@@ -73,6 +75,14 @@ ok_fits (Some l) h = h
 text_fits : (b : Bool) (t : List ℕ) → nat_lt MAX_TEXT (length t) ≡ b → Yields {E = Cause} TextsFit (if b then Err Limit else Ok (leaves.Text t))
 text_fits true t e = tt
 text_fits false t e = grind (arith, nat_tests, e)
+
+tag_fits : (t : Option (List ℕ)) → Yields TextsFit (tag_leaf t)
+tag_fits None = tt
+tag_fits (Some t) = by (nat_lt MAX_TEXT (length t)) refl
+  where
+    by : (b : Bool) → nat_lt MAX_TEXT (length t) ≡ b → Yields {E = Cause} TextsFit (if b then Err Limit else Ok (leaves.Tag t))
+    by true e = tt
+    by false e = grind (arith, nat_tests, e)
 
 string_fits : (s : List ℕ) → Yields TextsFit (string_leaf s)
 unfolding string_leaf
@@ -170,12 +180,14 @@ jumps_fit d = each_append _ _ (by_head (codes "*") read_choice d)
 
 values_fit : (d : Data) → AllFit (value_readings d)
 unfolding value_readings
-values_fit d = each_append _ _ (by_head (codes "CNT?") (read_plain leaves.Count) d)
+values_fit d = each_append _ _ (by_head (codes "#") read_tag d)
+    (each_append _ _ (by_head (codes "CNT?") (read_plain leaves.Count) d)
     (each_append _ _ (by_head (codes "VAR?") (read_plain leaves.Variable) d)
     (each_append _ (by_head (codes "^->") (read_plain leaves.Target) d) (by_head (codes "^var") read_pointer d)
     (plain_head (codes "^->") leaves.Target d (λ t. tt)) (head_fits (codes "^var") read_pointer d (λ v. pointer_leaf_fits (as_str v) (frame_option (get (codes "ci") d)))))
     (plain_head (codes "VAR?") leaves.Variable d (λ t. tt)))
-    (plain_head (codes "CNT?") leaves.Count d (λ t. tt))
+    (plain_head (codes "CNT?") leaves.Count d (λ t. tt)))
+    (head_fits (codes "#") read_tag d (λ v. tag_fits (as_str v)))
 
 stores_fit : (d : Data) → AllFit (store_readings d)
 unfolding store_readings

@@ -221,6 +221,7 @@ path_fits s p text h = by (read_path text) refl h
 
 leaf_good : (s : StoryTree) (p : List Part) (l : Leaf) → TextsFit l → good_leaf s p l ≡ true → LeafFits s l
 leaf_good s p (leaves.Text t) h g = h
+leaf_good s p (leaves.Tag t) h g = h
 leaf_good s p (leaves.Int z) h g = h
 leaf_good s p (leaves.Pointer name frame) h g = h
 leaf_good s p (leaves.Target text) h g = path_fits s p text g
@@ -246,6 +247,7 @@ good_fits s h narrow none = record { leaf_fits = λ p l e. leaf_good s p l (text
 
 texts_prop : (l : Leaf) → IsProp (TextsFit l)
 texts_prop (leaves.Text t) = Bool-set _ _
+texts_prop (leaves.Tag t) = Bool-set _ _
 texts_prop (leaves.Int z) = Bool-set _ _
 texts_prop (leaves.Pointer name frame) = Bool-set _ _
 texts_prop l = Unit-prop

@@ -6,12 +6,12 @@ use Rattle.ink_model.specs.Bytes.{fits_text}
 use Rattle.ink_model.specs.Clean.{clean}
 use Rattle.ink_model.specs.Effect.{Fields, Moves, is_fresh, pushing, writing, writing_text}
 use Rattle.ink_model.specs.Mark.{cut}
-use Rattle.ink_model.specs.Output.{closes_string, closes_string_of, closes_tag, closes_tag_of, is_string, is_text, let_through, opens, prints_text, tagged, writes_glue, writes_marks, writes_newline, writes_printed, writes_text, writes_value}
+use Rattle.ink_model.specs.Output.{closes_string, closes_string_of, closes_tag, closes_tag_of, is_string, is_text, let_through, opens, prints_text, tagged, writes_glue, writes_marks, writes_newline, writes_printed, writes_tag, writes_text, writes_value}
 use Rattle.ink_model.specs.Page.{Page, Section, SectionKind, string_section, tag_section}
 use Rattle.ink_model.specs.Shown.{shown_text}
 use Rattle.ink_model.specs.Stack.{popped, pushed}
 use Rattle.ink_model.specs.Step.Evaluation.{begin_eval, duplicate, end_eval, output_popped, output_value, pop}
-use Rattle.ink_model.specs.Step.Text.{begin_string, begin_tag, beside, closed_tag, end_string, end_tag, in_tag, keeps_tag, write_glue, write_newline, write_text}
+use Rattle.ink_model.specs.Step.Text.{begin_string, begin_tag, beside, closed_tag, end_string, end_tag, in_tag, keeps_tag, write_glue, write_newline, write_tag, write_text}
 use Rattle.ink_model.specs.Tree.{StoryTree}
 use Rattle.ink_model.specs.Value.{printed}
 use Rattle.ink_model.specs.declared.fault.Fault.{Fault}
@@ -72,21 +72,32 @@ closes_tag_fits page h = by page.sections refl
     by [] e = tt
     by (x ∷ rest) e = tag_fits page x.kind x.marks rest (record { few = omega (arith, ap length e, h.few) })
 
+whole_tag_fits : (t : List ℕ) (page : Page) → PageFits page → Gives TagFits (writes_tag t page)
+whole_tag_fits t page h = cond_both (fits_text (clean t)) _ _ (Gives TagFits) (λ e. tagged_fits (clean t) page e h) (λ _. tt)
+
 module _ (s : StoryTree) where
   abbrev BothFit : List Value × Page → Type 0
   BothFit r = StackFits s r.0 × PageFits r.1
 
-  closed_fits : (vs : List Value) (page : Page) → StackFits s vs → PageFits page → Gives BothFit (closed_tag vs page)
-  closed_fits vs page h k = by (closes_tag page) (closes_tag_fits page k)
-    where
-      on : (p : Page) (r : Result (List Value) Fault) → PageFits p → Gives (StackFits s) r → Gives BothFit (beside p r)
-      on p (Ok ws) x y = (y, x)
-      on p (Err f) x y = tt
+  beside_fits : (p : Page) (r : Result (List Value) Fault) → PageFits p → Gives (StackFits s) r → Gives BothFit (beside p r)
+  beside_fits p (Ok ws) x y = (y, x)
+  beside_fits p (Err f) x y = tt
 
-      by : (r : Result (Option (List ℕ) × Page) Fault) → Gives TagFits r → Gives BothFit (keeps_tag vs r)
-      by (Ok (None, p)) x = (h, x.1)
-      by (Ok (Some t, p)) x = on p (pushed (value.Tag t) vs) x.1 (pushed_fits s (value.Tag t) vs x.0 h)
-      by (Err f) x = tt
+  keeps_fits : (vs : List Value) (r : Result (Option (List ℕ) × Page) Fault) → StackFits s vs → Gives TagFits r → Gives BothFit (keeps_tag vs r)
+  keeps_fits vs (Ok (None, p)) h x = (h, x.1)
+  keeps_fits vs (Ok (Some t, p)) h x = beside_fits p (pushed (value.Tag t) vs) x.1 (pushed_fits s (value.Tag t) vs x.0 h)
+  keeps_fits vs (Err f) h x = tt
+
+  closed_fits : (vs : List Value) (page : Page) → StackFits s vs → PageFits page → Gives BothFit (closed_tag vs page)
+  closed_fits vs page h k = keeps_fits vs (closes_tag page) h (closes_tag_fits page k)
+
+  -- where a tag is on top it is closed
+  no_tag_fits : (f : Fields) → FieldsFit s f → Gives BothFit (if in_tag f.page.sections then closed_tag f.stack f.page else Ok (f.stack, f.page))
+  no_tag_fits f fits = by (in_tag f.page.sections)
+    where
+      by : (b : Bool) → Gives BothFit (if b then closed_tag f.stack f.page else Ok (f.stack, f.page))
+      by true = closed_fits f.stack f.page fits.stack fits.page
+      by false = (fits.stack, fits.page)
 
   module _ (f : Fields) (fits : FieldsFit s f) where
     paged : (page : Page) → PageFits page → FieldsFit s (record f { page = page })
@@ -160,9 +171,10 @@ module _ (s : StoryTree) where
       (λ r h. record { stack = h.0; globals = fits.globals; page = h.1 })
 
   pub begin_tag_fits : (f : Fields) → FieldsFit s f → EffectFits s (begin_tag f)
-  begin_tag_fits f fits = or_fault_fits s BothFit (if in_tag f.page.sections then closed_tag f.stack f.page else Ok (f.stack, f.page)) _ (by (in_tag f.page.sections))
+  begin_tag_fits f fits = or_fault_fits s BothFit (if in_tag f.page.sections then closed_tag f.stack f.page else Ok (f.stack, f.page)) _ (no_tag_fits f fits)
       (λ r h. writing_fits (record f { stack = r.0 }) (record { stack = h.0; globals = fits.globals; page = fits.page }) (opens tag_section r.1) (opens_fit tag_section r.1 h.1))
-    where
-      by : (b : Bool) → Gives BothFit (if b then closed_tag f.stack f.page else Ok (f.stack, f.page))
-      by true = closed_fits f.stack f.page fits.stack fits.page
-      by false = (fits.stack, fits.page)
+
+  pub write_tag_fits : (f : Fields) → FieldsFit s f → (t : List ℕ) → EffectFits s (write_tag t f)
+  write_tag_fits f fits t = or_fault_fits s BothFit (if in_tag f.page.sections then closed_tag f.stack f.page else Ok (f.stack, f.page)) _ (no_tag_fits f fits)
+      (λ r h. or_fault_fits s BothFit (keeps_tag r.0 (writes_tag t r.1)) _ (keeps_fits r.0 (writes_tag t r.1) h.0 (whole_tag_fits t r.1 h.1))
+      (λ q k. record { stack = k.0; globals = fits.globals; page = k.1 }))

@@ -28,6 +28,7 @@ use Rattle.ink_model.specs.Save.Sound.{AnyPlace, ChoicesFit, CountsFit, GlobalsF
 -- a text within its limit, an integer and a pointer's number of 32 bits, a target that leads somewhere
 abbrev pub LeafFits : StoryTree → Leaf → Type 0
 LeafFits s (leaves.Text t) = IsTrue (fits_text t)
+LeafFits s (leaves.Tag t) = IsTrue (fits_text t)
 LeafFits s (leaves.Int z) = IsTrue (is_small z)
 LeafFits s (leaves.Pointer name frame) = IsTrue (is_small frame)
 LeafFits s (leaves.Target text) = ValueFits s (value.Target (path_of text))
@@ -133,6 +134,7 @@ StateFits s st = ConditionFits s st.condition
 -- a text within its limit, numbers of 32 bits
 abbrev pub TextsFit : Leaf → Type 0
 TextsFit (leaves.Text t) = IsTrue (fits_text t)
+TextsFit (leaves.Tag t) = IsTrue (fits_text t)
 TextsFit (leaves.Int z) = IsTrue (is_small z)
 TextsFit (leaves.Pointer name frame) = IsTrue (is_small frame)
 TextsFit l = Unit {0}

@@ -3,11 +3,11 @@ use Rattle.std.proofs.Common.{◌≡◌, inl, refl, subst, sym, ℕ, List, [], �
 use Rattle.std.specs.List.{list_any}
 use Rattle.ink_model.specs.Asks.{has_room, has_tag_room}
 use Rattle.ink_model.specs.Bytes.{fits_text}
-use Rattle.ink_model.specs.Effect.{Fields, Moves, or_fault, pushing}
-use Rattle.ink_model.specs.Output.{closes_string, closes_string_of, closes_tag, closes_tag_of, is_string, tagged}
+use Rattle.ink_model.specs.Effect.{Effect, Fields, Moves, or_fault, pushing}
+use Rattle.ink_model.specs.Output.{closes_string, closes_string_of, closes_tag, closes_tag_of, is_string, tagged, writes_tag}
 use Rattle.ink_model.specs.Page.{Page, Section, SectionKind, string_section, tag_section}
 use Rattle.ink_model.specs.Step.Host.{has_string}
-use Rattle.ink_model.specs.Step.Text.{closed_tag, end_string, in_string, in_tag, keeps_tag}
+use Rattle.ink_model.specs.Step.Text.{closed_tag, end_string, in_string, in_tag, keeps_tag, write_tag}
 use Rattle.ink_model.specs.Tree.{StoryTree}
 use Rattle.ink_model.specs.declared.fault.Fault.{Fault}
 use Rattle.ink_model.specs.declared.fault.Fault.TheVariants.{BadMode, TooDeep}
@@ -89,3 +89,17 @@ module _ (vs : List Value) (full : nat_lt (length vs) MAX_STACK ≡ false) where
 
 pub full_tag : (page : Page) (vs : List Value) → in_tag page.sections ≡ true → has_tag_room page.sections vs ≡ false → closed_tag vs page ≡ Err TooDeep
 full_tag page vs tag none = let n = neither (has_string page.sections) (has_room vs) none in full_tag_in vs n.1 page page.sections tag n.0
+
+-- a tag that is given whole finds none either
+pub full_whole_tag : (s : StoryTree) (asks : Bool) (t : List ℕ) (f new : Fields) → has_tag_room f.page.sections f.stack ≡ false → Performs s asks (write_tag t f) new (Err TooDeep)
+full_whole_tag s asks t f new none = by (in_tag f.page.sections) refl
+  where
+    n : (has_string f.page.sections ≡ true) × (has_room f.stack ≡ false)
+    n = neither (has_string f.page.sections) (has_room f.stack) none
+
+    so : List Value × Page → Effect
+    so r = or_fault (keeps_tag r.0 (writes_tag t r.1)) (λ q. Moves (record f { stack = q.0; page = q.1 }))
+
+    by : (b : Bool) → in_tag f.page.sections ≡ b → Performs s asks (or_fault (if b then closed_tag f.stack f.page else Ok (f.stack, f.page)) so) new (Err TooDeep)
+    by true tag = rw (full_tag f.page f.stack tag none) (inl refl)
+    by false tag = rw (full_tag_text f.stack n.1 (clean t) f.page n.0 (fits_text (clean t))) (inl refl)

@@ -1,9 +1,9 @@
 -- Effects that store nothing and offer nothing: those of control content, and of calls.
-use Rattle.std.proofs.Common.{◌≡◌, ap, refl, ℤ, List, Bool, true, false, if◌then◌else◌, Option, Some, None, OnOk, Result, Ok, Err, reverse}
+use Rattle.std.proofs.Common.{◌≡◌, ap, refl, ℕ, ℤ, List, Bool, true, false, if◌then◌else◌, Option, Some, None, OnOk, Result, Ok, Err, reverse}
 use Rattle.ink_model.specs.Configuration.{ChoiceOf}
 use Rattle.ink_model.specs.Effect.{Context, Fields, Effect, Stores, Offers, or_else, or_fault, pushing, writing, writing_text}
 use Rattle.ink_model.specs.Frames.{ThreadsOf, map_threads, mode_in, on_top}
-use Rattle.ink_model.specs.Output.{closes_string, opens}
+use Rattle.ink_model.specs.Output.{closes_string, opens, writes_tag}
 use Rattle.ink_model.specs.Page.{Page, tag_section}
 use Rattle.ink_model.specs.Path.{above}
 use Rattle.ink_model.specs.Stack.{popped, pushed}
@@ -12,7 +12,7 @@ use Rattle.ink_model.specs.Step.Calls.{led_back}
 use Rattle.ink_model.specs.Step.Counts.{asking, pushing_count, turns_there, visits_there}
 use Rattle.ink_model.specs.Step.Diverts.{landing_by}
 use Rattle.ink_model.specs.Step.Evaluation.{output_popped}
-use Rattle.ink_model.specs.Step.Text.{closed_tag, in_tag}
+use Rattle.ink_model.specs.Step.Text.{closed_tag, in_tag, keeps_tag, write_tag}
 use Rattle.ink_model.specs.Tree.{StoryTree}
 use Rattle.ink_model.specs.declared.content.Control.{Control}
 use Rattle.ink_model.specs.declared.content.Control.TheVariants as control
@@ -93,6 +93,12 @@ control_plain s p seen control.Turns f = asking_plain s seen (turns_there s seen
 control_plain s p seen control.ReadCount f = asking_plain s seen (visits_there s seen) f
 control_plain s p seen control.Visit f = plain_else _ (above (reverse p)) _ (λ q. count_plain s seen _ f)
 control_plain s p seen o f = tt
+
+-- ---- a tag that is given whole
+
+pub tag_plain : (t : List ℕ) (f : Fields) → IsPlain (write_tag t f)
+tag_plain t f = plain_or (if in_tag f.page.sections then closed_tag f.stack f.page else Ok (f.stack, f.page)) _
+    (λ r. plain_or (keeps_tag r.0 (writes_tag t r.1)) _ (λ q. tt))
 
 -- what holds whatever a call returns
 pub when_ok : {A : Type 0} (r : Result A Fault) (B : Type 0) → B → OnOk r B

@@ -5,7 +5,8 @@ ghost use Rattle.ink_value.specs.Undo.{stack_stood};
 ghost use Rattle.std.specs.Prelude.{◌≡◌, ◌&&◌, ℕ, List, Bool, true, false, Option, Ok, Err, IfErr, OnOk, if◌then◌else◌};
 ghost use Rattle.ink_model.specs.Asks.{has_room, has_tag_room, may_open};
 ghost use Rattle.ink_model.specs.Memory.{Gives, leaving};
-ghost use Rattle.ink_model.specs.Step.Text.{begin_string, begin_tag, closed_tag, end_string, end_tag, in_string, in_tag};
+ghost use Rattle.ink_model.specs.Output.{writes_tag};
+ghost use Rattle.ink_model.specs.Step.Text.{begin_string, begin_tag, closed_tag, end_string, end_tag, in_string, in_tag, keeps_tag, write_tag};
 ghost use Rattle.ink_model.specs.Store.{Values};
 ghost use Rattle.ink_model.specs.declared.value.Value.{Value as Data};
 ghost use Rattle.ink_step.specs.Performs.{Changes, fields};
@@ -69,6 +70,43 @@ pub(crate) fn end_tag(stack: &mut EvalStack, output: &mut Output) -> Result<(), 
     ensures output_mark { output_stood output.new ≡ output_stood output.old }
 {
     close_tag(stack, output)
+}
+
+/// A tag is given whole, whatever the mode; one that is on top is closed first. Where there is no room for it in a string, that
+/// is found before a text is made.
+pub(crate) fn write_tag(stack: &mut EvalStack, output: &mut Output, text: &str) -> Result<(), Fault>
+    ensures effect { (evaluating : Bool) (fresh : Option ℕ) (globals : Values)
+        → Changes (has_tag_room output.old.page.sections stack.old.items) (write_tag text.now (fields evaluating fresh stack.old.items output.old.page globals)) (fields evaluating fresh stack.new.items output.new.page globals) result }
+    ensures stack_mark { stack_stood stack.new ≡ stack_stood stack.old }
+    ensures output_mark { output_stood output.new ≡ output_stood output.old }
+{
+    check_string_room(stack, output)?;
+    close_tag_on_top(stack, output)?;
+    add_tag(stack, output, text)
+}
+
+/// Adds a tag that is given whole; in a string its text is pushed.
+fn add_tag(stack: &mut EvalStack, output: &mut Output, text: &str) -> Result<(), Fault>
+    ensures added { Gives (leaving (stack.new.items, output.new.page) result) (keeps_tag stack.old.items (writes_tag text.now output.old.page)) }
+    ensures stack_mark { stack_stood stack.new ≡ stack_stood stack.old }
+    ensures output_mark { output_stood output.new ≡ output_stood output.old }
+{
+    match output.tag(text) {
+        Ok(Some(tag)) => push(stack, Value::Tag(tag)),
+        Ok(None) => Ok(()),
+        Err(fault) => Err(fault),
+    }
+}
+
+/// `TooDeep` where a string is open, and there is no room for a tag of it. Takes no memory.
+fn check_string_room(stack: &EvalStack, output: &Output) -> Result<(), Fault>
+    ensures room { OnOk result (has_tag_room output.now.page.sections stack.now.items ≡ true) }
+    ensures full { IfErr result (λ f. (f ≡ Fault.TooDeep) × (has_tag_room output.now.page.sections stack.now.items ≡ false)) }
+{
+    if !output.in_string() {
+        return Ok(());
+    }
+    check_room(stack)
 }
 
 /// Closes a tag where one is on top, and else does nothing.

@@ -42,7 +42,7 @@ use crate::machine::Machine;
 use crate::noting::{ready_choices, ready_stack, ready_threads};
 use crate::offering::{offer, push_choice_count};
 use crate::questions::{push_count, push_read_count, push_turn, push_turns, push_visit};
-use crate::sections::{begin_string, begin_tag, end_string, end_tag};
+use crate::sections::{begin_string, begin_tag, end_string, end_tag, write_tag};
 use crate::storing::{assign, declare, push_pointer, push_variable};
 use crate::transfer::{Landing, Transfer, after_text};
 use crate::writing::{output_top, write_glue, write_newline, write_text};
@@ -406,6 +406,7 @@ impl Machine {
                 self.flow.threads.fresh_depth(),
             ),
             Leaf::Glue => write_glue(&mut self.output, evaluating),
+            Leaf::Tag(text) => write_tag(&mut self.flow.stack, &mut self.output, text.as_str()),
             Leaf::Int(number) => push_value(&mut self.flow.stack, evaluating, Value::Int(*number)),
             Leaf::Bool(truth) => push_value(&mut self.flow.stack, evaluating, Value::Bool(*truth)),
             Leaf::Void => push_value(&mut self.flow.stack, evaluating, Value::Void),

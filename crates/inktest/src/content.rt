@@ -57,6 +57,7 @@ fn show_leaf(text: &mut String, leaf: &Leaf) -> Result<(), AllocError> {
         Leaf::Text(written) => write!(text, "text \"{}\"", written.get().as_str()),
         Leaf::Newline => text.push_str("newline"),
         Leaf::Glue => text.push_str("glue"),
+        Leaf::Tag(tag) => write!(text, "tag \"{}\"", tag.get().as_str()),
         Leaf::Void => text.push_str("void"),
         Leaf::Int(number) => write!(text, "int {number}"),
         Leaf::Bool(truth) => write!(text, "bool {truth}"),

@@ -1,6 +1,6 @@
 //! Calls of the output, and what they leave.
 
-use ink_model::{Fault, Value};
+use ink_model::{Fault, Shared, Text, Value};
 use ink_out::Output;
 use inkcases::{Answer, NoAnswer, counted, encode, encoded, number, text, text_of, told, value_of};
 use std::alloc::{AllocError, Global};
@@ -10,7 +10,7 @@ use std::alloc::{AllocError, Global};
 ///
 /// `t:TEXT` and `v:VALUE` write, `f:TEXT` and `w:VALUE` in a fresh function; `n` and `N` are newlines, `N` in a fresh
 /// function; `g` is glue; `e` and `l` begin and end a function, `l:NUMBER` one that the mark of this number begins; `s` and
-/// `#` open a string and a tag, `/s` and `/#` close one; `c` clears; `mark` starts a mark, `back` goes back to it and answers how
+/// `#` open a string and a tag, `/s` and `/#` close one, `#:TEXT` is a tag that is given whole; `c` clears; `mark` starts a mark, `back` goes back to it and answers how
 /// many changes were noted, `forget` ends it; `shown:INDEX`, `more:INDEX`, `len`, `depth`, `newline`, `ends` and `writes` ask. Behind `=` stands what the call answers, else it may be anything but a fault.
 pub(crate) fn answer(alloc: Global, row: &str) -> Answer {
     let mut output = Output::new(alloc);
@@ -36,6 +36,7 @@ fn called(alloc: Global, output: &mut Output, call: &str) -> Answer {
         Some(("f", word)) => written(alloc, output, &Value::Text(text_of(alloc, word)?), true),
         Some(("v", word)) => written(alloc, output, &value_of(alloc, word)?, false),
         Some(("w", word)) => written(alloc, output, &value_of(alloc, word)?, true),
+        Some(("#", word)) => whole_tag(alloc, output, word),
         Some((call, word)) => called_with(alloc, output, call, number(word)?),
         None => plainly_called(alloc, output, call),
     }
@@ -93,7 +94,18 @@ fn closed_string(alloc: Global, output: &mut Output) -> Answer {
 }
 
 fn closed_tag(alloc: Global, output: &mut Output) -> Answer {
-    match output.close_tag()? {
+    let tag = output.close_tag()?;
+    handed(alloc, tag)
+}
+
+fn whole_tag(alloc: Global, output: &mut Output, word: &str) -> Answer {
+    let text = text_of(alloc, word)?;
+    let tag = output.tag(text.get().as_str())?;
+    handed(alloc, tag)
+}
+
+fn handed(alloc: Global, tag: Option<Shared<Text>>) -> Answer {
+    match tag {
         Some(text) => Ok(encoded(alloc, text.get().as_str())?),
         None => text(alloc, "none"),
     }

@@ -11,14 +11,16 @@ use ink_model::{Cause, Part, ReadRefusal};
 use inkcases::{Answer, NoAnswer, append, first_word, number, refused, text};
 use std::alloc::{AllocError, Global};
 
-/// `form CONTENT` is answered by what the content is read as, alone in the root's list. The others are answered by `read`, or
+/// `form CONTENT` is answered by what the content is read as, alone in the root's list, and `older CONTENT` by what it is read
+/// as in a story of version 20. The others are answered by `read`, or
 /// by the refusal and its place, if that is not the root: `story STORY`; `marked STORY`, with a byte order mark in front;
 /// `element CONTENT`, in a list; and `root CONTAINER`, which is checked too and `accepted`. `flags NUMBER` is answered by what
 /// the flags of a container say, and `choice NUMBER` by those of a choice.
 pub(crate) fn answer(alloc: Global, question: &str) -> Answer {
     let (word, rest) = first_word(question);
     match word {
-        "form" => read_form(alloc, rest),
+        "form" => read_form(alloc, 21, rest),
+        "older" => read_form(alloc, 20, rest),
         "story" => read(alloc, rest.as_bytes()),
         "marked" => read_marked(alloc, rest),
         "element" => read_element(alloc, rest),
@@ -67,8 +69,8 @@ fn read(alloc: Global, story: &[u8]) -> Answer {
     }
 }
 
-fn read_form(alloc: Global, form: &str) -> Answer {
-    let story = format!(in alloc; "{{\"inkVersion\":21,\"root\":[{form},null]}}")?;
+fn read_form(alloc: Global, version: u32, form: &str) -> Answer {
+    let story = format!(in alloc; "{{\"inkVersion\":{version},\"root\":[{form},null]}}")?;
     let raw = read_story(alloc, story.as_bytes())?;
     shown_content(alloc, raw.at(&[Part::Index(0)]))
 }

@@ -3,7 +3,7 @@ use Rattle.std.specs.Prelude.{ℕ, List, [], ◌∷◌, Bool, true, false, not, 
 use Rattle.std.specs.List.{list_any}
 use Rattle.ink_model.specs.Effect.{Fields, Effect, Moves, Fails, is_fresh, or_fault, pushing, writing, writing_text}
 use Rattle.ink_model.specs.Mark.{cut}
-use Rattle.ink_model.specs.Output.{is_string, is_text, writes_text, writes_newline, writes_glue, opens, closes_string, closes_tag}
+use Rattle.ink_model.specs.Output.{is_string, is_text, writes_text, writes_newline, writes_glue, opens, closes_string, closes_tag, writes_tag}
 use Rattle.ink_model.specs.Page.{Page, Section, string_section, tag_section}
 use Rattle.ink_model.specs.Stack.{pushed}
 use Rattle.ink_model.specs.declared.fault.Fault.{Fault}
@@ -64,3 +64,8 @@ in_tag (x ∷ rest) = not (is_string x)
 abbrev pub begin_tag : Fields → Effect
 begin_tag f = or_fault (if in_tag f.page.sections then closed_tag f.stack f.page else Ok (f.stack, f.page))
     (λ r. writing (opens tag_section r.1) (record f { stack = r.0 }))
+
+-- a tag is given whole, whatever the mode; one that is on top is closed first
+abbrev pub write_tag : List ℕ → Fields → Effect
+write_tag t f = or_fault (if in_tag f.page.sections then closed_tag f.stack f.page else Ok (f.stack, f.page))
+    (λ r. or_fault (keeps_tag r.0 (writes_tag t r.1)) (λ q. Moves (record f { stack = q.0; page = q.1 })))

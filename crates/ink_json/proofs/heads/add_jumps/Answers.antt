@@ -1,11 +1,9 @@
-use Rattle.std.proofs.Common.{◌≡◌, List, ◌++◌, append_assoc, refl, subst}
+use Rattle.std.proofs.Common.{subst}
 use Rattle.ink_json.specs.Value.{json_data}
 use Rattle.ink_model.specs.Leaves.{jump_readings}
 use Rattle.ink_json.specs.Heads.{Counts}
+use Rattle.ink_json.proofs.Adding.{one_by_one}
 use Rattle.ink_json.proofs.heads.add_jumps.Goals as goal
-
-one_by_one : {X : Type 0} (rs a b c d e : List X) → rs ++ a ++ b ++ c ++ d ++ e ≡ rs ++ (a ++ b ++ c ++ d ++ e)
-one_by_one rs a b c d e = simp append_assoc refl
 
 pub returns : goal.returns
 unfolding jump_readings

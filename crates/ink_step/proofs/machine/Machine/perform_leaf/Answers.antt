@@ -16,7 +16,7 @@ use Rattle.ink_step.specs.declared.machine.Machine.{Machine}
 use Rattle.ink_step.specs.declared.transfer.Transfer.{Transfer}
 use Rattle.ink_step.proofs.Landings.{leaf_landing}
 use Rattle.ink_step.proofs.Stored.{fields_kept}
-use Rattle.ink_step.proofs.Plain.{control_plain, keeps_plain, when_ok}
+use Rattle.ink_step.proofs.Plain.{control_plain, keeps_plain, offers_plain, tag_plain, when_ok}
 use Rattle.ink_step.proofs.machine.Machine.perform_leaf.Goals as goal
 use Rattle.ink_stack.specs.Threads.{ThreadsView}
 use Rattle.ink_tree.specs.Nodes.{place_of}
@@ -67,6 +67,30 @@ returns-in-Control-clause-threads c =
     let new = c.perform_control.new.self.flow.threads.threads in
     keeps s p machine _ _ new _ c.in-Control.is
     (when_ok c.perform_control.result _ (keeps_plain s _ machine.flow.threads.threads new (control_plain s p (context_of before) c.in-Control.control (fields_of before)) c.perform_control.ensures.threads))
+
+pub returns-in-Tag-clause-effect : goal.returns-in-Tag-clause-effect
+returns-in-Tag-clause-effect c =
+    let s = story_tree c.args.story.now in
+    let machine = c.args.self.now in
+    does s (place_of s c.args.here) machine _ _ _ _ _ c.in-Tag.is (ap (leading c.write_tag.result) c.requires.on) (c.write_tag.ensures.effect _ _ _ s)
+
+pub returns-in-Tag-clause-threads : goal.returns-in-Tag-clause-threads
+returns-in-Tag-clause-threads c =
+    let s = story_tree c.args.story.now in
+    let machine = c.args.self.now in
+    let threads = machine.flow.threads.threads in
+    keeps s (place_of s c.args.here) machine _ _ threads _ c.in-Tag.is
+    (when_ok c.write_tag.result _ (keeps_plain s _ threads threads (tag_plain c.in-Tag.text (fields_of (config_of s machine))) refl))
+
+pub returns-in-Tag-clause-choices : goal.returns-in-Tag-clause-choices
+returns-in-Tag-clause-choices c =
+    let s = story_tree c.args.story.now in
+    let p = place_of s c.args.here in
+    let seen = context_of (config_of s c.args.self.now) in
+    let old = fields_of (config_of s c.args.self.now) in
+    let choices = c.args.self.now.flow.choices.items in
+    subst (λ l. OnOk c.write_tag.result (KeepsChoices s (leaf_effect s p seen l old) choices choices)) (sym c.in-Tag.is)
+    (when_ok c.write_tag.result _ (offers_plain s _ choices (tag_plain c.in-Tag.text old)))
 
 pub returns-in-Divert-clause-effect : goal.returns-in-Divert-clause-effect
 returns-in-Divert-clause-effect c =
