@@ -1,5 +1,5 @@
 -- A loop that looks for a line, step by step, with its desk.
-use Rattle.std.proofs.Common.{◌≡◌, ◌∙◌, ◌++◌, ◌+◌, ◌<◌, ◌≤◌, ap, sym, refl, subst, inl, inr, arith, append_assoc, ℕ, suc, Bool, true, false, List, [], Option, Some, None, Result, Ok, Err}
+use Rattle.std.proofs.Common.{◌≡◌, ◌∙◌, ◌++◌, ◌+◌, ◌<◌, ◌≤◌, ap, sym, refl, subst, inl, inr, arith, append_assoc, ℕ, suc, ◌&&◌, ◌||◌, Bool, true, false, true≢false, List, [], Option, Some, None, Result, Ok, Err}
 use Rattle.std.proofs.lemmas.List.{append-nil, map-append}
 use Rattle.ink_host.specs.Desk.{DeskView, Grew, bound_by}
 use Rattle.ink_host.specs.declared.objects.Called.{Called}
@@ -18,6 +18,7 @@ use Rattle.ink_model.specs.Events.{Made, calls}
 use Rattle.ink_model.specs.Host.{Bound}
 use Rattle.ink_model.specs.Memory.{GetsTo}
 use Rattle.ink_model.specs.Run.{Moment, At, Stopped, Faulted, answers_of, came, moment}
+use Rattle.ink_model.specs.Asks.{asks}
 use Rattle.ink_model.specs.Step.{step}
 use Rattle.ink_model.specs.Tree.{StoryTree}
 use Rattle.ink_model.specs.declared.fault.Fault.{Fault}
@@ -28,8 +29,15 @@ use Rattle.ink_model.specs.declared.limits.TheConstants.{MAX_STEPS}
 use Rattle.ink_model.specs.declared.value.Value.{Value}
 use Rattle.ink_step.proofs.Growing.{calls_on}
 use Rattle.ink_step.proofs.Moments.{Did, Ends, Short, did}
+use Rattle.ink_step.specs.Marks.{takes_first}
+use Rattle.ink_step.specs.Steps.{StepMakes}
 
 -- ---- a search of a run, from a configuration
+
+-- without a mark no step is pressed
+not_by_mark : (takes : Bool) → (takes && false) || false ≡ false
+not_by_mark true = refl
+not_by_mark false = refl
 
 module _ (s : StoryTree) (b : Bound) (start : Configuration) where
   -- after n steps the search has come here, with these calls made, whatever answers are left
@@ -83,7 +91,7 @@ module _ (s : StoryTree) (b : Bound) (start : Configuration) where
     none more = subst (λ answers. NoneBelow s b MAX_STEPS (moment s b start answers) n)
         (sym (split_answers made more []) ∙ append-nil (answers_of (made ++ more))) (known n made (search_at None kept old) below h (answers_of more ++ [])).2
 
-    pub seek_falls : (more : List Made) → Short s b false old more → LineShort s b start (made ++ more) old
+    pub seek_falls : (more : List Made) → Short s b false false old more → LineShort s b start (made ++ more) old
     seek_falls more short = elim short [
       | inl asking ↦ elim asking [
         | inl before ↦ inl (subst
@@ -108,7 +116,7 @@ module _ (s : StoryTree) (b : Bound) (start : Configuration) where
           none more,
         ))
       ]
-      | inr is_marked ↦ absurd (cc)
+      | inr by ↦ elim by [ inl takes ↦ absurd (true≢false (sym takes.2)) | inr pressing ↦ absurd (true≢false (sym pressing)) ]
     ]
 
   pub look_falls : (n : ℕ) (made : List Made) (w : ℕ) (kept old : Configuration) → n < MAX_STEPS → ComesTo n (search_at (Some w) kept old) made → LineShort s b start made old
@@ -129,7 +137,7 @@ module _ (s : StoryTree) (b : Bound) (kept old kept_then new : Configuration) (m
   went_so l h is left = ap (sought (At old (answers_of more ++ left) made)) (h left)
       ∙ (kept_found kept_then new (newline_between old.page new.page) (subst (λ l. MarksHere l kept_then new) is.0 is.1) left (made ++ more) ∙ ap (λ l. search_after l kept_then new left (made ++ more)) (sym is.0))
 
-  pub sought_so : (l : Looked) → Ends s b false made more old new (stepped (Ok l)) → FindsAs (newline_between old.page new.page) kept_then new (Ok l)
+  pub sought_so : (l : Looked) → Ends s b false false made more old new (stepped (Ok l)) → FindsAs (newline_between old.page new.page) kept_then new (Ok l)
       → (left : List (Option Given)) → look_on s b (search_at None kept old (answers_of more ++ left) made) ≡ search_after l kept_then new left (made ++ more)
   sought_so after.Nothing h is left = went_so after.Nothing h is left
   sought_so (after.Newline w) h is left = went_so (after.Newline w) h is left
@@ -180,8 +188,9 @@ module _ {P T W : Type 0} (turn_log : T → List Called) (watch_log : W → List
 
     -- a step where no newline waits
     module _ (ran : Ran n before (search_at None kept old)) where
-      did_in : (result : Result Looked Fault) (h : DoesStep before None kept old after kept_then new result) → Did s bound_first false ran.made before.next h.0 old new (stepped result)
-      did_in result h = did s bound_first false ran.made before.next h.0 old new (stepped result) (bound_so None ran result h).0
+      did_in : (result : Result Looked Fault) (h : DoesStep before None kept old after kept_then new result) → Did s bound_first false false ran.made before.next h.0 old new (stepped result)
+      did_in result h = did s bound_first false false ran.made before.next h.0 old new (stepped result)
+          (subst (λ p. StepMakes s bound_first before.next p (asks s bound_first old) (step s bound_first old) h.0 old.shared.globals new (stepped result)) (sym (not_by_mark (takes_first s old))) (bound_so None ran result h).0)
 
       sought_on : (l : Looked) → DoesStep before None kept old after kept_then new (Ok l) → Ran (n + 1) after (search_after l kept_then new)
       sought_on l h = let d = did_in (Ok l) h in record {

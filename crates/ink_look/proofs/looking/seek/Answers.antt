@@ -1,8 +1,9 @@
-use Rattle.std.proofs.Common.{◌∙◌, ap, length, sym, Ok}
+use Rattle.std.proofs.Common.{◌≡◌, ◌∙◌, ap, length, refl, rules, subst, sym, None, Err, Ok}
 use Rattle.ink_check.specs.Words.{story_tree}
 use Rattle.ink_host.specs.Desk.{bound_by}
 use Rattle.ink_look.proofs.Steps.{seeks_on, unmarked_makes}
 use Rattle.ink_look.proofs.looking.seek.Goals as goal
+use Rattle.ink_look.specs.Looking.{StepsOn}
 use Rattle.ink_step.specs.Marks.{config_back}
 use Rattle.ink_step.specs.Words.{config_of}
 use Rattle.ink_step.specs.declared.flow.StepEnd.TheVariants as ends
@@ -17,4 +18,18 @@ returns-in-Went-clause-steps g c =
       seeks_on s b c.args.desk.now.next h.0 (config_back s c.args.machine.now) (config_of s c.args.machine.now) (config_of s c.step.new.self) (config_back s c.found.new.machine) (config_of s c.found.new.machine)
           (c.found.ensures.config s) c.len-marks.result c.found.result (sym (c.len-marks.ensures.marks ∙ ap (λ d. length d.page.line) (c.parts.ensures s))) (c.found.ensures.found s) (c.found.ensures.here s)
           (unmarked_makes s b c.args.desk.now.next c.args.machine.now c.step.new.self h.0 _ (Ok ends.Went) c.requires.unmarked c.in_ok-step.ensures.mark (ap Ok c.in-Went.is) h.2),
+    )
+
+pub returns-in_err-step-clause-steps : goal.returns-in_err-step-clause-steps
+returns-in_err-step-clause-steps g c =
+    let s = story_tree c.args.story.now in
+    let b = bound_by g.P.PureFn.meaning c.args.desk.now.functions in
+    let h = c.in_err-step.ensures.step in
+    let left = c.step.new.self in
+    let f = c.in_err-step.field-0.0 in
+    let is : c.from_residual.result ≡ Err f = search rules in (
+      h.0,
+      h.1,
+      subst (StepsOn s b c.args.desk.now.next None (config_back s c.args.machine.now) (config_of s c.args.machine.now) h.0 (config_back s left) (config_of s left)) (sym is)
+          (unmarked_makes s b c.args.desk.now.next c.args.machine.now left h.0 _ (Err f) c.requires.unmarked c.in_err-step.ensures.mark refl h.2, tt),
     )
