@@ -1,9 +1,9 @@
 -- What holds of the threads where no mark stands.
-use Rattle.std.proofs.Common.{◌≡◌, ◌≤◌, ◌+◌, ℕ, List, Option, None, Result, Ok, Err, ap, false, is_some, refl, unwrap_or}
+use Rattle.std.proofs.Common.{◌≡◌, ◌≤◌, ◌+◌, ℕ, List, Option, None, Result, Ok, Err, ap, false, is_some, refl}
 use Rattle.ink_model.specs.Frames.{ThreadOf, ThreadsOf}
 use Rattle.ink_model.specs.declared.fault.Fault.{Fault}
-use Rattle.ink_trail.proofs.Undoing.{spare-or-kept, stood-back, stood-none, stood-or-kept, trails-unmarked}
-use Rattle.ink_trail.specs.Undo.{KeepsTrail, TrailView, TrailsOrKeeps, Undo, trail_of, undone}
+use Rattle.ink_trail.proofs.Undoing.{spare-or-kept, stood-none, stood-or-kept, trails-unmarked}
+use Rattle.ink_trail.specs.Undo.{KeepsTrail, TrailView, TrailsOrKeeps, Undo, trail_of}
 use Rattle.ink_stack.specs.Threads.{ThreadsView}
 use Rattle.ink_stack.specs.Undo.{Held, Rooms, StaysHeld, threads_back, threads_spare, threads_stood}
 use Rattle.ink_stack.specs.Words.{Grows}
@@ -38,11 +38,7 @@ module _ {P : Type 0} where
   unfolding threads_spare
   spare-or r n old new h = spare-or-kept threads_back r n old.threads new.threads old.trail new.trail h
 
-  -- all was put back, and the mark has ended
-  pub back-stood : (v : ThreadsView P) → undone threads_back (trail_of v.trail.undo) v.threads ≡ unwrap_or (threads_stood v) v.threads
-  unfolding threads_stood
-  back-stood v = stood-back threads_back v.trail v.threads
-
+  -- the mark has ended
   pub none-stands : (v : ThreadsView P) → v.trail.undo ≡ None → threads_stood v ≡ None
   unfolding threads_stood
   none-stands v none = stood-none threads_back v.trail v.threads none

@@ -1,4 +1,5 @@
-use Rattle.std.proofs.Common.{◌-◌, ◌≤◌, max, length, ◌∙◌, inr, arith}
+use Rattle.std.proofs.Common.{◌-◌, ◌≤◌, [], ◌∷◌, ◌++◌, max, length, ◌∙◌, inr, ap, arith}
+use Rattle.std.proofs.lemmas.List.{length-append}
 use Rattle.ink_protocol.proofs.Reading.{stays, goes_whole, goes_further, not_cut}
 use Rattle.ink_protocol.proofs.lines.next_line.Goals as goal
 
@@ -36,3 +37,27 @@ returns-in-Err-clause-gives g c =
     let gives = rw c.in-Bytes.is at c.in-Ok.ensures.gives in
     let cut = c.in-Err.ensures in
     not_cut _ _ _ _ _ _ _ _ c.pieces.invariant.takes c.pieces.invariant.within gives.0 room _ cut.0 c.cut.new.line.items c.in-Err.fault gives.2 cut.1 cut.2
+
+pub returns-in-End-clause-bound : goal.returns-in-End-clause-bound
+returns-in-End-clause-bound g c = omega (arith, c.in-Ok.ensures.bound)
+
+pub returns-in-TooMany-clause-bound : goal.returns-in-TooMany-clause-bound
+returns-in-TooMany-clause-bound g c = omega (arith, c.in-Ok.ensures.bound)
+
+pub returns-in-Ok-Newline-clause-bound : goal.returns-in-Ok-Newline-clause-bound
+returns-in-Ok-Newline-clause-bound g c =
+    let gives = rw c.in-Bytes.is at c.in-Ok.ensures.gives in
+    let cut = rw c.in-Ok-Newline.field-0-is at c.in-Ok-Newline.ensures in
+    omega (arith, gives.2, cut.1.count, ap length cut.1.bytes, length-append (cut.0 ++ 10 ∷ []) c.cut.new.self.unread)
+
+pub returns-in-Err-clause-bound : goal.returns-in-Err-clause-bound
+returns-in-Err-clause-bound g c =
+    let gives = rw c.in-Bytes.is at c.in-Ok.ensures.gives in
+    let cut = c.in-Err.ensures in
+    omega (arith, gives.2, cut.1.count, ap length cut.1.bytes, length-append cut.0 c.cut.new.self.unread)
+
+pub pieces-smaller : goal.pieces-smaller
+pieces-smaller g c =
+    let gives = rw c.in-Bytes.is at c.in-Ok.ensures.gives in
+    let cut = rw c.in-Ok-More.field-0-is at c.in-Ok-More.ensures in
+    omega (arith, gives.0.count, cut.1.count, cut.2)

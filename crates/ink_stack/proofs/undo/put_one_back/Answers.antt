@@ -20,12 +20,6 @@ returns-in-Evaluating-clause-threads g c = rw c.in-Evaluating.is (ap (λ v. thre
 pub returns-in-Evaluating-clause-room : goal.returns-in-Evaluating-clause-room
 returns-in-Evaluating-clause-room g c = rw c.in-Evaluating.is (record { frames = omega (arith, ap (λ v. v.room) c.set_mode.ensures); threads = omega arith })
 
-pub returns-in-Numbered-clause-threads : goal.returns-in-Numbered-clause-threads
-returns-in-Numbered-clause-threads g c = rw c.in-Numbered.is (ap (λ v. threads_in v c.args.below.now.items) c.put_number_back.ensures)
-
-pub returns-in-Numbered-clause-room : goal.returns-in-Numbered-clause-room
-returns-in-Numbered-clause-room g c = rw c.in-Numbered.is (record { frames = omega (arith, ap (λ v. v.room) c.put_number_back.ensures); threads = omega arith })
-
 pub returns-in-Fresh-clause-threads : goal.returns-in-Fresh-clause-threads
 returns-in-Fresh-clause-threads g c = rw c.in-Fresh.is (ap (λ v. threads_in v c.args.below.now.items) c.freshen.ensures)
 
