@@ -182,7 +182,7 @@ RUNNING = {
     "a text of 1 MiB written into a tag": (counted('"#",%s,"/#"' % NEARLY, 200), THROUGH, 2800),
     "a value of 1 MiB written into a string": (named('"ev","str","ev",{"VAR?":"a"},"out","/ev","/str","pop","/ev",{"->":"0"}', global_decl='"ev"' + texts(LONG, '"^"') + ',"/ev","end"'), THROUGH, MOST_STEPS),
     "a value of 1 MiB written 200 times": (counted('"ev",{"VAR?":"a"},"out","/ev"', 200, '"end"', texts(LONG, '"^"')), THROUGH, 2800),
-    "a value of 1 MiB written 90,000 times": (counted('"ev",{"VAR?":"a"},"out","/ev"', 90000, '"end"', texts(LONG, '"^"')), THROUGH, MOST_STEPS),
+    "a value of 1 MiB written 60,000 times": (counted('"ev",{"VAR?":"a"},"out","/ev"', 60000, '"end"', texts(LONG, '"^"')), THROUGH, MOST_STEPS),
     "10,000 texts of 1 MiB on the stack": (named('"ev",{"VAR?":"a"},{"VAR?":"b"},"+","/ev",{"->":"0"}', global_decl='"ev"' + texts(LONG, '"^"') + ',"/ev","end"'), THROUGH, 60000),
     "a text doubled to its limit": (named('"ev",{"VAR?":"x"},{"VAR?":"x"},"+",{"VAR=":"x","re":true},"/ev",{"->":"0"}', global_decl='"ev","str","^ab","/str",{"VAR=":"x"},"/ev","end"'), THROUGH, 200),
     "newlines and glue in turn": (named(",".join(['"\\n","<>"'] * 49999) + ',"^x","done"'), THROUGH, 100000),
@@ -208,7 +208,7 @@ RUNNING = {
     "a global with a name of 4 MiB, read": (named('"ev",{"VAR?":"%s"},"pop","/ev",{"->":"0"}' % NAME, global_decl='"ev",1,{"VAR=":"%s"},"/ev","end"' % NAME), THROUGH, MOST_STEPS),
     "a global with a name of 4 MiB, assigned": (named('"ev",1,{"VAR=":"%s","re":true},"/ev",{"->":"0"}' % NAME, global_decl='"ev",1,{"VAR=":"%s"},"/ev","end"' % NAME), THROUGH, MOST_STEPS),
     "the same through a pointer": (named('"ev",{"VAR?":"p"},"pop","/ev",{"->":"0"}', global_decl='"ev",1,{"VAR=":"%s"},{"^var":"%s","ci":0},{"VAR=":"p"},"/ev","end"' % (NAME, NAME)), THROUGH, MOST_STEPS),
-    "a temporary with a name of 4 MiB": (named('"ev",1,{"temp=":"%s"},{"VAR?":"%s"},"pop","/ev",{"->":"2"}' % (NAME, NAME)), THROUGH, MOST_STEPS),
+    "a temporary with a name of 4 MiB": (named('"ev",1,{"temp=":"%s"},"/ev","ev",{"VAR?":"%s"},"pop","/ev",{"->":"4"}' % (NAME, NAME)), THROUGH, MOST_STEPS),
     "a host's function with a name of 4 MiB": (named('"ev",{"x()":"%s"},"pop","/ev",{"->":"0"}' % NAME, **{NAME: '"ev",1,"/ev","~ret"'}), THROUGH, MOST_STEPS),
     "pops of an empty stack in choices": (named('{"*":"0","flg":1}'), THROUGH + "restart\n" * 1000, 1000),
 }

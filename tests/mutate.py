@@ -84,10 +84,25 @@ def sources():
 
 
 def stories_of(path):
-    if os.path.basename(path).startswith("marks"):
-        with open(path, encoding="utf-8") as table:
-            return [(saves.expanded(line[2:]), None) for line in table.read().split("\n") if line.startswith("= ")]
-    return saves.table_sessions(path)
+    """The stories of a table that are not long, with the lines of their sessions or none."""
+    name = os.path.basename(path)
+    with open(path, encoding="utf-8") as table:
+        text = table.read()
+    if name.startswith("sessions"):
+        for part in text.split("\n= ")[1:]:
+            if length(part) <= 2 * MOST_SOURCE:
+                lines = saves.session_lines(part)
+                yield lines[0], lines[1:]
+        return
+    for line in text.split("\n"):
+        story = line[2:] if line.startswith("= ") else line.rpartition(" => ")[0] if name.startswith("twins") and line.startswith("{") else ""
+        if story and length(story) <= MOST_SOURCE:
+            yield saves.expanded(story), None
+
+
+def length(text):
+    """About how long a text of a table is with its forms in full."""
+    return len(text) + sum(int(count) * len(form) for count, form in re.findall("[<>⟦]([0-9]+) ([^⟧\n]*)", text))
 
 
 def with_other_bytes(chance, text, others):

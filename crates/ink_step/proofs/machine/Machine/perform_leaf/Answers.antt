@@ -72,7 +72,8 @@ pub returns-in-Tag-clause-effect : goal.returns-in-Tag-clause-effect
 returns-in-Tag-clause-effect c =
     let s = story_tree c.args.story.now in
     let machine = c.args.self.now in
-    does s (place_of s c.args.here) machine _ _ _ _ _ c.in-Tag.is (ap (leading c.write_tag.result) c.requires.on) (c.write_tag.ensures.effect _ _ _ s)
+    let f = fields_of (config_of s machine) in
+    does s (place_of s c.args.here) machine _ _ _ _ _ c.in-Tag.is (ap (leading c.write_tag.result) c.requires.on) (rw c.as_str.ensures at (c.write_tag.ensures.effect f.evaluating f.fresh f.globals s))
 
 pub returns-in-Tag-clause-threads : goal.returns-in-Tag-clause-threads
 returns-in-Tag-clause-threads c =
