@@ -2,16 +2,16 @@
 
 ghost use Rattle.std.specs.Prelude.{◌≡◌, bytes_eq, option_map};
 ghost use Rattle.ink_protocol.specs.Answers.{values_text};
-ghost use Rattle.inkplay.specs.Tables.{answer_in};
+ghost use Rattle.ink_words.specs.Tables.{answer_in};
 
 use ink_host::{PureFn, Recorder, TurnFn};
 use ink_model::{Given, HostFault, Text, Value};
-use ink_player::print_values;
+use ink_protocol::print_values;
 use std::alloc::Global;
 
 /// A turn function that gives its answers in order, each at one call, and refuses once they are used up. It notes its calls.
 #[derive(Drop)]
-pub(crate) struct Script {
+pub struct Script {
     answers: Vec<Given>,
     next: usize,
     noted: Recorder,
@@ -20,7 +20,7 @@ pub(crate) struct Script {
 
 impl Script {
     /// A function that was not called yet.
-    pub(crate) fn new(alloc: Global, answers: Vec<Given>) -> Script {
+    pub fn new(alloc: Global, answers: Vec<Given>) -> Script {
         Script {
             answers,
             next: 0,
@@ -51,21 +51,21 @@ impl TurnFn for Script {
 
 /// One row of a table: the answer to these arguments, which are spelled as a compact JSON array.
 #[derive(Drop)]
-pub(crate) struct Row {
+pub struct Row {
     pub arguments: Text,
     pub answer: Given,
 }
 
 /// A pure function that answers what stands in its rows, and refuses all other arguments.
 #[derive(Drop)]
-pub(crate) struct Table {
+pub struct Table {
     rows: Vec<Row>,
     alloc: Global,
 }
 
 impl Table {
     /// The function with these rows.
-    pub(crate) fn new(alloc: Global, rows: Vec<Row>) -> Table {
+    pub fn new(alloc: Global, rows: Vec<Row>) -> Table {
         Table { rows, alloc }
     }
 }

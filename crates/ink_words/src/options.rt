@@ -8,7 +8,7 @@ use std::alloc::{AllocError, AllocFailed, Global};
 
 /// The words are no words of the program, or there was no memory for them.
 #[derive(Clone, Copy)]
-pub(crate) struct WordsRefused;
+pub struct WordsRefused;
 
 impl From<AllocError> for WordsRefused {
     fn from(_error: AllocError) -> WordsRefused {
@@ -30,9 +30,9 @@ pub(crate) enum PlayOption<'a> {
     Watch { name: &'a str },
 }
 
-/// What the program's words may be.
-pub(crate) fn command<'a>(alloc: Global) -> Result<Command<'a>, AllocError> {
-    Command::new(alloc, "inkplay")
+/// What the words of a program with this name may be.
+pub fn command<'a>(alloc: Global, name: &'a str) -> Result<Command<'a>, AllocError> {
+    Command::new(alloc, name)
         .disable_help_flag(true)
         .arg(Arg::new(alloc, "STORY"))?
         .arg(repeated(alloc, "answer"))?
@@ -52,21 +52,50 @@ pub(crate) fn read_options<'a>(
     matches: &ArgMatches<'a>,
 ) -> Result<Vec<PlayOption<'a>>, WordsRefused> {
     let mut options = Vec::new(alloc);
+    read_scripts(alloc, matches, &mut options)?;
+    read_tables(alloc, matches, &mut options)?;
+    read_watched(matches, &mut options)?;
+    Ok(options)
+}
+
+// The options that give answers in order.
+fn read_scripts<'a>(
+    alloc: Global,
+    matches: &ArgMatches<'a>,
+    options: &mut Vec<PlayOption<'a>>,
+) -> Result<(), WordsRefused> {
     for word in matches.get_strs("answer").unwrap_or(&[]) {
         let (name, json) = named(word)?;
         let answers = read_answers(alloc, json)?;
         options.push(PlayOption::Answers { name, answers })?;
     }
+    Ok(())
+}
+
+// The options that give tables.
+fn read_tables<'a>(
+    alloc: Global,
+    matches: &ArgMatches<'a>,
+    options: &mut Vec<PlayOption<'a>>,
+) -> Result<(), WordsRefused> {
     for word in matches.get_strs("table").unwrap_or(&[]) {
         let (name, json) = named(word)?;
         let rows = read_rows(alloc, json)?;
         options.push(PlayOption::Table { name, rows })?;
     }
+    Ok(())
+}
+
+// The options that watch a global.
+fn read_watched<'a>(
+    matches: &ArgMatches<'a>,
+    options: &mut Vec<PlayOption<'a>>,
+) -> Result<(), WordsRefused> {
     for word in matches.get_strs("watch").unwrap_or(&[]) {
         let name = filled(word)?;
         options.push(PlayOption::Watch { name })?;
     }
-    Ok(options)
+    Ok(())
 }
 
 // The name, up to the first `=`, and the JSON behind it.

@@ -8,11 +8,11 @@ use ink_model::Given;
 use std::alloc::Global;
 
 /// A desk of the program's objects.
-pub(crate) type PlayDesk = Desk<Table, Script, Observer>;
+pub type PlayDesk = Desk<Table, Script, Observer>;
 
 /// Binds what the words say. The one error is words that say nothing that can be bound (docs/PROGRAM.md), a name that is bound
 /// twice or watched twice, or a refused request for memory.
-pub(crate) fn bind_words(
+pub fn bind_words(
     alloc: Global,
     desk: &mut PlayDesk,
     matches: &ArgMatches<'_>,
