@@ -7,7 +7,9 @@ mod file;
 mod report;
 
 use ink_host::{Desk, PureFn, TurnFn, Watcher};
-use ink_player::{PlayFault, Player, Sink, Source, Watched, open_story, serve, serve_story};
+use ink_player::{
+    PlayFault, Player, RunFault, Sink, Source, Watched, open_story, serve, serve_story,
+};
 use ink_words::{PlayDesk, bind_words, command};
 use report::{refuse_file, refuse_words, tell};
 use std::alloc::Global;
@@ -87,21 +89,27 @@ fn serve_bytes<S: Source, T: Sink, P: PureFn + Drop, F: TurnFn + Drop, O: Watche
     sink: &mut T,
 ) -> u8 {
     match open_story(alloc, bytes, desk) {
-        Ok(player) => serve_player(rt, alloc, player, source, sink),
+        Ok(player) => status_of(rt, serve_player(alloc, player, source, sink)),
         Err(end) => tell(rt, &end.fault),
     }
 }
 
-/// Serves the lines of the input to a player.
+/// Serves the lines of the input to a player, which ends with them.
 fn serve_player<S: Source, T: Sink, P: PureFn + Drop, F: TurnFn + Drop, O: Watcher + Drop>(
-    rt: &impl Eprint,
     alloc: Global,
     player: Player<P, F, O>,
     source: &mut S,
     sink: &mut T,
-) -> u8 {
+) -> Result<(), RunFault> {
     let mut player = player;
-    match serve(alloc, source, sink, &mut player) {
+    let outcome = serve(alloc, source, sink, &mut player);
+    let _desk = player.close();
+    outcome
+}
+
+/// The exit status of a session, once its fault is told.
+fn status_of(rt: &impl Eprint, outcome: Result<(), RunFault>) -> u8 {
+    match outcome {
         Ok(()) => SERVED,
         Err(fault) => tell(rt, &PlayFault::Run(fault)),
     }
