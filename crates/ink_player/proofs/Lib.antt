@@ -7,3 +7,4 @@ pub mod Restarts
 mod Standing
 mod Saves
 mod Settling
+mod Anew

@@ -39,6 +39,19 @@ count_is a b o n taken e t = t.count ∙ ap (λ z. z.spare) e
 story_bound : (a b : Option (List ℕ)) (o n : Buffered) (taken line : List ℕ) → o ≡ fresh → TakesLine a b o n (MAX_STORY + 1) taken line → length (taken ++ n.unread) ≤ MAX_STORY + 1
 story_bound a b o n taken line e t = omega (arith, t.room, ap (λ z. length z.unread) e, length-append taken n.unread)
 
+-- what a session may still read after the story and its newline
+left_after : (a b : Option (List ℕ)) (o n : Buffered) (line : List ℕ) → o ≡ fresh → Takes a b o n (line ++ 10 ∷ []) → n.spare + (length line + 1) ≡ MAX_INPUT
+left_after a b o n line e t = omega (arith, count_is a b o n (line ++ 10 ∷ []) e t, length-append line (10 ∷ []))
+
+less_by : (m n : ℕ) → m + n ≡ MAX_INPUT → m ≡ MAX_INPUT - n
+less_by m n h = omega (arith, h)
+
+all_within : (spare : ℕ) (got line rest : List ℕ) → got ≡ line ++ 10 ∷ rest → length rest ≤ spare + 1 → spare + (length line + 1) ≡ MAX_INPUT → length got ≤ MAX_INPUT + 1
+all_within spare got line rest same bound count = omega (arith, bound, count, ap length same, length-append line (10 ∷ rest))
+
+none_within : (n : ℕ) → 0 ≤ n
+none_within n = omega arith
+
 early : (bytes : List ℕ) → length bytes ≤ MAX_STORY + 1 → EndsEarly bytes []
 early bytes bound = record { nothing = refl; bound = bound }
 
@@ -154,7 +167,7 @@ module _ {P F O : Type 0} (host : Bindings) where
         first = opens.1.0;
         opens = opens.1.1;
         new = opened opens.1.0;
-        ends = record { at_end = t.3; within = omega arith; each = tt; session = (refl, refl, refl) };
+        ends = record { at_end = t.3; within = none_within _; each = tt; session = (refl, refl, refl) };
       })
 
   plays_from : (a b c h j : Option (List ℕ)) (o n : Buffered) (line : List ℕ) (p : PlayerView P F O) (es : List Event) (new : State) (r : Result (Unit {0}) RunFault) (x : Result (DeskView P F O) (PlayEnd P F O))
@@ -164,12 +177,12 @@ module _ {P F O : Type 0} (host : Bindings) where
       let got = t.0.takes.got in
       let bytes : got ++ q.bytes ≡ line ++ 10 ∷ (n.unread ++ q.bytes) =
       ap (λ l. l ++ q.bytes) (got_is a b o n (line ++ 10 ∷ []) e t.0.takes) ∙ append_assoc (line ++ 10 ∷ []) n.unread q.bytes ∙ append_assoc line (10 ∷ []) (n.unread ++ q.bytes) in
-      let count : n.spare + (length line + 1) ≡ MAX_INPUT = omega (arith, count_is a b o n (line ++ 10 ∷ []) e t.0.takes, length-append line (10 ∷ [])) in
-      let most : n.spare ≡ MAX_INPUT - (length line + 1) = omega (arith, count) in
+      let count : n.spare + (length line + 1) ≡ MAX_INPUT = left_after a b o n line e t.0.takes in
+      let most : n.spare ≡ MAX_INPUT - (length line + 1) = less_by n.spare (length line + 1) count in
       record {
         bytes = got ++ q.bytes;
         consumed = Consumes-trans a b c got q.bytes t.0.takes.consumed q.consumed;
-        bound = omega (arith, q.bound, count, ap length bytes, length-append line (10 ∷ (n.unread ++ q.bytes)));
+        bound = all_within n.spare (got ++ q.bytes) line (n.unread ++ q.bytes) bytes q.bound count;
         written = q.written;
         appended = q.appended;
         ends = into (got ++ q.bytes) q.written (record {

@@ -1,23 +1,21 @@
 -- What is read of a JSON value, and what is made of a configuration.
-use Rattle.std.proofs.Common.{◌≡◌, ◌∙◌, sym, ap, refl, subst, arith, [], Option, Some, None}
+use Rattle.std.proofs.Common.{◌≡◌, ◌∙◌, sym, ap, refl, subst, [], Option, Some, None}
 use Rattle.serde_json.specs.Data.{Data}
 use Rattle.ink_model.specs.Acceptance.{bad_places}
 use Rattle.ink_model.specs.Configuration.{Configuration}
 use Rattle.ink_model.specs.Grammar.{IsSpelled}
-use Rattle.ink_model.specs.Output.{empty_page}
-use Rattle.ink_model.specs.Page.{Page}
 use Rattle.ink_model.specs.Save.Reads.{Reads}
-use Rattle.ink_model.specs.Save.Sound.{FlowSound, PageFits, SharedSound, Sound}
+use Rattle.ink_model.specs.Save.Sound.{Sound}
 use Rattle.ink_model.specs.Save.Unspelled.{unspelled}
 use Rattle.ink_model.specs.Tree.{StoryTree}
+use Rattle.ink_parts.specs.Parts.{restored_as}
+use Rattle.ink_parts.specs.declared.restoring.Restored.{Restored}
 use Rattle.ink_save.specs.Loads.{Finds}
 use Rattle.ink_sound.proofs.Respelling.{reads_back, reads_so}
 use Rattle.ink_sound.proofs.Stories.{spelled_fits}
 use Rattle.ink_sound.specs.Kept.{StoryFits}
-use Rattle.ink_step.specs.Words.{config_of, flow_of, shared_of}
-use Rattle.ink_step.specs.declared.machine.Flow.{Flow}
+use Rattle.ink_step.specs.Words.{config_of}
 use Rattle.ink_step.specs.declared.machine.Machine.{Machine}
-use Rattle.ink_step.specs.declared.machine.Shared.{Shared}
 
 module _ (s : StoryTree) (story : StoryFits s) (j : Data) where
   pub reads_machine : (m : Machine) → Finds s (unspelled j) (Some m) → Reads s j (config_of s m)
@@ -47,12 +45,6 @@ pub reads_none : (s t : StoryTree) (j : Data) (o : Option Machine) → t ≡ s �
 reads_none s t j o same spelled good is h =
     reads_nothing s (spelled_fits s spelled good) j (subst (λ x. Finds x (unspelled j) None) same (subst (λ p. Finds t (unspelled j) p) is h))
 
-pub machine_built : (s : StoryTree) (c : Configuration) (flow : Flow) (shared : Shared) (page : Page) (m : Machine) → page ≡ c.page → c.page ≡ empty_page
-    → (flow_of s flow ≡ c.flow) × FlowSound s c.flow → (shared_of s shared ≡ c.shared) × SharedSound s c.shared
-    → config_of s m ≡ record { flow = flow_of s flow; shared = shared_of s shared; page = page } → (config_of s m ≡ c) × Sound s c
-machine_built s c flow shared page m same empty f h is = (
-  is ∙ ap (λ x. record { flow = x; shared = shared_of s shared; page = page }) f.0
-      ∙ ap (λ x. record { flow = c.flow; shared = x; page = page }) h.0
-      ∙ ap (λ x. record { flow = c.flow; shared = c.shared; page = x }) same,
-  record { flow = f.1; shared = h.1; page = subst PageFits (sym empty) (record { few = omega arith }) },
-)
+pub machine_built : (s : StoryTree) (c : Configuration) (restored : Restored) (m : Machine) → config_of s m ≡ restored_as s restored
+    → (restored_as s restored ≡ c) × Sound s c → (config_of s m ≡ c) × Sound s c
+machine_built s c restored m same h = (same ∙ h.0, h.1)

@@ -1,4 +1,1 @@
-pub mod Words
-pub mod Building
 pub mod Loads
-pub mod Counted

@@ -3,15 +3,14 @@
 //! and watch globals (docs/PROGRAM.md).
 #![tactic(auto)]
 
-mod binding;
 mod file;
-mod objects;
-mod options;
 mod report;
 
-use binding::{PlayDesk, bind_words};
-use ink_player::{PlayFault, Sink, Source, Watched, open_story, serve, serve_story};
-use options::command;
+use ink_host::{Desk, PureFn, TurnFn, Watcher};
+use ink_player::{
+    PlayFault, Player, RunFault, Sink, Source, Watched, open_story, serve, serve_story,
+};
+use ink_words::{PlayDesk, bind_words, command};
 use report::{refuse_file, refuse_words, tell};
 use std::alloc::Global;
 use std::fs::Files;
@@ -27,7 +26,7 @@ fn main(rt: HostRuntime) -> ExitCode {
     let Ok(words) = words(&rt) else {
         return ExitCode::from(refuse_words(&rt));
     };
-    let Ok(command) = command(alloc) else {
+    let Ok(command) = command(alloc, "inkplay") else {
         return ExitCode::from(refuse_words(&rt));
     };
     let Ok(matches) = command.try_get_matches_from(words.as_slice()) else {
@@ -52,10 +51,10 @@ fn words<R: Env + Alloc>(rt: &R) -> io::Result<Vec<String<R::A>, R::A>> {
 }
 
 /// Plays the story that is the first line of the input.
-fn serve_input<S: Source, T: Sink>(
+fn serve_input<S: Source, T: Sink, P: PureFn + Drop, F: TurnFn + Drop, O: Watcher + Drop>(
     rt: &impl Eprint,
     alloc: Global,
-    desk: PlayDesk,
+    desk: Desk<P, F, O>,
     source: &mut S,
     sink: &mut T,
 ) -> u8 {
@@ -66,22 +65,51 @@ fn serve_input<S: Source, T: Sink>(
 }
 
 /// Plays the story of a file.
-fn serve_file<S: Source, T: Sink>(
+fn serve_file<S: Source, T: Sink, P: PureFn + Drop, F: TurnFn + Drop, O: Watcher + Drop>(
     rt: &(impl Eprint + Files),
     alloc: Global,
     path: &str,
-    desk: PlayDesk,
+    desk: Desk<P, F, O>,
     source: &mut S,
     sink: &mut T,
 ) -> u8 {
-    let Ok(bytes) = file::read(rt, alloc, path) else {
-        return refuse_file(rt);
-    };
-    let mut player = match open_story(alloc, &bytes, desk) {
-        Ok(player) => player,
-        Err(end) => return tell(rt, &end.fault),
-    };
-    match serve(alloc, source, sink, &mut player) {
+    match file::read(rt, alloc, path) {
+        Ok(bytes) => serve_bytes(rt, alloc, bytes.as_slice(), desk, source, sink),
+        Err(_) => refuse_file(rt),
+    }
+}
+
+/// Plays the story that these bytes are.
+fn serve_bytes<S: Source, T: Sink, P: PureFn + Drop, F: TurnFn + Drop, O: Watcher + Drop>(
+    rt: &impl Eprint,
+    alloc: Global,
+    bytes: &[u8],
+    desk: Desk<P, F, O>,
+    source: &mut S,
+    sink: &mut T,
+) -> u8 {
+    match open_story(alloc, bytes, desk) {
+        Ok(player) => status_of(rt, serve_player(alloc, player, source, sink)),
+        Err(end) => tell(rt, &end.fault),
+    }
+}
+
+/// Serves the lines of the input to a player, which ends with them.
+fn serve_player<S: Source, T: Sink, P: PureFn + Drop, F: TurnFn + Drop, O: Watcher + Drop>(
+    alloc: Global,
+    player: Player<P, F, O>,
+    source: &mut S,
+    sink: &mut T,
+) -> Result<(), RunFault> {
+    let mut player = player;
+    let outcome = serve(alloc, source, sink, &mut player);
+    let _desk = player.close();
+    outcome
+}
+
+/// The exit status of a session, once its fault is told.
+fn status_of(rt: &impl Eprint, outcome: Result<(), RunFault>) -> u8 {
+    match outcome {
         Ok(()) => SERVED,
         Err(fault) => tell(rt, &PlayFault::Run(fault)),
     }

@@ -10,6 +10,7 @@ pub returns : goal.returns
 returns c =
     let s = story_tree c.args.story.now in
     let parts = c.parts-parts.result in
-    subst (λ q. IfOk c.write_parts.result (λ json. view json ≡ q))
-    (ap (λ t. spelling (record { flow = flow_of t parts.flow.now; shared = shared_of t parts.shared.now; page = empty_page })) c.tree.ensures.tree
-    ∙ ap spelling (c.parts-parts.ensures s)) c.write_parts.ensures
+    subst (λ q. IfOk c.write.result (λ json. view json ≡ q))
+    (ap spelling c.kept_of.ensures
+    ∙ ap (λ t. spelling (record { flow = flow_of t parts.flow.now; shared = shared_of t parts.shared.now; page = empty_page })) c.tree-tree.ensures.tree
+    ∙ ap spelling (c.parts-parts.ensures s)) c.write.ensures

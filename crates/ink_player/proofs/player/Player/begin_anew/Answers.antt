@@ -1,13 +1,11 @@
-use Rattle.std.proofs.Common.{◌≡◌, ◌∙◌, None, ap, refl, sym}
-use Rattle.ink_host.specs.Desk.{watches}
+use Rattle.std.proofs.Common.{None, ap, refl, sym}
 use Rattle.ink_model.specs.Answer.{reply_of_events}
-use Rattle.ink_model.specs.State.{Ready, globals_of}
-use Rattle.ink_model.specs.Told.{told}
+use Rattle.ink_model.specs.State.{Ready}
 use Rattle.ink_check.specs.Words.{story_tree}
-use Rattle.ink_player.specs.Words.{PlayerView, is_empty, condition_by, desk_of, state_of, story_of, told_from}
+use Rattle.ink_player.specs.Words.{PlayerView, is_empty, condition_by, desk_of, story_of}
 use Rattle.ink_step.specs.Words.{config_of}
-use Rattle.ink_player.proofs.Tellings.{globals-by, globals-told, none-left, tells-done, tells-kept, told-state, with_parts}
-use Rattle.ink_step.specs.Words as step
+use Rattle.ink_player.proofs.Anew.{begun-anew}
+use Rattle.ink_player.proofs.Tellings.{tells-kept}
 use Rattle.ink_player.proofs.Standing.{stands-as, stands-told}
 use Rattle.ink_player.proofs.player.Player.begin_anew.Goals as goal
 
@@ -20,17 +18,8 @@ returns-in_default-clause-does g c =
 pub returns-clause-does : goal.returns-clause-does
 returns-clause-does g c =
     let p : PlayerView g.row.P.Denot g.row.F.Denot g.row.O.Denot = record { story = c.self.inside.story; desk = c.self.inside.desk; machine = c.self.inside.machine; broken = c.self.inside.broken } in
-    let q = with_parts p c.args.machine c.end_telling.new.desk c.end_telling.new.broken in
-    let before = config_of (story_of p) p.machine in
-    let after = config_of (story_of p) c.args.machine in
-    let w = watches (desk_of p).watchers in
-    let leaves = told-state p c.args.machine c.end_telling.new.desk c.tell_between.new.desk c.end_telling.new.broken None c.in-Ok.all after refl
-    c.end_telling.ensures.broken c.end_telling.ensures.desk refl in
-    let changes : told w (step.globals_of p.machine) (step.globals_of c.args.machine) ≡ told_from (desk_of p) (state_of p) (globals_of (state_of q).condition) =
-    ap (λ vs. told w vs (step.globals_of c.args.machine)) (sym (globals-by p.broken before))
-    ∙ ap (told w (globals_of (state_of p).condition)) (sym (ap (λ s. globals_of s.condition) leaves ∙ globals-told c.in-Ok.all after)) in
-    rw (sym c.self.view_is) (tells-done g.F.TurnFn.log g.O.Watcher.state _ (condition_by p.broken before) (Ready after) (desk_of p) c.tell_between.new.desk (desk_of q) c.in-Ok.all
-    (reply_of_events c.end_telling.result) (state_of q) (none-left p.desk.events c.self.invariant.taken) c.in-Ok.ensures.tells c.end_telling.ensures.reply leaves c.end_telling.ensures.desk _ changes)
+    rw (sym c.self.view_is) (begun-anew g.F.TurnFn.log g.O.Watcher.state p c.args.machine c.tell_between.new.desk c.end_telling.new.desk c.end_telling.new.broken c.in-Ok.all
+    (reply_of_events c.end_telling.result) c.self.invariant.taken c.in-Ok.ensures.tells c.end_telling.ensures.reply c.end_telling.ensures.broken c.end_telling.ensures.desk)
 
 pub invariant_of-self-2 : goal.invariant_of-self-2
 invariant_of-self-2 g c =

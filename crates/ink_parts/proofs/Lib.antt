@@ -1,0 +1,9 @@
+pub mod Making
+pub mod Standing
+pub mod Arrays
+pub mod Texts
+pub mod Leading
+pub mod Gathering
+pub mod Limits
+pub mod Numbering
+pub mod Whole

@@ -1,0 +1,8 @@
+use Rattle.std.proofs.Common.{take}
+use Rattle.ink_model.specs.Save.Spelling.{global_data}
+use Rattle.ink_tokens.specs.Tokens.{Added}
+use Rattle.ink_parts.proofs.Texts.{all_tokens}
+use Rattle.ink_parts.proofs.globals.put_rows.Given as goal
+
+abbrev pub invariant-loop-index : goal.invariant-loop-index
+invariant-loop-index l = Added l.fn.out l.out (all_tokens global_data (take l.index l.globals.rows))

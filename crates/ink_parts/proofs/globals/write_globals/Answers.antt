@@ -1,0 +1,8 @@
+use Rattle.std.proofs.Common.{◌∙◌}
+use Rattle.serde_json.proofs.Views.{view-Array}
+use Rattle.ink_model.specs.Save.Spelling.{global_data}
+use Rattle.ink_parts.proofs.Arrays.{listed}
+use Rattle.ink_parts.proofs.globals.write_globals.Goals as goal
+
+pub returns : goal.returns
+returns c = view-Array c.in_ok-made.made ∙ listed global_data _ _ c.in_ok-made.ensures

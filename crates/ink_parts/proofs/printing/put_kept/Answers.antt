@@ -1,0 +1,14 @@
+use Rattle.std.proofs.Common.{ap}
+use Rattle.ink_model.specs.Save.Spelling.{count_data}
+use Rattle.ink_tokens.proofs.Adding.{finally}
+use Rattle.ink_parts.proofs.Texts.{member_as}
+use Rattle.ink_parts.proofs.printing.put_kept.Goals as goal
+
+pub returns : goal.returns
+returns c =
+    let r = c.put-2.result in
+    let turn = member_as _ _ _ _ _ (ap count_data c.number.ensures.number) c.in_ok-put_number-2.ensures in
+    finally r _ _ _ _ _ c.in_ok-put.ensures (finally r _ _ _ _ _ c.in_ok-put_choices.ensures (finally r _ _ _ _ _ c.in_ok-put_number.ensures
+    (finally r _ _ _ _ _ c.in_ok-put_globals.ensures (finally r _ _ _ _ _ c.in_ok-put_flag.ensures (finally r _ _ _ _ _ c.in_ok-put_stack.ensures
+    (finally r _ _ _ _ _ c.in_ok-put_threads.ensures (finally r _ _ _ _ _ turn (finally r _ _ _ _ _ c.in_ok-put_counts.ensures
+    (finally r _ _ _ _ _ c.in_ok-put_counts-2.ensures c.put-2.ensures)))))))))

@@ -1,0 +1,7 @@
+use Rattle.std.proofs.Common.{◌≡◌, map, take}
+use Rattle.serde_json.specs.View.{view}
+use Rattle.ink_tree.specs.Nodes.{story_tree}
+use Rattle.ink_parts.proofs.written.write_all.Given as goal
+
+abbrev pub invariant-loop-item : goal.invariant-loop-item
+invariant-loop-item g l = map view l.made.items ≡ map (g.T.Written.spelling (story_tree l.tree)) (take l.item-index l.items)

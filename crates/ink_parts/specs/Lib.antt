@@ -1,0 +1,4 @@
+pub mod Words
+pub mod Building
+pub mod Counted
+pub mod Parts

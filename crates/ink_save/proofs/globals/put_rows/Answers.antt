@@ -1,7 +1,0 @@
-use Rattle.std.proofs.Common.{sym}
-use Rattle.ink_model.specs.Save.Spelling.{global_data}
-use Rattle.ink_save.proofs.Texts.{row_more}
-use Rattle.ink_save.proofs.globals.put_rows.Goals as goal
-
-pub loop-index-preserved : goal.loop-index-preserved
-loop-index-preserved c = row_more global_data _ _ _ _ _ _ (sym c.in-Some.ensures) c.loop-index.invariant c.in_ok-put_global.ensures

@@ -1,8 +1,0 @@
-use Rattle.std.proofs.Common.{take}
-use Rattle.ink_tokens.specs.Tokens.{Added}
-use Rattle.ink_tree.specs.Nodes.{story_tree}
-use Rattle.ink_save.proofs.Texts.{all_tokens}
-use Rattle.ink_save.proofs.written.put_items.Given as goal
-
-abbrev pub invariant-loop-item : goal.invariant-loop-item
-invariant-loop-item g l = Added l.fn.out l.out (all_tokens (g.T.Written.spelling (story_tree l.tree)) (take l.item-index l.items))

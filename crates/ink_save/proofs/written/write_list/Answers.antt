@@ -1,8 +1,0 @@
-use Rattle.std.proofs.Common.{◌∙◌}
-use Rattle.serde_json.proofs.Views.{view-Array}
-use Rattle.ink_tree.specs.Nodes.{story_tree}
-use Rattle.ink_save.proofs.Arrays.{listed}
-use Rattle.ink_save.proofs.written.write_list.Goals as goal
-
-pub returns : goal.returns
-returns g c = view-Array c.in_ok-made.made ∙ listed (g.T.Written.spelling (story_tree c.args.tree.now)) _ _ c.in_ok-made.ensures

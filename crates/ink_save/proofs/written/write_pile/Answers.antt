@@ -1,9 +1,0 @@
-use Rattle.std.proofs.Common.{◌≡◌, ◌∙◌, IfOk, subst}
-use Rattle.serde_json.specs.View.{view}
-use Rattle.ink_tree.specs.Nodes.{story_tree}
-use Rattle.ink_save.proofs.Arrays.{piled}
-use Rattle.ink_save.proofs.written.write_pile.Goals as goal
-
-pub returns : goal.returns
-returns g c last same = subst (λ q. IfOk c.with_last.result (λ json. view json ≡ q))
-    (piled (g.T.Written.spelling (story_tree c.args.tree.now)) _ last _ _ c.in_ok-made.ensures (c.in_ok-last.ensures ∙ same)) c.with_last.ensures
