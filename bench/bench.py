@@ -316,10 +316,9 @@ def frame(kind, place, temps):
     return {"depth": 0, "eval": False, "fresh": False, "kind": kind, "place": place, "temps": temps}
 
 
-def save_of(**other):
-    start = {"choices": [], "format": 1, "globals": [], "safe": False, "stack": [], "threads": [{"frames": [frame("base", [0], {})], "previous": None}],
-             "turn": 0, "turns": [], "visits": []}
-    return dict(start, **other)
+def save_of(choices=(), **other):
+    flow = {"choices": list(choices), "name": "DEFAULT_FLOW", "safe": False, "stack": [], "threads": [{"frames": [frame("base", [0], {})], "previous": None}]}
+    return dict({"current": "DEFAULT_FLOW", "flows": [flow], "format": 2, "globals": [], "turn": 0, "turns": [], "visits": []}, **other)
 
 
 def counted(count):

@@ -218,9 +218,9 @@ def frame(kind, place, **temps):
     return {"depth": 0, "eval": False, "fresh": False, "kind": kind, "place": place, "temps": temps}
 
 
-def save(frames, choices=(), **other):
-    thread = {"frames": frames, "previous": None}
-    made = dict({"choices": list(choices), "format": 1, "globals": [], "safe": False, "stack": [], "threads": [thread], "turn": 0, "turns": [], "visits": []}, **other)
+def save(frames, choices=(), stack=(), **other):
+    flow = {"choices": list(choices), "name": "DEFAULT_FLOW", "safe": False, "stack": list(stack), "threads": [{"frames": frames, "previous": None}]}
+    made = dict({"current": "DEFAULT_FLOW", "flows": [flow], "format": 2, "globals": [], "turn": 0, "turns": [], "visits": []}, **other)
     return "load " + json.dumps(made, separators=(",", ":"), sort_keys=True) + "\n"
 
 

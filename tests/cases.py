@@ -58,9 +58,8 @@ def told(value, stamp):
 def load(*values, place=None):
     """A line that loads a save with these globals, whose flow is at this place or has stopped."""
     frame = {"depth": 0, "eval": False, "fresh": False, "kind": "base", "place": place, "temps": {}}
-    save = {"choices": [], "format": 1, "globals": values, "safe": False, "stack": [], "threads": [{"frames": [frame], "previous": None}],
-            "turn": 0, "turns": [], "visits": []}
-    return "load %s\n" % json.dumps(save)
+    flow = {"choices": [], "name": "DEFAULT_FLOW", "safe": False, "stack": [], "threads": [{"frames": [frame], "previous": None}]}
+    return "load %s\n" % json.dumps({"current": "DEFAULT_FLOW", "flows": [flow], "format": 2, "globals": values, "turn": 0, "turns": [], "visits": []})
 
 
 def refused(why):

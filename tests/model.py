@@ -1,18 +1,22 @@
 #!/usr/bin/env python3
 """Plays random stories by a second, plain model of the rules in docs/, and compares what the program answers.
 
-    tests/model.py [--runs N] [--seed N] [PROGRAM]      2,000 runs of ./inkplay unless other ones are named
+    tests/model.py [--runs N] [--seed N] [--reload] [PROGRAM]
+                                                        2,000 runs of ./inkplay unless other ones are named; --reload has each session
+                                                        saved before each of its commands and at its end, and each save loaded at once
     tests/model.py --stories N [--seed N]               prints that many random stories, one a line: small ones that are accepted
     tests/model.py --twins                              prints the stories that it reads as cases of a table of twins for inktest
     tests/model.py --marks                              prints the table of marks that it reads with its answers, for marktest
 
 The model shares nothing with the program or its definitions. A line is what docs/RUNNING.md ("Lines") says it is: the model runs
-forward, once, keeps all moments of the run, and cuts it behind the first step whose newline is firm; it never goes back. Many
-sessions are saved, and loaded once something else was done: there the model goes on from the machine that it kept, so that what
-follows is what would have followed. Other saves are loaded with a change in them, which the model reads by the rules of docs/SAVES.md.
+forward, once, keeps all moments of the run, and cuts it behind the first step whose newline is firm; it never goes back. In many
+sessions flow goes to other flows, makes some and drops some. Many are saved, and loaded once something else was done: there the model
+goes on from the machine that it kept, so that what follows is what would have followed. Other saves are loaded as layout 1 spells
+them, or with a change in them, which the model reads by the rules of docs/SAVES.md.
 
 Prints the first runs that differ, and last how many do, with how many really played, how many were left out since the model takes
-too long for them, how many lines were cut, and how many saves were loaded and refused. The status is 0 only where none differs.
+too long for them, how many lines were cut, how many saves were loaded, how many of these have several flows, how many were refused,
+and how often flow went to another flow. The status is 0 only where none differs.
 """
 import argparse
 import copy
@@ -423,16 +427,62 @@ class Choice:
         return {"tags": self.tags, "text": self.text}
 
 
+class Flow:
+    """What a flow has of its own, at a place at first."""
+
+    def __init__(self, place):
+        self.threads, self.stack, self.safe, self.choices = [Thread([Frame("base", place, 0)])], [], False, []
+
+    def again(self):
+        return Flow.of(self)
+
+    @staticmethod
+    def of(other):
+        """A flow that stands where another one does, or that of a machine."""
+        flow = Flow(None)
+        flow.threads, flow.choices = [thread.again() for thread in other.threads], [choice.again() for choice in other.choices]
+        flow.stack, flow.safe = list(other.stack), other.safe
+        return flow
+
+
+# the flow that is always there, and the most that there are
+DEFAULT_FLOW, MOST_FLOWS = "DEFAULT_FLOW", 100
+
 CALLS = {"f()": "function", "->t->": "tunnel"}
 
 
 class Machine:
+    """Runs one flow, the current one. The others wait, by their names, as they were left; the order is that of their making."""
+
     def __init__(self, root, place, global_values, host):
         self.root, self.globals, self.host = root, global_values, host
-        self.threads = [Thread([Frame("base", place, 0)])]
-        self.stack, self.safe, self.choices = [], False, []
+        self.current, self.order, self.waiting = DEFAULT_FLOW, [DEFAULT_FLOW], {}
+        self.take(Flow(place))
         self.visits, self.turns, self.turn_number = {}, {}, 0
         self.begin()
+
+    def take(self, flow):
+        """This flow is run from now on."""
+        self.threads, self.stack, self.safe, self.choices = flow.threads, flow.stack, flow.safe, flow.choices
+
+    def go_to(self, name):
+        """Flow goes to the flow of a name. One that is not there is made, at the start of the story."""
+        if name != self.current:
+            self.waiting[self.current] = Flow.of(self)
+            if name not in self.order:
+                self.order.append(name)
+            self.take(self.waiting.pop(name).again() if name in self.waiting else Flow(landed(self.root, [])))
+            self.current = name
+
+    def drop(self, name):
+        """The flow of a name is gone, which is not the first one."""
+        if name == self.current:
+            self.go_to(DEFAULT_FLOW)
+        del self.waiting[name]
+        self.order.remove(name)
+
+    def flow_of(self, name):
+        return self if name == self.current else self.waiting[name]
 
     def begin(self):
         self.marks, self.sections, self.numbers, self.safe = [], [], 0, False
@@ -445,6 +495,7 @@ class Machine:
         other = copy.copy(self)
         other.globals, other.stack = dict(self.globals), list(self.stack)
         other.threads, other.choices = [thread.again() for thread in self.threads], [choice.again() for choice in self.choices]
+        other.order, other.waiting = list(self.order), dict(self.waiting)
         other.visits, other.turns = dict(self.visits), dict(self.turns)
         other.marks, other.sections = list(self.marks), [(kind, list(marks)) for kind, marks in self.sections]
         return other
@@ -1100,12 +1151,31 @@ def spelled_counts(counts):
     return [[list(place), counts[place]] for place in sorted(counts, key=in_order)]
 
 
+def spelled_flow(flow):
+    return {"choices": [spelled_choice(choice) for choice in flow.choices], "safe": flow.safe, "stack": [told(value) for value in flow.stack],
+            "threads": [spelled_thread(thread) for thread in flow.threads]}
+
+
 def spelled(machine):
-    """What a machine is saved as."""
-    return {"choices": [spelled_choice(choice) for choice in machine.choices], "format": 1,
-            "globals": [[name, told(value)] for name, value in machine.globals.items()], "safe": machine.safe,
-            "stack": [told(value) for value in machine.stack], "threads": [spelled_thread(thread) for thread in machine.threads],
+    """What a machine is saved as: layout 2."""
+    return {"current": machine.current, "flows": [dict(spelled_flow(machine.flow_of(name)), name=name) for name in machine.order], "format": 2,
+            "globals": [[name, told(value)] for name, value in machine.globals.items()],
             "turn": machine.turn_number, "turns": spelled_counts(machine.turns), "visits": spelled_counts(machine.visits)}
+
+
+def in_layout_1(save, at=0):
+    """A save in layout 1: one that has the flow of this number alone."""
+    shared = {key: value for key, value in save.items() if key not in ("current", "flows")}
+    return dict(shared, format=1, **{key: value for key, value in save["flows"][at].items() if key != "name"})
+
+
+def in_layout_2(save):
+    """A save in layout 2, where it is one in layout 1."""
+    own = ("choices", "safe", "stack", "threads")
+    if save["format"] == 2:
+        return save
+    flow = dict({key: save[key] for key in own}, name=DEFAULT_FLOW)
+    return dict({key: value for key, value in save.items() if key not in own}, current=DEFAULT_FLOW, flows=[flow], format=2)
 
 
 # ---- saves, as they are read
@@ -1143,6 +1213,11 @@ def integer(value, least, most):
 def array(value, most=None):
     need(isinstance(value, list) and (most is None or len(value) <= most))
     return value
+
+
+def is_flow_name(name):
+    """Whether a flow may have a name."""
+    return name != "" and " " not in name and "\n" not in name and len(name.encode()) <= MOST_TEXT
 
 
 class Reader:
@@ -1219,17 +1294,41 @@ class Reader:
             counts[tuple(place)], last = integer(row[1], least, MOST), in_order(place)
         return counts
 
+    def flow(self, choices, safe, stack, threads):
+        flow = Flow(None)
+        flow.threads = [self.thread(thread, len(threads) == 1) for thread in array(threads, 100)]
+        need(flow.threads)
+        flow.stack, flow.safe = [self.value(held) for held in array(stack, 10000)], boolean(safe)
+        flow.choices = [self.choice(choice) for choice in array(choices, 1000)]
+        return flow
+
+    def flows(self, value):
+        """The flows by name, in order; each name stands once."""
+        flows = {}
+        for flow in array(value, MOST_FLOWS):
+            choices, name, *others = fields(flow, "choices", "name", "safe", "stack", "threads")
+            need(is_flow_name(string(name)) and name not in flows)
+            flows[name] = self.flow(choices, *others)
+        need(list(flows)[:1] == [DEFAULT_FLOW])
+        return flows
+
     def machine(self, value, host):
-        choices, layout, values, safe, stack, threads, turn, turns, visits = fields(
-            value, "choices", "format", "globals", "safe", "stack", "threads", "turn", "turns", "visits")
-        integer(layout, 1, 1)
+        if isinstance(value, dict) and "flows" in value:
+            current, flows, layout, *shared = fields(value, "current", "flows", "format", "globals", "turn", "turns", "visits")
+            integer(layout, 2, 2)
+            flows = self.flows(flows)
+            need(string(current) in flows)
+        else:
+            choices, layout, values, safe, stack, threads, *counted = fields(
+                value, "choices", "format", "globals", "safe", "stack", "threads", "turn", "turns", "visits")
+            integer(layout, 1, 1)
+            current, flows, shared = DEFAULT_FLOW, {DEFAULT_FLOW: self.flow(choices, safe, stack, threads)}, [values] + counted
+        values, turn, turns, visits = shared
         machine = Machine(self.root, [], self.names(values), host)
-        machine.threads = [self.thread(thread, len(threads) == 1) for thread in array(threads, 100)]
-        need(machine.threads)
-        machine.stack = [self.value(held) for held in array(stack, 10000)]
-        machine.choices = [self.choice(choice) for choice in array(choices, 1000)]
-        machine.visits, machine.turns = self.counts(visits, 1, 1), self.counts(turns, 2, 0)
-        machine.turn_number, machine.safe = integer(turn, 0, MOST), boolean(safe)
+        machine.visits, machine.turns, machine.turn_number = self.counts(visits, 1, 1), self.counts(turns, 2, 0), integer(turn, 0, MOST)
+        machine.current, machine.order = current, list(flows)
+        machine.take(flows.pop(current))
+        machine.waiting = flows
         return machine
 
 
@@ -1240,7 +1339,7 @@ def loaded(root, host, text):
     except ValueError:
         raise BadSave()
     machine = Reader(root).machine(value, host)
-    if to_json(spelled(machine)) != to_json(value):
+    if to_json(spelled(machine)) != to_json(in_layout_2(value)):
         raise AssertionError("read as another save: %s" % text)
     return machine
 
@@ -1264,7 +1363,7 @@ class Player:
 
     def __init__(self, root, host):
         self.root, self.host, self.machine, self.broken = root, host, opened(root, host), None
-        self.last_save, self.kept, self.cuts = to_json(spelled(self.machine)), {}, 0
+        self.last_save, self.kept, self.cuts, self.moves = to_json(spelled(self.machine)), {}, 0, 0
 
     def through_from(self, machine):
         """All of the run, as a line is told."""
@@ -1305,6 +1404,8 @@ class Player:
         value = spelled(self.machine)
         self.last_save = to_json(value)
         self.kept[self.last_save] = self.machine.again()
+        if len(value["flows"]) == 1:
+            self.kept[to_json(in_layout_1(value))] = self.kept[self.last_save]
         return {"saved": value}
 
     def load(self, text):
@@ -1363,6 +1464,25 @@ class Player:
             return {"refused": "NoSuchPath"}
         return {"visits": self.machine.visits_at(place)}
 
+    def flow(self, name):
+        if self.broken:
+            return {"fault": self.broken, "refused": "Broken"}
+        if name not in self.machine.order and len(self.machine.order) >= MOST_FLOWS:
+            return {"refused": "TooManyFlows"}
+        self.moves += name != self.machine.current
+        self.machine.go_to(name)
+        return {"events": []}
+
+    def drop(self, name):
+        if self.broken:
+            return {"fault": self.broken, "refused": "Broken"}
+        if name not in self.machine.order:
+            return {"refused": "NoSuchFlow"}
+        if name == DEFAULT_FLOW:
+            return {"refused": "DefaultFlow"}
+        self.machine.drop(name)
+        return {"events": []}
+
     def answer(self, line):
         if line in ("continue", "through"):
             return self.goes_on(line_from if line == "continue" else self.through_from)
@@ -1379,6 +1499,8 @@ class Player:
             return self.jump(rest)
         if word == "load" and rest:
             return self.load(rest)
+        if word in ("flow", "drop") and rest and " " not in rest:
+            return getattr(self, word)(rest)
         name, _, text = rest.partition(" ")
         if word == "set" and name and text:
             return self.set(name, text)
@@ -1394,10 +1516,16 @@ COMMANDS = ("through", "through", "continue", "continue", "continue", "continue 
             "set x 1.5", "set  x 1", "bye", "set x  -3 ", "get  x", 'set y "a\\nb"', "set x",
             "visits f", "visits t", "visits h", "visits k", "visits 0", "visits 1", "visits 0.0", "visits 1.k", "visits .0", "visits x..y",
             "choose 0", "choose 1", "choose 00", "choose 1234567890", "choose -1", "choose", "jump f", "jump .0", "jump c1", "jump 0", "jump x..y",
-            "save", "save x", "load", "load {}", "load x")
+            "save", "save x", "load", "load {}", "load x",
+            "flow a", "flow b", "flow DEFAULT_FLOW", "flow default_flow", "flow", "flow ", "flow a b", "flow  a", "flow a ", "Flow a", "flow \t",
+            "drop a", "drop b", "drop DEFAULT_FLOW", "drop", "drop ", "drop a b", "drop  a", "drop c")
 
 # what is done between a save and its load
-MEANWHILE = ("through", "through", "continue", "continue", "restart", "set x 9", "set n 0", 'set y "later"', "choose 0", "choose 1", "jump c2", "jump h", "jump 0", "save")
+MEANWHILE = ("through", "through", "continue", "continue", "restart", "set x 9", "set n 0", 'set y "later"', "choose 0", "choose 1", "jump c2", "jump h", "jump 0", "save",
+             "flow a", "flow b", "flow DEFAULT_FLOW", "drop a", "drop b")
+
+# the names of flows are few, so that flow often comes back to one
+FLOWS = ("a", "a", "b", "b", "é", DEFAULT_FLOW, DEFAULT_FLOW, DEFAULT_FLOW)
 
 
 def random_text(chance):
@@ -1670,7 +1798,8 @@ def scene(chance, name, inside=True):
         offer = random_offer(chance)
         if chance.random() < 0.6:
             offer[-1]["*"] = "%s.o%d" % (name, number)
-            last["o%d" % number] = scene_bits(chance) + [{"->": chance.choice(SCENES)}] * (chance.random() < 0.7) + [{"#f": chance.choice((1, 5, 3))}]
+            onward = chance.choice(([{"->": chance.choice(SCENES)}],) * 7 + (["end"],) * 2 + ([],))
+            last["o%d" % number] = scene_bits(chance) + onward + [{"#f": chance.choice((1, 5, 3))}]
         else:
             offer[-1]["*"] = chance.choice(SCENES + ("%s.0" % chance.choice(SCENES),) * (offer[-1].get("flg", 16) < 16))
         content += offer
@@ -1680,6 +1809,8 @@ def scene(chance, name, inside=True):
 def scenes_story(chance):
     """A story that is played by choices, with threads, a tunnel and a function."""
     names = {name: scene(chance, name) for name in SCENES}
+    if chance.random() < 0.5:
+        names["c3"] = scene_bits(chance) + ["end", {"#f": 3}]
     names["t0"], names["t1"] = scene(chance, "t0", False), scene(chance, "t1", False)
     tunnel = scene(chance, "u0", False)
     names["u0"] = tunnel[:-1] + chance.choice((["ev", "void", "/ev", "->->"], [])) + tunnel[-1:]
@@ -1921,12 +2052,14 @@ def random_host(chance):
 
 # ---- saves with a change in them
 
-# stand for lines that load what was saved last, as it is and with a change
-LOAD, LOAD_CHANGED = "load", "load changed"
+# stand for lines that load what was saved last: as it is, in layout 1, and with a change
+LOAD, LOAD_OLD, LOAD_CHANGED = "load", "load old", "load changed"
+# stands for a line that drops the current flow
+DROP_CURRENT = "drop current"
 
 # of each kind of value some others
 OTHERS = {int: (0, 1, 2, 3, -1, 999, 1000, 1001, LEAST, MOST, MOST + 1), bool: (True, False), type(None): (None,),
-          str: ("", "x", "f", "base", "function", "tunnel", "->", "c0.0", "0.00", ".0", "0", " a\n")}
+          str: ("", "x", "f", "base", "function", "tunnel", "->", "c0.0", "0.00", ".0", "0", " a\n", "a", "a b", DEFAULT_FLOW)}
 # a list becomes as long as one of its limits allows, or by one longer
 LENGTHS = (99, 100, 101, 999, 1000, 1001, 9999, 10000, 10001)
 
@@ -1985,9 +2118,9 @@ def push_frame(chance, root, thread):
         frames.append(random_frame(chance, root))
 
 
-def add_choice(chance, root, save, thread):
+def add_choice(chance, root, flow, thread):
     """A choice is added, or one is dropped."""
-    choices = save["choices"]
+    choices = flow["choices"]
     if choices and chance.random() < 0.3:
         choices.pop(chance.randrange(len(choices)))
     thread = json.loads(json.dumps(thread))
@@ -1996,10 +2129,39 @@ def add_choice(chance, root, save, thread):
     choices.insert(chance.randrange(len(choices) + 1), choice)
 
 
+def add_flow(chance, root, save):
+    """Flows are added, or one is dropped, or moved before the others."""
+    flows, names = save["flows"], [flow["name"] for flow in save["flows"]]
+    kind = chance.random()
+    if kind < 0.2:
+        save["current"] = chance.choice(names)
+    elif kind < 0.3:
+        flows.insert(chance.randrange(len(flows)), flows.pop())
+    elif kind < 0.4:
+        flows.pop(chance.randrange(len(flows)))
+    elif kind < 0.5:
+        flow = json.loads(json.dumps(chance.choice(flows)))
+        flows.append(dict(flow, name=chance.choice(("", " ", "a b", "a\n", "\n", "c\t", "c\r", "é"))))
+    elif kind < 0.55:
+        chance.choice(flows)["name"] = chance.choice(FLOWS)
+    elif kind < 0.65:
+        many = MOST_FLOWS - len(flows) + chance.choice((-1, 0, 0, 1))
+        flows += [dict(json.loads(json.dumps(chance.choice(flows))), name="f%d" % number) for number in range(many)]
+    else:
+        flow = json.loads(json.dumps(chance.choice(flows)))
+        flows.insert(chance.randrange(len(flows)) + 1, dict(flow, name=chance.choice(FLOWS)))
+
+
 def fitting(chance, root, save):
     """A save with a change after which it is one still, mostly."""
     save = json.loads(json.dumps(save))
-    thread = chance.choice(save["threads"] * 2 + [choice["thread"] for choice in save["choices"]])
+    if save.get("flows") and chance.random() < 0.25:
+        add_flow(chance, root, save)
+        return save
+    flow = chance.choice(save.get("flows", [save]) or [{}])
+    if not flow:
+        return save
+    thread = chance.choice(flow["threads"] * 2 + [choice["thread"] for choice in flow["choices"]])
     frame = chance.choice(thread["frames"])
     chance.choice((
         lambda: frame.update(place=random_stand(chance, root)),
@@ -2010,13 +2172,13 @@ def fitting(chance, root, save):
         lambda: thread.update(previous=chance.choice((None, random_stand(chance, root)))),
         lambda: push_frame(chance, root, thread),
         lambda: push_frame(chance, root, thread),
-        lambda: save["threads"].append(json.loads(json.dumps(thread))),
-        lambda: add_choice(chance, root, save, thread),
-        lambda: save["stack"].insert(chance.randrange(len(save["stack"]) + 1), random_spelled(chance, root)),
+        lambda: flow["threads"].append(json.loads(json.dumps(thread))),
+        lambda: add_choice(chance, root, flow, thread),
+        lambda: flow["stack"].insert(chance.randrange(len(flow["stack"]) + 1), random_spelled(chance, root)),
         lambda: set_global(chance, root, save),
         lambda: set_global(chance, root, save),
         lambda: save.update(turn=chance.choice((0, 1, 2, MOST - 1, MOST))),
-        lambda: save.update(safe=chance.random() < 0.5),
+        lambda: flow.update(safe=chance.random() < 0.5),
         lambda: save.update(visits=random_row(chance, root, save["visits"], 1, 1)),
         lambda: save.update(turns=random_row(chance, root, save["turns"], 2, 0)),
     ))()
@@ -2100,21 +2262,38 @@ def changed_text(chance, text):
     return text[:at] + middle + text[at + 1:]
 
 
+def old(chance, text):
+    """A save in layout 1, with one of its flows."""
+    save = json.loads(text)
+    return to_json(in_layout_1(save, chance.randrange(len(save["flows"]))))
+
+
+def part_of(chance, save):
+    """The way to a part of a save, so that each part has its share; none where it has no parts."""
+    if not isinstance(save, dict) or not save:
+        return ()
+    ways = [(key,) for key in save]
+    if isinstance(save.get("flows"), list) and save["flows"]:
+        at = chance.randrange(len(save["flows"]))
+        ways += [("flows", at, key) for key in save["flows"][at]] if isinstance(save["flows"][at], dict) else []
+    return chance.choice(ways)
+
+
 def changed(chance, root, text):
     """A save with a change in it, as a text."""
+    text = old(chance, text) if chance.random() < 0.25 else text
     if chance.random() < 0.2:
         return changed_text(chance, text) or text
     save = json.loads(text)
     for _ in range(chance.choice((0, 1, 2, 3))):
         save = fitting(chance, root, save)
     for _ in range(0 if to_json(save) != text and chance.random() < 0.7 else chance.choice((1, 1, 1, 2))):
-        # a change in a part of the save, so that each part has its share
-        key = chance.choice(list(save)) if isinstance(save, dict) and save and chance.random() < 0.98 else None
-        ways = [way for way in nodes(save) if (key is None or way[:1] == (key,)) and (not is_part(way) or chance.random() < 0.1)]
+        part = part_of(chance, save) if chance.random() < 0.98 else ()
+        ways = [way for way in nodes(save) if way[:len(part)] == part and (not is_part(way) or chance.random() < 0.1)]
         way = chance.choice(ways or [()])
         save = with_another(save, way, changed_value(chance, root, save, at_way(save, way)))
     other = to_json(save)
-    if other == text:
+    if other == text and save["format"] == 2:
         return changed(chance, root, text)
     return other if len(other.encode()) < MOST_LINE - len(LOAD) else text
 
@@ -2123,7 +2302,8 @@ def with_saves(chance, commands):
     """These commands, and among them saves, each loaded again once something else was done, and loads of saves with a change."""
     for _ in range(chance.choice((0, 0, 1, 1, 2))):
         at = chance.randrange(len(commands) + 1)
-        commands = commands[:at] + ["save"] + [chance.choice(MEANWHILE) for _ in range(chance.randrange(4))] + [LOAD] + commands[at:]
+        loads = chance.choice((LOAD, LOAD, LOAD, LOAD_OLD))
+        commands = commands[:at] + ["save"] + [chance.choice(MEANWHILE) for _ in range(chance.randrange(4))] + [loads] + commands[at:]
     for _ in range(chance.choice((0, 0, 0, 1, 2, 5))):
         at = chance.randrange(len(commands) + 1)
         goes_on = chance.choice((["save"], ["through"], ["continue", "continue"], ["through", "choose 0", "through"], ["save", "through", "save"],
@@ -2132,27 +2312,60 @@ def with_saves(chance, commands):
     return commands
 
 
+def with_flows(chance, root, commands):
+    """These commands, among which flow goes to other flows, and some are dropped; in some sessions none of it."""
+    ways = list(places(root))[1:] or [[0]]
+    for _ in range(chance.choice((0, 0, 0, 1, 2, 3, 5, 8))):
+        at = chance.randrange(len(commands) + 1)
+        jump = "jump " + ".".join(map(str, chance.choice(ways)))
+        goes_on = chance.choice(([], going_on(chance), going_on(chance), ["choose 0"] + going_on(chance), [jump] + going_on(chance), [chance.choice(MEANWHILE)], ["save"]))
+        if "c0" in own(root) and chance.random() < 0.5:
+            goes_on = sum((["through", "choose %d" % chance.choice((0, 0, 1))] for _ in range(chance.choice((1, 2, 4)))), ["jump c3"] * (chance.random() < 0.2)) + ["through"]
+        first = DROP_CURRENT if chance.random() < 0.1 else "%s %s" % (chance.choice(("flow", "flow", "flow", "flow", "drop")), chance.choice(FLOWS))
+        commands = commands[:at] + [first] + goes_on + commands[at:]
+    return commands + ["save"] * (chance.random() < 0.7)
+
+
 def line_of(chance, player, command):
     """The line of a command."""
     if command == LOAD:
         return "load " + player.last_save
+    if command == LOAD_OLD:
+        return "load " + old(chance, player.last_save)
+    if command == DROP_CURRENT:
+        return "drop " + player.machine.current
     return "load " + changed(chance, player.root, player.last_save) if command == LOAD_CHANGED else command
 
 
-def expected(story, host, commands, chance):
-    """The lines of commands, what they come to, and how many lines of text were cut."""
+def reloading(player, answer):
+    """The lines that save a game and load that at once. A broken player has no save, and a long one is no line."""
+    if answer("save").startswith('{"saved":') and len(player.last_save.encode()) < MOST_LINE - len(LOAD):
+        answer("load " + player.last_save)
+
+
+def expected(story, host, commands, chance, reloads):
+    """The lines of commands, what they come to, how many lines of text were cut, and how often flow went to another flow."""
     why = refusal(story["root"])
     if why:
-        return [], ([], "inkplay: story refused: %s\n" % why, 2), 0
+        return [], ([], "inkplay: story refused: %s\n" % why, 2), 0, 0
     try:
         player = Player(story["root"], host)
     except Fault as fault:
-        return [], ([], "inkplay: story fault: %s\n" % fault, 2), 0
+        return [], ([], "inkplay: story fault: %s\n" % fault, 2), 0, 0
     lines, answers = [], []
+
+    def answer(line):
+        lines.append(line)
+        answers.append(to_json(player.answer(line)))
+        return answers[-1]
+
     for command in commands:
-        lines.append(line_of(chance, player, command))
-        answers.append(to_json(player.answer(lines[-1])))
-    return lines, (answers, "", 0), player.cuts
+        if reloads:
+            reloading(player, answer)
+        answer(line_of(chance, player, command))
+    if reloads:
+        reloading(player, answer)
+    return lines, (answers, "", 0), player.cuts, player.moves
 
 
 def going_on(chance):
@@ -2173,7 +2386,7 @@ def random_commands(chance, root):
     for _ in range(chance.choice((0, 1, 2, 4, 8)) + (6 if "c0" in own(root) else 0)):
         turns += ["restart"] * (chance.random() < 0.1) + ["choose %d" % chance.choice((0, 0, 0, 1, 2))] + going_on(chance)
     rest = asked + jumps + [chance.choice(COMMANDS) for _ in range(chance.randrange(1, 8))]
-    return with_saves(chance, first + turns + rest)
+    return with_saves(chance, with_flows(chance, root, first + turns + rest))
 
 
 # bytes of the stories that are printed
@@ -2284,7 +2497,7 @@ def print_marks():
         print(line)
 
 
-BAD_SAVE = '{"refused":"BadSave"}'
+BAD_SAVE, BAD_COMMAND = '{"refused":"BadSave"}', '{"refused":"BadCommand"}'
 
 
 def kind_of(wanted):
@@ -2303,6 +2516,7 @@ def main():
     parser.add_argument("--stories", type=int)
     parser.add_argument("--twins", action="store_true")
     parser.add_argument("--marks", action="store_true")
+    parser.add_argument("--reload", action="store_true")
     parser.add_argument("program", nargs="?", default=os.path.join(top, "inkplay"))
     words = parser.parse_args()
     if words.twins:
@@ -2313,7 +2527,7 @@ def main():
         return print_stories(words.stories, words.seed)
     sys.setrecursionlimit(20000)
     differ = 0
-    counts = dict.fromkeys(("played", "asked", "refused", "not opened", "left out", "lines", "loads", "no loads"), 0)
+    counts = dict.fromkeys(("played", "asked", "refused", "not opened", "left out", "lines", "loads", "flows", "no loads", "moves"), 0)
     for number in range(words.runs):
         chance = random.Random("%d.%d" % (words.seed, number))
         story = random_story(chance)
@@ -2322,24 +2536,28 @@ def main():
         options = host.words()
         first = json.dumps(story, ensure_ascii=chance.random() < 0.5)
         try:
-            lines, wanted, cuts = expected(story, host, commands, chance)
+            lines, wanted, cuts, moves = expected(story, host, commands, chance, words.reload)
         except TooSlow:
             counts["left out"] += 1
             continue
         text = "\n".join([first] + lines) + "\n"
         counts[kind_of(wanted)] += 1
         counts["lines"] += cuts
-        counts["loads"] += sum(line.startswith("load ") and answer != BAD_SAVE for line, answer in zip(lines, wanted[0]))
+        loads = [line for line, answer in zip(lines, wanted[0]) if line.startswith("load ") and answer not in (BAD_SAVE, BAD_COMMAND)]
+        counts["loads"] += len(loads)
+        counts["flows"] += sum(len(json.loads(line[len("load "):]).get("flows", [])) > 1 for line in loads)
         counts["no loads"] += wanted[0].count(BAD_SAVE)
+        counts["moves"] += moves
         done = subprocess.run([words.program] + options, input=text.encode(), stdout=subprocess.PIPE, stderr=subprocess.PIPE)
         told = (done.stdout.decode().splitlines(), done.stderr.decode(), done.returncode)
         if told != wanted:
             differ += 1
             if differ <= 3:
                 print("%s\n%s\nwanted %s\ntold   %s\n" % (options, text, wanted, told))
-    print("%d runs: %d played, %d only set and asked, %d stories refused, %d not opened, %d left out; %d lines cut; %d saves loaded, %d refused; %d differ"
+    print("%d runs: %d played, %d only set and asked, %d stories refused, %d not opened, %d left out; %d lines cut; %d saves loaded, %d of several flows, %d refused;"
+          " %d times to another flow; %d differ"
           % (words.runs, counts["played"], counts["asked"], counts["refused"], counts["not opened"], counts["left out"], counts["lines"], counts["loads"],
-             counts["no loads"], differ))
+             counts["flows"], counts["no loads"], counts["moves"], differ))
     return 1 if differ else 0
 
 

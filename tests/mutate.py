@@ -13,7 +13,8 @@ A run is wrong where
 - the program is ended by a signal, or by a status or a text on standard error that docs/PROTOCOL.md does not have;
 - it is served to its end with more or fewer answers than lines, or what is written is no answer to its line: compact JSON in one
   of the forms of the page, with a name that this line may be refused or fault with;
-- after a fault a line is not answered as of a broken player, or after a load that succeeded `save` gives another value;
+- after a fault a line is not answered as of a broken player, or after a load that succeeded `save` gives another value than that
+  in layout 2;
 - it takes more than 3 times what plain ones take: the start, a plain story of as many bytes as are read and written, and a plain
   loop to the limit of steps for each line that runs (how many steps a line takes, nobody tells);
 - it has more than 60 times its bytes at the peak, and more than what a run may keep: 64 MiB.
@@ -44,10 +45,11 @@ FAULTS = {"StackEmpty", "BadOperands", "Divide", "BadMode", "BadPop", "BadTarget
           "HostRefused", "StopInString", "TooDeep", "OutOfSteps", "OutOfMemory", "NoTemp"}
 # by which names a line may be refused, beside BadCommand, Broken and OutOfMemory
 REFUSALS = {"continue": {"CannotContinue"}, "through": {"CannotContinue"}, "choose": {"NotAChoice"}, "set": {"BadValue", "NoSuchVariable"},
-            "get": {"NoSuchVariable"}, "visits": {"NoSuchPath"}, "jump": {"NoSuchPath"}, "save": set(), "load": {"BadSave"}, "restart": set()}
+            "get": {"NoSuchVariable"}, "visits": {"NoSuchPath"}, "jump": {"NoSuchPath"}, "save": set(), "load": {"BadSave"}, "restart": set(),
+            "flow": {"TooManyFlows"}, "drop": {"NoSuchFlow", "DefaultFlow"}}
 # what a line may be answered with where it is done
 DONE = {"continue": "passage", "through": "passage", "choose": "events", "set": "events", "get": "value", "visits": "visits", "jump": "events",
-        "save": "saved", "load": "events", "restart": "events"}
+        "save": "saved", "load": "events", "restart": "events", "flow": "events", "drop": "events"}
 # what may break a player
 RUNNING = {"continue", "through", "restart", "set", "load"}
 FORMS = {("choices", "events", "loose", "more", "tags", "text"): "passage", ("events",): "events", ("value",): "value", ("saved",): "saved",
@@ -66,7 +68,8 @@ VALUES = [0, 1, -1, 2147483647, -2147483648, 2147483648, 4294967297, 2 ** 63, 2 
           {"x()": "f", "exArgs": 2}, {"^->": "0"}, {"^var": "x", "ci": -1}, {"^var": "x", "ci": 0}, {"^var": "x", "ci": 1}, {"VAR=": "x"}, {"VAR=": "x", "re": True},
           {"temp=": "t"}, {"temp=": "t", "re": True}, {"VAR?": "x"}, {"CNT?": "0"}, {"*": "0", "flg": 0}, {"*": "0", "flg": 31}, {"#f": 5}, {"#f": 7}, {"#n": "n"}]
 HEADS = ["->", "f()", "->t->", "x()", "*", "^->", "^var", "VAR?", "CNT?", "VAR=", "temp=", "var", "c", "re", "ci", "exArgs", "flg", "#f", "#n"]
-LINES = [b"continue", b"through", b"choose 0", b"choose 1", b"choose 999999999", b"get x", b"set x 1", b"set x \"a\"", b"save", b"restart", b"visits 0", b"jump 0", b"load {}", b"bye", b""]
+LINES = [b"continue", b"through", b"choose 0", b"choose 1", b"choose 999999999", b"get x", b"set x 1", b"set x \"a\"", b"save", b"restart", b"visits 0", b"jump 0", b"load {}", b"flow a",
+         b"flow \xc3\xa9", b"flow DEFAULT_FLOW", b"drop a", b"drop DEFAULT_FLOW", b"bye", b""]
 
 
 # ---- what is changed
@@ -293,14 +296,14 @@ class Judge:
         if word in ("load", "restart"):
             self.fault = None
         if word == "load":
-            self.stands = json.loads(line[len(b"load "):])
+            self.stands = model.in_layout_2(json.loads(line[len(b"load "):]))
         return None
 
     def wrong_refusal(self, word, name):
         if word is None:
             return None if name == "BadCommand" else "no BadCommand"
         if name == "BadCommand":
-            return None if word in ("choose", "get", "set") else "a BadCommand"
+            return None if word in ("choose", "get", "set", "flow", "drop") else "a BadCommand"
         if self.fault and word not in ("get", "load", "restart") and not (word == "set" and name == "OutOfMemory"):
             return "a refusal of a broken player"
         return None if name in REFUSALS[word] | {"OutOfMemory"} else "no refusal of this command"

@@ -84,8 +84,9 @@ def passage(text, loose=False, more=False):
 def save(text):
     """What a session is saved as that stands at its start, with this text in the global `x`."""
     frame = {"depth": 0, "eval": False, "fresh": False, "kind": "base", "place": [0], "temps": {}}
-    return json.dumps({"choices": [], "format": 1, "globals": [["x", text]], "safe": False, "stack": [], "threads": [{"frames": [frame], "previous": None}],
-                       "turn": 0, "turns": [], "visits": []}, separators=(",", ":"))
+    flow = {"choices": [], "name": "DEFAULT_FLOW", "safe": False, "stack": [], "threads": [{"frames": [frame], "previous": None}]}
+    return json.dumps({"current": "DEFAULT_FLOW", "flows": [flow], "format": 2, "globals": [["x", text]], "turn": 0, "turns": [], "visits": []},
+                      separators=(",", ":"))
 
 
 def story(*root):

@@ -26,6 +26,7 @@ import tempfile
 import time
 from concurrent.futures import ThreadPoolExecutor
 
+import model
 import toolchain
 
 SHIM = r"""
@@ -136,11 +137,24 @@ def thread(previous, *frames):
     return {"frames": list(frames), "previous": previous}
 
 
+def save_1(**other):
+    """A save of that story in layout 1, with these in the place of what it has at its start."""
+    return dict({"choices": [], "format": 1, "globals": [["x", 1]], "safe": False, "stack": [], "threads": [thread(None, frame("base", [0, 0]))],
+                 "turn": 0, "turns": [], "visits": []}, **other)
+
+
+def line_of(save):
+    return "load " + json.dumps(save, separators=(",", ":"), sort_keys=True)
+
+
 def load(**other):
-    """A line that loads a save of that story, with these in the place of what it has at its start."""
-    start = {"choices": [], "format": 1, "globals": [["x", 1]], "safe": False, "stack": [], "threads": [thread(None, frame("base", [0, 0]))],
-             "turn": 0, "turns": [], "visits": []}
-    return "load " + json.dumps(dict(start, **other), separators=(",", ":"), sort_keys=True)
+    """A line that loads such a save in layout 2."""
+    return line_of(model.in_layout_2(save_1(**other)))
+
+
+def flow(name, **other):
+    """A flow of a save in layout 2."""
+    return dict(model.in_layout_2(save_1(**other))["flows"][0], name=name)
 
 
 STAY = thread([0, 2], frame("base", [0, 2, 0], a="z", b={"ci": 1, "var": "a"}))
@@ -153,9 +167,26 @@ SAVES = (
     load(turns=[[[0, 2], 3], [["t", "in"], 2]], visits=[[[0], 1], [[0, 2], 4], [["t"], 2147483647]], turn=7),
     load(stack=["", "word", {"tag": "t"}, {"->": "t.in"}, "a", "b"], threads=[thread(None, frame("base", ["s", 0], True))],
          globals=[["y", "text"], ["x", {"ci": 0, "var": "y"}], ["z", {"tag": "t"}]]),
+    # one in layout 1
+    line_of(save_1(threads=[STAY, thread(["t", 1], frame("base", [0, 2]), frame("tunnel", ["t", 0]))], globals=[["x", "a"]], visits=[[["t"], 2]], choices=[
+        {"hidden": False, "tags": ["one"], "target": ["t", "in", 0], "text": "go", "thread": STAY}])),
+    # and one of three flows
+    line_of(dict(model.in_layout_2(save_1(turn=1, visits=[[[0], 1]])), current="side", flows=[
+        flow("DEFAULT_FLOW", threads=[thread([0, 3], frame("base", None))], choices=[{"hidden": False, "tags": ["t"], "target": ["t", "in", 0], "text": "go", "thread": STAY}]),
+        flow("side", threads=[STAY, thread(["t", 1], frame("base", [0, 2]), frame("tunnel", ["t", 0], p="word"))]), flow("é", stack=["a", {"tag": "t"}])])),
 )
 STORIES += tuple((SAVED, (text, "save", "get x", "through", "save", "choose 0", "through", "save", text, "through", "visits t")) for text in SAVES)
 STORIES += ((SAVED, ("save", "load {}", "load [", "through", "save")),)
+
+# flows that are made, gone to, dropped, saved and loaded: with choices and counts in a story of turns, and with calls and lines in one of lines
+STORIES += (
+    ('{"inkVersion":21,"root":[[{"->":"k"},null],"done",{"k":["^K","ev",{"CNT?":"k"},"out",{"VAR?":"x"},"out","/ev","\\n","ev","str","^go","#","^t","/#","/str",{"temp=":"s"},"/ev","ev","str","^more","/str","/ev",{"*":"c","flg":4},"done",{"#f":3}],"c":["^C","ev","turn","out","choiceCnt","out","/ev","\\n","ev",7,{"VAR=":"x","re":true},"/ev",{"->":"k"},{"#f":3}],"global decl":["ev",1,{"VAR=":"x"},"/ev","end",null]}]}',
+     ("continue", "flow a", "flow a", "continue", "choose 0", "flow DEFAULT_FLOW", "choose 0", "through", "save", "flow b", "drop a", "flow a", "through", "visits k", "drop a", "drop a",
+      "drop DEFAULT_FLOW", "save", "restart", "drop b", "flow a", "through", "save")),
+    (SAVED, ("flow side", "through", "flow two", "continue", "save", SAVES[6], "save", "through", "flow é", "save", "drop side", "flow DEFAULT_FLOW", "choose 0", "through", SAVES[5], "flow two",
+             "save", "through", "flow DEFAULT_FLOW", "choose 0", "save")),
+    ('{"inkVersion":21,"root":["^A","\\n","ev",1,0,"/","/ev",null]}', ("continue", "flow a", "continue", "flow DEFAULT_FLOW", "continue", "flow a", "drop a", "restart", "drop a", "flow a", "continue")),
+)
 
 SECOND_LINE = '{"choices":[],"format":1,"globals":[],"safe":false,"stack":[],"threads":[{"frames":[{"depth":0,"eval":false,"fresh":false,"kind":"base","place":[0,2],"temps":{}}],"previous":[0,1]}],"turn":0,"turns":[],"visits":[]}'
 # the stories of two threads with a choice each, of a save between lines, of tags and of a choice with a tag
@@ -206,6 +237,7 @@ OBJECTS = (
 BROKEN = b'{"fault":"OutOfMemory","refused":"Broken"}'
 BAD_COMMAND = b'{"refused":"BadCommand"}'
 BAD_SAVE = b'{"refused":"BadSave"}'
+NO_FLOW = b'{"refused":"NoSuchFlow"}'
 
 
 def play(words, text, shim=None, refuse=0):
@@ -266,12 +298,17 @@ def is_run(words, story, commands, ample_lines, lines):
             if is_fault(command, line, ample_lines[k]):
                 used = sum("call" in event for each in lines[:k + 1] for event in events_of(each))
                 rest = broken_from(words, story, before, command, after, used, stamp_after(lines[:k + 1]))
-            elif line == NO_MEMORY and command.split()[0] in ("set", "get", "restart", "visits", "choose", "jump", "save", "load"):
+            elif line == NO_MEMORY and (command.split()[0] in ("set", "get", "restart", "visits", "choose", "jump", "save", "load") or makes_flow(words, story, before, command)):
                 rest = [(line,) for line in answers(words, story, before + after)[k:]]
             else:
                 return False
             return all(line in allowed for line, allowed in zip(lines[k + 1:], rest))
     return True
+
+
+def makes_flow(words, story, before, command):
+    """Whether a command makes a flow, after others: one of that name cannot be dropped there."""
+    return command.startswith("flow ") and answers(words, story, before + ("drop " + command[len("flow "):],))[-1] == NO_FLOW
 
 
 def stamp_after(lines):
@@ -297,7 +334,7 @@ def broken_from(words, story, before, command, after, used, stamp):
         elif word == "load":
             rest.append((BAD_SAVE,))
         else:
-            rest.append((BROKEN,) if word in ("continue", "through", "set", "visits", "choose", "jump", "save") else (BAD_COMMAND,))
+            rest.append((BROKEN,) if word in ("continue", "through", "set", "visits", "choose", "jump", "save", "flow", "drop") else (BAD_COMMAND,))
     return rest
 
 

@@ -5,12 +5,13 @@
 
 Each story in the tables of crates/inktest/data and crates/playtest/data is played, a session by its own lines and any other
 story by some lines, turns and jumps, and saved before each command and at the end. Then each save is loaded and saved again,
-which has to give the same bytes, and played on by the command that came next, which has to be answered as it was.
+which has to give the same bytes, and played on by the command that came next, which has to be answered as it was. A save with one
+flow is loaded in layout 1, too.
 
-Of four saves, one with calls and temporaries, one with threads and choices, one with counts, and one with texts on the stack and
-an open evaluation, each beginning is loaded, and each save that has one bit flipped or one byte doubled. What is no save has to
-be refused and to change nothing; what is loaded has to be saved as the very value that was given. What is a save says the second
-model (tests/model.py).
+Of six saves, one with calls and temporaries, one with threads and choices, one with counts, one with texts on the stack and
+an open evaluation, one with several flows, and one in layout 1, each beginning is loaded, and each save that has one bit flipped or
+one byte doubled. What is no save has to be refused and to change nothing; what is loaded has to be saved as the very value that was
+given, or as the same in layout 2. What is a save says the second model (tests/model.py).
 
 Prints what is wrong, how much was tried, and last how many are wrong; the status is 0 only where none is.
 """
@@ -133,11 +134,20 @@ def parts(rows, most):
         yield part
 
 
+def old(text):
+    """A save with one flow in layout 1; none where it has several."""
+    save = json.loads(text)
+    return model.to_json(model.in_layout_1(save)).encode() if len(save["flows"]) == 1 else None
+
+
 def reloaded(program, story, rows):
     """What is wrong with saves that are loaded, saved and played on."""
-    for part in parts(rows, MOST_INPUT - len(story)):
-        asked = sum(([b"load " + text, b"save", line] if line else [b"load " + text, b"save"] for text, line, _ in part), [])
-        wanted = sum(([DONE, b'{"saved":' + text + b"}", answer] if line else [DONE, b'{"saved":' + text + b"}"] for text, line, answer in part), [])
+    for part in parts(rows, (MOST_INPUT - len(story)) // 2):
+        asked, wanted = [], []
+        for text, line, answer in part:
+            saves = [text] + [one for one in (old(text),) if one]
+            asked += sum(([b"load " + one, b"save"] for one in saves), []) + ([line] if line else [])
+            wanted += [DONE, b'{"saved":' + text + b"}"] * len(saves) + ([answer] if line else [])
         told = answers(program, [story] + asked)
         for number, line in enumerate(wanted):
             came = told[number] if number < len(told) else b""
@@ -178,10 +188,20 @@ def choice(text, target, stands, hidden=False, *tags):
     return {"hidden": hidden, "tags": list(tags), "target": target, "text": text, "thread": stands}
 
 
-def save(**other):
-    """A save of the story, with these in the place of what it has at its start."""
+def save_1(**other):
+    """A save of the story in layout 1, with these in the place of what it has at its start."""
     return dict({"choices": [], "format": 1, "globals": [["x", 1]], "safe": False, "stack": [], "threads": [thread(None, frame("base", [0, 0]))],
                  "turn": 0, "turns": [], "visits": []}, **other)
+
+
+def save(**other):
+    """The same in layout 2."""
+    return model.in_layout_2(save_1(**other))
+
+
+def flow(name, **other):
+    """A flow of a save, with these in the place of what it has at its start."""
+    return dict(save(**other)["flows"][0], name=name)
 
 
 SAVES = {
@@ -196,6 +216,13 @@ SAVES = {
     "texts and an evaluation": save(
         globals=[["x", "a\"\\\u0001"], ["", {"tag": "t"}], ["y.z", {"->": "0.g"}]], stack=["", "word", {"tag": " é"}, None, -7, False, {"->": "f.2"}, {"ci": 0, "var": ""}],
         threads=[thread([], frame("base", [0, 4], 1000, True))]),
+    "several flows": dict(save(turn=2, visits=[[["f"], 1]]), current="side", flows=[
+        flow("DEFAULT_FLOW", safe=True, stack=["s"], threads=[thread([0, 3], frame("base", None))], choices=[choice("go", ["f", 0], thread([0, 2], frame("base", [0, 2, 1])))]),
+        flow("é\t", threads=[thread(["t", 1], frame("base", [0, 3], 0, True, a=1), frame("tunnel", ["t", 2]))]), flow("side")]),
+    "layout 1": save_1(
+        globals=[["x", 1], ["y", {"ci": 0, "var": "x"}]], safe=True, stack=[True, {"tag": "t"}], threads=[thread([0, 3], frame("base", None))], turn=1,
+        choices=[choice("go", ["f", 0], thread([0, 2], frame("base", [0, 2, 1], a="z"), frame("function", ["f", 1], 0, True, True)), True, "one")],
+        turns=[[[0, 2], 1]], visits=[[["f"], 3]]),
 }
 
 
@@ -219,10 +246,10 @@ def verdict(root, line):
     if not text:
         return BAD_COMMAND, None
     try:
-        model.loaded(root, model.Host(), text)
+        machine = model.loaded(root, model.Host(), text)
     except model.BadSave:
         return BAD_SAVE, None
-    return DONE, model.to_json(model.of_json(text)).encode()
+    return DONE, model.to_json(model.spelled(machine)).encode()
 
 
 def wrong_bytes(program):

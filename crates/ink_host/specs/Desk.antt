@@ -3,6 +3,7 @@ use Rattle.std.specs.Prelude.{◌≡◌, ℕ, List, [], ◌∷◌, ◌++◌, ◌
 use Rattle.std.specs.Option.{option_map}
 use Rattle.ink_model.specs.Events.{after, later}
 use Rattle.ink_model.specs.Host as host
+pub use Rattle.ink_model.specs.Named.{Rows, at, put, without}
 use Rattle.ink_model.specs.declared.host.Event.{Event}
 use Rattle.ink_model.specs.declared.host.Event.TheVariants.{Call, Saw}
 use Rattle.ink_model.specs.declared.host.Given.{Given}
@@ -18,30 +19,11 @@ use Rattle.ink_host.specs.declared.objects.Seen.{Seen}
 
 -- ---- rows
 
--- objects by name, in order
-abbrev pub Rows : Type 0 → Type 0
-Rows X = List (List ℕ × X)
-
 -- the entries of a map, with what is seen of each key and of each value
 abbrev pub shown : {S W Y : Type 0} → (S → List ℕ) → (W → Y) → List (S × W) → Rows Y
 shown name value entries = map (λ e. (name e.0, value e.1)) entries
 
 module _ {X : Type 0} where
-  -- what stands at a name
-  abbrev pub at : List ℕ → Rows X → Option X
-  at name [] = None
-  at name (r ∷ rows) = if bytes_eq name r.0 then Some r.1 else at name rows
-
-  -- with this at a name; a name that is there already keeps its place
-  abbrev pub put : List ℕ → X → Rows X → Rows X
-  put name x [] = (name, x) ∷ []
-  put name x (r ∷ rows) = if bytes_eq name r.0 then (r.0, x) ∷ rows else r ∷ put name x rows
-
-  -- without what stands at a name
-  abbrev pub without : List ℕ → Rows X → Rows X
-  without name [] = []
-  without name (r ∷ rows) = if bytes_eq name r.0 then rows else r ∷ without name rows
-
   -- there is a row
   abbrev pub has_rows : Rows X → Bool
   has_rows [] = false

@@ -7,7 +7,7 @@ use Rattle.ink_model.specs.Events.{after, calls, later}
 use Rattle.ink_model.specs.Host.{Bindings}
 use Rattle.ink_model.specs.Line.{EndsLine}
 use Rattle.ink_model.specs.Run.{Made, RunEnd, Kept, Broke, At, answers_of}
-use Rattle.ink_model.specs.Session.{ContinueFrom, EndsAs, RunsLine, TellsDone, condition_told, reply_told, telling}
+use Rattle.ink_model.specs.Session.{ContinueFrom, EndsAs, RunsLine, TellsDone, condition_told, left_with, reply_told, telling}
 use Rattle.ink_model.specs.State.{State, Condition, Ready, Broken}
 use Rattle.ink_model.specs.Told.{saws, told}
 use Rattle.ink_model.specs.Tree.{StoryTree}
@@ -58,7 +58,7 @@ module _ (s : StoryTree) (h : Bindings) (c : Configuration) (es : List Event) (l
       → TellsDone (told h.watches c.shared.globals d.shared.globals) (Ready (settled d)) (telling d) (calls old.stamp made) es old (Tells line) new → Told s h c es new
   kept_told made d ends x = by x.all x.replies x.leaves
     where
-      by : (all : Bool) → Tells line ≡ reply_told all (telling d es) es → new ≡ record { condition = condition_told all (Ready (settled d)); stamp = later old.stamp es } → Told s h c es new
+      by : (all : Bool) → Tells line ≡ reply_told all (telling d es) es → new ≡ left_with (condition_told all (Ready (settled d))) es old → Told s h c es new
       by true replies leaves = record {
         made = made;
         kept = d;

@@ -9,6 +9,7 @@ use Rattle.ink_model.specs.Configuration.{Configuration, begun, fresh_at, moved,
 use Rattle.ink_model.specs.Effect.{with_page}
 use Rattle.ink_model.specs.Entered.{entered_places, passed_places}
 use Rattle.ink_model.specs.Examples.{continue_line}
+use Rattle.ink_model.specs.Flows.{one_flow}
 use Rattle.ink_model.specs.Host.{no_objects, nothing_bound}
 use Rattle.ink_model.specs.Line.{EndsLine}
 use Rattle.ink_model.specs.Mark.{cut}
@@ -78,7 +79,7 @@ looks : LooksFrom two nothing_bound (begun (start two [])) [] after_a
 looks = looked_at (subst (Knows two nothing_bound MAX_STEPS (moment two nothing_bound (begun (start two [])) []) 2) two_steps
     (knows two nothing_bound MAX_STEPS (begun (start two [])) [] 2 (lit≤ tt)))
 
-short_of_memory : Continue two no_objects [] (opened (start two [])) (Breaks fault.OutOfMemory []) (record { condition = Broken fault.OutOfMemory []; stamp = 0 })
+short_of_memory : Continue two no_objects [] (opened (start two [])) (Breaks fault.OutOfMemory []) (record { condition = Broken fault.OutOfMemory []; aside = one_flow; stamp = 0 })
 unfolding start fresh_at
 short_of_memory = ([], inr ([], record { reached = after_a; got_there = inr (inr looks); leaves = refl }, (refl, refl, refl)))
 
@@ -106,7 +107,7 @@ unfolding answer serde_json_on_literals
 no_answer = refl
 
 abbrev at_rest : Configuration → State
-at_rest c = record { condition = Ready (settled c); stamp = 0 }
+at_rest c = record { condition = Ready (settled c); aside = one_flow; stamp = 0 }
 
 a_session : Session two no_objects [] (codes "continue" ∷ codes "continue" ∷ codes "continue" ∷ []) (opened (start two [])) (a_text ++ (b_text ++ cannot)) (at_rest after_b)
 unfolding Serves start fresh_at settled passage

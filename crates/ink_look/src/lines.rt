@@ -9,7 +9,7 @@ ghost use Rattle.ink_look.specs.Words.{said, said_asks};
 ghost use Rattle.ink_model.specs.Events.{Made, calls};
 ghost use Rattle.ink_model.specs.Tree.{StoryTree};
 ghost use Rattle.ink_step.specs.Marks.{stood_of, unmarked};
-ghost use Rattle.ink_step.specs.Words.{config_of, globals_of, start_of};
+ghost use Rattle.ink_step.specs.Words.{aside_in, config_of, globals_of, start_of};
 
 use crate::looking::find_line;
 use crate::said::{Said, said_by};
@@ -42,6 +42,7 @@ pub fn line<P: PureFn, F: TurnFn, O: Watcher>(
         (made : List Made) × Grew F.log (log_of O.state) desk.old (calls desk.old.next made) desk.new × RunsLine said said_asks s b (config_of s machine.old) made (config_of s machine.new) result }
     ensures watchers { desk.new.watchers ≡ desk.old.watchers }
     ensures start { start_of machine.new ≡ globals_of machine.old }
+    ensures aside { aside_in machine.new ≡ aside_in machine.old }
     ensures mark { stood_of machine.new ≡ unmarked }
 {
     machine.begin();
@@ -59,6 +60,7 @@ fn say(machine: &mut Machine, is_cut: bool) -> LineEnd
     requires unmarked { stood_of machine.old ≡ unmarked }
     ensures says { (s : StoryTree) → SaysLine said said_asks is_cut (config_of s machine.old) (config_of s machine.new) result }
     ensures start { start_of machine.new ≡ start_of machine.old }
+    ensures aside { aside_in machine.new ≡ aside_in machine.old }
     ensures mark { stood_of machine.new ≡ unmarked }
 {
     let Ok(said) = said_by(machine) else {

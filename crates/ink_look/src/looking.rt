@@ -16,7 +16,7 @@ ghost use Rattle.ink_model.specs.Tree.{StoryTree};
 ghost use Rattle.ink_model.specs.declared.host.Event.{Event as Happening};
 ghost use Rattle.ink_model.specs.declared.host.Given.{Given as Gift};
 ghost use Rattle.ink_step.specs.Marks.{config_back, stood_of, unmarked};
-ghost use Rattle.ink_step.specs.Words.{config_of, start_of};
+ghost use Rattle.ink_step.specs.Words.{aside_in, config_of, start_of};
 
 use ink_check::Story;
 use ink_host::{Desk, PureFn, TurnFn, Watcher};
@@ -55,6 +55,7 @@ pub(crate) fn find_line<P: PureFn, F: TurnFn, O: Watcher>(
         (made : List Made) × Grew F.log (log_of O.state) desk.old (calls desk.old.next made) desk.new × RunsToLine s b (config_of s machine.old) made (config_of s machine.new) result }
     ensures watchers { desk.new.watchers ≡ desk.old.watchers }
     ensures start { start_of machine.new ≡ start_of machine.old }
+    ensures aside { aside_in machine.new ≡ aside_in machine.old }
     ensures mark { IfOk result (λ is_cut. stood_of machine.new ≡ unmarked) }
 {
     let mut waiting: Option<usize> = None;
@@ -86,6 +87,7 @@ fn step_on<P: PureFn, F: TurnFn, O: Watcher>(
         × StepsOn s b desk.old.next waiting (config_back s machine.old) (config_of s machine.old) es (config_back s machine.new) (config_of s machine.new) result }
     ensures watchers { desk.new.watchers ≡ desk.old.watchers }
     ensures start { start_of machine.new ≡ start_of machine.old }
+    ensures aside { aside_in machine.new ≡ aside_in machine.old }
     ensures waits { IfOk result (λ l. Waits (waiting_after l) machine.new) }
 {
     match waiting {
@@ -106,6 +108,7 @@ fn seek<P: PureFn, F: TurnFn, O: Watcher>(
         × StepsOn s b desk.old.next None (config_back s machine.old) (config_of s machine.old) es (config_back s machine.new) (config_of s machine.new) result }
     ensures watchers { desk.new.watchers ≡ desk.old.watchers }
     ensures start { start_of machine.new ≡ start_of machine.old }
+    ensures aside { aside_in machine.new ≡ aside_in machine.old }
     ensures waits { IfOk result (λ l. Waits (waiting_after l) machine.new) }
 {
     let marks = machine.parts().output.len();
@@ -128,6 +131,7 @@ fn look<P: PureFn, F: TurnFn, O: Watcher>(
         × StepsOn s b desk.old.next (Some newline) (config_back s machine.old) (config_of s machine.old) es (config_back s machine.new) (config_of s machine.new) result }
     ensures watchers { desk.new.watchers ≡ desk.old.watchers }
     ensures start { start_of machine.new ≡ start_of machine.old }
+    ensures aside { aside_in machine.new ≡ aside_in machine.old }
     ensures waits { IfOk result (λ l. Waits (waiting_after l) machine.new) }
 {
     let marks = machine.parts().output.len();
@@ -147,6 +151,7 @@ fn went_on(machine: &mut Machine, marks: usize, newline: usize) -> Looked
         looked_by (rules.is_shown new.page.line newline) (rules.more_from new.page.line (suc newline)) (runs.At (config_back s machine.old) left made) newline (runs.At old left made) (runs.At new left made)
         ≡ search_after result (config_back s machine.new) (config_of s machine.new) left made }
     ensures start { start_of machine.new ≡ start_of machine.old }
+    ensures aside { aside_in machine.new ≡ aside_in machine.old }
     ensures waits { Waits (waiting_after result) machine.new }
 {
     match judge(machine.parts().output, newline) {
@@ -165,6 +170,7 @@ fn stopped(machine: &mut Machine, newline: usize) -> Looked
         looked_by (rules.is_shown new.page.line newline) (rules.more_from new.page.line (suc newline)) (runs.At (config_back s machine.old) left made) newline (runs.At old left made) (runs.Stopped new left made)
         ≡ search_after result (config_back s machine.new) (config_of s machine.new) left made }
     ensures start { start_of machine.new ≡ start_of machine.old }
+    ensures aside { aside_in machine.new ≡ aside_in machine.old }
     ensures waits { Waits (waiting_after result) machine.new }
 {
     match judge(machine.parts().output, newline) {
@@ -181,6 +187,7 @@ fn cut(machine: &mut Machine) -> Looked
     ensures cut { result ≡ Looked.Cut }
     ensures config { (s : StoryTree) → config_of s machine.new ≡ config_back s machine.old }
     ensures start { start_of machine.new ≡ start_of machine.old }
+    ensures aside { aside_in machine.new ≡ aside_in machine.old }
     ensures mark { stood_of machine.new ≡ unmarked }
 {
     let _pairs = machine.back();
@@ -194,6 +201,7 @@ fn found(machine: &mut Machine, marks: usize) -> Looked
     ensures config { (s : StoryTree) → config_of s machine.new ≡ config_of s machine.old }
     ensures here { (s : StoryTree) → MarksHere result (config_back s machine.new) (config_of s machine.new) }
     ensures start { start_of machine.new ≡ start_of machine.old }
+    ensures aside { aside_in machine.new ≡ aside_in machine.old }
     ensures waits { Waits (waiting_after result) machine.new }
 {
     match newline_since(machine.parts().output, marks) {

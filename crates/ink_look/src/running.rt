@@ -8,7 +8,7 @@ ghost use Rattle.ink_look.specs.Ends.{RunsThrough};
 ghost use Rattle.ink_look.specs.Words.{said, said_asks};
 ghost use Rattle.ink_model.specs.Events.{Made, calls};
 ghost use Rattle.ink_step.specs.Marks.{stood_of, unmarked};
-ghost use Rattle.ink_step.specs.Words.{config_of, globals_of, start_of};
+ghost use Rattle.ink_step.specs.Words.{aside_in, config_of, globals_of, start_of};
 
 use crate::said::{Said, said_by};
 use ink_check::Story;
@@ -30,6 +30,7 @@ pub fn through<P: PureFn, F: TurnFn, O: Watcher>(
         (made : List Made) × Grew F.log (log_of O.state) desk.old (calls desk.old.next made) desk.new × RunsThrough said said_asks s b (config_of s machine.old) made (config_of s machine.new) result }
     ensures watchers { desk.new.watchers ≡ desk.old.watchers }
     ensures start { start_of machine.new ≡ globals_of machine.old }
+    ensures aside { aside_in machine.new ≡ aside_in machine.old }
     ensures mark { stood_of machine.new ≡ unmarked }
 {
     machine.begin();

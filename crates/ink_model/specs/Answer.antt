@@ -51,7 +51,7 @@ abbrev pub reply_of_visits : Result ℤ Refusal → Reply
 reply_of_visits (Ok visits) = Counts visits
 reply_of_visits (Err r) = Refuses r
 
--- of a choice that is taken, and of a jump
+-- of a choice that is taken, of a jump, and of a flow to which a player goes, or that it drops
 abbrev pub reply_of_landing : Result (Unit {0}) Refusal → Reply
 reply_of_landing (Ok u) = Acts []
 reply_of_landing (Err r) = Refuses r
@@ -94,6 +94,9 @@ refusal_name refusal.NoSuchPath = codes "NoSuchPath"
 refusal_name refusal.BadValue = codes "BadValue"
 refusal_name refusal.BadSave = codes "BadSave"
 refusal_name refusal.BadCommand = codes "BadCommand"
+refusal_name refusal.NoSuchFlow = codes "NoSuchFlow"
+refusal_name refusal.DefaultFlow = codes "DefaultFlow"
+refusal_name refusal.TooManyFlows = codes "TooManyFlows"
 refusal_name (refusal.Broken f) = codes "Broken"
 refusal_name refusal.OutOfMemory = codes "OutOfMemory"
 

@@ -29,6 +29,8 @@ pub data Command : Type 0 where
   Save : Command
   Load : (saved : Option Data) → Command
   Restart : Command
+  Flow : (name : List ℕ) → Command
+  Drop : (name : List ℕ) → Command
 
 abbrev pub plain_command : List ℕ → Option Command
 plain_command line = if bytes_eq line (codes "continue") then Some Continue
@@ -38,6 +40,12 @@ plain_command line = if bytes_eq line (codes "continue") then Some Continue
 -- a name that is not empty and has no space
 abbrev pub get_command : List ℕ → Option Command
 get_command name = if is_filled name && is_none (at_space name) then Some (Get name) else None
+
+abbrev pub flow_command : List ℕ → Option Command
+flow_command name = if is_filled name && is_none (at_space name) then Some (Flow name) else None
+
+abbrev pub drop_command : List ℕ → Option Command
+drop_command name = if is_filled name && is_none (at_space name) then Some (Drop name) else None
 
 -- a name that ends at the next space, and the rest, which is not empty
 abbrev pub set_command : List ℕ × List ℕ → Option Command
@@ -68,7 +76,8 @@ command_word line = option_or (plain_command line) (option_or (option_and_then g
     (option_or (option_and_then set_command (option_and_then at_space (after (codes "set ") line)))
     (option_or (option_and_then visits_command (after (codes "visits ") line))
     (option_or (option_and_then choose_command (after (codes "choose ") line)) (option_or (option_and_then jump_command (after (codes "jump ") line))
-    (option_and_then load_command (after (codes "load ") line)))))))
+    (option_or (option_and_then load_command (after (codes "load ") line))
+    (option_or (option_and_then flow_command (after (codes "flow ") line)) (option_and_then drop_command (after (codes "drop ") line)))))))))
 
 -- the command of a line; a line that is no text, or no command, has none
 unfoldable pub command_of : List ℕ → Option Command

@@ -114,10 +114,14 @@ module _ {P : Type 0} where
   unfoldable pub settled : ConfigurationOf P → ConfigurationOf P
   settled c = record c { flow = unnumbered_flow c.flow; page = record { line = []; sections = []; next_enter = 0 } }
 
+  -- a flow in which nothing has happened yet, at a place
+  abbrev pub fresh_flow : P → FlowOf P
+  fresh_flow p = record { threads = base_threads (Some p); stack = []; choices = []; safe = false }
+
   -- nothing has happened yet, and flow stands at a place
   unfoldable pub fresh_at : P → ConfigurationOf P
   fresh_at p = record {
-    flow = record { threads = base_threads (Some p); stack = []; choices = []; safe = false };
+    flow = fresh_flow p;
     shared = record { globals = []; counts = record { visits = []; turns = [] }; turn = 0 };
     page = record { line = []; sections = []; next_enter = 0 };
   }

@@ -6,6 +6,7 @@ use Rattle.std.specs.Char.{encode_utf8}
 use Rattle.serde_json.specs.Data.{unsigned, Data, null, number, string, array, object, no_items, item, no_members, member}
 use Rattle.serde_json.proofs.OnLiterals.{serde_json_on_literals}
 use Rattle.ink_model.specs.Entered.{entered_places, passed_places}
+use Rattle.ink_model.specs.Flows.{one_flow}
 use Rattle.ink_model.specs.Tree.{StoryTree, leaf, container, Trees, no_trees, tree, no_keys, key, at}
 use Rattle.ink_model.specs.Place.{entered, next_place, landed, knot}
 use Rattle.ink_model.specs.Grammar as grammar
@@ -254,16 +255,16 @@ unfolding command_of encode_utf8
 other_line = rw (is_utf8-from_IsUtf8 (codes "bye") (codes "bye", (refl, refl))) refl
 
 abbrev stopped : State
-stopped = record { condition = Ready (put_at None (start small [])); stamp = 0 }
+stopped = record { condition = Ready (put_at None (start small [])); aside = one_flow; stamp = 0 }
 
 abbrev broken : State
-broken = record { condition = Broken fault.TooDeep []; stamp = 0 }
+broken = record { condition = Broken fault.TooDeep []; aside = one_flow; stamp = 0 }
 
 -- where flow has stopped, running is refused, and so is a line that is no command; nothing changes
-a_stopped_session : (c : Configuration) → can_go_on c ≡ false → let after : State = record { condition = Ready c; stamp = 0 } in
+a_stopped_session : (c : Configuration) → can_go_on c ≡ false → let after : State = record { condition = Ready c; aside = one_flow; stamp = 0 } in
     Session small no_objects [] (codes "through" ∷ codes "bye" ∷ []) after (cannot ++ bad_command) after
 unfolding Serves
-a_stopped_session c stays_there = let after : State = record { condition = Ready c; stamp = 0 } in (
+a_stopped_session c stays_there = let after : State = record { condition = Ready c; aside = one_flow; stamp = 0 } in (
   Refuses refusal.CannotContinue,
   after,
   bad_command,
@@ -330,7 +331,7 @@ a_newline_behind_them_does : shows_more (Blank (codes " ") ∷ Newline ∷ []) �
 a_newline_behind_them_does = refl
 
 abbrev after_small : State
-after_small = record { condition = Ready (settled small_end); stamp = 0 }
+after_small = record { condition = Ready (settled small_end); aside = one_flow; stamp = 0 }
 
 -- a story is played to its end; then running is refused, and so is a line that is no command
 a_whole_session : Session small no_objects [] (codes "through" ∷ codes "through" ∷ codes "bye" ∷ []) (opened (start small [])) (small_passage ++ (cannot ++ bad_command)) after_small
@@ -348,7 +349,7 @@ a_whole_session = (
 )
 
 abbrev no_memory : State
-no_memory = record { condition = Broken fault.OutOfMemory []; stamp = 0 }
+no_memory = record { condition = Broken fault.OutOfMemory []; aside = one_flow; stamp = 0 }
 
 abbrev first_step : GetsTo small nothing_bound (begun (start small [])) [] (begun (start small []))
 unfolding start fresh_at run asks entered passed_places
@@ -532,11 +533,11 @@ unfolding run step fresh_at entered next_place passed_places entered_places
 half_fault = refl
 
 -- a broken player still shows its globals, and begins anew
-a_broken_get : Get (codes "x") (record { condition = Broken fault.Divide ((codes "x", value.Int (pos 3)) ∷ []); stamp = 0 }) (Shows (value.Int (pos 3)))
-    (record { condition = Broken fault.Divide ((codes "x", value.Int (pos 3)) ∷ []); stamp = 0 })
+a_broken_get : Get (codes "x") (record { condition = Broken fault.Divide ((codes "x", value.Int (pos 3)) ∷ []); aside = one_flow; stamp = 0 }) (Shows (value.Int (pos 3)))
+    (record { condition = Broken fault.Divide ((codes "x", value.Int (pos 3)) ∷ []); aside = one_flow; stamp = 0 })
 a_broken_get = inl (refl, refl)
 
-a_restart : Restart declaring no_objects [] (record { condition = Broken fault.Divide []; stamp = 0 }) (Acts []) with_x
+a_restart : Restart declaring no_objects [] (record { condition = Broken fault.Divide []; aside = one_flow; stamp = 0 }) (Acts []) with_x
 unfolding start fresh_at
 a_restart = inl (rw an_opening (inl (record {
   all = true;

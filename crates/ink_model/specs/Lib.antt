@@ -32,7 +32,9 @@ pub mod Threads
 pub mod Variables
 pub mod Counts
 pub mod OperatorExamples
+pub mod Named
 pub mod Configuration
+pub mod Flows
 pub mod Choices
 pub mod Visits
 pub mod Output
@@ -54,6 +56,7 @@ pub mod Asks
 pub mod Memory
 pub mod Changed
 pub mod Turns
+pub mod FlowCommands
 pub mod Passage
 pub mod Unread
 pub mod Session
@@ -84,6 +87,7 @@ pub mod ToldExamples
 pub mod JumpExamples
 pub mod TurnExamples
 pub mod LoadExamples
+pub mod FlowExamples
 pub mod NameExamples
 pub mod LimitExamples
 pub mod Examples

@@ -9,13 +9,14 @@ use Rattle.serde_json.specs.Data.{Data, Members, null, number, string, array, ob
 use Rattle.ink_model.specs.Answer.{Refuses, Saves, answer}
 use Rattle.ink_model.specs.Command as command
 use Rattle.ink_model.specs.Command.{command_of, command_word, json_of, line_asks}
-use Rattle.ink_model.specs.Configuration.{Configuration, start, fresh_at}
+use Rattle.ink_model.specs.Configuration.{start, fresh_at}
 use Rattle.ink_model.specs.Examples.{declaring}
+use Rattle.ink_model.specs.Flows.{Game, alone, one_flow}
 use Rattle.ink_model.specs.Host.{no_objects}
 use Rattle.ink_model.specs.Opening.{opened}
 use Rattle.ink_model.specs.Place.{entered}
 use Rattle.ink_model.specs.Save.Asks.{load_asks}
-use Rattle.ink_model.specs.Save.Reads.{Reads}
+use Rattle.ink_model.specs.Save.Reads.{Reads, Spells}
 use Rattle.ink_model.specs.Save.Spelling.{spelling}
 use Rattle.ink_model.specs.Session.{Load, Save, Session, Serves}
 use Rattle.ink_model.specs.State.{State, Broken}
@@ -57,13 +58,13 @@ abbrev ready : State
 ready = opened (start declaring ((codes "x", value.Int (pos 7)) ∷ []))
 
 abbrev broken : State
-broken = record { condition = Broken fault.Divide ((codes "x", value.Void) ∷ []); stamp = 3 }
+broken = record { condition = Broken fault.Divide ((codes "x", value.Void) ∷ []); aside = one_flow; stamp = 3 }
 
-a_save : Save ready (Saves (spelling (start declaring ((codes "x", value.Int (pos 7)) ∷ [])))) ready
+a_save : Save ready (Saves (spelling (alone (start declaring ((codes "x", value.Int (pos 7)) ∷ []))))) ready
 a_save = inl (refl, refl)
 
-its_answer : answer (Saves (spelling (start declaring ((codes "x", value.Int (pos 7)) ∷ [])))) ≡
-    codes "{\"saved\":{\"choices\":[],\"format\":1,\"globals\":[[\"x\",7]],\"safe\":false,\"stack\":[],\"threads\":[{\"frames\":[{\"depth\":0,\"eval\":false,\"fresh\":false,\"kind\":\"base\",\"place\":[0],\"temps\":{}}],\"previous\":null}],\"turn\":0,\"turns\":[],\"visits\":[]}}\n"
+its_answer : answer (Saves (spelling (alone (start declaring ((codes "x", value.Int (pos 7)) ∷ []))))) ≡
+    codes "{\"saved\":{\"current\":\"DEFAULT_FLOW\",\"flows\":[{\"choices\":[],\"name\":\"DEFAULT_FLOW\",\"safe\":false,\"stack\":[],\"threads\":[{\"frames\":[{\"depth\":0,\"eval\":false,\"fresh\":false,\"kind\":\"base\",\"place\":[0],\"temps\":{}}],\"previous\":null}]}],\"format\":2,\"globals\":[[\"x\",7]],\"turn\":0,\"turns\":[],\"visits\":[]}}\n"
 unfolding answer start fresh_at entered serde_json_on_literals digits
 its_answer = refl
 
@@ -79,10 +80,13 @@ a_save_without_memory = inr (refl, refl)
 no_json : Load declaring no_objects [] None broken (Refuses refusal.BadSave) broken
 no_json = (refl, (refl, refl))
 
-no_spelling : (c : Configuration) → Reads declaring null c → ⊥
-no_spelling c h = let e = h.spells in absurd cc
+no_spelling : (g : Game) → Reads declaring null g → ⊥
+no_spelling g h = spelled_not h.spells where
+  spelled_not : Spells null g → ⊥
+  spelled_not (inl e) = absurd cc
+  spelled_not (inr x) = let e = x.0 in absurd cc
 
--- what spells no configuration is refused, and nothing changes
+-- what spells no game is refused, and nothing changes
 no_save : Load declaring no_objects [] (Some null) ready (Refuses refusal.BadSave) ready
 no_save = inr (inl (no_spelling, refl, (refl, refl)))
 

@@ -5,6 +5,7 @@ use Rattle.ink_model.specs.Store.{Values}
 use Rattle.ink_model.specs.Tree.{StoryTree}
 use Rattle.ink_model.specs.Place.{landed, knot}
 use Rattle.ink_model.specs.Configuration.{Configuration, fresh_at, start}
+use Rattle.ink_model.specs.Flows.{one_flow}
 use Rattle.ink_model.specs.Host.{nothing_bound}
 use Rattle.ink_model.specs.Run.{Moment, At, Stopped, Faulted, Waits, through}
 use Rattle.ink_model.specs.State.{State, Ready}
@@ -40,6 +41,6 @@ opened_from s (Some c) = opened_by s (through s nothing_bound c [])
 unfoldable pub opening : StoryTree → Result Configuration Unopened
 opening s = opened_from s (declaring s)
 
--- as a story is opened
+-- as a story is opened: with one flow
 abbrev pub opened : Configuration → State
-opened c = record { condition = Ready c; stamp = 0 }
+opened c = record { condition = Ready c; aside = one_flow; stamp = 0 }

@@ -7,6 +7,7 @@ use Rattle.ink_model.specs.CallStories.{after, does, fault_of, now, says, stack_
 use Rattle.ink_model.specs.Command.{command_of}
 use Rattle.ink_model.specs.Configuration.{start, fresh_at}
 use Rattle.ink_model.specs.Entered.{entered_places, passed_places}
+use Rattle.ink_model.specs.Flows.{one_flow}
 use Rattle.ink_model.specs.Mark.{cut}
 use Rattle.ink_model.specs.Path.{read_path, target}
 use Rattle.ink_model.specs.Place.{entered, landed, next_place}
@@ -139,7 +140,7 @@ unfolding start fresh_at read_path target
 a_relative_path = (refl, refl)
 
 abbrev broken : State
-broken = record { condition = Broken fault.Divide []; stamp = 0 }
+broken = record { condition = Broken fault.Divide []; aside = one_flow; stamp = 0 }
 
 -- a broken player comes before all paths
 a_broken_visits : Visits k_is_counted (codes ".k") broken (Refuses (refusal.Broken fault.Divide)) broken

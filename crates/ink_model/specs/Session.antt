@@ -6,6 +6,8 @@ use Rattle.ink_model.specs.Tree.{StoryTree}
 use Rattle.ink_model.specs.Choices.{has_any}
 use Rattle.ink_model.specs.Configuration.{Configuration, can_go_on, settled, with_globals}
 use Rattle.ink_model.specs.Events.{calls, later}
+use Rattle.ink_model.specs.Flows.{Game, alone, one_flow}
+use Rattle.ink_model.specs.FlowCommands.{DropsFlow, GoesToFlow}
 use Rattle.ink_model.specs.Host.{Bindings, value_given}
 use Rattle.ink_model.specs.Passage.{passage, passage_asks}
 use Rattle.ink_model.specs.Run.{Made, RunEnd, Kept, Broke, EndsThrough}
@@ -37,9 +39,9 @@ use Rattle.ink_model.specs.declared.value.Value.{Value}
 
 -- ---- telling, and faults
 
--- the state after these events, from an old one
+-- the state after these events, from an old one, with the flows that stood aside
 abbrev pub left_with : Condition → List Event → State → State
-left_with c es old = record { condition = c; stamp = later old.stamp es }
+left_with c es old = record old { condition = c; stamp = later old.stamp es }
 
 -- what is answered and left where all watchers were told; else a fault breaks the player, with the globals as they are then
 abbrev pub reply_told : Bool → Reply → List Event → Reply
@@ -63,6 +65,10 @@ pub record TellsDone (cs : List Change) (done : Condition) (answers : List Event
 -- The same of a command that runs nothing: where there is something to tell, and no memory for that, nothing has changed.
 abbrev pub TellsOrKeeps : List Change → Condition → List Event → State → Reply → State → Type 0
 TellsOrKeeps cs done es old reply new = TellsDone cs done Acts [] es old reply new ⊎ ((cs ≢ []) × (es ≡ []) × FailsAllocation old reply new)
+
+-- The same of a command that begins anew, with these flows aside.
+abbrev pub BeginsAnew : List Change → Game → List Event → State → Reply → State → Type 0
+BeginsAnew cs g es old reply new = TellsDone cs (Ready g.now) Acts [] es (record old { aside = g.aside }) reply new ⊎ ((cs ≢ []) × (es ≡ []) × FailsAllocation old reply new)
 
 -- a fault, with the events before it: the player is broken, with these globals, and nobody is told
 abbrev pub BreaksBy : Fault → Values → List Event → List Event → State → Reply → State → Type 0
@@ -122,16 +128,16 @@ Through s h es old reply new = ThroughFrom s h es old.condition old reply new
 abbrev pub Continue : StoryTree → Bindings → List Event → State → Reply → State → Type 0
 Continue s h es old reply new = ContinueFrom s h es old.condition old reply new
 
--- A fault of the declarations breaks the player, with these globals; but where it is refused memory nothing has changed. No rule
+-- A fault of the declarations breaks the player, with these globals and one flow; but where it is refused memory nothing has changed. No rule
 -- has OutOfMemory, so that fault alone tells refused memory apart.
 abbrev pub FailsToRestart : Fault → Values → List Event → State → Reply → State → Type 0
 FailsToRestart OutOfMemory globals es old reply new = (es ≡ []) × FailsAllocation old reply new
-FailsToRestart f globals es old reply new = BreaksBy f globals [] es old reply new
+FailsToRestart f globals es old reply new = BreaksBy f globals [] es (record old { aside = one_flow }) reply new
 
--- `restart`, by what opening comes to: as the story was opened, and told of what has another value than `get` read before; or
+-- `restart`, by what opening comes to: as the story was opened, with one flow, and told of what has another value than `get` read before; or
 -- not begun anew, by the fault and with the globals as they stood before the step that faulted. Stamps go on.
 abbrev pub RestartsAs : Bindings → Result Configuration Unopened → List Event → State → Reply → State → Type 0
-RestartsAs h (Ok c) es old reply new = TellsOrKeeps (told h.watches (globals_of old.condition) c.shared.globals) (Ready c) es old reply new
+RestartsAs h (Ok c) es old reply new = BeginsAnew (told h.watches (globals_of old.condition) c.shared.globals) (alone c) es old reply new
 RestartsAs h (Err e) es old reply new = FailsToRestart e.fault e.globals es old reply new
 
 abbrev pub Restart : StoryTree → Bindings → List Event → State → Reply → State → Type 0
@@ -183,26 +189,26 @@ VisitsFrom s path (Ready c) old reply new = VisitsBy (visits_by s path c) old re
 abbrev pub Visits : StoryTree → List ℕ → State → Reply → State → Type 0
 Visits s path old reply new = VisitsFrom s path old.condition old reply new
 
--- `save`: the value that the configuration is spelled as, for which memory is asked for
+-- `save`: the value that the game is spelled as, for which memory is asked for
 abbrev pub SavesFrom : Condition → State → Reply → State → Type 0
 SavesFrom (Broken f globals) old reply new = Keeps (Refuses (refusal.Broken f)) old reply new
-SavesFrom (Ready c) old reply new = Keeps (Saves (spelling c)) old reply new ⊎ FailsAllocation old reply new
+SavesFrom (Ready c) old reply new = Keeps (Saves (spelling (record { now = c; aside = old.aside }))) old reply new ⊎ FailsAllocation old reply new
 
 abbrev pub Save : State → Reply → State → Type 0
 Save old reply new = SavesFrom old.condition old reply new
 
--- A value that reads as a configuration is loaded: that one is there then, and told is what has another value than `get` read
--- before.
+-- A value that reads as a game is loaded: that one is there then, with its flows and no others, and told is what has another value
+-- than `get` read before.
 pub record Loads (s : StoryTree) (h : Bindings) (j : Data) (es : List Event) (old : State) (reply : Reply) (new : State) : Type 0 where
-  pub loaded : Configuration
+  pub loaded : Game
   pub reads : Reads s j loaded
-  pub tells : TellsOrKeeps (told h.watches (globals_of old.condition) loaded.shared.globals) (Ready loaded) es old reply new
+  pub tells : BeginsAnew (told h.watches (globals_of old.condition) loaded.now.shared.globals) loaded es old reply new
 
--- `load`, also of a broken player: a value that reads as no configuration is refused, and only one of which something is kept may
--- find no memory
+-- `load`, also of a broken player: a value that reads as no game is refused, and only one of which something is kept may find no
+-- memory
 abbrev pub LoadsBy : StoryTree → Bindings → Data → List Event → State → Reply → State → Type 0
 LoadsBy s h j es old reply new = Loads s h j es old reply new
-    ⊎ (((c : Configuration) → Reads s j c → ⊥) × (es ≡ []) × Keeps (Refuses refusal.BadSave) old reply new)
+    ⊎ (((g : Game) → Reads s j g → ⊥) × (es ≡ []) × Keeps (Refuses refusal.BadSave) old reply new)
     ⊎ ((load_asks j ≡ true) × (es ≡ []) × FailsAllocation old reply new)
 
 -- what is no JSON is refused alike
@@ -223,6 +229,8 @@ Does s h es (Some (command.Jump path)) old reply new = (es ≡ []) × Jump s pat
 Does s h es (Some command.Save) old reply new = (es ≡ []) × Save old reply new
 Does s h es (Some (command.Load saved)) old reply new = Load s h es saved old reply new
 Does s h es (Some command.Restart) old reply new = Restart s h es old reply new
+Does s h es (Some (command.Flow name)) old reply new = (es ≡ []) × GoesToFlow s name old reply new
+Does s h es (Some (command.Drop name)) old reply new = (es ≡ []) × DropsFlow s name old reply new
 
 -- one line: its events, its reply, and the state after it
 unfoldable pub Serves : StoryTree → Bindings → List Event → List ℕ → State → Reply → State → Type 0

@@ -1,6 +1,7 @@
 -- The state of a player between commands.
 use Rattle.std.specs.Prelude.{ℕ, List, Bool, false, Option, Some, None}
 use Rattle.ink_model.specs.Configuration.{Configuration, can_go_on}
+use Rattle.ink_model.specs.Flows.{Aside, Game}
 use Rattle.ink_model.specs.declared.fault.Fault.{Fault}
 use Rattle.ink_model.specs.declared.value.Value.{Value}
 
@@ -9,9 +10,10 @@ pub data Condition : Type 0 where
   Ready : (now : Configuration) → Condition
   Broken : (fault : Fault) → (globals : List (List ℕ × Value)) → Condition
 
--- the stamp is that of the next event
+-- the flows that stand aside, also where a fault came; the stamp is that of the next event
 pub record State : Type 0 where
   pub condition : Condition
+  pub aside : Aside
   pub stamp : ℕ
 
 abbrev pub is_running : Condition → Bool
@@ -25,3 +27,7 @@ globals_of (Broken f globals) = globals
 abbrev pub fault_in : Condition → Option Fault
 fault_in (Ready c) = None
 fault_in (Broken f globals) = Some f
+
+-- in this game
+abbrev pub in_game : Game → State → State
+in_game g st = record st { condition = Ready g.now; aside = g.aside }

@@ -9,6 +9,7 @@ use Rattle.ink_model.specs.CallStories.{does, story}
 use Rattle.ink_model.specs.Clean.{clean}
 use Rattle.ink_model.specs.Configuration.{Configuration, begun, fresh_at, moved, put_at, settled, start, with_globals, with_safe}
 use Rattle.ink_model.specs.Effect.{fields_of, with_mode}
+use Rattle.ink_model.specs.Flows.{one_flow}
 use Rattle.ink_model.specs.Memory.{CallsAt, given_asks}
 use Rattle.ink_model.specs.Opening.{opened}
 use Rattle.ink_model.specs.declared.place.Part.TheVariants.{Index}
@@ -140,7 +141,7 @@ watching = record { functions = host; watches = only_a }
 
 -- a player with these globals, after three events
 abbrev with_values : Values → State
-with_values vs = record { condition = Ready (start (story [] [] []) vs); stamp = 3 }
+with_values vs = record { condition = Ready (start (story [] [] []) vs); aside = one_flow; stamp = 3 }
 
 abbrev next_stamp : State → State
 next_stamp st = record st { stamp = 4 }
@@ -173,7 +174,7 @@ it_is_not_told = inl (record {
 
 -- its watcher finds no memory: the value stands, and the player is broken
 no_memory_to_tell : Set watching [] (codes "a") (Some (given.Int (pos 2))) (with_values (a (number 1) ∷ [])) (Breaks fault.OutOfMemory [])
-    (record { condition = Broken fault.OutOfMemory (a (number 2) ∷ []); stamp = 3 })
+    (record { condition = Broken fault.OutOfMemory (a (number 2) ∷ []); aside = one_flow; stamp = 3 })
 unfolding start fresh_at
 no_memory_to_tell = inl (record {
   all = false;
@@ -190,11 +191,11 @@ abbrev watching_x : Bindings
 watching_x = record { functions = host; watches = λ name. bytes_eq name (codes "x") }
 
 abbrev was_three : State
-was_three = record { condition = Broken fault.Divide ((codes "x", number 3) ∷ []); stamp = 8 }
+was_three = record { condition = Broken fault.Divide ((codes "x", number 3) ∷ []); aside = one_flow; stamp = 8 }
 
 -- told of what has another value than `get` read of the broken player; stamps go on
 told_anew : Restart declaring watching_x (event.Saw (codes "x") 8 (number 1) ∷ []) was_three (Acts (event.Saw (codes "x") 8 (number 1) ∷ []))
-    (record { condition = Ready (start declaring ((codes "x", number 1) ∷ [])); stamp = 9 })
+    (record { condition = Ready (start declaring ((codes "x", number 1) ∷ [])); aside = one_flow; stamp = 9 })
 unfolding start fresh_at
 told_anew = inl (rw an_opening (inl (record {
   all = true;
@@ -234,7 +235,7 @@ unfolding start fresh_at
 rolling_through = ap cut_off (stays rolling host (begun (start rolling no)) rolling_end 5 999995 [] six one_call rolling_run)
 
 abbrev rolled : State
-rolled = record { condition = Ready (settled rolling_end); stamp = 2 }
+rolled = record { condition = Ready (settled rolling_end); aside = one_flow; stamp = 2 }
 
 -- calls come first, and told changes at the end
 call_and_change : Session rolling watching its_events (codes "through" ∷ []) (opened (start rolling no))
@@ -315,7 +316,7 @@ unfolding start fresh_at
 the_same_end_does_not = refl
 
 abbrev out_of_memory : State
-out_of_memory = record { condition = Broken fault.OutOfMemory no; stamp = 1 }
+out_of_memory = record { condition = Broken fault.OutOfMemory no; aside = one_flow; stamp = 1 }
 
 short_of_memory : Session rolling watching (calls 0 one_call) (codes "through" ∷ []) (opened (start rolling no))
     (codes "{\"events\":[{\"args\":[],\"call\":\"roll\",\"gave\":\"six\",\"stamp\":0}],\"fault\":\"OutOfMemory\"}\n") out_of_memory

@@ -12,6 +12,7 @@ use Rattle.ink_model.specs.Command.{command_of, command_word}
 use Rattle.ink_model.specs.Configuration.{ChoiceOf, Configuration, fresh_at, put_at, start, with_choices}
 use Rattle.ink_model.specs.CountStories.{in_knot, knot, with_knot}
 use Rattle.ink_model.specs.Entered.{entered_places}
+use Rattle.ink_model.specs.Flows.{one_flow}
 use Rattle.ink_model.specs.Frames.{base_threads}
 use Rattle.ink_model.specs.Path.{read_path, target}
 use Rattle.ink_model.specs.Place.{landed}
@@ -66,10 +67,10 @@ abbrev offering : Configuration
 offering = with_choices (choice ∷ []) (put_at None (start story []))
 
 abbrev ready : Configuration → State
-ready = λ c. record { condition = Ready c; stamp = 0 }
+ready = λ c. record { condition = Ready c; aside = one_flow; stamp = 0 }
 
 abbrev broken : State
-broken = record { condition = Broken fault.Divide []; stamp = 0 }
+broken = record { condition = Broken fault.Divide []; aside = one_flow; stamp = 0 }
 
 -- the knot was entered in the turn that begins, and flow has come from nowhere
 abbrev in_the_knot : Configuration

@@ -88,6 +88,12 @@ pub enum Refusal {
     BadSave,
     #[error("BadCommand")]
     BadCommand,
+    #[error("NoSuchFlow")]
+    NoSuchFlow,
+    #[error("DefaultFlow")]
+    DefaultFlow,
+    #[error("TooManyFlows")]
+    TooManyFlows,
     #[error("Broken")]
     Broken(Fault),
     #[error("OutOfMemory")]
@@ -163,6 +169,9 @@ impl Refusal {
             Refusal::BadValue => "BadValue",
             Refusal::BadSave => "BadSave",
             Refusal::BadCommand => "BadCommand",
+            Refusal::NoSuchFlow => "NoSuchFlow",
+            Refusal::DefaultFlow => "DefaultFlow",
+            Refusal::TooManyFlows => "TooManyFlows",
             Refusal::Broken(_) => "Broken",
             Refusal::OutOfMemory => "OutOfMemory",
         }

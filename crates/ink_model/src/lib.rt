@@ -24,8 +24,8 @@ pub use fault::{Cause, Failure, Fault, Halt, ReadRefusal, Refusal};
 pub use frame::FrameKind;
 pub use host::{Change, Event, Given, HostFault, value_given};
 pub use limits::{
-    MAX_CHOICES, MAX_COUNT, MAX_FRAMES, MAX_INPUT, MAX_LINE, MAX_MARKS, MAX_NESTING, MAX_SECTIONS,
-    MAX_STACK, MAX_STEPS, MAX_STORY, MAX_TEXT, MAX_THREADS,
+    MAX_CHOICES, MAX_COUNT, MAX_FLOWS, MAX_FRAMES, MAX_INPUT, MAX_LINE, MAX_MARKS, MAX_NESTING,
+    MAX_SECTIONS, MAX_STACK, MAX_STEPS, MAX_STORY, MAX_TEXT, MAX_THREADS,
 };
 pub use mark::Mark;
 pub use operator::Op;

@@ -27,6 +27,9 @@ pub const MAX_THREADS: usize = 100;
 /// Choices that are offered, the invisible ones among them.
 pub const MAX_CHOICES: usize = 1_000;
 
+/// Flows of a player.
+pub const MAX_FLOWS: usize = 100;
+
 /// Steps of a command.
 pub const MAX_STEPS: u32 = 1_000_000;
 

@@ -6,4 +6,7 @@ pub mod Leading
 pub mod Gathering
 pub mod Limits
 pub mod Numbering
+pub mod Joining
+pub mod Shown
+pub mod Gathers
 pub mod Whole

@@ -1,4 +1,5 @@
 pub mod Words
 pub mod Building
 pub mod Counted
+pub mod Gathered
 pub mod Parts

@@ -26,4 +26,4 @@ choice_members c others = put (codes "thread") (thread_data c.thread) (put (code
 -- what all flows share, and the format
 abbrev pub shared_members : SharedOf (List Part) → Members → Members
 shared_members v others = put (codes "visits") (list_data row_data v.counts.visits) (put (codes "turns") (list_data row_data v.counts.turns)
-    (put (codes "turn") (count_data v.turn) (put (codes "globals") (list_data global_data v.globals) (put (codes "format") (count_data 1) others))))
+    (put (codes "turn") (count_data v.turn) (put (codes "globals") (list_data global_data v.globals) (put (codes "format") (count_data 2) others))))

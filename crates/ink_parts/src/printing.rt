@@ -8,14 +8,12 @@ ghost use Rattle.ink_parts.specs.Parts.{kept_as};
 ghost use Rattle.ink_tokens.specs.Tokens.{Added, data_tokens};
 ghost use Rattle.ink_tree.specs.Nodes.{story_tree};
 
-use crate::choices::put_choices;
 use crate::counts::put_counts;
-use crate::frames::put_threads;
+use crate::flows::put_flows;
 use crate::globals::put_globals;
 use crate::kept::Kept;
-use crate::stacks::put_stack;
 use ink_model::Text;
-use ink_tokens::{put, put_flag, put_number};
+use ink_tokens::{put, put_number, put_text};
 use ink_tree::Tree;
 use json::{Token, Writer};
 use std::alloc::{AllocError, Global};
@@ -47,12 +45,10 @@ fn put_kept(alloc: Global, tree: &Tree, out: &mut Writer, kept: &Kept<'_>) -> Re
         OnOk result (Added out.old out.new (data_tokens (spelling (kept_as s kept.now)))) }
 {
     put(out, Token::BeginObject)?;
-    put_choices(alloc, tree, out, kept.choices)?;
-    put_number(out, "format", 1)?;
+    put_text(out, "current", kept.aside.current_name())?;
+    put_flows(alloc, tree, out, kept.flow, kept.aside)?;
+    put_number(out, "format", 2)?;
     put_globals(alloc, out, kept.globals)?;
-    put_flag(out, "safe", kept.safe)?;
-    put_stack(alloc, tree, out, kept.stack)?;
-    put_threads(alloc, tree, out, kept.threads)?;
     put_number(out, "turn", kept.turn.number() as u64)?;
     put_counts(tree, out, "turns", kept.turns)?;
     put_counts(tree, out, "visits", kept.visits)?;

@@ -1,34 +1,31 @@
 //! What a save spells, made again in a story.
 
-ghost use Rattle.std.specs.Prelude.{◌≡◌, ◌≤◌, IfOk, IfSome};
-ghost use Rattle.ink_model.specs.Output.{empty_page};
-ghost use Rattle.ink_model.specs.Save.Sound.{FlowSound, SharedSound, Sound};
-ghost use Rattle.ink_model.specs.declared.limits.TheConstants.{MAX_COUNT};
+ghost use Rattle.std.specs.Prelude.{◌≡◌, ◌≤◌, ◌&&◌, IfOk, IfSome, IsTrue, length, nat_le, option_map};
+ghost use Rattle.std.specs.List.{AllByRecursion};
+ghost use Rattle.ink_flows.specs.Words.{rows_of};
+ghost use Rattle.ink_model.specs.Configuration.{unnumbered_flow};
+ghost use Rattle.ink_model.specs.Flows.{alone, begins_with_default};
+ghost use Rattle.ink_model.specs.Named.{at};
+ghost use Rattle.ink_model.specs.Save.Reads.{Rests, Stands};
+ghost use Rattle.ink_model.specs.Save.Sound.{SharedSound};
+ghost use Rattle.ink_model.specs.Save.Unspelled.{aside_but, game_of, game_spelled};
+ghost use Rattle.ink_model.specs.declared.limits.TheConstants.{MAX_COUNT, MAX_FLOWS};
 ghost use Rattle.ink_parts.specs.Building.{Builds};
 ghost use Rattle.ink_parts.specs.Counted.{AreOwn};
-ghost use Rattle.ink_parts.specs.Parts.{flow_as, restored_as, shared_as};
+ghost use Rattle.ink_parts.specs.Gathered.{AllStand, first_is_default, flows_as, parts_of, with_rows};
+ghost use Rattle.ink_parts.specs.Parts.{Restores, restored_as, shared_as};
+ghost use Rattle.ink_spelling.specs.Layouts.{Rest, layout_as};
 ghost use Rattle.ink_tree.specs.Nodes.{story_tree};
 
-use crate::building::Built;
-use crate::collecting::{build_choices, build_globals, build_stack};
+use crate::collecting::build_globals;
 use crate::counting::build_counts;
-use ink_choice::Choices;
-use ink_model::MAX_COUNT;
-use ink_spelling::Saved;
-use ink_stack::Threads;
-use ink_tree::{Spot, Tree};
-use ink_value::EvalStack;
+use crate::flowing::{Gathered, build_flow, gather};
+use ink_flows::{Aside, DEFAULT_FLOW, Flow};
+use ink_model::{MAX_COUNT, MAX_FLOWS};
+use ink_spelling::{NamedFlow, Saved, SavedGame, SavedLayout, SavedShared};
+use ink_tree::Tree;
 use ink_vars::{Counts, Globals, Turn};
 use std::alloc::{AllocError, Global};
-
-/// What a flow has of its own.
-#[derive(Drop)]
-pub struct FlowParts {
-    pub threads: Threads<Spot>,
-    pub stack: EvalStack,
-    pub choices: Choices<Spot>,
-    pub safe: bool,
-}
 
 /// What all flows share.
 #[derive(Drop)]
@@ -41,60 +38,131 @@ pub struct SharedParts {
 /// All that a save spells.
 #[derive(Drop)]
 pub struct Restored {
-    pub flow: FlowParts,
+    pub flow: Flow,
+    pub aside: Aside,
     pub shared: SharedParts,
 }
 
-/// What a save spells, made in a story; none where it does not fit. The one error is a refused request for memory.
-pub fn restore(alloc: Global, tree: &Tree, saved: &Saved) -> Result<Option<Restored>, AllocError>
-    ensures builds { let s = story_tree tree.now in IfOk result (λ made. Builds (restored_as s) (Sound s) saved.now made) }
+/// What a save spells in either layout, made in a story; none where it does not fit, or its current flow is not among its flows.
+/// The one error is a refused request for memory.
+pub fn restore(
+    alloc: Global,
+    tree: &Tree,
+    saved: &SavedLayout,
+) -> Result<Option<Restored>, AllocError>
+    requires { Rest (layout_as saved.now) }
+    ensures restores { IfOk result (λ made. Restores (story_tree tree.now) (game_of (layout_as saved.now)) made) }
     ensures own { IfOk result (λ made. IfSome made (λ r. AreOwn (story_tree tree.now) r.shared.counts.rows)) }
 {
-    nothing_written(saved);
-    let Some(flow) = restore_flow(alloc, tree, saved)? else {
-        return Ok(None);
-    };
-    let Some(shared) = restore_shared(alloc, tree, saved)? else {
-        return Ok(None);
-    };
-    Ok(Some(Restored { flow, shared }))
+    match saved {
+        SavedLayout::First(saved) => restore_alone(alloc, tree, saved),
+        SavedLayout::Second(saved) => restore_game(alloc, tree, saved),
+    }
 }
 
-// A save has nothing that is being written. Does nothing.
-fn nothing_written(saved: &Saved)
-    ensures { saved.now.page ≡ empty_page }
+// What a save of layout 1 spells: one flow. The one error is a refused request for memory.
+fn restore_alone(alloc: Global, tree: &Tree, saved: &Saved) -> Result<Option<Restored>, AllocError>
+    requires { Rests saved.now }
+    ensures builds { let s = story_tree tree.now in IfOk result (λ made. Builds (restored_as s) (Stands s) (alone saved.now) made) }
+    ensures own { IfOk result (λ made. IfSome made (λ r. AreOwn (story_tree tree.now) r.shared.counts.rows)) }
 {
-    let _safe = saved.safe;
-}
-
-// The flow of a save, if it fits the story. The one error is a refused request for memory.
-fn restore_flow(alloc: Global, tree: &Tree, saved: &Saved) -> Result<Option<FlowParts>, AllocError>
-    ensures { let s = story_tree tree.now in IfOk result (λ made. Builds (flow_as s) (FlowSound s) saved.now.flow made) }
-{
-    let Some(threads) = saved.threads.build(alloc, tree)? else {
+    let Some(flow) = build_flow(alloc, tree, &saved.flow)? else {
         return Ok(None);
     };
-    let Some(stack) = build_stack(alloc, tree, saved.stack.as_slice())? else {
+    let Some(shared) = restore_shared(alloc, tree, &saved.shared)? else {
         return Ok(None);
     };
-    let Some(choices) = build_choices(alloc, tree, saved.choices.as_slice())? else {
-        return Ok(None);
-    };
-    Ok(Some(FlowParts {
-        threads,
-        stack,
-        choices,
-        safe: saved.safe,
+    let aside = Aside::new(alloc);
+    Ok(Some(Restored {
+        flow,
+        aside,
+        shared,
     }))
+}
+
+// What a save of layout 2 spells. The one error is a refused request for memory.
+fn restore_game(
+    alloc: Global,
+    tree: &Tree,
+    saved: &SavedGame,
+) -> Result<Option<Restored>, AllocError>
+    requires { AllByRecursion (λ r. unnumbered_flow r.1 ≡ r.1) saved.now.flows }
+    ensures restores { IfOk result (λ made. Restores (story_tree tree.now) (game_spelled saved.now) made) }
+    ensures own { IfOk result (λ made. IfSome made (λ r. AreOwn (story_tree tree.now) r.shared.counts.rows)) }
+{
+    let Some(flows) = restore_flows(alloc, tree, saved)? else {
+        return Ok(None);
+    };
+    let Some(shared) = restore_shared(alloc, tree, &saved.shared)? else {
+        return Ok(None);
+    };
+    Ok(Some(Restored {
+        flow: flows.flow,
+        aside: flows.aside,
+        shared,
+    }))
+}
+
+// All flows of a save: the current one, and those that stand aside.
+#[derive(Drop)]
+struct AllFlows {
+    flow: Flow,
+    aside: Aside,
+}
+
+// All flows of a save, if they fit the story, and the current one is among them. The one error is a refused request for memory.
+fn restore_flows(
+    alloc: Global,
+    tree: &Tree,
+    saved: &SavedGame,
+) -> Result<Option<AllFlows>, AllocError>
+    requires { AllByRecursion (λ r. unnumbered_flow r.1 ≡ r.1) saved.now.flows }
+    ensures { let s = story_tree tree.now in
+        let x = saved.now in
+        IfOk result (λ made. Builds (flows_as s) (AllStand s) (at x.current x.flows, aside_but x.current x.flows) made) }
+{
+    let flows = saved.flows.as_slice();
+    if !may_be_all(flows) {
+        return Ok(None);
+    }
+    match gather(alloc, tree, saved.current.as_str(), flows)? {
+        Some(gathered) => Ok(with_aside(alloc, gathered)),
+        None => Ok(None),
+    }
+}
+
+// Whether the first flow is the one that is always there, and there are not too many.
+fn may_be_all(flows: &[NamedFlow]) -> bool
+    ensures { result ≡ (first_is_default flows.now && nat_le (length flows.now) MAX_FLOWS) }
+{
+    match flows.first() {
+        Some(first) => first.name() == DEFAULT_FLOW && flows.len() <= MAX_FLOWS,
+        None => false,
+    }
+}
+
+// The current flow and the others, if that one came.
+fn with_aside(alloc: Global, gathered: Gathered) -> Option<AllFlows>
+    requires { IsTrue (begins_with_default (rows_of gathered.rows.entries)) }
+    ensures { option_map parts_of result ≡ option_map (with_rows (rows_of gathered.rows.entries)) gathered.current }
+{
+    let Gathered { rows, current } = gathered;
+    match current {
+        Some(flow) => Some(AllFlows {
+            flow,
+            aside: Aside::from_rows(alloc, rows),
+        }),
+        None => None,
+    }
 }
 
 // What the flows of a save share, if it fits the story. The one error is a refused request for memory.
 fn restore_shared(
     alloc: Global,
     tree: &Tree,
-    saved: &Saved,
+    saved: &SavedShared,
 ) -> Result<Option<SharedParts>, AllocError>
-    ensures builds { let s = story_tree tree.now in IfOk result (λ made. Builds (shared_as s) (SharedSound s) saved.now.shared made) }
+    ensures builds { let s = story_tree tree.now in IfOk result (λ made. Builds (shared_as s) (SharedSound s) saved.now made) }
     ensures own { IfOk result (λ made. IfSome made (λ v. AreOwn (story_tree tree.now) v.counts.rows)) }
 {
     let Some(turn) = turn_of(saved.turn) else {

@@ -2,17 +2,15 @@
 
 ghost use Rattle.std.specs.Prelude.{◌≡◌, IfOk, OnOk};
 ghost use Rattle.serde_json.specs.View.{members_view, view};
-ghost use Rattle.ink_model.specs.Save.Spelling.{flow_members, spelling};
+ghost use Rattle.ink_model.specs.Save.Spelling.{spelling};
 ghost use Rattle.ink_parts.specs.Parts.{kept_as};
 ghost use Rattle.ink_parts.specs.Words.{shared_members};
 ghost use Rattle.ink_tree.specs.Nodes.{story_tree};
 
-use crate::choices::write_choices;
 use crate::counts::write_counts;
-use crate::frames::write_threads;
+use crate::flows::add_flows;
 use crate::globals::write_globals;
 use crate::kept::Kept;
-use crate::stacks::write_stack;
 use ink_tree::Tree;
 use serde_json::{Map, Number, Value as Json, put as put_entry};
 use std::alloc::{AllocError, Global};
@@ -23,7 +21,7 @@ pub fn write(alloc: Global, tree: &Tree, kept: &Kept<'_>) -> Result<Json, AllocE
 {
     let mut members = Map::new(alloc);
     add_shared(alloc, tree, &mut members, kept)?;
-    add_flow(alloc, tree, &mut members, kept)?;
+    add_flows(alloc, tree, &mut members, kept.flow, kept.aside)?;
     Ok(Json::Object(members))
 }
 
@@ -34,9 +32,9 @@ fn add_shared(
     members: &mut Map<String, Json>,
     kept: &Kept<'_>,
 ) -> Result<(), AllocError>
-    ensures { OnOk result (members_view members.new.entries ≡ shared_members (kept_as (story_tree tree.now) kept.now).shared (members_view members.old.entries)) }
+    ensures { OnOk result (members_view members.new.entries ≡ shared_members (kept_as (story_tree tree.now) kept.now).now.shared (members_view members.old.entries)) }
 {
-    put_entry(members, alloc, "format", Json::Number(Number::from(1u32)))?;
+    put_entry(members, alloc, "format", Json::Number(Number::from(2u32)))?;
     let globals = write_globals(alloc, tree, kept.globals)?;
     put_entry(members, alloc, "globals", globals)?;
     let turn = Json::Number(Number::from(kept.turn.number()));
@@ -45,22 +43,4 @@ fn add_shared(
     put_entry(members, alloc, "turns", turns)?;
     let visits = write_counts(alloc, tree, kept.visits)?;
     put_entry(members, alloc, "visits", visits)
-}
-
-// Puts the members of a flow. The one error is a refused request for memory.
-fn add_flow(
-    alloc: Global,
-    tree: &Tree,
-    members: &mut Map<String, Json>,
-    kept: &Kept<'_>,
-) -> Result<(), AllocError>
-    ensures { OnOk result (members_view members.new.entries ≡ flow_members (kept_as (story_tree tree.now) kept.now).flow (members_view members.old.entries)) }
-{
-    let threads = write_threads(alloc, tree, kept.threads)?;
-    put_entry(members, alloc, "threads", threads)?;
-    let stack = write_stack(alloc, tree, kept.stack)?;
-    put_entry(members, alloc, "stack", stack)?;
-    put_entry(members, alloc, "safe", Json::Bool(kept.safe))?;
-    let choices = write_choices(alloc, tree, kept.choices)?;
-    put_entry(members, alloc, "choices", choices)
 }

@@ -1,18 +1,18 @@
 -- A player that goes on with another machine.
-use Rattle.std.proofs.Common.{◌≡◌, ◌∙◌, ap, refl, sym, List, [], Bool, true, Option, None, Ok}
+use Rattle.std.proofs.Common.{◌≡◌, ◌∙◌, ap, inl, refl, sym, List, [], Bool, true, Option, None, Ok}
 use Rattle.ink_host.specs.Desk.{DeskView, watches}
 use Rattle.ink_host.specs.Telling.{Watching}
 use Rattle.ink_host.specs.declared.objects.Called.{Called}
 use Rattle.ink_model.specs.Answer.{Acts, Reply}
 use Rattle.ink_model.specs.Configuration.{Configuration}
-use Rattle.ink_model.specs.Session.{TellsOrKeeps, condition_told, reply_told}
+use Rattle.ink_model.specs.Session.{BeginsAnew, condition_told, reply_told}
 use Rattle.ink_model.specs.State.{Ready, globals_of}
 use Rattle.ink_model.specs.Told.{told}
 use Rattle.ink_model.specs.declared.fault.Fault.{Fault}
 use Rattle.ink_model.specs.declared.host.Change.{Change}
 use Rattle.ink_model.specs.declared.host.Event.{Event}
 use Rattle.ink_player.specs.Words.{DealtOnce, PlayerView, TellsWatchers, condition_by, desk_of, fault_told, is_empty, state_of, story_of, told_from}
-use Rattle.ink_player.proofs.Tellings.{globals-by, globals-told, none-left, tells-done, told-state, with_parts}
+use Rattle.ink_player.proofs.Tellings.{globals-by, globals-told, none-left, told-done, told-state, with_parts}
 use Rattle.ink_step.specs.Words as step
 use Rattle.ink_step.specs.declared.machine.Machine.{Machine}
 
@@ -36,10 +36,11 @@ module _ {P F O : Type 0} (turn_log : F → List Called) (state : O → Watching
   pub begun-anew : (d1 d : DeskView P F O) (b : Option Fault) (all : Bool) (reply : Reply) → is_empty p.desk.events ≡ true
       → TellsWatchers {E = Unit {0}} turn_log state p.desk changes changes (Ok all) d1
       → reply ≡ reply_told all (Acts d1.events) d1.events → b ≡ fault_told all None → d ≡ record d1 { events = [] }
-      → (es : List Event) × TellsOrKeeps changes (Ready after) es (state_of p) reply (state_of (with_parts p m d b))
+      → (es : List Event) × BeginsAnew changes (step.game_of (story_of p) m) es (state_of p) reply (state_of (with_parts p m d b))
       × DealtOnce turn_log state (told_from (desk_of p) (state_of p) (globals_of (state_of (with_parts p m d b)).condition)) (desk_of p) es d
   begun-anew d1 d b all reply none tells replies broken taken =
       let leaves = told-state p m d d1 b None all after refl broken taken refl in
-      tells-done turn_log state changes (condition_by p.broken before) (Ready after) (desk_of p) d1 d all reply (state_of (with_parts p m d b)) (none-left p.desk.events none) tells replies leaves taken
-      (told_from (desk_of p) (state_of p) (globals_of (state_of (with_parts p m d b)).condition))
-      (from_state all ∙ ap (λ s. told_from (desk_of p) (state_of p) (globals_of s.condition)) (sym leaves))
+      let done = told-done turn_log state changes (condition_by p.broken before) (Ready after) (step.aside_of (story_of p) (step.aside_in m)) (desk_of p) d1 d all reply (state_of (with_parts p m d b))
+      (none-left p.desk.events none) tells replies leaves taken (told_from (desk_of p) (state_of p) (globals_of (state_of (with_parts p m d b)).condition))
+      (from_state all ∙ ap (λ s. told_from (desk_of p) (state_of p) (globals_of s.condition)) (sym leaves)) in
+      (done.0, inl done.1, done.2)

@@ -8,3 +8,5 @@ mod Standing
 mod Saves
 mod Settling
 mod Anew
+mod Flows
+mod Jumps

@@ -1,15 +1,20 @@
 -- A player stands sound and at rest after each command: by the law of ink_sound that says so of commands, and of opening.
-use Rattle.std.proofs.Common.{◌≡◌, ◌∙◌, ap, refl, subst, sym, inl, inr, ℕ, List, [], ◌∷◌, ◌++◌, Bool, true, false, Option, None, Some, is_some, Result, Ok, Err, OnOk, OnErr}
+use Rattle.std.proofs.Common.{◌≡◌, ◌∙◌, ap, refl, subst, sym, inl, inr, ℕ, List, [], ◌∷◌, ◌++◌, Bool, true, false, bytes_eq, Option, None, Some, is_some, Result, Ok, Err, OnOk, OnErr}
 use Rattle.ink_model.specs.Answer.{Reply, Acts, Refuses, reply_of_landing}
 use Rattle.ink_model.specs.Choosing.{jump_place, jumped, open_choice}
 use Rattle.ink_model.specs.Command as command
 use Rattle.ink_model.specs.Command.{Command}
 use Rattle.ink_model.specs.Configuration.{ChoiceOf, Configuration, can_go_on, settled, with_globals}
 use Rattle.ink_model.specs.Events.{Made, calls, later}
+use Rattle.ink_model.specs.Flows.{Aside, Game, alone, default_flow, has_room, in_flow, is_flow_name, one_flow, without_flow}
+use Rattle.ink_model.specs.FlowCommands.{DropsFlow, GoesToFlow}
 use Rattle.ink_model.specs.Host.{Bindings, Bound, nothing_bound, value_given}
 use Rattle.ink_model.specs.Run as run
+use Rattle.ink_model.specs.Save.Reads as rules
+use Rattle.ink_model.specs.Save.Sound.{AsideFits}
 use Rattle.ink_model.specs.Session.{Does, TellsDone, left_with, settable, telling}
-use Rattle.ink_model.specs.State.{State, Ready}
+use Rattle.ink_model.specs.Named.{at}
+use Rattle.ink_model.specs.State.{State, Ready, in_game}
 use Rattle.ink_model.specs.Store.{Values, store, stored}
 use Rattle.ink_model.specs.Told.{ToldAs, told}
 use Rattle.ink_model.specs.Tree.{StoryTree}
@@ -22,15 +27,17 @@ use Rattle.ink_model.specs.declared.host.Event.{Event}
 use Rattle.ink_model.specs.declared.host.Given.{Given}
 use Rattle.ink_model.specs.declared.place.Part.{Part}
 use Rattle.ink_sound.specs.Kept.{ConditionFits, StateFits, StoryFits}
+use Rattle.ink_sound.proofs.Going.{one_fits}
 use Rattle.ink_sound.proofs.Sessions.{does_fit}
 use Rattle.ink_step.specs.Marks.{marked_in, stood_of, unmarked}
 use Rattle.ink_step.specs.Steps.{Chooses}
-use Rattle.ink_step.specs.Words.{config_of}
+use Rattle.ink_step.specs.Words.{aside_in, aside_of, config_of, game_of}
 use Rattle.ink_step.specs.declared.machine.Machine.{Machine}
 use Rattle.ink_player.specs.Extents.{EndsBy, GoesOn}
 use Rattle.ink_player.specs.declared.passages.Extent.{Extent}
 use Rattle.ink_player.specs.declared.passages.Extent.TheVariants as extent
 use Rattle.ink_player.specs.Words.{Stands, condition_by, fault_told, is_empty}
+use Rattle.ink_player.proofs.Flows.{drops-some, goes-by}
 use Rattle.ink_player.proofs.Tellings.{at_stamp, goes-where, nobody-told, sets}
 
 -- names bound as they are, and nobody watches
@@ -43,11 +50,11 @@ told_unwatched start (e ∷ now) = told_unwatched start now
 
 -- a choice is taken, as a command
 choice_taken : (s : StoryTree) (choice : Option (ChoiceOf (List Part))) (c d : Configuration) (r : Result (Unit {0}) Refusal) → Chooses s false choice c d r
-    → ChoosesBy s choice c (at_stamp (Ready c) 0) (reply_of_landing r) (at_stamp (Ready d) 0)
+    → ChoosesBy s choice c (at_stamp (Ready c) one_flow 0) (reply_of_landing r) (at_stamp (Ready d) one_flow 0)
 choice_taken s None c d (Ok u) h = absurd h
-choice_taken s None c d (Err r) h = (ap Refuses h.0, ap (λ x. at_stamp (Ready x) 0) h.1)
-choice_taken s (Some choice) c d (Ok u) h = inl (refl, ap (λ x. at_stamp (Ready x) 0) h)
-choice_taken s (Some choice) c d (Err r) h = inr (h.1, (ap Refuses h.0, ap (λ x. at_stamp (Ready x) 0) h.2))
+choice_taken s None c d (Err r) h = (ap Refuses h.0, ap (λ x. at_stamp (Ready x) one_flow 0) h.1)
+choice_taken s (Some choice) c d (Ok u) h = inl (refl, ap (λ x. at_stamp (Ready x) one_flow 0) h)
+choice_taken s (Some choice) c d (Err r) h = inr (h.1, (ap Refuses h.0, ap (λ x. at_stamp (Ready x) one_flow 0) h.2))
 
 -- no mark stands where it is taken
 pub chooses-free : (s : StoryTree) (m : Machine) → stood_of m ≡ unmarked → (choice : Option (ChoiceOf (List Part))) (d : Configuration) (r : Result (Unit {0}) Refusal)
@@ -67,22 +74,40 @@ does_as s h extent.Stop es old reply new goes = goes
 pub stands-as : (s t : StoryTree) (m : Machine) → s ≡ t → ConditionFits s (Ready (config_of s m)) → ConditionFits t (Ready (config_of t m))
 stands-as s t m e h = subst (λ u. ConditionFits u (Ready (config_of u m))) e h
 
+pub game-as : (s t : StoryTree) (m : Machine) → s ≡ t → rules.Stands s (game_of s m) → rules.Stands t (game_of t m)
+game-as s t m e h = subst (λ u. rules.Stands u (game_of u m)) e h
+
+-- a machine with one flow
+pub opened_alone : (s : StoryTree) (m : Machine) → aside_in m ≡ one_flow → game_of s m ≡ alone (config_of s m)
+opened_alone s m e = ap (λ a. let g : Game = record { now = config_of s m; aside = aside_of s a } in g) e
+
+pub alone-fits : (s : StoryTree) (m : Machine) → aside_in m ≡ one_flow → AsideFits s (aside_of s (aside_in m))
+alone-fits s m e = subst (λ a. AsideFits s (aside_of s a)) (sym e) (one_fits s)
+
 module _ (s : StoryTree) (story : StoryFits s) where
   -- ---- what is left between calls
 
   -- a fault broke it
-  pub stands-broken : (m : Machine) (es : List Event) (b : Option Fault) (f : Fault) → is_empty es ≡ true → b ≡ Some f → stood_of m ≡ unmarked → Stands s es b m
-  stands-broken m es b f none e free = record { taken = none; story = story; unmarked = free; fits = subst (λ x. ConditionFits s (condition_by x (config_of s m))) (sym e) tt }
+  pub stands-broken : (m : Machine) (es : List Event) (b : Option Fault) (f : Fault) → is_empty es ≡ true → b ≡ Some f → stood_of m ≡ unmarked → AsideFits s (aside_of s (aside_in m))
+      → Stands s es b m
+  stands-broken m es b f none e free aside =
+      record { taken = none; story = story; unmarked = free; fits = subst (λ x. ConditionFits s (condition_by x (config_of s m))) (sym e) tt; aside = aside }
 
   -- none did
-  pub stands-free : (m : Machine) (es : List Event) (b : Option Fault) → is_empty es ≡ true → b ≡ None → stood_of m ≡ unmarked → ConditionFits s (Ready (config_of s m)) → Stands s es b m
-  stands-free m es b none free mark fits = record { taken = none; story = story; unmarked = mark; fits = subst (λ x. ConditionFits s (condition_by x (config_of s m))) (sym free) fits }
+  pub stands-free : (m : Machine) (es : List Event) (b : Option Fault) → is_empty es ≡ true → b ≡ None → stood_of m ≡ unmarked → ConditionFits s (Ready (config_of s m))
+      → AsideFits s (aside_of s (aside_in m)) → Stands s es b m
+  stands-free m es b none free mark fits aside =
+      record { taken = none; story = story; unmarked = mark; fits = subst (λ x. ConditionFits s (condition_by x (config_of s m))) (sym free) fits; aside = aside }
+
+  -- the same flows stand aside
+  pub aside-stays : (m n : Machine) → aside_in n ≡ aside_in m → AsideFits s (aside_of s (aside_in m)) → AsideFits s (aside_of s (aside_in n))
+  aside-stays m n e h = subst (λ a. AsideFits s (aside_of s a)) (sym e) h
 
   -- watchers were told, all of them or not
   pub stands-told : (m : Machine) (es : List Event) (all : Bool) (b old : Option Fault) → is_empty es ≡ true → old ≡ None → b ≡ fault_told all old
-      → stood_of m ≡ unmarked → ConditionFits s (Ready (config_of s m)) → Stands s es b m
-  stands-told m es true b old none free e mark fits = stands-free m es b none (e ∙ free) mark fits
-  stands-told m es false b old none free e mark fits = stands-broken m es b OutOfMemory none e mark
+      → stood_of m ≡ unmarked → ConditionFits s (Ready (config_of s m)) → AsideFits s (aside_of s (aside_in m)) → Stands s es b m
+  stands-told m es true b old none free e mark fits aside = stands-free m es b none (e ∙ free) mark fits aside
+  stands-told m es false b old none free e mark fits aside = stands-broken m es b OutOfMemory none e mark aside
 
   -- ---- commands, from where a player stands that is not broken
 
@@ -90,33 +115,63 @@ module _ (s : StoryTree) (story : StoryFits s) where
   free-stands b c e h = subst (λ x. ConditionFits s (condition_by x c)) e h
 
   module _ (c : Configuration) (fits : ConditionFits s (Ready c)) where
-    -- one that tells nobody
-    does : (b : Bound) (es : List Event) (k : Command) (reply : Reply) (new : State) → Does s (unwatched b) es (Some k) (at_stamp (Ready c) 0) reply new → StateFits s new
-    does b es k reply new h = does_fit s story (unwatched b) es (Some k) (at_stamp (Ready c) 0) reply new h fits
+    -- one that tells nobody, with these flows aside
+    does_beside : (a : Aside) → AsideFits s a → (b : Bound) (es : List Event) (k : Command) (reply : Reply) (new : State)
+        → Does s (unwatched b) es (Some k) (at_stamp (Ready c) a 0) reply new → StateFits s new
+    does_beside a aside b es k reply new h = does_fit s story (unwatched b) es (Some k) (at_stamp (Ready c) a 0) reply new h (record { condition = fits; aside = aside })
+
+    does : (b : Bound) (es : List Event) (k : Command) (reply : Reply) (new : State) → Does s (unwatched b) es (Some k) (at_stamp (Ready c) one_flow 0) reply new → ConditionFits s new.condition
+    does b es k reply new h = (does_beside one_flow (one_fits s) b es k reply new h).condition
+
+    -- in another flow
+    pub goes-stands : (a : Aside) → AsideFits s a → (name : List ℕ) (g : Game) → is_flow_name name ≡ true → has_room name a ≡ true
+        → g ≡ in_flow s name (record { now = c; aside = a }) → ConditionFits s (Ready g.now) × AsideFits s g.aside
+    goes-stands a aside name g is room there =
+        let new = at_stamp (Ready g.now) g.aside 0 in
+        let goes : GoesToFlow s name (at_stamp (Ready c) a 0) (Acts []) new =
+        goes-by s name (record { now = c; aside = a }) 0 (Acts []) new None true true refl is room (inl (refl, ap (λ x. in_game x (at_stamp (Ready c) a 0)) there)) in
+        let fit = does_beside a aside nothing_bound [] (command.Flow name) (Acts []) new (refl, goes) in
+        (fit.condition, fit.aside)
+
+    -- there or, where memory was refused, still where it was
+    pub flow-stands : {E : Type 0} (a : Aside) → AsideFits s a → (name : List ℕ) (g : Game) (r : Result (Unit {0}) E) → is_flow_name name ≡ true → has_room name a ≡ true
+        → OnOk r (g ≡ in_flow s name (record { now = c; aside = a })) → OnErr r (g ≡ record { now = c; aside = a }) → ConditionFits s (Ready g.now) × AsideFits s g.aside
+    flow-stands a aside name g (Ok u) is room there kept = goes-stands a aside name g is room there
+    flow-stands a aside name g (Err e) is room there kept = (subst (λ x. ConditionFits s (Ready x)) (sym (ap (λ (x : Game). x.now) kept)) fits, subst (AsideFits s) (sym (ap (λ (x : Game). x.aside) kept)) aside)
+
+    -- without one
+    pub drops-stands : (a : Aside) → AsideFits s a → (name : List ℕ) (g : Game) → is_some (at name a) ≡ true → bytes_eq name default_flow ≡ false
+        → g ≡ without_flow s name (record { now = c; aside = a }) → ConditionFits s (Ready g.now) × AsideFits s g.aside
+    drops-stands a aside name g is other there =
+        let new = at_stamp (Ready g.now) g.aside 0 in
+        let drops : DropsFlow s name (at_stamp (Ready c) a 0) (Acts []) new =
+        drops-some s name (record { now = c; aside = a }) 0 (Acts []) new None false refl is other (refl, ap (λ x. in_game x (at_stamp (Ready c) a 0)) there) in
+        let fit = does_beside a aside nothing_bound [] (command.Drop name) (Acts []) new (refl, drops) in
+        (fit.condition, fit.aside)
 
     pub choose-stands : (n : ℕ) (d : Configuration) (r : Result (Unit {0}) Refusal) → Chooses s false (open_choice n c) c d r → ConditionFits s (Ready d)
-    choose-stands n d r h = does nothing_bound [] (command.Choose n) (reply_of_landing r) (at_stamp (Ready d) 0) (refl, choice_taken s (open_choice n c) c d r h)
+    choose-stands n d r h = does nothing_bound [] (command.Choose n) (reply_of_landing r) (at_stamp (Ready d) one_flow 0) (refl, choice_taken s (open_choice n c) c d r h)
 
     pub jump-stands : {E : Type 0} (path : List ℕ) (q : List Part) (d : Configuration) (r : Result (Unit {0}) E) → jump_place s path ≡ Some q
         → OnOk r (d ≡ entering_around s (jumped q c)) → OnErr r (d ≡ c) → ConditionFits s (Ready d)
-    jump-stands path q d (Ok u) e h k = does nothing_bound [] (command.Jump path) (Acts []) (at_stamp (Ready d) 0)
-        (refl, subst (λ o. JumpsBy s o c (at_stamp (Ready c) 0) (Acts []) (at_stamp (Ready d) 0)) (sym e) (inl (refl, ap (λ x. at_stamp (Ready x) 0) h)))
+    jump-stands path q d (Ok u) e h k = does nothing_bound [] (command.Jump path) (Acts []) (at_stamp (Ready d) one_flow 0)
+        (refl, subst (λ o. JumpsBy s o c (at_stamp (Ready c) one_flow 0) (Acts []) (at_stamp (Ready d) one_flow 0)) (sym e) (inl (refl, ap (λ x. at_stamp (Ready x) one_flow 0) h)))
     jump-stands path q d (Err x) e h k = subst (λ y. ConditionFits s (Ready y)) (sym k) fits
 
     pub set-stands : (name : List ℕ) (g : Given) → settable g ≡ true → is_some (stored name c.shared.globals) ≡ true
         → ConditionFits s (Ready (with_globals (store name (value_given g) c.shared.globals) c))
     set-stands name g e k =
         let new = with_globals (store name (value_given g) c.shared.globals) c in
-        let done : TellsDone [] (Ready new) Acts [] [] (at_stamp (Ready c) 0) (Acts []) (at_stamp (Ready new) 0) =
+        let done : TellsDone [] (Ready new) Acts [] [] (at_stamp (Ready c) one_flow 0) (Acts []) (at_stamp (Ready new) one_flow 0) =
         record { all = true; saw = []; telling = nobody-told 0; events = refl; replies = refl; leaves = refl } in
-        does nothing_bound [] (command.Set name (Some g)) (Acts []) (at_stamp (Ready new) 0)
-        (sets (unwatched nothing_bound) name c None 0 g [] (Acts []) (at_stamp (Ready new) 0) (value_given g) refl refl e k (inl done))
+        does nothing_bound [] (command.Set name (Some g)) (Acts []) (at_stamp (Ready new) one_flow 0)
+        (sets (unwatched nothing_bound) name c None one_flow 0 g [] (Acts []) (at_stamp (Ready new) one_flow 0) (value_given g) refl refl e k (inl done))
 
     -- it came to its end with a configuration, and left it settled
     pub run-stands : (x : Extent) (b : Bound) (made : List Made) (end d : Configuration) → can_go_on c ≡ true → EndsBy x s b c made (run.Kept end) → d ≡ settled end → ConditionFits s (Ready d)
     run-stands x b made end d goes ends is =
         let es = calls 0 made ++ [] in
-        let old = at_stamp (Ready c) 0 in
+        let old = at_stamp (Ready c) one_flow 0 in
         let new = left_with (Ready (settled end)) es old in
         let cs = told (λ name. false) c.shared.globals end.shared.globals in
         let done : TellsDone cs (Ready (settled end)) (telling end) (calls 0 made) es old (telling end es) new = record {
@@ -129,4 +184,4 @@ module _ (s : StoryTree) (story : StoryFits s) where
         } in
         subst (λ y. ConditionFits s (Ready y)) (sym is) (does b es (going x) (telling end es) new
         (does_as s (unwatched b) x es old (telling end es) new
-        (goes-where s (unwatched b) None c 0 x es (telling end es) new true refl goes (made, inl (run.Kept end, ends, inl done)))))
+        (goes-where s (unwatched b) None c one_flow 0 x es (telling end es) new true refl goes (made, inl (run.Kept end, ends, inl done)))))

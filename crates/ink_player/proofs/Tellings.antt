@@ -1,5 +1,5 @@
 -- What a command comes to that may call or tell the objects of a host.
-use Rattle.std.proofs.Common.{◌≡◌, ◌≢◌, ◌∙◌, ap, sym, refl, subst, inl, inr, cond, ℕ, ℤ, List, [], ◌∷◌, ◌++◌, map, filter, length, Bool, true, false, bytes_eq, ◌&&◌, ◌||◌, if◌then◌else◌, Option, Some, None, IfSome, is_some, Result, Ok, Err, IfOk, OnOk, OnErr, is_ok, MatchBool}
+use Rattle.std.proofs.Common.{◌≡◌, ◌≢◌, ◌⊎◌, ◌∙◌, ap, sym, refl, subst, inl, inr, cond, ℕ, ℤ, List, [], ◌∷◌, ◌++◌, map, filter, length, Bool, true, false, bytes_eq, ◌&&◌, ◌||◌, if◌then◌else◌, Option, Some, None, IfSome, is_some, Result, Ok, Err, IfOk, OnOk, OnErr, is_ok, MatchBool}
 use Rattle.ink_host.specs.Desk.{DeskView, Grew, Resting, Rows, at, bound_by, each, put, watches, without}
 use Rattle.ink_host.specs.declared.objects.Called.{Called}
 use Rattle.ink_host.specs.Telling.{AreRounds, IsRound, Round, Stand, Watching, log_of, rests, round, rounds}
@@ -9,12 +9,13 @@ use Rattle.ink_look.specs.Ends.{EndsWith}
 use Rattle.ink_model.specs.Answer.{Reply, Acts, Breaks, Counts, Refuses, Tells, reply_of_visits}
 use Rattle.ink_model.specs.Configuration.{Configuration, can_go_on, settled, with_globals}
 use Rattle.ink_model.specs.Events.{Made, calls}
+use Rattle.ink_model.specs.Flows.{Aside}
 use Rattle.ink_model.specs.Host.{Bindings, value_given}
 use Rattle.ink_model.specs.Choices.{has_any}
 use Rattle.ink_model.specs.Passage.{passage, passage_asks}
 use Rattle.ink_model.specs.Run as run
 use Rattle.ink_model.specs.Session as rules
-use Rattle.ink_model.specs.Session.{BreaksBy, Keeps, RunsTo, Set, SetsIn, TellsDone, TellsOrKeeps, condition_told, reply_told, settable, telling}
+use Rattle.ink_model.specs.Session.{BreaksBy, FailsAllocation, Keeps, RunsTo, Set, SetsIn, TellsDone, TellsOrKeeps, condition_told, reply_told, settable, telling}
 use Rattle.ink_model.specs.State.{State, Condition, Ready, Broken, globals_of}
 use Rattle.ink_model.specs.Store.{Values, store, stored}
 use Rattle.ink_model.specs.Told.{ToldAs, change_of, is_other, is_told, told}
@@ -30,10 +31,10 @@ use Rattle.ink_model.specs.declared.passage.Passage.{Passage}
 use Rattle.ink_model.specs.declared.value.Value.{Value}
 use Rattle.ink_player.specs.Extents.{EndsBy, FallsShortBy, GoesFrom, GoesOn, RunsBy}
 use Rattle.ink_player.specs.Visits.{FindsVisits, TellsVisits}
-use Rattle.ink_player.specs.Words.{Dealt, DealtOnce, PlayerView, TellsOnce, TellsWatchers, bindings, condition_by, desk_of, fault_told, is_empty, state_of, story_of, told_from}
+use Rattle.ink_player.specs.Words.{Dealt, DealtOnce, PlayerView, TellsOnce, TellsWatchers, aside_seen, bindings, condition_by, desk_of, fault_told, is_empty, state_of, story_of, told_from}
 use Rattle.ink_player.specs.declared.passages.Extent.{Extent}
 use Rattle.ink_step.specs.declared.machine.Machine.{Machine}
-use Rattle.ink_step.specs.Words.{config_of}
+use Rattle.ink_step.specs.Words.{aside_in, aside_of, config_of}
 
 -- ---- what is told
 
@@ -85,19 +86,19 @@ condition-told false c = refl
 
 -- ---- commands over a state
 
-abbrev pub at_stamp : Condition → ℕ → State
-at_stamp c n = record { condition = c; stamp = n }
+abbrev pub at_stamp : Condition → Aside → ℕ → State
+at_stamp c a n = record { condition = c; aside = a; stamp = n }
 
 -- a passage with what happened
 abbrev telling_of : Passage → List Event → Reply
 telling_of p es = Tells (record p { events = es })
 
-module _ (s : StoryTree) (h : Bindings) (b : Option Fault) (c : Configuration) (n : ℕ) where
+module _ (s : StoryTree) (h : Bindings) (b : Option Fault) (c : Configuration) (a : Aside) (n : ℕ) where
   abbrev start : State
-  start = at_stamp (condition_by b c) n
+  start = at_stamp (condition_by b c) a n
 
   pub goes-broken : (x : Extent) (f : Fault) → b ≡ Some f → GoesOn x s h [] start (Refuses (refusal.Broken f)) start
-  goes-broken x f e = subst (λ y. GoesOn x s h [] (at_stamp (condition_by y c) n) (Refuses (refusal.Broken f)) (at_stamp (condition_by y c) n)) (sym e) (refl, (refl, refl))
+  goes-broken x f e = subst (λ y. GoesOn x s h [] (at_stamp (condition_by y c) a n) (Refuses (refusal.Broken f)) (at_stamp (condition_by y c) a n)) (sym e) (refl, (refl, refl))
 
   -- from a player that is not broken
   module _ (x : Extent) (es : List Event) (reply : Reply) (new : State) where
@@ -254,7 +255,7 @@ module _ {P F O : Type 0} (turn_log : F → List Called) (state : O → Watching
   -- ---- a running command: it left this machine, and a desk whose turn functions were called
 
   module _ (x : Extent) (meaning : P → List Value → Option Given) (p : PlayerView P F O) (m : Machine) (d1 : DeskView P F O) (made : List Made)
-      (free : p.broken ≡ None) (none : (desk_of p).events ≡ []) (goes : can_go_on (config_of (story_of p) p.machine) ≡ true)
+      (free : p.broken ≡ None) (none : (desk_of p).events ≡ []) (goes : can_go_on (config_of (story_of p) p.machine) ≡ true) (stays : aside_in m ≡ aside_in p.machine)
       (called : Grew turn_log (log_of state) (desk_of p) (calls (desk_of p).next made) d1) (watching : d1.watchers ≡ (desk_of p).watchers) where
     abbrev tree : StoryTree
     tree = story_of p
@@ -270,6 +271,13 @@ module _ {P F O : Type 0} (turn_log : F → List Called) (state : O → Watching
 
     abbrev first : List Event
     first = calls (desk_of p).next made
+
+    abbrev aside : Aside
+    aside = aside_seen p
+
+    -- with the flows that stand aside as they did
+    keeps : (k : Condition) (n : ℕ) → at_stamp k (aside_of tree (aside_in m)) n ≡ at_stamp k aside n
+    keeps k n = ap (λ r. at_stamp k (aside_of tree r) n) stays
 
     abbrev Comes : Reply → State → DeskView P F O → Type 0
     Comes reply new d = (es : List Event) × GoesOn x tree host es (state_of p) reply new
@@ -298,7 +306,7 @@ module _ {P F O : Type 0} (turn_log : F → List Called) (state : O → Watching
         → Ran (Ok passed)
         → (let cs = told (watches d1.watchers) before.shared.globals after.shared.globals in
         (saw : List Event) × (t : ToldAs d1.next cs all saw) × IsRound state d1.next cs cs t.answers d1.watchers d2.watchers × Grew turn_log (log_of state) d1 saw d2)
-        → reply ≡ reply_told all (telling_of passed d2.events) d2.events → new ≡ at_stamp (condition_told all (Ready after)) d2.next → d ≡ record d2 { events = [] }
+        → reply ≡ reply_told all (telling_of passed d2.events) d2.events → new ≡ at_stamp (condition_told all (Ready after)) (aside_of tree (aside_in m)) d2.next → d ≡ record d2 { events = [] }
         → Comes reply new d
     unfolding settled
     goes-told passed all d2 d reply new ran t replies leaves is =
@@ -315,7 +323,7 @@ module _ {P F O : Type 0} (turn_log : F → List Called) (state : O → Watching
         ∙ ap (λ g. told host.watches g after.shared.globals) (sym (globals-by p.broken before))
         ∙ ap (λ g. told host.watches (globals_of (state_of p).condition) g) (sym (ap (λ s. globals_of s.condition) leaves ∙ globals-told all after)) in (
           es,
-          goes-where tree host p.broken before (desk_of p).next x es reply new true free goes (
+          goes-where tree host p.broken before aside (desk_of p).next x es reply new true free goes (
             made,
             inl (
               run.Kept stop,
@@ -326,7 +334,8 @@ module _ {P F O : Type 0} (turn_log : F → List Called) (state : O → Watching
                 telling = saws;
                 events = refl;
                 replies = replies ∙ ap (λ l. reply_told all (telling_of passed l) l) events ∙ ap (λ q. reply_told all (telling_of q es) es) stopped.2;
-                leaves = leaves ∙ ap (λ c. at_stamp (condition_told all (Ready c)) d2.next) stopped.3 ∙ ap (at_stamp (condition_told all (Ready (settled stop)))) both.next;
+                leaves = leaves ∙ keeps (condition_told all (Ready after)) d2.next ∙ ap (λ c. at_stamp (condition_told all (Ready c)) aside d2.next) stopped.3
+                    ∙ ap (at_stamp (condition_told all (Ready (settled stop))) aside) both.next;
               }),
             ),
           ),
@@ -342,9 +351,9 @@ module _ {P F O : Type 0} (turn_log : F → List Called) (state : O → Watching
         → Comes reply (state_of q) (desk_of q)
     breaks f q reply replies is runs =
         let events : d1.events ≡ first = called.events ∙ ap (λ l. l ++ first) none in
-        let by = runs (refl, replies ∙ ap (λ l. Breaks f l) events, ap (λ x. state_of x) is ∙ ap (at_stamp (Broken f after.shared.globals)) called.next) in (
+        let by = runs (refl, replies ∙ ap (λ l. Breaks f l) events, ap (λ x. state_of x) is ∙ keeps (Broken f after.shared.globals) d1.next ∙ ap (at_stamp (Broken f after.shared.globals) aside) called.next) in (
           first,
-          goes-where tree host p.broken before (desk_of p).next x first reply (state_of q) true free goes (made, by),
+          goes-where tree host p.broken before aside (desk_of p).next x first reply (state_of q) true free goes (made, by),
           (
             grown-to (desk_of p) d1 (desk_of q) first called (ap (λ x. desk_of x) is),
             inl (ap (λ x. states state (desk_of x).watchers) is ∙ ap (states state) watching),
@@ -389,23 +398,22 @@ module _ {P F O : Type 0} (turn_log : F → List Called) (state : O → Watching
 
   -- ---- a command that runs nothing
 
-  -- watchers were told, and it is done
-  pub tells-done : (cs : List Change) (c0 done : Condition) (d0 d1 d : DeskView P F O) (all : Bool) (reply : Reply) (new : State) → d0.events ≡ []
+  -- watchers were told, and it is done, with these flows aside
+  pub told-done : (cs : List Change) (c0 done : Condition) (a : Aside) (d0 d1 d : DeskView P F O) (all : Bool) (reply : Reply) (new : State) → d0.events ≡ []
       → (saw : List Event) × (t : ToldAs d0.next cs all saw) × IsRound state d0.next cs cs t.answers d0.watchers d1.watchers × Grew turn_log (log_of state) d0 saw d1
-      → reply ≡ reply_told all (Acts d1.events) d1.events → new ≡ at_stamp (condition_told all done) d1.next → d ≡ record d1 { events = [] }
-      → (ds : List Change) → cs ≡ ds → (es : List Event) × TellsOrKeeps cs done es (at_stamp c0 d0.next) reply new × DealtOnce turn_log state ds d0 es d
-  tells-done cs c0 done d0 d1 d all reply new none t replies leaves is ds same =
-      let events : d1.events ≡ t.0 = t.3.events ∙ ap (λ l. l ++ t.0) none in
-      let tells : TellsDone cs done Acts [] t.0 (at_stamp c0 d0.next) reply new = record {
-        all = all;
-        saw = t.0;
-        telling = t.1;
-        events = refl;
-        replies = replies ∙ ap (λ l. reply_told all (Acts l) l) events;
-        leaves = leaves ∙ ap (at_stamp (condition_told all done)) t.3.next;
-      } in (
+      → reply ≡ reply_told all (Acts d1.events) d1.events → new ≡ at_stamp (condition_told all done) a d1.next → d ≡ record d1 { events = [] }
+      → (ds : List Change) → cs ≡ ds → (es : List Event) × TellsDone cs done Acts [] es (at_stamp c0 a d0.next) reply new × DealtOnce turn_log state ds d0 es d
+  told-done cs c0 done a d0 d1 d all reply new none t replies leaves is ds same =
+      let events : d1.events ≡ t.0 = t.3.events ∙ ap (λ l. l ++ t.0) none in (
         t.0,
-        inl tells,
+        record {
+          all = all;
+          saw = t.0;
+          telling = t.1;
+          events = refl;
+          replies = replies ∙ ap (λ l. reply_told all (Acts l) l) events;
+          leaves = leaves ∙ ap (at_stamp (condition_told all done) a) t.3.next;
+        },
         (
           grown-to d0 d1 d t.0 t.3 is,
           round-as state cs ds d0.watchers d0.watchers d.watchers d1.watchers d0.next t.1.answers same refl (sym (ap (λ x. x.watchers) is)) t.1.one_each t.2,
@@ -413,19 +421,19 @@ module _ {P F O : Type 0} (turn_log : F → List Called) (state : O → Watching
       )
 
   -- nothing has changed, for want of memory
-  pub tells-kept : (cs ds : List Change) (c0 done : Condition) (d0 d1 : DeskView P F O) → cs ≢ [] → d1 ≡ d0
-      → (es : List Event) × TellsOrKeeps cs done es (at_stamp c0 d0.next) (Refuses refusal.OutOfMemory) (at_stamp c0 d1.next) × DealtOnce turn_log state ds d0 es d1
-  tells-kept cs ds c0 done d0 d1 some same =
-      ([], inr (some, refl, (refl, ap (λ d. at_stamp c0 d.next) same)), subst (λ x. DealtOnce turn_log state ds d0 [] x) (sym same) (once-none ds d0))
+  pub tells-kept : {X : List Event → Type 0} (cs ds : List Change) (c0 : Condition) (a : Aside) (d0 d1 : DeskView P F O) → cs ≢ [] → d1 ≡ d0
+      → (es : List Event) × (X es ⊎ ((cs ≢ []) × (es ≡ []) × FailsAllocation (at_stamp c0 a d0.next) (Refuses refusal.OutOfMemory) (at_stamp c0 a d1.next))) × DealtOnce turn_log state ds d0 es d1
+  tells-kept cs ds c0 a d0 d1 some same =
+      ([], inr (some, refl, (refl, ap (λ d. at_stamp c0 a d.next) same)), subst (λ x. DealtOnce turn_log state ds d0 [] x) (sym same) (once-none ds d0))
 
 -- ---- a global that is set
 
-module _ (h : Bindings) (name : List ℕ) (c : Configuration) (b : Option Fault) (n : ℕ) where
+module _ (h : Bindings) (name : List ℕ) (c : Configuration) (b : Option Fault) (a : Aside) (n : ℕ) where
   abbrev old : State
-  old = at_stamp (condition_by b c) n
+  old = at_stamp (condition_by b c) a n
 
   pub set-broken : (v : Option Given) (f : Fault) → b ≡ Some f → Set h [] name v old (Refuses (refusal.Broken f)) old
-  set-broken v f e = subst (λ x. Set h [] name v (at_stamp (condition_by x c) n) (Refuses (refusal.Broken f)) (at_stamp (condition_by x c) n)) (sym e) (refl, (refl, refl))
+  set-broken v f e = subst (λ x. Set h [] name v (at_stamp (condition_by x c) a n) (Refuses (refusal.Broken f)) (at_stamp (condition_by x c) a n)) (sym e) (refl, (refl, refl))
 
   -- by a player that is not broken
   module _ (g : Given) (es : List Event) (reply : Reply) (new : State) where
@@ -447,19 +455,19 @@ module _ (h : Bindings) (name : List ℕ) (c : Configuration) (b : Option Fault)
 
 -- ---- visits of a player that is not broken
 
-visits-unbroken : (s : StoryTree) (path : List ℕ) (c : Configuration) (n : ℕ) (r : Result ℤ Refusal) → FindsVisits s path c r → TellsVisits s path (at_stamp (Ready c) n) (reply_of_visits r) (at_stamp (Ready c) n)
-visits-unbroken s path c n (Ok v) h =
-    let st = at_stamp (Ready c) n in inl (subst (λ o. rules.VisitsBy o st (Counts v) st) (sym h) (refl, refl))
-visits-unbroken s path c n (Err r) h =
-    let st = at_stamp (Ready c) n in elim h [
+visits-unbroken : (s : StoryTree) (path : List ℕ) (c : Configuration) (a : Aside) (n : ℕ) (r : Result ℤ Refusal) → FindsVisits s path c r → TellsVisits s path (at_stamp (Ready c) a n) (reply_of_visits r) (at_stamp (Ready c) a n)
+visits-unbroken s path c a n (Ok v) h =
+    let st = at_stamp (Ready c) a n in inl (subst (λ o. rules.VisitsBy o st (Counts v) st) (sym h) (refl, refl))
+visits-unbroken s path c a n (Err r) h =
+    let st = at_stamp (Ready c) a n in elim h [
       | inl none ↦ inl (subst (λ o. rules.VisitsBy o st (Refuses r) st) (sym none.1) (ap Refuses none.0, refl))
       | inr short ↦ inr (short.1, (ap Refuses short.0, refl))
     ]
 
-pub visits-free : (s : StoryTree) (path : List ℕ) (c : Configuration) (b : Option Fault) (n : ℕ) (r : Result ℤ Refusal) → b ≡ None → FindsVisits s path c r
-    → TellsVisits s path (at_stamp (condition_by b c) n) (reply_of_visits r) (at_stamp (condition_by b c) n)
-visits-free s path c b n r free h =
-    subst (λ x. TellsVisits s path (at_stamp (condition_by x c) n) (reply_of_visits r) (at_stamp (condition_by x c) n)) (sym free) (visits-unbroken s path c n r h)
+pub visits-free : (s : StoryTree) (path : List ℕ) (c : Configuration) (b : Option Fault) (a : Aside) (n : ℕ) (r : Result ℤ Refusal) → b ≡ None → FindsVisits s path c r
+    → TellsVisits s path (at_stamp (condition_by b c) a n) (reply_of_visits r) (at_stamp (condition_by b c) a n)
+visits-free s path c b a n r free h =
+    subst (λ x. TellsVisits s path (at_stamp (condition_by x c) a n) (reply_of_visits r) (at_stamp (condition_by x c) a n)) (sym free) (visits-unbroken s path c a n r h)
 
 -- ---- watchers that come and go
 
@@ -489,11 +497,12 @@ module _ {P F O : Type 0} (p : PlayerView P F O) where
 
   -- watchers were told, and its events were taken
   pub told-state : (m : Machine) (d d2 : DeskView P F O) (b old : Option Fault) (all : Bool) (c : Configuration) → old ≡ None → b ≡ fault_told all old → d ≡ record d2 { events = [] }
-      → config_of (story_of p) m ≡ c → state_of (with_parts m d b) ≡ at_stamp (condition_told all (Ready c)) d2.next
+      → config_of (story_of p) m ≡ c → state_of (with_parts m d b) ≡ at_stamp (condition_told all (Ready c)) (aside_of (story_of p) (aside_in m)) d2.next
   told-state m d d2 b old all c free e k is =
       let own = config_of (story_of p) m in
-      ap (λ x. at_stamp (condition_by b own) x.next) k ∙ ap (λ x. at_stamp (condition_by x own) d2.next) (e ∙ ap (fault_told all) free)
-      ∙ ap (λ x. at_stamp x d2.next) (condition-told all own) ∙ ap (λ x. at_stamp (condition_told all (Ready x)) d2.next) is
+      let aside = aside_of (story_of p) (aside_in m) in
+      ap (λ x. at_stamp (condition_by b own) aside x.next) k ∙ ap (λ x. at_stamp (condition_by x own) aside d2.next) (e ∙ ap (fault_told all) free)
+      ∙ ap (λ x. at_stamp x aside d2.next) (condition-told all own) ∙ ap (λ x. at_stamp (condition_told all (Ready x)) aside d2.next) is
 
 pub on-ok : {A E : Type 0} (r : Result A E) (X : Type 0) → is_ok r ≡ true → OnOk r X → X
 on-ok (Ok a) X h x = x

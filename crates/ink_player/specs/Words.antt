@@ -6,7 +6,9 @@ use Rattle.ink_host.specs.Desk.{DeskView, Grew, Rows, bound_by, each, watches}
 use Rattle.ink_host.specs.Telling.{AreRounds, IsRound, Round, Watching, log_of}
 use Rattle.ink_host.specs.declared.objects.Called.{Called}
 use Rattle.ink_model.specs.Configuration.{Configuration}
+use Rattle.ink_model.specs.Flows.{Aside}
 use Rattle.ink_model.specs.Host.{Bindings}
+use Rattle.ink_model.specs.Save.Sound.{AsideFits}
 use Rattle.ink_model.specs.State.{State, Condition, Ready, Broken, globals_of}
 use Rattle.ink_model.specs.Store.{Values}
 use Rattle.ink_model.specs.Told.{ToldAs, told}
@@ -19,7 +21,7 @@ use Rattle.ink_model.specs.declared.host.Given.{Given}
 use Rattle.ink_model.specs.declared.value.Value.{Value}
 use Rattle.ink_sound.specs.Kept.{ConditionFits, StoryFits}
 use Rattle.ink_step.specs.Marks.{stood_of, unmarked}
-use Rattle.ink_step.specs.Words.{config_of}
+use Rattle.ink_step.specs.Words.{aside_in, aside_of, config_of}
 use Rattle.ink_step.specs.declared.machine.Machine.{Machine}
 
 -- What is seen of a player: its story, the desk, where the story stands, and the fault that broke it, if one did.
@@ -43,13 +45,14 @@ abbrev pub condition_by : Option Fault → Configuration → Condition
 condition_by None c = Ready c
 condition_by (Some f) c = Broken f c.shared.globals
 
--- A player between calls: every event was taken, its story is as the laws of saves ask, no mark stands in its machine, and it
--- stands sound and at rest, unless a fault broke it.
+-- A player between calls: every event was taken, its story is as the laws of saves ask, no mark stands in its machine, the flows
+-- that are not current are sound and at rest, and so is where it stands, unless a fault broke it.
 pub record Stands (s : StoryTree) (events : List Event) (broken : Option Fault) (m : Machine) : Type 0 where
   pub taken : is_empty events ≡ true
   pub story : StoryFits s
   pub unmarked : stood_of m ≡ unmarked
   pub fits : ConditionFits s (condition_by broken (config_of s m))
+  pub aside : AsideFits s (aside_of s (aside_in m))
 
 -- nothing was done to watchers, or there was one round, with all these changes
 abbrev pub TellsOnce : {O : Type 0} → (O → Watching) → List Change → Rows O → Rows O → Type 0
@@ -63,8 +66,11 @@ module _ {P F O : Type 0} where
   abbrev pub desk_of : PlayerView P F O → DeskView P F O
   desk_of p = p.desk
 
+  abbrev pub aside_seen : PlayerView P F O → Aside
+  aside_seen p = aside_of (story_of p) (aside_in p.machine)
+
   abbrev pub state_of : PlayerView P F O → State
-  state_of p = record { condition = condition_by p.broken (config_of (story_of p) p.machine); stamp = p.desk.next }
+  state_of p = record { condition = condition_by p.broken (config_of (story_of p) p.machine); aside = aside_seen p; stamp = p.desk.next }
 
   -- what the names on a desk are bound to, by what its pure functions mean, and which are watched
   abbrev pub bindings : (P → List Value → Option Given) → DeskView P F O → Bindings

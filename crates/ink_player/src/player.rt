@@ -1,16 +1,21 @@
 //! The player.
 
-ghost use Rattle.std.specs.Prelude.{◌≡◌, List, [], ◌∷◌, None, Some, true, is_some, Ok, Err, IfOk, IfErr, IfSome, OnOk, OnErr};
+ghost use Rattle.std.specs.Prelude.{◌≡◌, ◌⊎◌, List, [], ◌∷◌, None, Some, true, is_some, Ok, Err, IfOk, IfErr, IfSome, OnOk, OnErr};
 ghost use Rattle.ink_host.specs.Desk.{Resting, at, put, without};
 ghost use Rattle.ink_host.specs.Telling.{rests};
 ghost use Rattle.ink_model.specs.Answer.{Acts, Breaks, Tells, reply_of, reply_of_events, reply_of_halt, reply_of_landing, reply_of_value, reply_of_visits};
 ghost use Rattle.ink_model.specs.Configuration.{Configuration, with_globals};
 ghost use Rattle.ink_model.specs.Host as host;
 ghost use Rattle.ink_model.specs.Opening.{opening, opened};
-ghost use Rattle.ink_model.specs.Session.{Continue, Through, Set, Get, Load, Restart, Save, TellsOrKeeps, reply_told, settable};
+ghost use Rattle.ink_model.specs.Flows.{Game, current_name};
+ghost use Rattle.ink_model.specs.Flows as rules;
+ghost use Rattle.ink_model.specs.FlowCommands.{DropsFlow, GoesToFlow, TellsFlows};
+ghost use Rattle.ink_model.specs.Save.Reads.{Stands as GameStands};
+ghost use Rattle.ink_model.specs.Session.{BeginsAnew, Continue, Through, Set, Get, Load, Restart, Save, TellsOrKeeps, reply_told, settable};
 ghost use Rattle.ink_model.specs.State.{Ready, is_running, fault_in, globals_of};
 ghost use Rattle.ink_model.specs.Store.{store, stored};
 ghost use Rattle.ink_model.specs.Told.{told};
+ghost use Rattle.ink_model.specs.Tree.{StoryTree};
 ghost use Rattle.ink_model.specs.Turns.{Choose, ShowsChoices};
 ghost use Rattle.ink_model.specs.declared.host.Event.{Event as Happening};
 ghost use Rattle.ink_model.specs.declared.host.Given.{Given as Gift};
@@ -20,7 +25,7 @@ ghost use Rattle.ink_protocol.specs.Replies.{IsTextOf, reply_of_json, reply_of_t
 ghost use Rattle.ink_player.specs.Extents.{GoesOn};
 ghost use Rattle.ink_player.specs.Words.{DealtOnce, anew, bindings, desk_of, fault_told, state_of, story_of, told_from};
 ghost use Rattle.ink_step.specs.Marks.{stood_of, unmarked};
-ghost use Rattle.ink_step.specs.Words.{config_of};
+ghost use Rattle.ink_step.specs.Words.{config_of, game_of};
 ghost use Rattle.serde_json.specs.Data.{Data};
 ghost use Rattle.serde_json.specs.View.{view};
 ghost use Rattle.serde_json.specs.Written.{compact_text};
@@ -33,9 +38,10 @@ use crate::visits::visits_by;
 use ink_check::Story;
 use ink_host::{Bound, Desk, PureFn, TurnFn, Watcher};
 use ink_model::{
-    Event, Fault, Given, Halt, MAX_TEXT, Passage, Refusal, Seq, Shown, Text, Value, value_given,
+    Event, Fault, Given, Halt, MAX_FLOWS, MAX_TEXT, Passage, Refusal, Seq, Shown, Text, Value,
+    value_given,
 };
-use ink_step::{Machine, Unopened};
+use ink_step::{DEFAULT_FLOW, Machine, Unopened, is_flow_name};
 use serde_json::Value as Json;
 use std::alloc::{AllocError, Global};
 use std::marker::Model;
@@ -81,7 +87,7 @@ impl<P: PureFn, F: TurnFn, O: Watcher> Player<P, F, O> {
     ghost use Rattle.ink_step.specs.Steps.{FailsToOpen};
     ghost use Rattle.ink_model.specs.Save.Reads.{Reads};
     ghost use Rattle.ink_player.specs.Paths.{JumpsTo};
-    ghost use Rattle.ink_player.specs.Saving.{LoadsAs, ReadsAsState};
+    ghost use Rattle.ink_player.specs.Saving.{IsOldSave, LoadsAs, ReadsAsState};
     ghost use Rattle.ink_player.specs.Visits.{TellsVisits};
 
     /// Opens a story at its start, with the globals that it declares (docs/RUNNING.md, "Opening"). No object is
@@ -297,19 +303,19 @@ impl<P: PureFn, F: TurnFn, O: Watcher> Player<P, F, O> {
             Ok(place) => place,
             Err(refusal) => return Err(refusal),
         };
-        match self.machine.jump(&self.story, place) {
-            Ok(()) => Ok(()),
-            Err(_) => Err(Refusal::OutOfMemory),
-        }
+        let Ok(()) = self.machine.jump(&self.story, place) else {
+            return Err(Refusal::OutOfMemory);
+        };
+        Ok(())
     }
 
-    /// Where the story stands, as a JSON value, which has no float (docs/SAVES.md): the one value that reads as that, for where a
-    /// player stands is sound and at rest. Refused with `Broken` after a fault, and with `OutOfMemory` where memory was refused.
+    /// Where the story stands, as a JSON value, which has no float (docs/SAVES.md): the one value that reads as that, but for one in
+    /// layout 1 where there is one flow; for where a player stands is sound and at rest. Refused with `Broken` after a fault, and with `OutOfMemory` where memory was refused.
     pub fn save(&self) -> Result<Json, Refusal>
         ensures does { Save (state_of self.now) (reply_of_json result) (state_of self.now) }
         ensures plain { IfOk result IsPlain }
         ensures reads { IfOk result (λ json. ReadsAsState (story_of self.now) (view json) (state_of self.now)) }
-        ensures only { IfOk result (λ json. (j : Data) → ReadsAsState (story_of self.now) j (state_of self.now) → j ≡ view json) }
+        ensures only { IfOk result (λ json. (j : Data) → ReadsAsState (story_of self.now) j (state_of self.now) → (j ≡ view json) ⊎ IsOldSave j (state_of self.now)) }
         ensures sound { StateFits (story_of self.now) (state_of self.now) }
     {
         match self.broken {
@@ -322,7 +328,7 @@ impl<P: PureFn, F: TurnFn, O: Watcher> Player<P, F, O> {
     pub fn save_text(&self) -> Result<Text, Refusal>
         ensures does { (j : Data) × IsTextOf j result × Save (state_of self.now) (reply_of_text j result) (state_of self.now) }
         ensures reads { IfOk result (λ text. (j : Data) × (text ≡ compact_text j) × ReadsAsState (story_of self.now) j (state_of self.now)) }
-        ensures only { IfOk result (λ text. (j : Data) → ReadsAsState (story_of self.now) j (state_of self.now) → text ≡ compact_text j) }
+        ensures only { IfOk result (λ text. (j : Data) → ReadsAsState (story_of self.now) j (state_of self.now) → (text ≡ compact_text j) ⊎ IsOldSave j (state_of self.now)) }
         ensures sound { StateFits (story_of self.now) (state_of self.now) }
     {
         match self.broken {
@@ -331,7 +337,7 @@ impl<P: PureFn, F: TurnFn, O: Watcher> Player<P, F, O> {
         }
     }
 
-    /// Goes on where a save of the story stands (docs/SAVES.md); a broken player too. Watchers are told of each global that has
+    /// Goes on where a save of the story stands, with its flows and no others (docs/SAVES.md); a broken player too. Watchers are told of each global that has
     /// another value than before, or was not there (docs/HOST.md, "Telling"). Refused with `BadSave` where the value spells nothing
     /// that fits the story, and with `OutOfMemory` where memory was refused, which is asked for only where something of the value is
     /// kept; nothing has changed then. Where a watcher finds no memory the save is loaded, all others are told, and the player is
@@ -343,7 +349,7 @@ impl<P: PureFn, F: TurnFn, O: Watcher> Player<P, F, O> {
         ensures rest { Resting (rests O.state) (desk_of self.old).watchers → Resting (rests O.state) (desk_of self.new).watchers }
         ensures story { story_of self.new ≡ story_of self.old }
         ensures stands { IfOk result (λ events. ReadsAsState (story_of self.new) (view json.now) (state_of self.new)) }
-        ensures reads { (c : Configuration) → Reads (story_of self.old) (view json.now) c → LoadsAs c (reply_of_events result) (state_of self.new).condition }
+        ensures reads { (g : Game) → Reads (story_of self.old) (view json.now) g → LoadsAs g (reply_of_events result) (state_of self.new) }
     {
         match loaded(self.alloc, &self.story, json) {
             Ok(found) => self.begin_anew(found),
@@ -351,7 +357,7 @@ impl<P: PureFn, F: TurnFn, O: Watcher> Player<P, F, O> {
         }
     }
 
-    /// Begins anew, as the story was opened; a broken player too. Watchers are told of each global that has another value than
+    /// Begins anew, as the story was opened, with one flow; a broken player too. Watchers are told of each global that has another value than
     /// before, or was not there (docs/HOST.md, "Telling"). Refused with `OutOfMemory` alone, where the declarations run to a step
     /// that asks for memory, or memory for telling was refused; nothing has changed then. A fault of the declarations breaks the
     /// player, which keeps the globals as they stood before the step that faulted, and tells nobody. Where a watcher finds no
@@ -376,10 +382,10 @@ impl<P: PureFn, F: TurnFn, O: Watcher> Player<P, F, O> {
 
     /// Begins anew with a machine that was opened or loaded, once the watchers are told of what has another value in it.
     fn begin_anew(&mut self, machine: Machine) -> Result<Seq<Event>, Halt>
-        requires fits { let s = story_of self.old in ConditionFits s (Ready (config_of s machine)) }
+        requires fits { let s = story_of self.old in GameStands s (game_of s machine) }
         requires unmarked { stood_of machine ≡ unmarked }
         ensures does { let s = story_of self.old in let was = config_of s self.old.machine in let c = config_of s machine in let h = bindings P.meaning (desk_of self.old) in
-            (es : List Happening) × TellsOrKeeps (told h.watches was.shared.globals c.shared.globals) (Ready c) es (state_of self.old) (reply_of_events result) (state_of self.new)
+            (es : List Happening) × BeginsAnew (told h.watches was.shared.globals c.shared.globals) (game_of s machine) es (state_of self.old) (reply_of_events result) (state_of self.new)
             × DealtOnce F.log O.state (told_from (desk_of self.old) (state_of self.old) (globals_of (state_of self.new).condition)) (desk_of self.old) es (desk_of self.new) }
         ensures rest { Resting (rests O.state) (desk_of self.old).watchers → Resting (rests O.state) (desk_of self.new).watchers }
         ensures story { story_of self.new ≡ story_of self.old }
@@ -390,6 +396,69 @@ impl<P: PureFn, F: TurnFn, O: Watcher> Player<P, F, O> {
         self.machine = machine;
         self.broken = None;
         end_telling(&mut self.desk, &mut self.broken, all)
+    }
+
+    /// Goes to the flow of a name, and makes it at the story's start where there is none (docs/RUNNING.md, "Flows"): the current one is
+    /// left as it is, and globals, counts and the turn are those of all. Refused with `Broken` after a fault, with `BadValue` where
+    /// the name is empty, has a space or a newline, or is over a text's limit, with `TooManyFlows` where 100 are there, and with
+    /// `OutOfMemory` where memory for a new one was refused; nothing has changed then.
+    pub fn flow(&mut self, name: &str) -> Result<(), Refusal>
+        ensures does { GoesToFlow (story_of self.old) name.now (state_of self.old) (reply_of_landing result) (state_of self.new) }
+        ensures story { story_of self.new ≡ story_of self.old }
+        ensures desk { desk_of self.new ≡ desk_of self.old }
+    {
+        if let Some(earlier) = self.broken {
+            return Err(Refusal::Broken(earlier));
+        }
+        if !is_flow_name(name) {
+            return Err(Refusal::BadValue);
+        }
+        if !has_room(&self.machine, name) {
+            return Err(Refusal::TooManyFlows);
+        }
+        let Ok(()) = self.machine.flow(&self.story, name) else {
+            return Err(Refusal::OutOfMemory);
+        };
+        Ok(())
+    }
+
+    /// Takes the flow of a name away; all others stay as they are. Where it is the current one, the first becomes that. Takes no
+    /// memory. Refused with `Broken` after a fault, with `NoSuchFlow` where there is none of that name, and with `DefaultFlow` where
+    /// it is the first; nothing has changed then.
+    pub fn drop_flow(&mut self, name: &str) -> Result<(), Refusal>
+        ensures does { DropsFlow (story_of self.old) name.now (state_of self.old) (reply_of_landing result) (state_of self.new) }
+        ensures story { story_of self.new ≡ story_of self.old }
+        ensures desk { desk_of self.new ≡ desk_of self.old }
+    {
+        if let Some(before) = self.broken {
+            return Err(Refusal::Broken(before));
+        }
+        if !self.machine.has_flow(name) {
+            return Err(Refusal::NoSuchFlow);
+        }
+        if name == DEFAULT_FLOW {
+            return Err(Refusal::DefaultFlow);
+        }
+        self.machine.drop_flow(name);
+        Ok(())
+    }
+
+    /// The name of the current flow; of a broken player, as it was when the fault came. Takes no memory.
+    pub fn flow_name(&self) -> &str
+        ensures { result.now ≡ current_name (state_of self.now).aside }
+    {
+        self.machine.flow_name()
+    }
+
+    /// The names of all flows, in order of making; of a broken player, as they were when the fault came. Refused with `OutOfMemory`
+    /// alone.
+    pub fn flows(&self) -> Result<Seq<Text>, Refusal>
+        ensures { TellsFlows (state_of self.now) result }
+    {
+        match self.machine.flows() {
+            Ok(names) => Ok(names),
+            Err(AllocError) => Err(Refusal::OutOfMemory),
+        }
     }
 
     /// Binds a name to a pure function. The function or turn function that was bound to it is handed back; where memory is
@@ -554,4 +623,11 @@ fn is_settable(value: &Given) -> bool
         Given::Text(text) => text.get().as_str().len() <= MAX_TEXT,
         Given::Void => false,
     }
+}
+
+/// Whether there is a flow of this name, or one more may be made.
+fn has_room(machine: &Machine, name: &str) -> bool
+    ensures { (s : StoryTree) → result ≡ rules.has_room name.now (game_of s machine.now).aside }
+{
+    machine.has_flow(name) || machine.flow_count() < MAX_FLOWS
 }

@@ -6,7 +6,7 @@ ghost use Rattle.ink_check.specs.Words.{story_tree};
 ghost use Rattle.ink_player.specs.Saving.{FindsSave, IsSave, IsSaveText};
 ghost use Rattle.ink_sound.specs.Kept.{StoryFits};
 ghost use Rattle.ink_step.specs.Marks.{stood_of, unmarked};
-ghost use Rattle.ink_step.specs.Words.{config_of};
+ghost use Rattle.ink_step.specs.Words.{game_of};
 
 use ink_check::Story;
 use ink_model::{Refusal, Text};
@@ -16,9 +16,9 @@ use ink_step::Machine;
 use serde_json::Value as Json;
 use std::alloc::Global;
 
-/// The JSON value that a machine's configuration is spelled as. Refused with `OutOfMemory` alone.
+/// The JSON value that a machine's game is spelled as. Refused with `OutOfMemory` alone.
 pub(crate) fn saved(alloc: Global, story: &Story, machine: &Machine) -> Result<Json, Refusal>
-    ensures { let s = story_tree story.now in IsSave (config_of s machine.now) result }
+    ensures { let s = story_tree story.now in IsSave (game_of s machine.now) result }
 {
     match write(alloc, story, machine) {
         Ok(json) => Ok(json),
@@ -28,7 +28,7 @@ pub(crate) fn saved(alloc: Global, story: &Story, machine: &Machine) -> Result<J
 
 /// The compact text of that value. Refused with `OutOfMemory` alone.
 pub(crate) fn saved_text(alloc: Global, story: &Story, machine: &Machine) -> Result<Text, Refusal>
-    ensures { let s = story_tree story.now in IsSaveText (config_of s machine.now) result }
+    ensures { let s = story_tree story.now in IsSaveText (game_of s machine.now) result }
 {
     match write_text(alloc, story, machine) {
         Ok(text) => Ok(text),
@@ -36,7 +36,7 @@ pub(crate) fn saved_text(alloc: Global, story: &Story, machine: &Machine) -> Res
     }
 }
 
-/// The machine whose configuration a JSON value spells. Refused with `BadSave` where it spells none that fits the story, and with
+/// The machine whose game a JSON value spells. Refused with `BadSave` where it spells none that fits the story, and with
 /// `OutOfMemory` where memory was refused, which is asked for only where something of the value is kept.
 pub(crate) fn loaded(alloc: Global, story: &Story, json: &Json) -> Result<Machine, Refusal>
     ensures finds { FindsSave (story_tree story.now) (view json.now) result }

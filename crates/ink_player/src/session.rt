@@ -233,6 +233,8 @@ fn perform<P: PureFn, F: TurnFn, O: Watcher>(
         Some(LineCommand::Save) => Outcome::Saved(player.save_text()),
         Some(LineCommand::Load { saved }) => Outcome::Events(load(player, saved)),
         Some(LineCommand::Restart) => Outcome::Events(player.restart()),
+        Some(LineCommand::Flow { name }) => Outcome::Landing(player.flow(name)),
+        Some(LineCommand::Drop { name }) => Outcome::Landing(player.drop_flow(name)),
         None => Outcome::Refused(Refusal::BadCommand),
     }
 }

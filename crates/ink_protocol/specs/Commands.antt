@@ -18,3 +18,5 @@ command_by (line.Jump path) = command.Jump path.now
 command_by line.Save = command.Save
 command_by (line.Load saved) = command.Load (option_map view saved)
 command_by line.Restart = command.Restart
+command_by (line.Flow name) = command.Flow name.now
+command_by (line.Drop name) = command.Drop name.now

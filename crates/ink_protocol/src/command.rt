@@ -1,9 +1,9 @@
 //! The commands that lines spell (docs/PROTOCOL.md, "Command lines").
 
-ghost use Rattle.std.specs.Prelude.{◌≡◌, ◌≤◌, ◌<◌, length, true, IfOk, OnErr, option_map, option_and_then};
+ghost use Rattle.std.specs.Prelude.{◌≡◌, ◌≤◌, ◌<◌, ◌&&◌, is_none, length, true, IfOk, OnErr, option_map, option_and_then};
 ghost use Rattle.std.specs.List.{list_all};
-ghost use Rattle.ink_model.specs.Command.{choose_command as choose_of, command_of, command_word, get_command as get_of, jump_command as jump_of, line_asks, load_command as load_of, set_command as set_of, visits_command as visits_of};
-ghost use Rattle.ink_model.specs.Bytes.{after as after_word, at_space as parts_at_space, is_digit as digit, number_from};
+ghost use Rattle.ink_model.specs.Command.{choose_command as choose_of, command_of, command_word, drop_command as drop_of, flow_command as flow_of, get_command as get_of, jump_command as jump_of, line_asks, load_command as load_of, set_command as set_of, visits_command as visits_of};
+ghost use Rattle.ink_model.specs.Bytes.{after as after_word, at_space as parts_at_space, is_digit as digit, is_filled, number_from};
 ghost use Rattle.ink_protocol.specs.Commands.{command_by};
 
 use crate::given::given_of;
@@ -29,6 +29,8 @@ pub enum LineCommand<'a> {
     Save,
     Load { saved: Option<Value> },
     Restart,
+    Flow { name: &'a str },
+    Drop { name: &'a str },
 }
 
 /// The command of a line, without its newline (docs/PROTOCOL.md, "Command lines"). A line that is no text, or no
@@ -74,8 +76,14 @@ fn command_in(alloc: Global, text: &str) -> Result<Option<LineCommand<'_>>, Allo
     if let Some(path) = after("jump ", text) {
         return Ok(jump_command(path));
     }
-    match after("load ", text) {
-        Some(json) => load_command(alloc, json),
+    if let Some(json) = after("load ", text) {
+        return load_command(alloc, json);
+    }
+    if let Some(name) = after("flow ", text) {
+        return Ok(flow_command(name));
+    }
+    match after("drop ", text) {
+        Some(name) => Ok(drop_command(name)),
         None => Ok(None),
     }
 }
@@ -97,10 +105,35 @@ fn at_space(text: &str) -> Option<(&str, &str)>
 fn get_command(name: &str) -> Option<LineCommand<'_>>
     ensures { option_map command_by result ≡ get_of name.now }
 {
-    if name.is_empty() || at_space(name).is_some() {
+    if !is_name(name) {
         return None;
     }
     Some(LineCommand::Get { name })
+}
+
+// A name is not empty, and has no space.
+fn is_name(text: &str) -> bool
+    ensures { result ≡ (is_filled text.now && is_none (parts_at_space text.now)) }
+{
+    !text.is_empty() && at_space(text).is_none()
+}
+
+fn flow_command(name: &str) -> Option<LineCommand<'_>>
+    ensures { option_map command_by result ≡ flow_of name.now }
+{
+    if !is_name(name) {
+        return None;
+    }
+    Some(LineCommand::Flow { name })
+}
+
+fn drop_command(name: &str) -> Option<LineCommand<'_>>
+    ensures { option_map command_by result ≡ drop_of name.now }
+{
+    if !is_name(name) {
+        return None;
+    }
+    Some(LineCommand::Drop { name })
 }
 
 fn visits_command(path: &str) -> Option<LineCommand<'_>>

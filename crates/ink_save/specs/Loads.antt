@@ -1,26 +1,24 @@
 -- What a JSON value is read as.
 use Rattle.std.specs.Prelude.{◌≡◌, ⊤, true, Result, Ok, Err, Option, Some, None}
 use Rattle.serde_json.specs.Data.{Data}
-use Rattle.ink_model.specs.Configuration.{Configuration}
+use Rattle.ink_model.specs.Flows.{Game}
 use Rattle.ink_model.specs.Save.Asks.{load_asks}
-use Rattle.ink_model.specs.Save.Reads.{Reads}
-use Rattle.ink_model.specs.Save.Sound.{Sound}
+use Rattle.ink_model.specs.Save.Reads.{Reads, Stands}
 use Rattle.ink_model.specs.Tree.{StoryTree}
 use Rattle.ink_parts.specs.Building.{Builds}
 use Rattle.ink_save.specs.declared.loading.SaveRefusal.{SaveRefusal}
 use Rattle.ink_save.specs.declared.loading.SaveRefusal.TheVariants as refusal
-use Rattle.ink_step.specs.Words.{config_of}
+use Rattle.ink_step.specs.Words.{game_of}
 use Rattle.ink_step.specs.declared.machine.Machine.{Machine}
 
--- a machine whose configuration it spells; or there is none, or memory was refused, which only a value asks for of which something
--- is kept
+-- a machine whose game it spells; or there is none, or memory was refused, which only a value asks for of which something is kept
 abbrev pub ReadsAs : StoryTree → Data → Result Machine SaveRefusal → Type 0
-ReadsAs s j (Ok m) = Reads s j (config_of s m)
-ReadsAs s j (Err refusal.BadSave) = (c : Configuration) → Reads s j c → ⊥
+ReadsAs s j (Ok m) = Reads s j (game_of s m)
+ReadsAs s j (Err refusal.BadSave) = (g : Game) → Reads s j g → ⊥
 ReadsAs s j (Err refusal.OutOfMemory) = load_asks j ≡ true
 
--- the machine of what was spelled, if that is sound
-abbrev pub Finds : StoryTree → Option Configuration → Option Machine → Type 0
+-- the machine of what was spelled, if that stands
+abbrev pub Finds : StoryTree → Option Game → Option Machine → Type 0
 Finds s None None = ⊤
 Finds s None (Some m) = ⊥
-Finds s (Some c) made = Builds (config_of s) (Sound s) c made
+Finds s (Some g) made = Builds (game_of s) (Stands s) g made

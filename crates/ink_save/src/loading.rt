@@ -4,22 +4,21 @@ ghost use Rattle.std.specs.Prelude.{◌≡◌, IfOk, IfSome, OnErr, true};
 ghost use Rattle.serde_json.specs.View.{view};
 ghost use Rattle.ink_check.specs.Words.{story_tree};
 ghost use Rattle.ink_model.specs.Save.Asks.{load_asks};
-ghost use Rattle.ink_model.specs.Save.Sound.{Sound};
-ghost use Rattle.ink_model.specs.Save.Unspelled.{unspelled};
+ghost use Rattle.ink_model.specs.Save.Unspelled as save;
 ghost use Rattle.ink_model.specs.Tree.{StoryTree};
-ghost use Rattle.ink_parts.specs.Building.{Builds};
 ghost use Rattle.ink_parts.specs.Counted.{AreOwn};
-ghost use Rattle.ink_parts.specs.Parts.{flow_as, restored_as, shared_as};
+ghost use Rattle.ink_parts.specs.Parts.{restored_as, shared_as};
 ghost use Rattle.ink_save.specs.Loads.{Finds, ReadsAs};
+ghost use Rattle.ink_spelling.specs.Layouts.{Rest, layout_as};
 ghost use Rattle.ink_step.specs.Marks.{stood_of, unmarked};
-ghost use Rattle.ink_step.specs.Words.{config_of, flow_of, shared_of};
+ghost use Rattle.ink_step.specs.Words.{game_of, shared_of};
 ghost use Rattle.ink_tree.specs.Nodes as nodes;
 
 use ink_check::Story;
 use ink_out::Output;
-use ink_parts::{FlowParts, Restored, SharedParts, restore};
-use ink_spelling::{Saved, read_saved};
-use ink_step::{Fields, Flow, Machine, Shared};
+use ink_parts::{Restored, SharedParts, restore};
+use ink_spelling::{SavedLayout, read_saved};
+use ink_step::{Fields, Machine, Shared};
 use ink_tree::Tree;
 use serde_json::Value as Json;
 use std::alloc::{AllocError, Global};
@@ -49,7 +48,7 @@ pub fn read(alloc: Global, story: &Story, json: &Json) -> Result<Machine, SaveRe
 // The machine that a JSON value spells, if it spells one that fits the story. The one error is a refused request for memory,
 // which only a value makes of which something is kept.
 fn read_machine(alloc: Global, tree: &Tree, json: &Json) -> Result<Option<Machine>, AllocError>
-    ensures made { IfOk result (λ made. Finds (nodes.story_tree tree.now) (unspelled (view json.now)) made) }
+    ensures made { IfOk result (λ made. Finds (nodes.story_tree tree.now) (save.unspelled (view json.now)) made) }
     ensures mark { IfOk result (λ made. IfSome made (λ m. stood_of m ≡ unmarked)) }
     ensures memory { OnErr result (load_asks (view json.now) ≡ true) }
 {
@@ -60,8 +59,13 @@ fn read_machine(alloc: Global, tree: &Tree, json: &Json) -> Result<Option<Machin
 }
 
 // The machine of a save, if it fits the story. No mark stands in it. The one error is a refused request for memory.
-fn build_machine(alloc: Global, tree: &Tree, saved: &Saved) -> Result<Option<Machine>, AllocError>
-    ensures builds { let s = nodes.story_tree tree.now in IfOk result (λ made. Builds (config_of s) (Sound s) saved.now made) }
+fn build_machine(
+    alloc: Global,
+    tree: &Tree,
+    saved: &SavedLayout,
+) -> Result<Option<Machine>, AllocError>
+    requires { Rest (layout_as saved.now) }
+    ensures made { IfOk result (λ made. Finds (nodes.story_tree tree.now) (save.game_of (layout_as saved.now)) made) }
     ensures mark { IfOk result (λ made. IfSome made (λ m. stood_of m ≡ unmarked)) }
 {
     match restore(alloc, tree, saved)? {
@@ -72,34 +76,21 @@ fn build_machine(alloc: Global, tree: &Tree, saved: &Saved) -> Result<Option<Mac
 
 // The machine of what was restored.
 fn machine_of(alloc: Global, restored: Restored) -> Machine
-    ensures config { (s : StoryTree) → AreOwn s restored.shared.counts.rows → config_of s result ≡ restored_as s restored }
+    ensures game { (s : StoryTree) → AreOwn s restored.shared.counts.rows → game_of s result ≡ restored_as s restored }
     ensures mark { stood_of result ≡ unmarked }
 {
-    let Restored { flow, shared } = restored;
+    let Restored {
+        flow,
+        aside,
+        shared,
+    } = restored;
     let fields = Fields {
-        flow: flow_of(flow),
+        flow,
+        aside,
         shared: shared_of(shared),
         output: Output::new(alloc),
     };
     Machine::from_parts(alloc, fields)
-}
-
-// A flow that has these.
-fn flow_of(parts: FlowParts) -> Flow
-    ensures { (s : StoryTree) → flow_of s result ≡ flow_as s parts }
-{
-    let FlowParts {
-        threads,
-        stack,
-        choices,
-        safe,
-    } = parts;
-    Flow {
-        threads,
-        stack,
-        choices,
-        safe,
-    }
 }
 
 // What flows share that has these.

@@ -8,46 +8,48 @@ ghost use Rattle.ink_model.specs.Output.{empty_page};
 ghost use Rattle.ink_model.specs.Places.{places};
 ghost use Rattle.ink_model.specs.Save.Spelling.{spelling};
 ghost use Rattle.ink_parts.specs.Parts.{kept_as};
-ghost use Rattle.ink_step.specs.Words.{config_of, flow_of, rows_below, shared_of};
+ghost use Rattle.ink_step.specs.Words.{aside_of, flow_of, game_of, rows_below, shared_of};
 ghost use Rattle.ink_tree.specs.Nodes as nodes;
 ghost use Rattle.ink_vars.specs.Slots.{rows_from};
 
 use ink_check::Story;
+use ink_flows::{Aside, Flow};
 use ink_model::Text;
 use ink_parts::Kept;
-use ink_step::{Flow, Machine, Shared};
+use ink_step::{Machine, Shared};
 use ink_tree::Tree;
 use serde_json::Value as Json;
 use std::alloc::{AllocError, Global};
 
 /// A machine as a JSON value. The one error is a refused request for memory.
 pub fn write(alloc: Global, story: &Story, machine: &Machine) -> Result<Json, AllocError>
-    ensures { let s = story_tree story.now in IfOk result (λ json. view json ≡ spelling (config_of s machine.now)) }
+    ensures { let s = story_tree story.now in IfOk result (λ json. view json ≡ spelling (game_of s machine.now)) }
 {
     let parts = machine.parts();
     let tree = story.tree();
-    ink_parts::write(alloc, tree, &kept_of(tree, parts.flow, parts.shared))
+    let kept = kept_of(tree, parts.flow, parts.aside, parts.shared);
+    ink_parts::write(alloc, tree, &kept)
 }
 
 /// The compact text of a machine's JSON value, without a value in between. The one error is a refused request for memory.
 pub fn write_text(alloc: Global, story: &Story, machine: &Machine) -> Result<Text, AllocError>
-    ensures { let s = story_tree story.now in IfOk result (λ text. text ≡ compact_text (spelling (config_of s machine.now))) }
+    ensures { let s = story_tree story.now in IfOk result (λ text. text ≡ compact_text (spelling (game_of s machine.now))) }
 {
     let parts = machine.parts();
     let tree = story.tree();
-    ink_parts::print(alloc, tree, &kept_of(tree, parts.flow, parts.shared))
+    let kept = kept_of(tree, parts.flow, parts.aside, parts.shared);
+    ink_parts::print(alloc, tree, &kept)
 }
 
 // What a save keeps of what a machine has.
-fn kept_of<'a>(tree: &Tree, flow: &'a Flow, shared: &'a Shared) -> Kept<'a>
-    ensures { let s = nodes.story_tree tree.now in kept_as s result ≡ record { flow = flow_of s flow.now; shared = shared_of s shared.now; page = empty_page } }
+fn kept_of<'a>(tree: &Tree, flow: &'a Flow, aside: &'a Aside, shared: &'a Shared) -> Kept<'a>
+    ensures { let s = nodes.story_tree tree.now in
+        kept_as s result ≡ record { now = record { flow = flow_of s flow.now; shared = shared_of s shared.now; page = empty_page }; aside = aside_of s aside.now } }
 {
     Kept {
-        choices: &flow.choices,
+        flow,
+        aside,
         globals: &shared.globals,
-        safe: flow.safe,
-        stack: &flow.stack,
-        threads: &flow.threads,
         turn: shared.turn,
         turns: own_slots(tree, shared.counts.turns()),
         visits: own_slots(tree, shared.counts.visits()),

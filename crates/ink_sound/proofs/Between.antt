@@ -3,7 +3,7 @@ use Rattle.std.proofs.Common.{◌≡◌, ap, refl, arith, suc, lit≤, List, [],
 use Rattle.std.specs.List.{AllByRecursion as Each}
 use Rattle.ink_model.specs.Bases.{BaseFirst}
 use Rattle.ink_model.specs.Choosing.{chosen, jumped}
-use Rattle.ink_model.specs.Configuration.{ChoiceOf, Configuration, fresh_at, settled, start, unnumbered_choice, with_globals}
+use Rattle.ink_model.specs.Configuration.{ChoiceOf, Configuration, fresh_at, fresh_flow, settled, start, unnumbered_choice, with_globals}
 use Rattle.ink_model.specs.Frames.{FrameOf, ThreadOf, ThreadsOf, place_in, put_in, unnumbered_frame, unnumbered_thread, unnumbered_threads}
 use Rattle.ink_model.specs.Host.{nothing_bound}
 use Rattle.ink_model.specs.Opening.{Unopened, declarations, declaring, opened_by, opened_from, opening}
@@ -17,7 +17,7 @@ use Rattle.ink_model.specs.declared.frame.FrameKind.{FrameKind}
 use Rattle.ink_model.specs.declared.place.Part.{Part}
 use Rattle.ink_sound.specs.Kept.{Finds, MomentFits, StoryFits}
 use Rattle.ink_model.specs.Save.Reads.{Rests}
-use Rattle.ink_model.specs.Save.Sound.{ChoiceFits, FlowStands, FrameStands, GlobalsFit, PlaceFits, Sound, ThreadFits, ThreadStands, ThreadsFit}
+use Rattle.ink_model.specs.Save.Sound.{ChoiceFits, FlowSound, FlowStands, FrameStands, GlobalsFit, PlaceFits, Sound, ThreadFits, ThreadStands, ThreadsFit}
 use Rattle.ink_sound.proofs.Places.{knot_fits, landed_fits, start_fits}
 use Rattle.ink_sound.proofs.Steps.{through_fits}
 
@@ -81,19 +81,22 @@ module _ (s : StoryTree) where
 
   -- ---- opening
 
+  pub fresh_flow_sound : (p : List Part) → PlaceFits s p → FlowSound s (fresh_flow p)
+  fresh_flow_sound p h = record {
+    threads = record {
+      thread = record { frame = record { rise = refl; each = tt; depth = lit≤ tt }; below = tt; base = refl; few = lit≤ tt; previous = tt };
+      below = tt;
+      flow = h;
+      few = lit≤ tt;
+    };
+    stack = record { each = tt; few = lit≤ tt };
+    choices = record { each = tt; few = lit≤ tt };
+  }
+
   pub fresh_sound : (p : List Part) → PlaceFits s p → Sound s (fresh_at p)
   unfolding fresh_at
   fresh_sound p h = record {
-    flow = record {
-      threads = record {
-        thread = record { frame = record { rise = refl; each = tt; depth = lit≤ tt }; below = tt; base = refl; few = lit≤ tt; previous = tt };
-        below = tt;
-        flow = h;
-        few = lit≤ tt;
-      };
-      stack = record { each = tt; few = lit≤ tt };
-      choices = record { each = tt; few = lit≤ tt };
-    };
+    flow = fresh_flow_sound p h;
     shared = record {
       globals = record { once = refl; each = tt };
       counts = record { visits = record { rise = refl; each = tt }; turns = record { rise = refl; each = tt } };
@@ -171,7 +174,7 @@ pub choices_rest : (c : Configuration) → Rests c → Each (λ choice. unnumber
 unfolding settled
 choices_rest c k = unchanged unnumbered_choice c.flow.choices (ap (λ d. d.flow.choices) k)
 
-page_rests : (c : Configuration) → Rests c → empty_page ≡ c.page
+pub page_rests : (c : Configuration) → Rests c → empty_page ≡ c.page
 unfolding settled
 page_rests c k = ap (λ d. d.page) k
 

@@ -1,8 +1,9 @@
 -- How deep a spelling nests.
 use Rattle.std.proofs.Common.{◌≤◌, lit≤, arith, ℕ, List, [], ◌∷◌, map, reverse, Option, Some, None}
 use Rattle.serde_json.specs.Data.{Data, string, depth, items_depth, members_depth}
-use Rattle.ink_model.specs.Configuration.{ChoiceOf, Configuration}
+use Rattle.ink_model.specs.Configuration.{ChoiceOf, FlowOf}
 use Rattle.ink_model.specs.Events.{items_of}
+use Rattle.ink_model.specs.Flows.{Game, all_flows}
 use Rattle.ink_model.specs.Frames.{FrameOf, ThreadOf}
 use Rattle.ink_model.specs.ValueJson.{value_data}
 use Rattle.ink_model.specs.declared.frame.FrameKind.{FrameKind}
@@ -11,7 +12,7 @@ use Rattle.ink_model.specs.declared.place.Part.{Part}
 use Rattle.ink_model.specs.declared.place.Part.TheVariants.{Index, Name}
 use Rattle.ink_model.specs.declared.value.Value.{Value}
 use Rattle.ink_model.specs.declared.value.Value.TheVariants as value
-use Rattle.ink_model.specs.Save.Spelling.{choice_data, frame_data, global_data, kind_data, part_data, place_data, place_or_null, row_data, spelling, temps_members, thread_data}
+use Rattle.ink_model.specs.Save.Spelling.{choice_data, frame_data, global_data, kind_data, named_flow_data, part_data, place_data, place_or_null, row_data, spelling, temps_members, thread_data}
 
 -- all of these nest at most so deep
 items_deep : {A : Type 0} (f : A → Data) (n : ℕ) → ((x : A) → depth (f x) ≤ n) → (xs : List A) → items_depth (items_of (map f xs)) ≤ n
@@ -65,14 +66,20 @@ global_deep e = omega (arith, value_deep e.1)
 row_deep : (r : List Part × ℕ) → depth (row_data r) ≤ 2
 row_deep r = omega (arith, place_deep r.0)
 
--- so its text reads back: a text may nest to 127
-pub spelling_deep : (c : Configuration) → depth (spelling c) ≤ 8
-spelling_deep c = omega (
+named_flow_deep : (r : List ℕ × FlowOf (List Part)) → depth (named_flow_data r) ≤ 8
+named_flow_deep r = omega (
   arith,
-  items_deep choice_data 6 choice_deep c.flow.choices,
-  items_deep global_data 2 global_deep c.shared.globals,
-  items_deep value_data 1 value_deep c.flow.stack,
-  items_deep thread_data 5 thread_deep (reverse (c.flow.threads.thread ∷ c.flow.threads.below)),
-  items_deep row_data 2 row_deep c.shared.counts.turns,
-  items_deep row_data 2 row_deep c.shared.counts.visits,
+  items_deep choice_data 6 choice_deep r.1.choices,
+  items_deep value_data 1 value_deep r.1.stack,
+  items_deep thread_data 5 thread_deep (reverse (r.1.threads.thread ∷ r.1.threads.below)),
+)
+
+-- so its text reads back: a text may nest to 127
+pub spelling_deep : (g : Game) → depth (spelling g) ≤ 10
+spelling_deep g = omega (
+  arith,
+  items_deep named_flow_data 8 named_flow_deep (all_flows g.now.flow g.aside),
+  items_deep global_data 2 global_deep g.now.shared.globals,
+  items_deep row_data 2 row_deep g.now.shared.counts.turns,
+  items_deep row_data 2 row_deep g.now.shared.counts.visits,
 )

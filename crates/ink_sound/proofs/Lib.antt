@@ -16,6 +16,10 @@ pub mod Effects
 pub mod Moves
 pub mod Steps
 pub mod Between
+pub mod Named
+pub mod Aside
+pub mod Going
+pub mod Beside
 pub mod Sessions
 pub mod Leaves
 pub mod Stories

@@ -3,8 +3,9 @@ use Rattle.std.proofs.Common.{◌≡◌, refl, ℕ, ℤ, pos, negsuc, List, [], 
 use Rattle.serde_json.specs.Data.{Data, number, string}
 use Rattle.serde_json.specs.Find.{of_integer}
 use Rattle.serde_json.specs.Written.{has_float, items_have_float, members_have_float}
-use Rattle.ink_model.specs.Configuration.{ChoiceOf, Configuration}
+use Rattle.ink_model.specs.Configuration.{ChoiceOf, FlowOf}
 use Rattle.ink_model.specs.Events.{items_of}
+use Rattle.ink_model.specs.Flows.{Game, all_flows}
 use Rattle.ink_model.specs.Frames.{FrameOf, ThreadOf}
 use Rattle.ink_model.specs.ValueJson.{value_data}
 use Rattle.ink_model.specs.declared.frame.FrameKind.{FrameKind}
@@ -13,7 +14,7 @@ use Rattle.ink_model.specs.declared.place.Part.{Part}
 use Rattle.ink_model.specs.declared.place.Part.TheVariants.{Index, Name}
 use Rattle.ink_model.specs.declared.value.Value.{Value}
 use Rattle.ink_model.specs.declared.value.Value.TheVariants as value
-use Rattle.ink_model.specs.Save.Spelling.{choice_data, frame_data, global_data, kind_data, part_data, place_data, place_or_null, row_data, spelling, temps_members, thread_data}
+use Rattle.ink_model.specs.Save.Spelling.{choice_data, frame_data, global_data, kind_data, named_flow_data, part_data, place_data, place_or_null, row_data, spelling, temps_members, thread_data}
 
 items_plain : {A : Type 0} (f : A → Data) → ((x : A) → has_float (f x) ≡ false) → (xs : List A) → items_have_float (items_of (map f xs)) ≡ false
 items_plain f h [] = refl
@@ -67,13 +68,19 @@ global_plain e = rw (value_plain e.1) refl
 row_plain : (r : List Part × ℕ) → has_float (row_data r) ≡ false
 row_plain r = rw (items_plain part_data part_plain r.0) refl
 
-pub spelling_plain : (c : Configuration) → has_float (spelling c) ≡ false
-spelling_plain c =
+named_flow_plain : (r : List ℕ × FlowOf (List Part)) → has_float (named_flow_data r) ≡ false
+named_flow_plain r =
     rw (
-      items_plain choice_data choice_plain c.flow.choices,
-      items_plain global_data global_plain c.shared.globals,
-      items_plain value_data value_plain c.flow.stack,
-      items_plain thread_data thread_plain (reverse (c.flow.threads.thread ∷ c.flow.threads.below)),
-      items_plain row_data row_plain c.shared.counts.turns,
-      items_plain row_data row_plain c.shared.counts.visits,
+      items_plain choice_data choice_plain r.1.choices,
+      items_plain value_data value_plain r.1.stack,
+      items_plain thread_data thread_plain (reverse (r.1.threads.thread ∷ r.1.threads.below)),
+    ) refl
+
+pub spelling_plain : (g : Game) → has_float (spelling g) ≡ false
+spelling_plain g =
+    rw (
+      items_plain named_flow_data named_flow_plain (all_flows g.now.flow g.aside),
+      items_plain global_data global_plain g.now.shared.globals,
+      items_plain row_data row_plain g.now.shared.counts.turns,
+      items_plain row_data row_plain g.now.shared.counts.visits,
     ) refl

@@ -1,18 +1,22 @@
--- The spelling of a sound configuration is read as that one, as a command leaves it.
-use Rattle.std.proofs.Common.{◌≡◌, ◌∙◌, ap, sym, refl, ℕ, ◌^◌, ℤ, pos, negsuc, List, [], ◌∷◌, ◌++◌, map, reverse, Bool, true, false, true≢false, bytes_eq, Option, Some, None, is_some}
-use Rattle.std.proofs.lemmas.Bool.{lt-ltb}
+-- The spelling of a sound game is read as that one, as a command leaves it.
+use Rattle.std.proofs.Common.{◌≡◌, ◌∙◌, ap, sym, refl, inl, inr, arith, ℕ, ◌^◌, ℤ, pos, negsuc, List, [], ◌∷◌, ◌++◌, map, reverse, Bool, true, false, true≢false, cond, if◌then◌else◌, IsTrue, bytes_eq, Option, Some, None, is_none, is_some}
+use Rattle.std.proofs.lemmas.Bool.{cond_both, lt-ltb}
 use Rattle.std.proofs.lemmas.List.{map-append, reverse-append, reverse-reverse}
 use Rattle.std.proofs.lemmas.Slice.Eq.{bytes_eq-Decides}
 use Rattle.std.specs.List.{AllByRecursion as Each}
 use Rattle.std.specs.Option.{option_map}
 use Rattle.serde_json.specs.Data.{Data, string}
 use Rattle.serde_json.specs.Find.{of_integer}
-use Rattle.ink_model.specs.Configuration.{Configuration, settled, unnumbered_choice}
+use Rattle.ink_model.specs.Configuration.{Configuration, FlowOf, settled, unnumbered_choice, unnumbered_flow}
 use Rattle.ink_model.specs.Entered.{flags_at}
 use Rattle.ink_model.specs.Events.{items_of}
 use Rattle.ink_model.specs.Flags.{counts_visits, notes_turns}
+use Rattle.ink_model.specs.Flows.{Aside, Game, all_flows, alone, current_name, holes, is_flow_name}
 use Rattle.ink_model.specs.Frames.{FrameOf, ThreadOf, unnumbered_frame, unnumbered_thread}
 use Rattle.ink_model.specs.Leaves.{is_small}
+use Rattle.ink_model.specs.Named.{Rows, each, once}
+use Rattle.ink_model.specs.Named.{at as at_name}
+use Rattle.ink_model.specs.Output.{empty_page}
 use Rattle.ink_model.specs.Path.{path_text}
 use Rattle.ink_model.specs.Tree.{StoryTree, at}
 use Rattle.ink_model.specs.ValueJson.{value_data}
@@ -22,15 +26,17 @@ use Rattle.ink_model.specs.declared.place.Part.{Part}
 use Rattle.ink_model.specs.declared.place.Part.TheVariants.{Index, Name}
 use Rattle.ink_model.specs.declared.value.Value.{Value}
 use Rattle.ink_model.specs.declared.value.Value.TheVariants as value
-use Rattle.ink_sound.specs.Kept.{StoryFits}
-use Rattle.ink_model.specs.Save.Reads.{Reads}
-use Rattle.ink_model.specs.Save.Sound.{AnyPlace, ChoiceFits, FlowStands, FrameFits, FrameStands, IsFrame, PlaceFits, RowCounts, RowFits, Sound, ThreadFits, ThreadStands, ValueFits}
-use Rattle.ink_model.specs.Save.Spelling.{choice_data, frame_data, global_data, kind_data, part_data, place_or_null, row_data, spelling, temps_members, thread_data}
-use Rattle.ink_model.specs.Save.Unspelled.{all_of, any_place_of, choice_of, count_of, frame_of, kind_of, number_integer, pair_of, part_of, place_of, rows_of, text_of, thread_in, unspelled, value_of}
+use Rattle.ink_sound.specs.Kept.{AsideSound, PartsFit, StoryFits}
+use Rattle.ink_model.specs.Save.Reads.{Reads, Spells}
+use Rattle.ink_model.specs.Save.Sound.{AnyPlace, AsideFits, ChoiceFits, FlowSound, FlowStands, FrameFits, FrameStands, IsFrame, NamedFits, PlaceFits, RowCounts, RowFits, Sound, ThreadFits, ThreadStands, ValueFits}
+use Rattle.ink_model.specs.Save.Spelling.{choice_data, frame_data, global_data, kind_data, named_flow_data, old_spelling, part_data, place_or_null, row_data, spelling, temps_members, thread_data}
+use Rattle.ink_model.specs.Save.Unspelled.{all_of, any_place_of, aside_but, choice_of, count_of, frame_of, game_spelled, game_with, kind_of, named_flow_of, number_integer, pair_of, part_of, place_of, rows_of, text_of, thread_in, unspelled, value_of}
 use Rattle.ink_sound.proofs.Flows.{any_of}
+use Rattle.ink_sound.proofs.Named.{its_name, same_name}
 use Rattle.ink_sound.proofs.Narrow.{PartNarrow, place_narrow}
 use Rattle.ink_sound.proofs.Offers.{each_reverse}
 use Rattle.ink_sound.proofs.Places.{stands_fits}
+use Rattle.ink_sound.proofs.Rows.{one, two}
 use Rattle.ink_sound.proofs.Unspelling.{unspelled_reads}
 
 -- f reads what g spells, as it is by n
@@ -161,35 +167,198 @@ module _ (s : StoryTree) where
         by None e = absurd (true≢false (sym e ∙ none))
         by (Some t) e = refl
 
-    pub spelling_back : (x : Configuration) → Sound s x → unspelled (spelling x) ≡ Some (settled x)
+    choices_back : (f : FlowOf (List Part)) → FlowSound s f → all_of choice_of (items_of (map choice_data f.choices)) ≡ Some (map unnumbered_choice f.choices)
+    choices_back f h = all_back choice_of choice_data unnumbered_choice (ChoiceFits s) choice_back f.choices h.choices.each
+
+    stack_back : (f : FlowOf (List Part)) → FlowSound s f → all_of value_of (items_of (map value_data f.stack)) ≡ Some f.stack
+    stack_back f h = list_back value_of value_data (ValueFits s) value_back f.stack h.stack.each
+
+    threads_spell : (f : FlowOf (List Part)) → FlowSound s f → Each ThreadSpells (f.threads.thread ∷ f.threads.below)
+    threads_spell f h = (
+      thread_spells f.threads.thread h.threads.thread (flow_place f.threads.thread.frame.place f.threads.below h.threads.flow),
+      each_of (ThreadStands s) ThreadSpells thread_stands f.threads.below h.threads.below,
+    )
+
+    threads_back : (f : FlowOf (List Part)) → FlowSound s f
+        → all_of thread_in (items_of (map thread_data (reverse (f.threads.thread ∷ f.threads.below)))) ≡ Some (map unnumbered_thread (reverse (f.threads.thread ∷ f.threads.below)))
+    threads_back f h =
+        all_back thread_in thread_data unnumbered_thread ThreadSpells thread_back (reverse (f.threads.thread ∷ f.threads.below))
+        (each_reverse ThreadSpells (f.threads.thread ∷ f.threads.below) (threads_spell f h))
+
+    globals_back : (c : Configuration) → Sound s c → all_of (pair_of text_of value_of) (items_of (map global_data c.shared.globals)) ≡ Some c.shared.globals
+    globals_back c h = list_back (pair_of text_of value_of) global_data (RowFits s) global_back c.shared.globals h.shared.globals.each
+
+    turns_back : (c : Configuration) → Sound s c → all_of (pair_of place_of count_of) (items_of (map row_data c.shared.counts.turns)) ≡ Some c.shared.counts.turns
+    turns_back c h = list_back (pair_of place_of count_of) row_data (λ r. PlaceFits s r.0) row_back c.shared.counts.turns
+        (each_of (RowCounts s notes_turns 0) (λ r. PlaceFits s r.0) (λ r k. counted_stands notes_turns 0 r refl k) c.shared.counts.turns h.shared.counts.turns.each)
+
+    visits_back : (c : Configuration) → Sound s c → all_of (pair_of place_of count_of) (items_of (map row_data c.shared.counts.visits)) ≡ Some c.shared.counts.visits
+    visits_back c h = list_back (pair_of place_of count_of) row_data (λ r. PlaceFits s r.0) row_back c.shared.counts.visits
+        (each_of (RowCounts s counts_visits 1) (λ r. PlaceFits s r.0) (λ r k. counted_stands counts_visits 1 r refl k) c.shared.counts.visits h.shared.counts.visits.each)
+
+    -- layout 1
+    old_back : (x : Configuration) → Sound s x → unspelled (old_spelling x) ≡ Some (alone (settled x))
     unfolding settled
-    spelling_back x h =
-        let threads : List (ThreadOf (List Part)) = x.flow.threads.thread ∷ x.flow.threads.below in
-        let spells : Each ThreadSpells threads = (
-          thread_spells x.flow.threads.thread h.flow.threads.thread (flow_place x.flow.threads.thread.frame.place x.flow.threads.below h.flow.threads.flow),
-          each_of (ThreadStands s) ThreadSpells thread_stands x.flow.threads.below h.flow.threads.below,
-        ) in
+    old_back x h =
         rw (
-          all_back choice_of choice_data unnumbered_choice (ChoiceFits s) choice_back x.flow.choices h.flow.choices.each,
-          list_back (pair_of text_of value_of) global_data (RowFits s) global_back x.shared.globals h.shared.globals.each,
-          list_back value_of value_data (ValueFits s) value_back x.flow.stack h.flow.stack.each,
-          all_back thread_in thread_data unnumbered_thread ThreadSpells thread_back (reverse threads) (each_reverse ThreadSpells threads spells),
-          list_back (pair_of place_of count_of) row_data (λ r. PlaceFits s r.0) row_back x.shared.counts.turns
-              (each_of (RowCounts s notes_turns 0) (λ r. PlaceFits s r.0) (λ r k. counted_stands notes_turns 0 r refl k) x.shared.counts.turns h.shared.counts.turns.each),
-          list_back (pair_of place_of count_of) row_data (λ r. PlaceFits s r.0) row_back x.shared.counts.visits
-              (each_of (RowCounts s counts_visits 1) (λ r. PlaceFits s r.0) (λ r k. counted_stands counts_visits 1 r refl k) x.shared.counts.visits h.shared.counts.visits.each),
-          map_turned unnumbered_thread threads,
+          choices_back x.flow h.flow,
+          globals_back x h,
+          stack_back x.flow h.flow,
+          threads_back x.flow h.flow,
+          turns_back x h,
+          visits_back x h,
+          map_turned unnumbered_thread (x.flow.threads.thread ∷ x.flow.threads.below),
         ) refl
 
-    pub reads_back : (j : Data) (x : Configuration) → Reads s j x → unspelled j ≡ Some x
-    reads_back j x h = ap unspelled h.spells ∙ spelling_back x h.sound ∙ ap (λ y. Some y) h.rests
+    -- ---- layout 2
 
-    pub reads_so : (j : Data) (x : Configuration) → unspelled j ≡ Some x → Sound s x → Reads s j x
-    reads_so j x e h =
-        let spells : j ≡ spelling x = unspelled_reads j x e in
-        let rests : Some (settled x) ≡ Some x = sym (spelling_back x h) ∙ ap unspelled (sym spells) ∙ e in
-        record { spells = spells; sound = h; rests = cc }
+    abbrev settled_row : List ℕ × FlowOf (List Part) → List ℕ × FlowOf (List Part)
+    settled_row r = (r.0, unnumbered_flow r.1)
 
-    -- a JSON value reads as one configuration
-    pub reads_one : (j : Data) (x y : Configuration) → Reads s j x → Reads s j y → x ≡ y
-    reads_one j x y h k = let both : Some x ≡ Some y = sym (reads_back j x h) ∙ reads_back j y k in cc
+    named_flow_back : Back named_flow_of named_flow_data settled_row (λ r. FlowSound s r.1)
+    named_flow_back r h =
+        rw (choices_back r.1 h, stack_back r.1 h, threads_back r.1 h, map_turned unnumbered_thread (r.1.threads.thread ∷ r.1.threads.below)) refl
+
+    -- the flows that stand aside, without the numbers of Enters
+    abbrev settled_aside : Aside → Aside
+    settled_aside rows = each (option_map unnumbered_flow) rows
+
+    abbrev settled_game : Game → Game
+    settled_game g = record { now = settled g.now; aside = settled_aside g.aside }
+
+    abbrev RowSound : List ℕ × Option (FlowOf (List Part)) → Type 0
+    RowSound r = IsTrue (is_flow_name r.0) × PartsFit s r.1
+
+    flows_sound : (f : FlowOf (List Part)) (rows : Aside) → FlowSound s f → Each RowSound rows → Each (λ r. FlowSound s r.1) (all_flows f rows)
+    flows_sound f [] k h = tt
+    flows_sound f ((n, None) ∷ rows) k h = (k, flows_sound f rows k h.1)
+    flows_sound f ((n, Some x) ∷ rows) k h = (h.0.1, flows_sound f rows k h.1)
+
+    module _ (f : FlowOf (List Part)) where
+      -- as they are read
+      abbrev read_flows : Aside → Rows (FlowOf (List Part))
+      read_flows rows = map settled_row (all_flows f rows)
+
+      -- where the current one's name stands nowhere
+      others_back : (current : List ℕ) (rows : Aside) → holes rows ≡ 0 → is_none (at_name current rows) ≡ true → aside_but current (read_flows rows) ≡ settled_aside rows
+      others_back current [] h k = refl
+      others_back current ((n, None) ∷ rows) h k = absurd (omega arith)
+      others_back current ((n, Some x) ∷ rows) h k = by (bytes_eq current n) (others_back current rows h) k
+        where
+          by : (b : Bool) → (is_none (at_name current rows) ≡ true → aside_but current (read_flows rows) ≡ settled_aside rows)
+              → is_none (cond b (Some (Some x)) (at_name current rows)) ≡ true
+              → (n, if b then None else Some (unnumbered_flow x)) ∷ aside_but current (read_flows rows) ≡ (n, Some (unnumbered_flow x)) ∷ settled_aside rows
+          by true more e = absurd (true≢false (sym e))
+          by false more e = ap (λ l. (n, Some (unnumbered_flow x)) ∷ l) (more e)
+
+      current_there : (rows : Aside) → holes rows ≡ 1 → is_none (at_name (current_name rows) rows) ≡ false
+      current_there [] h = absurd (omega arith)
+      current_there ((n, None) ∷ rows) h = ap (λ b. is_none (cond b (Some None) (at_name n rows))) (its_name n)
+      current_there ((n, Some x) ∷ rows) h =
+          cond_both (bytes_eq (current_name rows) n) (Some (Some x)) (at_name (current_name rows) rows) (λ o. is_none o ≡ false) (λ _. refl) (λ _. current_there rows h)
+
+      -- the current one has another name than stands nowhere among them
+      current_other : (n : List ℕ) (rows : Aside) → is_none (at_name n rows) ≡ true → holes rows ≡ 1 → bytes_eq (current_name rows) n ≡ false
+      current_other n rows none h = by (bytes_eq (current_name rows) n) refl
+        where
+          by : (b : Bool) → bytes_eq (current_name rows) n ≡ b → bytes_eq (current_name rows) n ≡ false
+          by true e = absurd (true≢false (sym (ap (λ m. is_none (at_name m rows)) (same_name (current_name rows) n e) ∙ none) ∙ current_there rows h))
+          by false e = e
+
+      record Found (rows : Aside) : Type 0 where
+        current : at_name (current_name rows) (read_flows rows) ≡ Some (unnumbered_flow f)
+        others : aside_but (current_name rows) (read_flows rows) ≡ settled_aside rows
+
+      flows_back : (rows : Aside) → once rows ≡ true → holes rows ≡ 1 → Found rows
+      flows_back [] names h = absurd (omega arith)
+      flows_back ((n, None) ∷ rows) names h = record {
+        current = ap (λ b. cond b (Some (unnumbered_flow f)) (at_name n (read_flows rows))) (its_name n);
+        others =
+            ap (λ b. (n, if b then None else Some (unnumbered_flow f)) ∷ aside_but n (read_flows rows)) (its_name n)
+            ∙ ap (λ l. (n, None) ∷ l) (others_back n rows (omega arith) (one (is_none (at_name n rows)) (once rows) names));
+      }
+      flows_back ((n, Some x) ∷ rows) names h =
+          let rest = flows_back rows (two (is_none (at_name n rows)) (once rows) names) h in
+          let other = current_other n rows (one (is_none (at_name n rows)) (once rows) names) h in
+          record {
+            current = ap (λ b. cond b (Some (unnumbered_flow x)) (at_name (current_name rows) (read_flows rows))) other ∙ rest.current;
+            others =
+                ap (λ b. (n, if b then None else Some (unnumbered_flow x)) ∷ aside_but (current_name rows) (read_flows rows)) other
+                ∙ ap (λ l. (n, Some (unnumbered_flow x)) ∷ l) rest.others;
+          }
+
+    -- what is read of the members of a spelling
+    spelled_back : (g : Game) → Sound s g.now → Each RowSound g.aside → unspelled (spelling g)
+        ≡ game_spelled (record { current = current_name g.aside; flows = read_flows g.now.flow g.aside; shared = g.now.shared })
+    spelled_back g h k =
+        rw (
+          all_back named_flow_of named_flow_data settled_row (λ r. FlowSound s r.1) named_flow_back (all_flows g.now.flow g.aside) (flows_sound g.now.flow g.aside h.flow k),
+          globals_back g.now h,
+          turns_back g.now h,
+          visits_back g.now h,
+        ) refl
+
+    pub spelling_back : (g : Game) → Sound s g.now → AsideSound s g.aside → unspelled (spelling g) ≡ Some (settled_game g)
+    unfolding settled
+    spelling_back g h k =
+        let found = flows_back g.now.flow g.aside k.names k.current in
+        spelled_back g h k.each
+        ∙ ap (game_with (record { current = current_name g.aside; flows = read_flows g.now.flow g.aside; shared = g.now.shared })) found.current
+        ∙ ap (λ rows. Some (record { now = record { flow = unnumbered_flow g.now.flow; shared = g.now.shared; page = empty_page }; aside = rows })) found.others
+
+    -- ---- as which game a value reads
+
+    rows_sound : (rows : Aside) → Each (NamedFits s) rows → Each RowSound rows
+    rows_sound [] h = tt
+    rows_sound ((n, None) ∷ rows) h = (h.0, rows_sound rows h.1)
+    rows_sound ((n, Some f) ∷ rows) h = ((h.0.0, h.0.1.0), rows_sound rows h.1)
+
+    pub aside_sound : (rows : Aside) → AsideFits s rows → AsideSound s rows
+    aside_sound rows h = record { first = h.first; names = h.names; current = h.current; few = h.few; each = rows_sound rows h.each }
+
+    rows_rest : (rows : Aside) → Each (NamedFits s) rows → settled_aside rows ≡ rows
+    rows_rest [] h = refl
+    rows_rest ((n, None) ∷ rows) h = ap (λ l. (n, None) ∷ l) (rows_rest rows h.1)
+    rows_rest ((n, Some f) ∷ rows) h = (λ i. (n, Some (h.0.1.1 i)) ∷ rows_rest rows h.1 i)
+
+    abbrev first_row : Aside → Option (FlowOf (List Part))
+    first_row [] = None
+    first_row (r ∷ rows) = r.1
+
+    rows_fit : (rows : Aside) → Each RowSound rows → settled_aside rows ≡ rows → Each (NamedFits s) rows
+    rows_fit [] h e = tt
+    rows_fit ((n, None) ∷ rows) h e =
+        let rest : settled_aside rows ≡ rows = cc in
+        (h.0, rows_fit rows h.1 rest)
+    rows_fit ((n, Some f) ∷ rows) h e =
+        let here : Some (unnumbered_flow f) ≡ Some f = ap first_row e in
+        let first : unnumbered_flow f ≡ f = cc in
+        let rest : settled_aside rows ≡ rows = cc in
+        ((h.0.0, (h.0.1, first)), rows_fit rows h.1 rest)
+
+    spells_back : (j : Data) (g : Game) → Spells j g → Sound s g.now → AsideSound s g.aside → unspelled j ≡ Some (settled_game g)
+    spells_back j g (inl e) h k = ap unspelled e ∙ spelling_back g h k
+    spells_back j g (inr e) h k = ap unspelled e.0 ∙ old_back g.now h ∙ ap (λ rows. Some (record { now = settled g.now; aside = settled_aside rows })) (sym e.1)
+
+    pub reads_back : (j : Data) (g : Game) → Reads s j g → unspelled j ≡ Some g
+    reads_back j g h =
+        let rest = rows_rest g.aside h.stands.aside.each in
+        spells_back j g h.spells h.stands.sound (aside_sound g.aside h.stands.aside) ∙ (λ i. Some (record { now = h.stands.rests i; aside = rest i }))
+
+    pub reads_so : (j : Data) (g : Game) → unspelled j ≡ Some g → Sound s g.now → AsideSound s g.aside → Reads s j g
+    reads_so j g e h k =
+        let spells = unspelled_reads j g e k.current in
+        let both : Some (settled_game g) ≡ Some g = sym (spells_back j g spells h k) ∙ e in
+        let same : settled_game g ≡ g = cc in
+        record {
+          spells = spells;
+          stands = record {
+            sound = h;
+            rests = ap (λ (m : Game). m.now) same;
+            aside = record { first = k.first; names = k.names; current = k.current; few = k.few; each = rows_fit g.aside k.each (ap (λ (m : Game). m.aside) same) };
+          };
+        }
+
+    -- a JSON value reads as one game
+    pub reads_one : (j : Data) (g k : Game) → Reads s j g → Reads s j k → g ≡ k
+    reads_one j g k h i = let both : Some g ≡ Some k = sym (reads_back j g h) ∙ reads_back j k i in cc

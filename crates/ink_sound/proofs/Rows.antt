@@ -125,7 +125,7 @@ place_total = lists_total (record { antisymm = part_antisymm; trans = part_trans
 
 -- ---- names that stand once
 
-turned : (a b : List ℕ) → bytes_eq a b ≡ false → bytes_eq b a ≡ false
+pub turned : (a b : List ℕ) → bytes_eq a b ≡ false → bytes_eq b a ≡ false
 turned a b e = search (rules, bytes_eq-Decides, e)
 
 stored_other : (k name : List ℕ) (v : Value) (vs : Values) → bytes_eq k name ≡ false → is_some (stored k (store name v vs)) ≡ is_some (stored k vs)

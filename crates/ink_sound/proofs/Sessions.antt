@@ -1,6 +1,6 @@
 -- Every state of a session is sound and at rest.
-use Rattle.std.proofs.Common.{◌≡◌, ap, sym, refl, subst, ℕ, List, [], ◌∷◌, inl, inr, Bool, true, false, Option, Some, None, is_some, option_map, Result, Ok, Err, MatchBool}
-use Rattle.ink_model.specs.Answer.{Reply, Refuses}
+use Rattle.std.proofs.Common.{◌≡◌, ap, sym, refl, subst, ℕ, List, [], ◌∷◌, inl, inr, Bool, true, false, bytes_eq, Option, Some, None, is_some, option_map, Result, Ok, Err, MatchBool}
+use Rattle.ink_model.specs.Answer.{Reply, Acts, Refuses}
 use Rattle.ink_model.specs.Told.{told}
 use Rattle.ink_model.specs.declared.fault.Fault.{Fault}
 use Rattle.ink_model.specs.declared.fault.Fault.TheVariants.{OutOfMemory}
@@ -9,14 +9,17 @@ use Rattle.ink_model.specs.Changed.{Keeps}
 use Rattle.ink_model.specs.Choosing.{chosen, jump_place, jumped, open_choice}
 use Rattle.ink_model.specs.Command as command
 use Rattle.ink_model.specs.Command.{Command, command_of}
-use Rattle.ink_model.specs.Configuration.{ChoiceOf, Configuration, can_go_on, settled, unnumbered_choice, with_globals}
+use Rattle.ink_model.specs.Configuration.{ChoiceOf, Configuration, FlowOf, can_go_on, settled, unnumbered_choice, with_globals}
+use Rattle.ink_model.specs.FlowCommands.{DropsBy, DropsFrom, Goes, GoesFrom}
+use Rattle.ink_model.specs.Flows.{Game, alone, default_flow, dropped, first_flow, flows_in, goes_to, has_room, in_flow, is_flow_name, one_flow, without_flow}
 use Rattle.ink_model.specs.Host.{Bindings, value_given}
 use Rattle.ink_model.specs.Line.{EndsLine, line_end}
+use Rattle.ink_model.specs.Named.{at}
 use Rattle.ink_model.specs.Opening.{Unopened, opened, opening}
 use Rattle.ink_model.specs.Run.{Made, Moment, At, Stopped, Faulted, Waits, RunEnd, Kept, Broke, EndsThrough, answers_of, end_of, through}
 use Rattle.ink_model.specs.Memory.{FallsShort, LineFallsShort}
-use Rattle.ink_model.specs.Session.{Continue, Does, EndsAs, FailsToRestart, GetsFrom, Load, LoadsBy, RestartsAs, RunsFrom, RunsLine, RunsThrough, RunsTo, SavesFrom, Serves, Session, SetsFrom, SetsIn, TellsDone, TellsOrKeeps, Through, VisitsBy, VisitsFrom, condition_told, settable}
-use Rattle.ink_model.specs.State.{State, Condition, Ready, Broken}
+use Rattle.ink_model.specs.Session.{BeginsAnew, BreaksBy, Continue, Does, EndsAs, FailsToRestart, GetsFrom, Load, LoadsBy, RestartsAs, RunsFrom, RunsLine, RunsThrough, RunsTo, SavesFrom, Serves, Session, SetsFrom, SetsIn, TellsDone, TellsOrKeeps, Through, VisitsBy, VisitsFrom, condition_told, settable}
+use Rattle.ink_model.specs.State.{State, Condition, Ready, Broken, in_game}
 use Rattle.ink_model.specs.Store.{Values, store, stored}
 use Rattle.ink_model.specs.Tree.{StoryTree}
 use Rattle.ink_model.specs.Unread.{LineFails}
@@ -29,9 +32,10 @@ use Rattle.ink_model.specs.declared.host.Given.TheVariants as given
 use Rattle.ink_model.specs.declared.place.Part.{Part}
 use Rattle.serde_json.specs.Data.{Data}
 use Rattle.ink_sound.specs.Kept.{ConditionFits, Finds, MomentFits, StateFits, StoryFits}
-use Rattle.ink_model.specs.Save.Reads.{Rests}
-use Rattle.ink_model.specs.Save.Sound.{ChoiceFits, PlaceFits, Sound, ValueFits}
+use Rattle.ink_model.specs.Save.Reads.{Rests, Stands}
+use Rattle.ink_model.specs.Save.Sound.{AsideFits, ChoiceFits, PlaceFits, Sound, ValueFits}
 use Rattle.ink_sound.proofs.Between.{Opens, choices_rest, chosen_rests, globals_rest, globals_sound, jumped_rests, opening_fits, settled_rests, settled_sound}
+use Rattle.ink_sound.proofs.Going.{dropping_fits, first_fits, flows_fit, game_fits, going_fits, one_fits}
 use Rattle.ink_sound.proofs.Places.{jump_fits}
 use Rattle.ink_sound.proofs.Steps.{chosen_sound, jumped_sound, line_fits, open_finds, through_fits}
 use Rattle.ink_sound.proofs.Variables.{stored_fits}
@@ -50,18 +54,25 @@ module _ (s : StoryTree) where
   told_fits false done h = tt
 
   done_fits : (cs : List Change) (done : Condition) (answers : List Event → Reply) (before es : List Event) (old : State) (reply : Reply) (new : State)
-      → TellsDone cs done answers before es old reply new → ConditionFits s done → StateFits s new
-  done_fits cs done answers before es old reply new h k = subst (StateFits s) (sym h.leaves) (told_fits h.all done k)
+      → TellsDone cs done answers before es old reply new → ConditionFits s done → AsideFits s old.aside → StateFits s new
+  done_fits cs done answers before es old reply new h k a = subst (StateFits s) (sym h.leaves) (record { condition = told_fits h.all done k; aside = a })
 
   tells_fits : (cs : List Change) (done : Condition) (es : List Event) (old : State) (reply : Reply) (new : State)
       → TellsOrKeeps cs done es old reply new → ConditionFits s done → StateFits s old → StateFits s new
-  tells_fits cs done es old reply new (inl h) k o = done_fits cs done _ [] es old reply new h k
+  tells_fits cs done es old reply new (inl h) k o = done_fits cs done _ [] es old reply new h k o.aside
   tells_fits cs done es old reply new (inr h) k o = along old new h.2.1 o
+
+  begins_fits : (cs : List Change) (g : Game) (es : List Event) (old : State) (reply : Reply) (new : State) → BeginsAnew cs g es old reply new → Stands s g → StateFits s old → StateFits s new
+  begins_fits cs g es old reply new (inl h) k o = done_fits cs (Ready g.now) _ [] es (record old { aside = g.aside }) reply new h (k.sound, k.rests) k.aside
+  begins_fits cs g es old reply new (inr h) k o = along old new h.2.1 o
+
+  broken_fits : (f : Fault) (globals : Values) (before es : List Event) (old : State) (reply : Reply) (new : State) → BreaksBy f globals before es old reply new → AsideFits s old.aside → StateFits s new
+  broken_fits f globals before es old reply new h a = subst (StateFits s) (sym h.2) (record { condition = tt; aside = a })
 
   -- ---- choosing and jumping
 
   lands_fits : (c : Configuration) (old : State) (reply : Reply) (new : State) → LandsFor s c old reply new → ConditionFits s (Ready (entering_around s c)) → StateFits s old → StateFits s new
-  lands_fits c old reply new (inl h) k o = subst (StateFits s) (sym h.1) k
+  lands_fits c old reply new (inl h) k o = subst (StateFits s) (sym h.1) (record { condition = k; aside = o.aside })
   lands_fits c old reply new (inr h) k o = along old new h.1.1 o
 
   choose_fits : (n : ℕ) (k : Condition) (old : State) (reply : Reply) (new : State) → ChoosesFrom s n k old reply new → ConditionFits s k → StateFits s old → StateFits s new
@@ -133,13 +144,56 @@ module _ (s : StoryTree) where
   saves_fit (Ready c) old reply new (inr h) o = kept _ old new reply h o
 
   loads_fit : (h : Bindings) (j : Data) (es : List Event) (old : State) (reply : Reply) (new : State) → LoadsBy s h j es old reply new → StateFits s old → StateFits s new
-  loads_fit h j es old reply new (inl x) o = tells_fits _ (Ready x.loaded) es old reply new x.tells (x.reads.sound, x.reads.rests) o
+  loads_fit h j es old reply new (inl x) o = begins_fits _ x.loaded es old reply new x.tells x.reads.stands o
   loads_fit h j es old reply new (inr (inl x)) o = kept _ old new reply x.2 o
   loads_fit h j es old reply new (inr (inr x)) o = kept _ old new reply x.2 o
 
   load_fits : (h : Bindings) (es : List Event) (saved : Option Data) (old : State) (reply : Reply) (new : State) → Load s h es saved old reply new → StateFits s old → StateFits s new
   load_fits h es None old reply new x o = kept _ old new reply x.1 o
   load_fits h es (Some j) old reply new x o = loads_fit h j es old reply new x o
+
+  -- ---- flows
+
+  abbrev here : Configuration → State → Game
+  here c old = record { now = c; aside = old.aside }
+
+  here_stands : (c : Configuration) (old : State) → Sound s c → Rests c → StateFits s old → Stands s (here c old)
+  here_stands c old sound rests o = record { sound = sound; rests = rests; aside = o.aside }
+
+  in_game_fits : (g : Game) (old new : State) → new ≡ in_game g old → Stands s g → StateFits s new
+  in_game_fits g old new e k = subst (StateFits s) (sym e) (record { condition = (k.sound, k.rests); aside = k.aside })
+
+  goes_fit : (name : List ℕ) (k : Condition) (old : State) (reply : Reply) (new : State) → GoesFrom s name k old reply new → ConditionFits s k → StateFits s old → StateFits s new
+  goes_fit name (Broken f globals) old reply new h k o = kept _ old new reply h o
+  goes_fit name (Ready c) old reply new h k o = by (is_flow_name name) refl (has_room name old.aside) refl h
+    where
+      by : (b : Bool) → is_flow_name name ≡ b → (d : Bool) → has_room name old.aside ≡ d
+          → MatchBool b (MatchBool d (Goes s name (here c old) old reply new) (Keeps (Refuses refusal.TooManyFlows) old reply new)) (Keeps (Refuses refusal.BadValue) old reply new)
+          → StateFits s new
+      by true named true room (inl x) =
+          let stands = here_stands c old k.0 k.1 o in
+          in_game_fits (in_flow s name (here c old)) old new x.1 (game_fits s (here c old) (goes_to (first_flow s) name (flows_in (here c old)))
+          (going_fits s (first_flow s) name (flows_in (here c old)) (first_fits s) named room (flows_fit s (here c old) stands)) stands)
+      by true named true room (inr x) = kept _ old new reply x.1 o
+      by true named false room x = kept _ old new reply x o
+      by false named d room x = kept _ old new reply x o
+
+  -- by whether it is the first
+  abbrev Drops : List ℕ → Configuration → State → Reply → State → Bool → Type 0
+  Drops name c old reply new first = MatchBool first (Keeps (Refuses refusal.DefaultFlow) old reply new) ((reply ≡ Acts []) × (new ≡ in_game (without_flow s name (here c old)) old))
+
+  drops_fit : (name : List ℕ) (k : Condition) (old : State) (reply : Reply) (new : State) → DropsFrom s name k old reply new → ConditionFits s k → StateFits s old → StateFits s new
+  drops_fit name (Broken f globals) old reply new h k o = kept _ old new reply h o
+  drops_fit name (Ready c) old reply new h k o = by (at name old.aside) (bytes_eq name default_flow) refl h
+    where
+      by : (there : Option (Option (FlowOf (List Part)))) (b : Bool) → bytes_eq name default_flow ≡ b → DropsBy s name there (here c old) old reply new → StateFits s new
+      by None b e x = kept _ old new reply x o
+      by (Some f) true e x = kept _ old new reply (subst (Drops name c old reply new) e x) o
+      by (Some f) false e x =
+          let stands = here_stands c old k.0 k.1 o in
+          let y = subst (Drops name c old reply new) e x in
+          in_game_fits (without_flow s name (here c old)) old new y.1 (game_fits s (here c old) (dropped (first_flow s) name (flows_in (here c old)))
+          (dropping_fits s (first_flow s) name (flows_in (here c old)) (first_fits s) e (flows_fit s (here c old) stands)) stands)
 
   module _ (story : StoryFits s) (h : Bindings) where
     -- ---- running
@@ -163,10 +217,11 @@ module _ (s : StoryTree) where
     end_fits (At c left calls) end made e h = absurd cc
     end_fits (Waits name calls) end made e h = absurd cc
 
-    ends_fit : (start : Values) (end : RunEnd) (made : List Made) (es : List Event) (old : State) (reply : Reply) (new : State) → EndsAs h start end made es old reply new → EndFits end → StateFits s new
-    ends_fit start (Kept c) made es old reply new (inl x) k = done_fits _ (Ready (settled c)) _ _ es old reply new x (settled_sound s c k, settled_rests c)
-    ends_fit start (Kept c) made es old reply new (inr x) k = subst (StateFits s) (sym x.1.2) tt
-    ends_fit start (Broke f globals) made es old reply new x k = subst (StateFits s) (sym x.2) tt
+    ends_fit : (start : Values) (end : RunEnd) (made : List Made) (es : List Event) (old : State) (reply : Reply) (new : State) → EndsAs h start end made es old reply new → EndFits end → AsideFits s old.aside
+        → StateFits s new
+    ends_fit start (Kept c) made es old reply new (inl x) k a = done_fits _ (Ready (settled c)) _ _ es old reply new x (settled_sound s c k, settled_rests c) a
+    ends_fit start (Kept c) made es old reply new (inr x) k a = broken_fits _ _ _ es old reply new x.1 a
+    ends_fit start (Broke f globals) made es old reply new x k a = broken_fits f globals _ es old reply new x a
 
     line_end_fits : (m : Moment) (end : RunEnd) (made : List Made) → line_end m ≡ Some (end, made) → MomentFits s m → EndFits end
     line_end_fits (At c [] calls) end made e h = subst EndFits (same_end (Kept c) end calls made e) h
@@ -182,9 +237,9 @@ module _ (s : StoryTree) where
     line_fits_end c made end (m, line, x) k = line_end_fits m end made x (line_fits s story h.functions c (answers_of made) m line k)
 
     runs_to_fit : (Ends : RunEnd → Type 0) (FallShort : Values → Type 0) (c : Configuration) (made : List Made) (es : List Event) (old : State) (reply : Reply) (new : State)
-        → RunsTo Ends FallShort h c made es old reply new → ((end : RunEnd) → Ends end → EndFits end) → StateFits s new
-    runs_to_fit Ends FallShort c made es old reply new (inl x) fits = ends_fit c.shared.globals x.0 made es old reply new x.2 (fits x.0 x.1)
-    runs_to_fit Ends FallShort c made es old reply new (inr x) fits = subst (StateFits s) (sym x.2.2) tt
+        → RunsTo Ends FallShort h c made es old reply new → ((end : RunEnd) → Ends end → EndFits end) → AsideFits s old.aside → StateFits s new
+    runs_to_fit Ends FallShort c made es old reply new (inl x) fits a = ends_fit c.shared.globals x.0 made es old reply new x.2 (fits x.0 x.1) a
+    runs_to_fit Ends FallShort c made es old reply new (inr x) fits a = broken_fits OutOfMemory x.0 _ es old reply new x.2 a
 
     runs_from_fit : (Runs : Configuration → List Made → List Event → State → Reply → State → Type 0) (es : List Event) (k : Condition) (old : State) (reply : Reply) (new : State)
         → RunsFrom Runs es k old reply new → ((c : Configuration) (made : List Made) → Sound s c → Runs c made es old reply new → StateFits s new)
@@ -198,18 +253,18 @@ module _ (s : StoryTree) where
 
     through_fits_from : (es : List Event) (old : State) (reply : Reply) (new : State) → Through s h es old reply new → StateFits s old → StateFits s new
     through_fits_from es old reply new does o = runs_from_fit (RunsThrough s h) es old.condition old reply new does
-        (λ c made k x. runs_to_fit (EndsThrough s h.functions c made) (FallsShort s h.functions c made) c made es old reply new x (λ end y. through_end c made end y k)) o o
+        (λ c made k x. runs_to_fit (EndsThrough s h.functions c made) (FallsShort s h.functions c made) c made es old reply new x (λ end y. through_end c made end y k) o.aside) o.condition o
 
     continue_fits_from : (es : List Event) (old : State) (reply : Reply) (new : State) → Continue s h es old reply new → StateFits s old → StateFits s new
     continue_fits_from es old reply new does o = runs_from_fit (RunsLine s h) es old.condition old reply new does
-        (λ c made k x. runs_to_fit (EndsLine s h.functions c made) (LineFallsShort s h.functions c made) c made es old reply new x (λ end y. line_fits_end c made end y k)) o o
+        (λ c made k x. runs_to_fit (EndsLine s h.functions c made) (LineFallsShort s h.functions c made) c made es old reply new x (λ end y. line_fits_end c made end y k) o.aside) o.condition o
 
     fails_fit : (f : Fault) (globals : Values) (es : List Event) (old : State) (reply : Reply) (new : State) → FailsToRestart f globals es old reply new → StateFits s old → StateFits s new
     fails_fit OutOfMemory globals es old reply new x o = along old new x.1.1 o
-    fails_fit f globals es old reply new x o = subst (StateFits s) (sym x.2) tt
+    fails_fit f globals es old reply new x o = broken_fits f globals [] es (record old { aside = one_flow }) reply new x (one_fits s)
 
     restarts_fit : (r : Result Configuration Unopened) (es : List Event) (old : State) (reply : Reply) (new : State) → RestartsAs h r es old reply new → Opens s r → StateFits s old → StateFits s new
-    restarts_fit (Ok c) es old reply new does k o = tells_fits _ (Ready c) es old reply new does k o
+    restarts_fit (Ok c) es old reply new does k o = begins_fits _ (alone c) es old reply new does (record { sound = k.0; rests = k.1; aside = one_fits s }) o
     restarts_fit (Err e) es old reply new does k o = fails_fit e.fault e.globals es old reply new does o
 
     -- ---- commands and sessions
@@ -218,15 +273,17 @@ module _ (s : StoryTree) where
     does_fit es None old reply new does o = kept _ old new reply does.1 o
     does_fit es (Some command.Continue) old reply new does o = continue_fits_from es old reply new does o
     does_fit es (Some command.Through) old reply new does o = through_fits_from es old reply new does o
-    does_fit es (Some (command.Set name value)) old reply new does o = set_fits h name value old.condition es old reply new does o o
+    does_fit es (Some (command.Set name value)) old reply new does o = set_fits h name value old.condition es old reply new does o.condition o
     does_fit es (Some (command.Get name)) old reply new does o = get_fits _ old reply new does.1 o
     does_fit es (Some (command.Visits path)) old reply new does o = visits_fit path old.condition old reply new does.1 o
-    does_fit es (Some (command.Choose number)) old reply new does o = choose_fits number old.condition old reply new does.1 o o
-    does_fit es (Some (command.Jump path)) old reply new does o = jump_fits_from path old.condition old reply new does.1 o o
+    does_fit es (Some (command.Choose number)) old reply new does o = choose_fits number old.condition old reply new does.1 o.condition o
+    does_fit es (Some (command.Jump path)) old reply new does o = jump_fits_from path old.condition old reply new does.1 o.condition o
     does_fit es (Some command.Save) old reply new does o = saves_fit old.condition old reply new does.1 o
     does_fit es (Some (command.Load saved)) old reply new does o = load_fits h es saved old reply new does o
     does_fit es (Some command.Restart) old reply new (inl does) o = restarts_fit (opening s) es old reply new does (opening_fits s story) o
     does_fit es (Some command.Restart) old reply new (inr does) o = along old new does.2.1 o
+    does_fit es (Some (command.Flow name)) old reply new does o = goes_fit name old.condition old reply new does.1 o.condition o
+    does_fit es (Some (command.Drop name)) old reply new does o = drops_fit name old.condition old reply new does.1 o.condition o
 
     line_fails : (c : Option Command) (old : State) (reply : Reply) (new : State) → LineFails c old reply new → new ≡ old
     line_fails c old reply new (inl x) = x.1.1
@@ -246,7 +303,7 @@ module _ (s : StoryTree) where
 
 module _ (s : StoryTree) (story : StoryFits s) (c : Configuration) (opens : opening s ≡ Ok c) where
   pub opened_fits : StateFits s (opened c)
-  opened_fits = subst (Opens s) opens (opening_fits s story)
+  opened_fits = record { condition = subst (Opens s) opens (opening_fits s story); aside = one_fits s }
 
   -- every state of a session
   pub session_states : (h : Bindings) (es : List Event) (lines : List (List ℕ)) (written : List ℕ) (new : State) → Session s h es lines (opened c) written new → StateFits s new

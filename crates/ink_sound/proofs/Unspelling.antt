@@ -1,15 +1,18 @@
--- A JSON value that is read as a configuration is its spelling.
-use Rattle.std.proofs.Common.{◌≡◌, ◌∙◌, ◌⊎◌, inl, inr, ap, sym, refl, subst, arith, ℕ, ◌^◌, ℤ, pos, negsuc, List, [], ◌∷◌, map, reverse, codes, Bool, true, false, bytes_eq, nat_lt, ◌==◌, if◌then◌else◌, Option, Some, None, option_and_then}
+-- A JSON value that is read as a game is its spelling.
+use Rattle.std.proofs.Common.{◌≡◌, ◌∙◌, ◌⊎◌, inl, inr, ap, sym, refl, subst, arith, ℕ, ◌^◌, ℤ, pos, negsuc, List, [], ◌∷◌, map, reverse, codes, Bool, true, false, bytes_eq, cond, nat_lt, ◌==◌, if◌then◌else◌, Option, Some, None, option_and_then}
 use Rattle.std.proofs.lemmas.Bool.Decides.{nat_tests}
 use Rattle.std.proofs.lemmas.List.{reverse-reverse}
 use Rattle.std.proofs.lemmas.Slice.Eq.{bytes_eq-Decides}
 use Rattle.std.specs.Option.{option_map, option_or}
 use Rattle.serde_json.specs.Data.{Num, unsigned, negative, float, Data, null, boolean, number, string, array, object, Items, no_items, item, Members, no_members, member}
 use Rattle.serde_json.specs.Find.{of_integer}
-use Rattle.ink_model.specs.Configuration.{ChoiceOf, Configuration}
+use Rattle.ink_model.specs.Configuration.{ChoiceOf, Configuration, FlowOf}
 use Rattle.ink_model.specs.Events.{items_of}
+use Rattle.ink_model.specs.Flows.{Game, all_flows, alone, current_name, holes}
 use Rattle.ink_model.specs.Frames.{FrameOf, ThreadOf, ThreadsOf}
 use Rattle.ink_model.specs.Leaves.{is_small}
+use Rattle.ink_model.specs.Named.{Rows, at}
+use Rattle.ink_model.specs.Output.{empty_page}
 use Rattle.ink_model.specs.Path.{path_text, read_path}
 use Rattle.ink_model.specs.ValueJson.{value_data}
 use Rattle.ink_model.specs.declared.frame.FrameKind.TheVariants.{Base, Function, Tunnel}
@@ -17,8 +20,10 @@ use Rattle.ink_model.specs.declared.place.Part.{Part}
 use Rattle.ink_model.specs.declared.place.Part.TheVariants.{Index, Name}
 use Rattle.ink_model.specs.declared.value.Value.{Value}
 use Rattle.ink_model.specs.declared.value.Value.TheVariants as value
-use Rattle.ink_model.specs.Save.Spelling.{choice_data, count_data, frame_data, global_data, kind_data, list_data, part_data, place_data, place_or_null, row_data, spelling, temps_members, thread_data, threads_data}
-use Rattle.ink_model.specs.Save.Unspelled.{all_of, any_place_of, choice_of, closed, count_of, format_of, frame_of, from_threads, from_turn, int_of, integer_of, kind_of, list_of, number_integer, pair_of, part_of, path_if, path_in, place_of, pointer_in, rows_of, small, tag_in, take, target_in, temps_of, text_of, thread_in, thread_with, threads_with, truth_of, unspelled, value_of}
+use Rattle.ink_model.specs.Save.Reads.{Spells}
+use Rattle.ink_model.specs.Save.Spelling.{choice_data, count_data, frame_data, global_data, kind_data, list_data, named_flow_data, old_spelling, part_data, place_data, place_or_null, row_data, spelling, temps_members, thread_data, threads_data}
+use Rattle.ink_model.specs.Save.Unspelled.{Layout, First, Second, Spelled, all_of, any_place_of, aside_but, choice_of, closed, count_of, format_of, frame_of, from_threads, from_turn, game_of, game_spelled, game_with, int_of, integer_of, kind_of, layout_by, list_of, named_flow_of, number_integer, pair_of, part_of, path_if, path_in, place_of, pointer_in, rows_of, small, spelled_by, tag_in, take, target_in, temps_of, text_of, thread_in, thread_with, threads_with, truth_of, unspelled, unspelled_by, value_of}
+use Rattle.ink_sound.proofs.Named.{same_name}
 
 -- ---- what was found
 
@@ -82,9 +87,9 @@ text_reading : Reading text_of string
 text_reading (string t) x e = let same : t ≡ x = cc in ap string same
 text_reading d x e = absurd cc
 
-format_reading : Reading format_of (λ u. count_data 1)
-format_reading (number (unsigned n)) x e = let one : n ≡ 1 = grind (arith, nat_tests, (if_some (n == 1) tt x e).0) in ap count_data one
-format_reading d x e = absurd cc
+format_reading : (layout : ℕ) → Reading (format_of layout) (λ u. count_data layout)
+format_reading layout (number (unsigned n)) x e = let same : n ≡ layout = grind (arith, nat_tests, (if_some (n == layout) tt x e).0) in ap count_data same
+format_reading layout d x e = absurd cc
 
 integer_reading : (n : Num) (z : ℤ) → integer_of n ≡ Some z → n ≡ of_integer z
 integer_reading (unsigned n) z e = let same : pos n ≡ z = cc in ap of_integer same
@@ -279,6 +284,9 @@ with_threads_reads (u ∷ us) ts e =
 rows_of_counts : Reading (list_of (pair_of place_of count_of)) (list_data row_data)
 rows_of_counts = list_reading (pair_of place_of count_of) row_data (pair_reading place_of count_of place_data count_data place_reading count_reading)
 
+globals_reading : Reading (list_of (pair_of text_of value_of)) (list_data global_data)
+globals_reading = list_reading (pair_of text_of value_of) global_data (pair_reading text_of value_of string value_data text_reading value_reading)
+
 -- what the last members spell, and what was read before them
 record TurnRead (choices : List (ChoiceOf (List Part))) (globals : List (List ℕ × Value)) (safe : Bool) (stack : List Value) (threads : List (ThreadOf (List Part))) (ms : Members) (x : Configuration) : Type 0 where
   is : ms ≡ member (codes "turn") (count_data x.shared.turn) (member (codes "turns") (list_data row_data x.shared.counts.turns)
@@ -330,12 +338,12 @@ threads_read choices globals safe stack ms x e =
       stack_is = r.stack_is;
     }
 
-pub unspelled_reads : (j : Data) (x : Configuration) → unspelled j ≡ Some x → j ≡ spelling x
-unspelled_reads (object ms) x e =
+-- layout 1
+old_reads : (ms : Members) (x : Configuration) → unspelled_by ms ≡ Some x → object ms ≡ old_spelling x
+old_reads ms x e =
     let a = took (list_of choice_of) (list_data choice_data) (codes "choices") _ ms x (list_reading choice_of choice_data choice_reading) e in
-    let b = took format_of (λ u. count_data 1) (codes "format") _ a.rest x format_reading a.on in
-    let g = took (list_of (pair_of text_of value_of)) (list_data global_data) (codes "globals") _ b.rest x
-    (list_reading (pair_of text_of value_of) global_data (pair_reading text_of value_of string value_data text_reading value_reading)) b.on in
+    let b = took (format_of 1) (λ u. count_data 1) (codes "format") _ a.rest x (format_reading 1) a.on in
+    let g = took (list_of (pair_of text_of value_of)) (list_data global_data) (codes "globals") _ b.rest x globals_reading b.on in
     let f = took truth_of boolean (codes "safe") _ g.rest x truth_reading g.on in
     let s = took (list_of value_of) (list_data value_data) (codes "stack") _ f.rest x (list_reading value_of value_data value_reading) f.on in
     let r = threads_read a.x g.x f.x s.x s.rest x s.on in
@@ -344,4 +352,114 @@ unspelled_reads (object ms) x e =
     ((g.is ∙ (λ i. member (codes "globals") (list_data global_data (r.globals_are i))
     ((f.is ∙ (λ i. member (codes "safe") (boolean (r.safe_is i))
     ((s.is ∙ (λ i. member (codes "stack") (list_data value_data (r.stack_is i)) (r.is i))) i))) i))) i))) i)))
-unspelled_reads d x e = absurd cc
+
+-- ---- flows
+
+named_flow_reading : Reading named_flow_of named_flow_data
+named_flow_reading (object ms) r e =
+    let a = took (list_of choice_of) (list_data choice_data) (codes "choices") _ ms r (list_reading choice_of choice_data choice_reading) e in
+    let n = took text_of string (codes "name") _ a.rest r text_reading a.on in
+    let f = took truth_of boolean (codes "safe") _ n.rest r truth_reading n.on in
+    let s = took (list_of value_of) (list_data value_data) (codes "stack") _ f.rest r (list_reading value_of value_data value_reading) f.on in
+    let t = took (list_of thread_in) (list_data thread_data) (codes "threads") _ s.rest r (list_reading thread_in thread_data thread_reading) s.on in
+    let found = bind_some (threads_with (reverse t.x)) _ r t.on in
+    let z = closed_some _ r t.rest found.2 in
+    let all : t.x ≡ reverse (found.0.thread ∷ found.0.below) = turned t.x (found.0.thread ∷ found.0.below) (with_threads_reads (reverse t.x) found.0 found.1) in
+    ap object (onto (codes "choices") (list_data choice_data a.x) ms a.rest _ a.is
+    (onto (codes "name") (string n.x) a.rest n.rest _ n.is
+    (onto (codes "safe") (boolean f.x) n.rest f.rest _ f.is
+    (onto (codes "stack") (list_data value_data s.x) f.rest s.rest _ s.is
+    (t.is ∙ (λ i. member (codes "threads") (list_data thread_data (all i)) (z.0 i)))))))
+    ∙ ap named_flow_data z.1
+named_flow_reading d r e = absurd cc
+
+-- ---- layout 2
+
+abbrev spelled_data : Spelled → Data
+spelled_data x = object
+    (member (codes "current") (string x.current)
+    (member (codes "flows") (list_data named_flow_data x.flows)
+    (member (codes "format") (count_data 2)
+    (member (codes "globals") (list_data global_data x.shared.globals)
+    (member (codes "turn") (count_data x.shared.turn)
+    (member (codes "turns") (list_data row_data x.shared.counts.turns)
+    (member (codes "visits") (list_data row_data x.shared.counts.visits) no_members)))))))
+
+spelled_reads : (ms : Members) (x : Spelled) → spelled_by ms ≡ Some x → object ms ≡ spelled_data x
+spelled_reads ms x e =
+    let a = took text_of string (codes "current") _ ms x text_reading e in
+    let f = took (list_of named_flow_of) (list_data named_flow_data) (codes "flows") _ a.rest x (list_reading named_flow_of named_flow_data named_flow_reading) a.on in
+    let b = took (format_of 2) (λ u. count_data 2) (codes "format") _ f.rest x (format_reading 2) f.on in
+    let g = took (list_of (pair_of text_of value_of)) (list_data global_data) (codes "globals") _ b.rest x globals_reading b.on in
+    let n = took count_of count_data (codes "turn") _ g.rest x count_reading g.on in
+    let m = took (list_of (pair_of place_of count_of)) (list_data row_data) (codes "turns") _ n.rest x rows_of_counts n.on in
+    let v = took (list_of (pair_of place_of count_of)) (list_data row_data) (codes "visits") _ m.rest x rows_of_counts m.on in
+    let z = closed_some _ x v.rest v.on in
+    ap object (onto (codes "current") (string a.x) ms a.rest _ a.is
+    (onto (codes "flows") (list_data named_flow_data f.x) a.rest f.rest _ f.is
+    (onto (codes "format") (count_data 2) f.rest b.rest _ b.is
+    (onto (codes "globals") (list_data global_data g.x) b.rest g.rest _ g.is
+    (onto (codes "turn") (count_data n.x) g.rest n.rest _ n.is
+    (onto (codes "turns") (list_data row_data m.x) n.rest m.rest _ m.is
+    (onto (codes "visits") (list_data row_data v.x) m.rest v.rest no_members v.is z.0)))))))
+    ∙ ap spelled_data z.1
+
+-- the flows that were read, where the current one's name stands once among theirs
+module _ (current : List ℕ) (f : FlowOf (List Part)) where
+  none_current : (flows : Rows (FlowOf (List Part))) → holes (aside_but current flows) ≡ 0 → all_flows f (aside_but current flows) ≡ flows
+  none_current [] h = refl
+  none_current (r ∷ rows) h = by (bytes_eq current r.0) (none_current rows) h
+    where
+      by : (b : Bool) → (holes (aside_but current rows) ≡ 0 → all_flows f (aside_but current rows) ≡ rows)
+          → holes ((r.0, if b then None else Some r.1) ∷ aside_but current rows) ≡ 0 → all_flows f ((r.0, if b then None else Some r.1) ∷ aside_but current rows) ≡ r ∷ rows
+      by true more k = absurd (omega arith)
+      by false more k = ap (λ l. r ∷ l) (more k)
+
+  as_read : (flows : Rows (FlowOf (List Part))) → at current flows ≡ Some f → holes (aside_but current flows) ≡ 1
+      → (current_name (aside_but current flows) ≡ current) × (all_flows f (aside_but current flows) ≡ flows)
+  as_read [] e h = absurd cc
+  as_read (r ∷ rows) e h = by (bytes_eq current r.0) refl (as_read rows) e h
+    where
+      by : (b : Bool) → bytes_eq current r.0 ≡ b
+          → (at current rows ≡ Some f → holes (aside_but current rows) ≡ 1 → (current_name (aside_but current rows) ≡ current) × (all_flows f (aside_but current rows) ≡ rows))
+          → cond b (Some r.1) (at current rows) ≡ Some f → holes ((r.0, if b then None else Some r.1) ∷ aside_but current rows) ≡ 1
+          → (current_name ((r.0, if b then None else Some r.1) ∷ aside_but current rows) ≡ current)
+          × (all_flows f ((r.0, if b then None else Some r.1) ∷ aside_but current rows) ≡ r ∷ rows)
+      by true is more k one =
+          let same : f ≡ r.1 = cc in
+          (sym (same_name current r.0 is), (λ i. (r.0, same i) ∷ none_current rows (omega arith) i))
+      by false is more k one = let y = more k one in (y.0, ap (λ l. r ∷ l) y.1)
+
+game_reads : (x : Spelled) (g : Game) → game_spelled x ≡ Some g → holes g.aside ≡ 1 → spelled_data x ≡ spelling g
+game_reads x g e h = by (at x.current x.flows) refl e
+  where
+    by : (o : Option (FlowOf (List Part))) → at x.current x.flows ≡ o → game_with x o ≡ Some g → spelled_data x ≡ spelling g
+    by None is k = absurd cc
+    by (Some f) is k =
+        let made : Game = record { now = record { flow = f; shared = x.shared; page = empty_page }; aside = aside_but x.current x.flows } in
+        let same : made ≡ g = cc in
+        let read = as_read x.current f x.flows is (ap (λ (m : Game). holes m.aside) same ∙ h) in
+        (λ i. spelled_data (record { current = sym read.0 i; flows = sym read.1 i; shared = x.shared })) ∙ ap spelling same
+
+-- ---- either layout
+
+first_reads : (ms : Members) (l : Layout) (g : Game) → option_map First (unspelled_by ms) ≡ Some l → game_of l ≡ Some g → Spells (object ms) g
+first_reads ms l g e k =
+    let found = map_some (unspelled_by ms) First l e in
+    let read : Some (alone found.0) ≡ Some g = ap game_of found.2 ∙ k in
+    let same : alone found.0 ≡ g = cc in
+    inr (old_reads ms found.0 found.1 ∙ ap (λ (m : Game). old_spelling m.now) same, sym (ap (λ (m : Game). m.aside) same))
+
+second_reads : (ms : Members) (l : Layout) (g : Game) → option_map Second (spelled_by ms) ≡ Some l → game_of l ≡ Some g → holes g.aside ≡ 1 → Spells (object ms) g
+second_reads ms l g e k h =
+    let found = map_some (spelled_by ms) Second l e in
+    inl (spelled_reads ms found.0 found.1 ∙ game_reads found.0 g (ap game_of found.2 ∙ k) h)
+
+pub unspelled_reads : (j : Data) (g : Game) → unspelled j ≡ Some g → holes g.aside ≡ 1 → Spells j g
+unspelled_reads (object ms) g e h =
+    let found = bind_some (layout_by ms) game_of g e in
+    elim (or_some (option_map Second (spelled_by ms)) (option_map First (unspelled_by ms)) found.0 found.1) [
+      | inl k ↦ second_reads ms found.0 g k found.2 h
+      | inr k ↦ first_reads ms found.0 g k found.2
+    ]
+unspelled_reads j g e h = absurd cc

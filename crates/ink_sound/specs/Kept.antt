@@ -1,12 +1,15 @@
 -- What holds of stories, effects and moments where configurations are sound: the parts of the proof that each step keeps them so.
-use Rattle.std.specs.Prelude.{◌≡◌, ◌≢◌, ◌<◌, ◌≤◌, ◌^◌, List, IsTrue, Option, Some, None, Result, Ok, Err}
+use Rattle.std.specs.Prelude.{◌≡◌, ◌≢◌, ◌<◌, ◌≤◌, ◌^◌, List, length, IsTrue, Option, Some, None, Result, Ok, Err}
+use Rattle.std.specs.List.{AllByRecursion as Each}
 use Rattle.ink_model.specs.Bytes.{fits_text}
-use Rattle.ink_model.specs.Configuration.{Configuration}
+use Rattle.ink_model.specs.Configuration.{Configuration, FlowOf}
 use Rattle.ink_model.specs.Effect.{Context, Effect, Fields, Moves, Stores, Offers, Lands, Calls, Returns, Forks, Done, Ends, Fails}
 use Rattle.ink_model.specs.Flow.{Written, Reached, Reaches, Halts, Breaks, Ending, Continues, Finishes, Collapses}
+use Rattle.ink_model.specs.Flows.{Aside, begins_with_default, holes, is_flow_name}
 use Rattle.ink_model.specs.Frames.{place_in}
 use Rattle.ink_model.specs.Leaves.{is_small}
 use Rattle.ink_model.specs.Move.{Outcome, Next, Stop, Faults, place_to}
+use Rattle.ink_model.specs.Named.{once}
 use Rattle.ink_model.specs.Run.{Moment, At, Stopped, Faulted, Waits}
 use Rattle.ink_model.specs.State.{State, Condition, Ready, Broken}
 use Rattle.ink_model.specs.Step.{Stepped, Comes, Wants}
@@ -17,11 +20,11 @@ use Rattle.ink_model.specs.declared.content.Leaf.{Leaf}
 use Rattle.ink_model.specs.declared.content.Leaf.TheVariants as leaves
 use Rattle.ink_model.specs.declared.fault.Fault.{Fault}
 use Rattle.ink_model.specs.declared.frame.FrameKind.TheVariants.{Base}
-use Rattle.ink_model.specs.declared.limits.TheConstants.{MAX_COUNT}
+use Rattle.ink_model.specs.declared.limits.TheConstants.{MAX_COUNT, MAX_FLOWS}
 use Rattle.ink_model.specs.declared.place.Part.{Part}
 use Rattle.ink_model.specs.declared.value.Value.TheVariants as value
 use Rattle.ink_model.specs.Save.Reads.{Rests}
-use Rattle.ink_model.specs.Save.Sound.{AnyPlace, ChoicesFit, CountsFit, GlobalsFit, PageFits, PlaceFits, Sound, SomePlace, StackFits, ThreadStands, ThreadsFit, ValueFits}
+use Rattle.ink_model.specs.Save.Sound.{AnyPlace, AsideFits, ChoicesFit, CountsFit, FlowSound, GlobalsFit, PageFits, PlaceFits, Sound, SomePlace, StackFits, ThreadStands, ThreadsFit, ValueFits}
 
 -- ---- stories
 
@@ -126,8 +129,25 @@ abbrev pub ConditionFits : StoryTree → Condition → Type 0
 ConditionFits s (Ready c) = Sound s c × Rests c
 ConditionFits s (Broken f globals) = Unit {0}
 
-abbrev pub StateFits : StoryTree → State → Type 0
-StateFits s st = ConditionFits s st.condition
+-- the flows that stand aside fit, also where a fault came
+pub record StateFits (s : StoryTree) (st : State) : Type 0 where
+  pub condition : ConditionFits s st.condition
+  pub aside : AsideFits s st.aside
+
+-- ---- games that are read
+
+-- what a flow that stands aside has of its own, whatever numbers its frames have
+abbrev pub PartsFit : StoryTree → Option (FlowOf (List Part)) → Type 0
+PartsFit s None = Unit {0}
+PartsFit s (Some f) = FlowSound s f
+
+-- what is asked of the flows that were read, which are at rest
+pub record AsideSound (s : StoryTree) (rows : Aside) : Type 0 where
+  pub first : IsTrue (begins_with_default rows)
+  pub names : IsTrue (once rows)
+  pub current : holes rows ≡ 1
+  pub few : length rows ≤ MAX_FLOWS
+  pub each : Each (λ r. IsTrue (is_flow_name r.0) × PartsFit s r.1) rows
 
 -- ---- stories that are read
 

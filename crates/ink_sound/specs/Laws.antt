@@ -2,10 +2,12 @@
 use Rattle.std.specs.Prelude.{◌≡◌, ℕ, ◌≤◌, List, [], true, false, Ok, Option, Some}
 use Rattle.ink_model.specs.Acceptance.{accepted_story, bad_places}
 use Rattle.ink_model.specs.Answer.{Reply}
-use Rattle.ink_model.specs.Configuration.{Configuration, can_go_on, settled}
+use Rattle.ink_model.specs.Configuration.{Configuration, FlowOf, can_go_on, settled}
+use Rattle.ink_model.specs.Flows.{Aside, FlowsOf, Game, all_flows, begins_with_default, current_name, dropped, goes_to, holes}
 use Rattle.ink_model.specs.Grammar.{IsSpelled}
 use Rattle.ink_model.specs.Host.{Bindings, Bound}
 use Rattle.ink_model.specs.Line.{Line}
+use Rattle.ink_model.specs.Named.{without}
 use Rattle.ink_model.specs.Opening.{opened, opening}
 use Rattle.ink_model.specs.Run.{Made, At, moment}
 use Rattle.ink_model.specs.Session.{Does, Session}
@@ -15,7 +17,9 @@ use Rattle.ink_model.specs.Tree.{StoryTree}
 use Rattle.ink_model.specs.Command.{Command}
 use Rattle.ink_model.specs.declared.host.Event.{Event}
 use Rattle.ink_model.specs.declared.host.Given.{Given}
-use Rattle.ink_sound.specs.Kept.{MomentFits, StateFits, SteppedFits, StoryFits}
+use Rattle.ink_model.specs.declared.place.Part.{Part}
+use Rattle.ink_sound.specs.Beside.{keeps_flows, shows_no_flows, with_last}
+use Rattle.ink_sound.specs.Kept.{AsideSound, MomentFits, StateFits, SteppedFits, StoryFits}
 use Rattle.ink_model.specs.Save.Reads.{Reads, Rests}
 use Rattle.ink_model.specs.Save.Sound.{Sound}
 use Rattle.ink_model.specs.Save.Spelling.{spelling}
@@ -67,26 +71,51 @@ abbrev pub SessionsFit : Type 0
 SessionsFit = (bytes : List ℕ) (s : StoryTree) → accepted_story bytes ≡ Ok s → (c : Configuration) → opening s ≡ Ok c
     → (h : Bindings) (es : List Event) (lines : List (List ℕ)) (written : List ℕ) (new : State) → Session s h es lines (opened c) written new → StateFits s new
 
+-- ---- flows
+
+-- a command that does not go to a flow, drop one or begin anew leaves those that stand aside as they were, also where it faults
+abbrev pub FlowsStay : Type 0
+FlowsStay = (s : StoryTree) (h : Bindings) (es : List Event) (command : Option Command) (old : State) (reply : Reply) (new : State)
+    → Does s h es command old reply new → keeps_flows command ≡ true → new.aside ≡ old.aside
+
+-- going to a flow keeps all flows as they are, with a new one as the last where there was none of that name; and that one is current
+abbrev pub GoingKeepsFlows : Type 0
+GoingKeepsFlows = (fresh : FlowOf (List Part)) (name : List ℕ) (before : FlowsOf (FlowOf (List Part))) → holes before.aside ≡ 1 → let after = goes_to fresh name before in
+    (all_flows after.current after.aside ≡ with_last name fresh (all_flows before.current before.aside)) × (current_name after.aside ≡ name)
+
+-- taking a flow away keeps all others as they are
+abbrev pub DroppingKeepsOthers : Type 0
+DroppingKeepsOthers = (fresh : FlowOf (List Part)) (name : List ℕ) (before : FlowsOf (FlowOf (List Part))) → holes before.aside ≡ 1 → begins_with_default before.aside ≡ true
+    → let after = dropped fresh name before in all_flows after.current after.aside ≡ without name (all_flows before.current before.aside)
+
+-- A command that does not save, go to a flow or drop one does the same whatever flows stand aside: so what has happened in those, and
+-- which there are, is told by no answer, and changes nothing in the current one or in what all share.
+abbrev pub OtherFlowsDoNotShow : Type 0
+OtherFlowsDoNotShow = (s : StoryTree) (h : Bindings) (es : List Event) (command : Option Command) (old : State) (reply : Reply) (new : State)
+    → Does s h es command old reply new → shows_no_flows command ≡ true → (others : Aside)
+    → (after : State) × Does s h es command (record old { aside = others }) reply after × (after.condition ≡ new.condition) × (after.stamp ≡ new.stamp)
+
 -- ---- spelling and reading
 
--- a JSON value reads as one configuration at most
+-- a JSON value reads as one game at most
 abbrev pub OneSpelling : Type 0
-OneSpelling = (s : StoryTree) → StoryFits s → (j : Data) (c d : Configuration) → Reads s j c → Reads s j d → c ≡ d
+OneSpelling = (s : StoryTree) → StoryFits s → (j : Data) (g k : Game) → Reads s j g → Reads s j k → g ≡ k
 
--- a JSON value spells a configuration in this layout, and that is sound, exactly where it reads as that one
+-- a JSON value spells a game in one of the layouts, and that is sound, exactly where it reads as that one
 abbrev pub ReadsExactly : Type 0
-ReadsExactly = (s : StoryTree) → StoryFits s → (j : Data) (c : Configuration) → (Reads s j c → unspelled j ≡ Some c) × (unspelled j ≡ Some c → Sound s c → Reads s j c)
+ReadsExactly = (s : StoryTree) → StoryFits s → (j : Data) (g : Game)
+    → (Reads s j g → unspelled j ≡ Some g) × (unspelled j ≡ Some g → Sound s g.now → AsideSound s g.aside → Reads s j g)
 
 -- a spelling nests at most so deep, so that its text is read back
 abbrev pub SpellsFlat : Type 0
-SpellsFlat = (c : Configuration) → depth (spelling c) ≤ 8
+SpellsFlat = (g : Game) → depth (spelling g) ≤ 10
 
 -- a spelling has no float, so that its compact text is known
 abbrev pub SpellsPlain : Type 0
-SpellsPlain = (c : Configuration) → has_float (spelling c) ≡ false
+SpellsPlain = (g : Game) → has_float (spelling g) ≡ false
 
 -- what a session comes to is read from its spelling
 abbrev pub SessionsReload : Type 0
 SessionsReload = (bytes : List ℕ) (s : StoryTree) → accepted_story bytes ≡ Ok s → (c : Configuration) → opening s ≡ Ok c
     → (h : Bindings) (es : List Event) (lines : List (List ℕ)) (written : List ℕ) (new : State) → Session s h es lines (opened c) written new
-    → (d : Configuration) → new.condition ≡ Ready d → Reads s (spelling d) d × (unspelled (spelling d) ≡ Some d)
+    → (d : Configuration) → new.condition ≡ Ready d → let g : Game = record { now = d; aside = new.aside } in Reads s (spelling g) g × (unspelled (spelling g) ≡ Some g)

@@ -1,3 +1,4 @@
+pub mod Beside
 pub mod Kept
 pub mod Laws
 pub mod SaveExamples

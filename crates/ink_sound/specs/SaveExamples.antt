@@ -1,6 +1,6 @@
 -- Small worked examples of saves, each proved by computation (docs/SAVES.md).
 use Rattle.std.specs.Prelude.{◌≡◌, ℕ, pos, negsuc, List, [], ◌∷◌, refl, codes, true, false, Float, Some, None, option_and_then}
-use Rattle.std.proofs.Common.{inl, lit≤}
+use Rattle.std.proofs.Common.{arith, inl, inr, lit≤}
 use Rattle.std.specs.Fmt.{digits}
 use Rattle.serde_json.proofs.OnLiterals.{serde_json_on_literals}
 use Rattle.serde_json.specs.Data.{Data, null, boolean, number, string, array, object, no_items, item, Members, no_members, member, unsigned, negative, float}
@@ -10,6 +10,7 @@ use Rattle.ink_model.specs.Bases.{BaseFirst}
 use Rattle.ink_model.specs.CallStories.{does, now, says, stack_in, story}
 use Rattle.ink_model.specs.Configuration.{ChoiceOf, Configuration, fresh_at, settled, start}
 use Rattle.ink_model.specs.Entered.{entered_places, passed_places}
+use Rattle.ink_model.specs.Flows.{Game, alone, begins_with_default, default_flow, is_flow_name, one_flow}
 use Rattle.ink_model.specs.Frames.{FrameOf, ThreadOf, base_frame}
 use Rattle.ink_model.specs.Answer.{Acts}
 use Rattle.ink_model.specs.Host.{no_objects, nothing_bound}
@@ -31,9 +32,9 @@ use Rattle.ink_model.specs.declared.place.Part.{Part}
 use Rattle.ink_model.specs.declared.place.Part.TheVariants.{Index, Name}
 use Rattle.ink_model.specs.declared.value.Value.{Value}
 use Rattle.ink_model.specs.declared.value.Value.TheVariants as value
-use Rattle.ink_model.specs.Save.Reads.{Reads, Rests}
-use Rattle.ink_model.specs.Save.Sound.{FlowStands, Sound, ValueFits, names_once}
-use Rattle.ink_model.specs.Save.Spelling.{choice_data, frame_data, global_data, list_data, row_data, spelling}
+use Rattle.ink_model.specs.Save.Reads.{Reads, Rests, Stands}
+use Rattle.ink_model.specs.Save.Sound.{AsideFits, FlowStands, Sound, ValueFits, names_once}
+use Rattle.ink_model.specs.Save.Spelling.{choice_data, frame_data, global_data, list_data, named_flow_data, old_spelling, row_data, spelling}
 use Rattle.ink_model.specs.Save.Unspelled.{any_place_of, choice_of, frame_of, place_of, temps_of, unspelled, value_of}
 
 -- ---- a whole save
@@ -54,18 +55,27 @@ in_the_middle = record {
   page = empty_page;
 }
 
-its_save : compact_text (spelling in_the_middle) ≡
-    codes "{\"choices\":[],\"format\":1,\"globals\":[],\"safe\":false,\"stack\":[],\"threads\":[{\"frames\":[{\"depth\":0,\"eval\":false,\"fresh\":false,\"kind\":\"base\",\"place\":[0,2],\"temps\":{}}],\"previous\":[0,1]}],\"turn\":0,\"turns\":[],\"visits\":[]}"
+its_save : compact_text (spelling (alone in_the_middle)) ≡
+    codes "{\"current\":\"DEFAULT_FLOW\",\"flows\":[{\"choices\":[],\"name\":\"DEFAULT_FLOW\",\"safe\":false,\"stack\":[],\"threads\":[{\"frames\":[{\"depth\":0,\"eval\":false,\"fresh\":false,\"kind\":\"base\",\"place\":[0,2],\"temps\":{}}],\"previous\":[0,1]}]}],\"format\":2,\"globals\":[],\"turn\":0,\"turns\":[],\"visits\":[]}"
 unfolding serde_json_on_literals digits
 its_save = refl
 
-it_is_read : unspelled (spelling in_the_middle) ≡ Some in_the_middle
+it_is_read : unspelled (spelling (alone in_the_middle)) ≡ Some (alone in_the_middle)
 it_is_read = refl
+
+-- layout 1
+its_old_save : compact_text (old_spelling in_the_middle) ≡
+    codes "{\"choices\":[],\"format\":1,\"globals\":[],\"safe\":false,\"stack\":[],\"threads\":[{\"frames\":[{\"depth\":0,\"eval\":false,\"fresh\":false,\"kind\":\"base\",\"place\":[0,2],\"temps\":{}}],\"previous\":[0,1]}],\"turn\":0,\"turns\":[],\"visits\":[]}"
+unfolding serde_json_on_literals digits
+its_old_save = refl
+
+it_is_read_too : unspelled (old_spelling in_the_middle) ≡ Some (alone in_the_middle)
+it_is_read_too = refl
 
 -- spaces between are none of the JSON library's value
 its_text_is_read : option_and_then unspelled (read
     (codes "{\"choices\":[],\"format\":1,\"globals\":[],\"safe\":false,\"stack\":[],\"threads\":[{\"frames\":[{\"depth\":0,\"eval\":false,\"fresh\":false,\"kind\":\"base\",\"place\":[0, 2],\"temps\":{}}],\"previous\":[0, 1]}],\"turn\":0,\"turns\":[],\"visits\":[]}"))
-    ≡ Some in_the_middle
+    ≡ Some (alone in_the_middle)
 unfolding serde_json_on_literals digits
 its_text_is_read = refl
 
@@ -95,14 +105,23 @@ it_is_sound = record {
   page = record { few = lit≤ tt };
 }
 
-it_reads : Reads (story (says (codes "a") ∷ says (codes "b") ∷ []) [] []) (spelling in_the_middle) in_the_middle
-it_reads = record { spells = refl; sound = it_is_sound; rests = it_rests }
+one_flow_fits : AsideFits (story (says (codes "a") ∷ says (codes "b") ∷ []) [] []) one_flow
+one_flow_fits = record { first = refl; names = refl; current = refl; few = lit≤ tt; each = ((refl, tt), tt) }
+
+it_stands : Stands (story (says (codes "a") ∷ says (codes "b") ∷ []) [] []) (alone in_the_middle)
+it_stands = record { sound = it_is_sound; rests = it_rests; aside = one_flow_fits }
+
+it_reads : Reads (story (says (codes "a") ∷ says (codes "b") ∷ []) [] []) (spelling (alone in_the_middle)) (alone in_the_middle)
+it_reads = record { spells = inl refl; stands = it_stands }
+
+an_old_one_reads : Reads (story (says (codes "a") ∷ says (codes "b") ∷ []) [] []) (old_spelling in_the_middle) (alone in_the_middle)
+an_old_one_reads = record { spells = inr (refl, refl); stands = it_stands }
 
 -- a broken player loads it, and goes on with its stamps
-it_is_loaded : Load (story (says (codes "a") ∷ says (codes "b") ∷ []) [] []) no_objects [] (Some (spelling in_the_middle))
-    (record { condition = Broken fault.Divide []; stamp = 4 }) (Acts []) (record { condition = Ready in_the_middle; stamp = 4 })
+it_is_loaded : Load (story (says (codes "a") ∷ says (codes "b") ∷ []) [] []) no_objects [] (Some (spelling (alone in_the_middle)))
+    (record { condition = Broken fault.Divide []; aside = one_flow; stamp = 4 }) (Acts []) (record { condition = Ready in_the_middle; aside = one_flow; stamp = 4 })
 it_is_loaded = inl (record {
-  loaded = in_the_middle;
+  loaded = alone in_the_middle;
   reads = it_reads;
   tells = inl (record {
     all = true;
@@ -115,7 +134,7 @@ it_is_loaded = inl (record {
 })
 
 -- as a story is opened there is no previous place
-as_it_is_opened : unspelled (spelling (start (story (does control.Nop ∷ []) [] []) [])) ≡ Some (start (story (does control.Nop ∷ []) [] []) [])
+as_it_is_opened : unspelled (spelling (alone (start (story (does control.Nop ∷ []) [] []) []))) ≡ Some (alone (start (story (does control.Nop ∷ []) [] []) []))
 unfolding start fresh_at
 as_it_is_opened = refl
 
@@ -275,7 +294,7 @@ not_in_the_story = refl
 
 -- ---- whole values that spell nothing
 
--- the save above, with another format, globals and turn, and these members behind all
+-- the save in layout 1, with another format, globals and turn, and these members behind all
 abbrev save_with : Data → Data → Data → Members → Data
 save_with format globals turn rest = object
     (member (codes "choices") (array no_items)
@@ -290,8 +309,11 @@ save_with format globals turn rest = object
     (member (codes "turns") (array no_items)
     (member (codes "visits") (array no_items) rest)))))))))
 
-the_same_save : save_with (index_data 1) (array no_items) (index_data 0) no_members ≡ spelling in_the_middle
+the_same_save : save_with (index_data 1) (array no_items) (index_data 0) no_members ≡ old_spelling in_the_middle
 the_same_save = refl
+
+the_other_format : unspelled (save_with (index_data 2) (array no_items) (index_data 0) no_members) ≡ None
+the_other_format = refl
 
 another_format : unspelled (save_with (index_data 3) (array no_items) (index_data 0) no_members) ≡ None
 another_format = refl
@@ -310,3 +332,50 @@ a_missing_key = refl
 
 no_object : unspelled (array no_items) ≡ None
 no_object = refl
+
+-- ---- saves of several flows
+
+-- a save in layout 2 with these flows
+abbrev with_flows : List ℕ → List Data → Data
+with_flows current flows = object
+    (member (codes "current") (string current)
+    (member (codes "flows") (list_data (λ d. d) flows)
+    (member (codes "format") (index_data 2)
+    (member (codes "globals") (array no_items)
+    (member (codes "turn") (index_data 0)
+    (member (codes "turns") (array no_items)
+    (member (codes "visits") (array no_items) no_members)))))))
+
+abbrev a_flow : List ℕ → Data
+a_flow name = named_flow_data (name, in_the_middle.flow)
+
+-- the other one stands aside
+abbrev two_flows : Game
+two_flows = record { now = in_the_middle; aside = (default_flow, Some in_the_middle.flow) ∷ (codes "side", None) ∷ [] }
+
+of_two_flows : spelling two_flows ≡ with_flows (codes "side") (a_flow default_flow ∷ a_flow (codes "side") ∷ [])
+of_two_flows = refl
+
+they_are_read : unspelled (with_flows (codes "side") (a_flow default_flow ∷ a_flow (codes "side") ∷ [])) ≡ Some two_flows
+they_are_read = refl
+
+-- none of them is current
+no_current_flow : unspelled (with_flows (codes "other") (a_flow default_flow ∷ a_flow (codes "side") ∷ [])) ≡ None
+no_current_flow = refl
+
+no_flows : unspelled (with_flows default_flow []) ≡ None
+no_flows = refl
+
+-- the current one's name twice is read as no sound game
+a_flow_twice : unspelled (with_flows default_flow (a_flow default_flow ∷ a_flow default_flow ∷ [])) ≡ Some (record { now = in_the_middle; aside = (default_flow, None) ∷ (default_flow, None) ∷ [] })
+a_flow_twice = refl
+
+two_current_ones : (s : StoryTree) → AsideFits s ((default_flow, None) ∷ (default_flow, None) ∷ []) → ⊥
+two_current_ones s h = let two = h.current in absurd (omega arith)
+
+-- nor is one without the first flow, or with a name that no flow may have
+another_first_flow : begins_with_default {F = ℕ} ((codes "side", None) ∷ []) ≡ false
+another_first_flow = refl
+
+a_name_with_a_space : is_flow_name (codes "a b") ≡ false
+a_name_with_a_space = refl

@@ -1,8 +1,8 @@
-//! What holds of every configuration that a session comes to, and as which one a saved game reads (docs/SAVES.md): laws of the
-//! definitions alone, each the contract of a function that does nothing.
+//! What holds of every state that a session comes to, what commands do to flows, and as which game a save reads (docs/SAVES.md):
+//! laws of the definitions alone, each the contract of a function that does nothing.
 #![tactic(auto)]
 
-ghost use Rattle.ink_sound.specs.Laws.{AcceptedFit, CommandsFit, CutsFit, MomentsFit, OneSpelling, OpeningsFit, ReadsExactly, SessionsFit, SessionsReload, SettlingFits, SpelledFit, SpellsFlat, SpellsPlain, StepsFit};
+ghost use Rattle.ink_sound.specs.Laws.{AcceptedFit, CommandsFit, CutsFit, DroppingKeepsOthers, FlowsStay, GoingKeepsFlows, MomentsFit, OneSpelling, OpeningsFit, OtherFlowsDoNotShow, ReadsExactly, SessionsFit, SessionsReload, SettlingFits, SpelledFit, SpellsFlat, SpellsPlain, StepsFit};
 
 /// An accepted story has what the laws ask of one.
 pub fn accepted_stories_fit()
@@ -49,22 +49,42 @@ pub fn sessions_are_sound()
     ensures { SessionsFit }
 {}
 
+/// Only `flow`, `drop`, `load` and `restart` change the flows that stand aside.
+pub fn flows_stay()
+    ensures { FlowsStay }
+{}
+
+/// Going to a flow leaves all flows as they are, and makes that one as the last where it is not there.
+pub fn going_keeps_flows()
+    ensures { GoingKeepsFlows }
+{}
+
+/// Taking a flow away leaves all others as they are.
+pub fn dropping_keeps_others()
+    ensures { DroppingKeepsOthers }
+{}
+
+/// What stands aside is seen by `save`, `flow` and `drop` alone.
+pub fn other_flows_do_not_show()
+    ensures { OtherFlowsDoNotShow }
+{}
+
 /// What a session comes to is read from its spelling.
 pub fn sessions_reload()
     ensures { SessionsReload }
 {}
 
-/// A JSON value reads as one configuration at most.
-pub fn one_configuration_a_spelling()
+/// A JSON value reads as one game at most.
+pub fn one_game_a_spelling()
     ensures { OneSpelling }
 {}
 
-/// A JSON value is read as a sound configuration exactly where it is that one's spelling, at rest.
+/// A JSON value is read as a sound game exactly where it is that one's spelling, at rest.
 pub fn reading_is_exact()
     ensures { ReadsExactly }
 {}
 
-/// A spelling nests at most eight deep.
+/// A spelling nests at most ten deep.
 pub fn spellings_are_flat()
     ensures { SpellsFlat }
 {}

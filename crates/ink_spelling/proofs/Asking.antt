@@ -1,7 +1,7 @@
 -- Where reading asks for memory.
 use Rattle.std.proofs.Common.{◌≡◌, ◌∙◌, ◌⊎◌, ◌<◌, inl, inr, arith, refl, sym, subst, zero, suc, ℕ, length, get_or, List, [], ◌∷◌, reverse, codes, String, Bool, true, false, ◌||◌, Option, Some, None, option_and_then, Result, Ok, Err, OnErr}
-use Rattle.std.specs.Option.{option_map}
-use Rattle.serde_json.specs.Data.{Data, array, object, Items, no_items, item, Members}
+use Rattle.std.specs.Option.{option_map, option_or}
+use Rattle.serde_json.specs.Data.{Data, array, object, string, Items, no_items, item, Members}
 use Rattle.serde_json.specs.View.{items_view, members_view, view}
 use Rattle.serde_json.specs.declared.value.Value.{Value}
 use Rattle.std.specs.declared.alloc.Global.{Global}
@@ -9,9 +9,9 @@ use Rattle.ink_model.specs.Configuration.{ChoiceOf, Configuration}
 use Rattle.ink_model.specs.Frames.{ThreadOf, ThreadsOf}
 use Rattle.ink_model.specs.declared.place.Part.{Part}
 use Rattle.ink_model.specs.declared.value.Value.{Value as Spelled}
-use Rattle.ink_model.specs.Save.Asks.{both_ask, choice_asks, counts_ask, items_ask, list_asks, load_asks, none_asks, pair_asks, rows_ask, take_asks, text_asks, thread_asks, threads_ask, turn_asks, value_asks}
+use Rattle.ink_model.specs.Save.Asks.{both_ask, choice_asks, counts_ask, items_ask, list_asks, load_asks, members_ask, none_asks, pair_asks, rows_ask, spelled_asks, take_asks, text_asks, thread_asks, threads_ask, turn_asks, value_asks}
 use Rattle.ink_spelling.specs.Words.{two_ask, two_in}
-use Rattle.ink_model.specs.Save.Unspelled.{all_of, choice_of, count_of, format_of, from_threads, from_turn, list_of, next_named, pair_of, place_of, take, text_of, thread_in, threads_with, truth_of, unspelled, value_of}
+use Rattle.ink_model.specs.Save.Unspelled.{Layout, First, Second, Spelled as Game, all_of, choice_of, count_of, format_of, from_threads, from_turn, layout_of, list_of, next_named, pair_of, place_of, spelled_by, take, text_of, thread_in, threads_with, truth_of, unspelled_by, value_of}
 
 or_true : (b : Bool) → b || true ≡ true
 or_true true = refl
@@ -68,7 +68,7 @@ pub or_else : {A E : Type 0} {P : Type 0} (r : Result A E) → P → OnErr r P
 or_else (Ok a) h = tt
 or_else (Err e) h = h
 
-bind_some : {A B : Type 0} (o : Option A) (f : A → Option B) (y : B) → option_and_then f o ≡ Some y → (x : A) × (o ≡ Some x) × (f x ≡ Some y)
+pub bind_some : {A B : Type 0} (o : Option A) (f : A → Option B) (y : B) → option_and_then f o ≡ Some y → (x : A) × (o ≡ Some x) × (f x ≡ Some y)
 bind_some None f y e = absurd cc
 bind_some (Some x) f y e = (x, refl, e)
 
@@ -142,12 +142,30 @@ threads_asked choices globals safe stack ms c e =
     threads_kept threads d is (threads_there choices globals safe stack threads rest c e))
 
 -- what spells a configuration has a thread, which is kept
-pub spelled_asks : (j : Data) (c : Configuration) → unspelled j ≡ Some c → load_asks j ≡ true
-spelled_asks (object ms) c e =
+alone_asks : (ms : Members) (c : Configuration) → unspelled_by ms ≡ Some c → members_ask ms ≡ true
+alone_asks ms c e =
     through (list_of choice_of) (list_asks choice_of choice_asks) (codes "choices") _ _ ms c e (λ choices rest e.
-    through format_of none_asks (codes "format") _ _ rest c e (λ one rest e.
+    through (format_of 1) none_asks (codes "format") _ _ rest c e (λ one rest e.
     through (list_of (pair_of text_of value_of)) (list_asks (pair_of text_of value_of) (pair_asks text_of text_asks value_asks)) (codes "globals") _ _ rest c e (λ globals rest e.
     through truth_of none_asks (codes "safe") _ _ rest c e (λ safe rest e.
     through (list_of value_of) (list_asks value_of value_asks) (codes "stack") _ threads_ask rest c e (λ stack rest e.
     threads_asked choices globals safe stack rest c e)))))
-spelled_asks j c e = absurd cc
+
+-- a text is kept
+pub text_kept : (d : Data) (t : List ℕ) → text_of d ≡ Some t → text_asks d ≡ true
+text_kept (string u) t e = refl
+text_kept d t e = absurd cc
+
+-- what spells flows has the current one's name
+game_asks : (ms : Members) (x : Game) → spelled_by ms ≡ Some x → spelled_asks ms ≡ true
+game_asks ms x e = there text_of text_asks (codes "current") _ none_asks ms x e (λ d t rest is e. text_kept d t is)
+
+-- what spells something asks for memory
+pub layouts_ask : (j : Data) (l : Layout) → layout_of j ≡ Some l → load_asks j ≡ true
+layouts_ask (object ms) l e = by (spelled_by ms) refl (unspelled_by ms) refl e
+  where
+    by : (x : Option Game) → spelled_by ms ≡ x → (o : Option Configuration) → unspelled_by ms ≡ o → option_or (option_map Second x) (option_map First o) ≡ Some l → (spelled_asks ms || members_ask ms) ≡ true
+    by (Some x) is o was e = rw (game_asks ms x is) refl
+    by None is (Some c) was e = rw (alone_asks ms c was) (or_true (spelled_asks ms))
+    by None is None was e = absurd cc
+layouts_ask j l e = absurd cc

@@ -1,8 +1,11 @@
-//! Saved games as plain data: the configuration that a JSON value spells, whatever the story is (docs/SAVES.md).
+//! Saved games as plain data: what a JSON value spells, whatever the story is (docs/SAVES.md).
 #![tactic(auto)]
 
 mod choice;
+mod flow;
 mod frame;
+mod game;
+mod layout;
 mod listed;
 mod members;
 mod pair;
@@ -15,9 +18,12 @@ mod thread;
 mod value;
 
 pub use choice::SavedChoice;
+pub use flow::{NamedFlow, SavedFlow};
 pub use frame::SavedFrame;
+pub use game::SavedGame;
+pub use layout::{SavedLayout, read_saved};
 pub use listed::Listed;
-pub use saved::{Saved, read_saved};
+pub use saved::{Saved, SavedShared};
 pub use spelled::Spelled;
 pub use temps::SavedTemps;
 pub use thread::{SavedThread, SavedThreads};

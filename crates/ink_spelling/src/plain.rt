@@ -1,10 +1,10 @@
 //! Numbers, truth values and texts.
 
-ghost use Rattle.std.specs.Prelude.{◌≡◌, IfOk};
+ghost use Rattle.std.specs.Prelude.{◌≡◌, IfOk, is_some};
 ghost use Rattle.serde_json.specs.Find.{as_u64};
-ghost use Rattle.serde_json.specs.View.{number_view};
+ghost use Rattle.serde_json.specs.View.{number_view, view};
 ghost use Rattle.ink_model.specs.Save.Asks.{none_asks, text_asks};
-ghost use Rattle.ink_model.specs.Save.Unspelled.{count_of, int_of, number_integer, text_of, truth_of};
+ghost use Rattle.ink_model.specs.Save.Unspelled.{count_of, format_of, int_of, number_integer, text_of, truth_of};
 
 use crate::spelled::Spelled;
 use ink_model::{Shared, Text};
@@ -111,4 +111,14 @@ pub(crate) fn shared_text(alloc: Global, text: &str) -> Result<Shared<Text>, All
     ensures { IfOk result (λ copy. copy ≡ text.now) }
 {
     Shared::new(alloc, Text::from_str(alloc, text)?)
+}
+
+/// Whether a JSON value is the number of a layout.
+pub(crate) fn is_layout(json: &Json, layout: u64) -> bool
+    ensures { result ≡ is_some (format_of layout (view json.now)) }
+{
+    match json.as_u64() {
+        Some(number) => number == layout,
+        None => false,
+    }
 }

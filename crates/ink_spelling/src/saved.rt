@@ -1,13 +1,15 @@
-//! What a save spells.
+//! What a save of layout 1 spells.
 
-ghost use Rattle.std.specs.Prelude.{◌≡◌, IfOk, OnErr, is_some, true};
-ghost use Rattle.serde_json.specs.View.{members_view, view};
-ghost use Rattle.ink_model.specs.Save.Asks.{load_asks, members_ask, threads_ask, turn_asks};
-ghost use Rattle.ink_model.specs.Save.Unspelled.{format_of, from_threads, from_turn, unspelled, unspelled_by};
+ghost use Rattle.std.specs.Prelude.{◌≡◌, IfOk, OnErr, true};
+ghost use Rattle.serde_json.specs.View.{members_view};
+ghost use Rattle.ink_model.specs.Save.Asks.{members_ask, threads_ask, turn_asks};
+ghost use Rattle.ink_model.specs.Save.Unspelled.{from_threads, from_turn, unspelled_by};
 
 use crate::choice::SavedChoice;
+use crate::flow::SavedFlow;
 use crate::listed::Listed;
 use crate::members::{alone, next_named};
+use crate::plain::is_layout;
 use crate::spelled::Spelled;
 use crate::thread::{SavedThread, SavedThreads};
 use crate::value::SavedValue;
@@ -17,17 +19,30 @@ use std::alloc::{AllocError, Global};
 use std::collections::btree_map::Iter;
 use std::marker::Model;
 
-/// A configuration as it is spelled. A contract sees the configuration, in which nothing is being written.
+/// What all flows share, as it is spelled. A contract sees it.
 #[derive(Drop)]
-pub struct Saved {
-    pub choices: Listed<SavedChoice>,
+pub struct SavedShared {
     pub globals: Listed<(Text, SavedValue)>,
-    pub safe: bool,
-    pub stack: Listed<SavedValue>,
-    pub threads: SavedThreads,
     pub turn: u64,
     pub turns: Listed<(Listed<Part>, u64)>,
     pub visits: Listed<(Listed<Part>, u64)>,
+}
+
+impl Model for SavedShared {
+    ghost use Rattle.std.specs.Prelude.{List};
+    ghost use Rattle.ink_model.specs.Configuration.{SharedOf};
+    ghost use Rattle.ink_model.specs.declared.place.Part.{Part};
+
+    ghost Value = { SharedOf (List Part) };
+
+    ghost view = { λ v. record { globals = v.globals; counts = record { visits = v.visits; turns = v.turns }; turn = v.turn } };
+}
+
+/// A configuration as it is spelled. A contract sees the configuration, in which nothing is being written.
+#[derive(Drop)]
+pub struct Saved {
+    pub flow: SavedFlow,
+    pub shared: SavedShared,
 }
 
 impl Model for Saved {
@@ -36,27 +51,15 @@ impl Model for Saved {
 
     ghost Value = { Configuration };
 
-    ghost view = { λ c. record {
-      flow = record { threads = c.threads; stack = c.stack; choices = c.choices; safe = c.safe };
-      shared = record { globals = c.globals; counts = record { visits = c.visits; turns = c.turns }; turn = c.turn };
-      page = empty_page;
-    } };
+    ghost view = { λ c. record { flow = c.flow; shared = c.shared; page = empty_page } };
 }
 
-/// The configuration that a JSON value spells, if it spells one. The one error is a refused request for memory, which is asked
-/// for only where something of the value is kept.
-pub fn read_saved(alloc: Global, json: &Json) -> Result<Option<Saved>, AllocError>
-    ensures saved { IfOk result (λ saved. saved ≡ unspelled (view json.now)) }
-    ensures memory { OnErr result (load_asks (view json.now) ≡ true) }
-{
-    match json {
-        Json::Object(members) => read_members(alloc, members),
-        Json::Null | Json::Bool(_) | Json::Number(_) | Json::String(_) | Json::Array(_) => Ok(None),
-    }
-}
-
-// The configuration that members spell. The one error is a refused request for memory.
-fn read_members(alloc: Global, members: &Map<String, Json>) -> Result<Option<Saved>, AllocError>
+/// The configuration that members spell in layout 1. The one error is a refused request for memory, which is asked for only where
+/// something of them is kept.
+pub(crate) fn read_alone(
+    alloc: Global,
+    members: &Map<String, Json>,
+) -> Result<Option<Saved>, AllocError>
     ensures saved { IfOk result (λ saved. saved ≡ unspelled_by (members_view members.now.entries)) }
     ensures memory { OnErr result (members_ask (members_view members.now.entries) ≡ true) }
 {
@@ -70,7 +73,7 @@ fn read_members(alloc: Global, members: &Map<String, Json>) -> Result<Option<Sav
     let Some(json) = next_named(&mut rest, "format") else {
         return Ok(None);
     };
-    if !is_layout(json) {
+    if !is_layout(json, 1) {
         return Ok(None);
     }
     let Some(json) = next_named(&mut rest, "globals") else {
@@ -149,22 +152,17 @@ fn read_turn(
     let Some(threads) = SavedThreads::of(threads) else {
         return Ok(None);
     };
-    let saved = Saved {
-        choices,
-        globals,
-        safe,
-        stack,
+    let flow = SavedFlow {
         threads,
+        stack,
+        choices,
+        safe,
+    };
+    let shared = SavedShared {
+        globals,
         turn,
         turns,
         visits,
     };
-    Ok(alone(rest, saved))
-}
-
-// The number of the layout, which is 1.
-fn is_layout(json: &Json) -> bool
-    ensures { result ≡ is_some (format_of (view json.now)) }
-{
-    matches!(json.as_u64(), Some(1))
+    Ok(alone(rest, Saved { flow, shared }))
 }

@@ -9,7 +9,6 @@ use Rattle.ink_model.specs.Page.{Page, Section, SectionKind, string_section, tag
 use Rattle.ink_model.specs.Step.Host.{has_string}
 use Rattle.ink_model.specs.Step.Text.{closed_tag, end_string, in_string, in_tag, keeps_tag, write_tag}
 use Rattle.ink_model.specs.Tree.{StoryTree}
-use Rattle.ink_model.specs.declared.fault.Fault.{Fault}
 use Rattle.ink_model.specs.declared.fault.Fault.TheVariants.{BadMode, TooDeep}
 use Rattle.ink_model.specs.declared.limits.TheConstants.{MAX_STACK}
 use Rattle.ink_model.specs.declared.mark.Mark.{Mark}

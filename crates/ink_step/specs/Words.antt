@@ -1,15 +1,17 @@
 -- What a machine stands for.
 use Rattle.std.specs.Prelude.{ℕ, List, [], ◌∷◌, length, map, nat_lt, if◌then◌else◌}
-use Rattle.ink_model.specs.Configuration.{ChoiceOf, Configuration, FlowOf, SharedOf, map_choice}
+pub use Rattle.ink_flows.specs.Words.{aside_of, flow_of}
+use Rattle.ink_flows.specs.declared.flow.Flow.{Flow}
+use Rattle.ink_model.specs.Configuration.{ChoiceOf, Configuration, SharedOf, map_choice}
 use Rattle.ink_model.specs.Counts.{CountsOf}
 use Rattle.ink_model.specs.Effect.{Context}
-use Rattle.ink_model.specs.Frames.{ThreadsOf, map_thread, map_threads}
+use Rattle.ink_model.specs.Flows.{AsideOf, Game}
+use Rattle.ink_model.specs.Frames.{ThreadsOf, map_thread}
 use Rattle.ink_model.specs.Places.{places}
 use Rattle.ink_model.specs.Rows.{map_keys}
 use Rattle.ink_model.specs.Store.{Values}
 use Rattle.ink_model.specs.Tree.{StoryTree}
 use Rattle.ink_model.specs.declared.place.Part.{Part}
-use Rattle.ink_step.specs.declared.machine.Flow.{Flow}
 use Rattle.ink_step.specs.declared.machine.Machine.{Machine}
 use Rattle.ink_step.specs.declared.machine.Shared.{Shared}
 use Rattle.ink_tree.specs.Nodes.{node_place, place_of}
@@ -26,10 +28,6 @@ rows_in s rows = map_keys (λ n. node_place s (record { number = n })) (rows_bel
 -- what counts by number stand for in a story
 abbrev pub counts_in : StoryTree → CountsOf ℕ → CountsOf (List Part)
 counts_in s counts = record { visits = rows_in s counts.visits; turns = rows_in s counts.turns }
-
--- a flow, over the places that its spots stand for
-abbrev pub flow_of : StoryTree → Flow → FlowOf (List Part)
-flow_of s f = record { threads = map_threads (place_of s) f.threads.threads; stack = f.stack.items; choices = map (map_choice (place_of s)) f.choices.items; safe = f.safe }
 
 -- what flows share, over the places that its numbers stand for
 abbrev pub shared_of : StoryTree → Shared → SharedOf (List Part)
@@ -63,3 +61,11 @@ globals_of m = m.shared.globals.rows
 -- the globals as they were at the moment that was begun last
 abbrev pub start_of : Machine → Values
 start_of m = m.shared.globals.start
+
+-- the flows that stand aside
+abbrev pub aside_in : Machine → AsideOf Flow
+aside_in m = m.aside
+
+-- a machine's configuration, and the flows that stand aside
+abbrev pub game_of : StoryTree → Machine → Game
+game_of s m = record { now = config_of s m; aside = aside_of s m.aside }

@@ -10,7 +10,7 @@ ghost use Rattle.ink_model.specs.Tree.{StoryTree};
 ghost use Rattle.ink_model.specs.Visits.{around, entering_around, entering_asks};
 ghost use Rattle.ink_step.specs.Marks.{choices_lack, marked_in, own_lacks, own_spare, pressed, stood_of, threads_lack, turn_lacks};
 ghost use Rattle.ink_step.specs.Steps.{Chooses, StepEnds};
-ghost use Rattle.ink_step.specs.Words.{config_of, start_of};
+ghost use Rattle.ink_step.specs.Words.{aside_in, config_of, start_of};
 ghost use Rattle.ink_tree.specs.Nodes.{place_of};
 
 use crate::counting::enter_landed;
@@ -34,6 +34,7 @@ impl Machine {
             StepEnds (pressed s self.new || default_asks s choice c) (stopped_by s choice c) self.old.shared.globals.rows (config_of s self.new) result }
         ensures globals { self.new.shared.globals.rows ≡ self.old.shared.globals.rows }
         ensures start { start_of self.new ≡ start_of self.old }
+        ensures aside { aside_in self.new ≡ aside_in self.old }
         ensures mark { stood_of self.new ≡ stood_of self.old }
     {
         if !self.flow.choices.only_invisible() {
@@ -59,6 +60,7 @@ impl Machine {
         ensures taken { (s : StoryTree) → config_of s self.new ≡ taken_up (map_choice (place_of s) choice) (config_of s self.old) }
         ensures globals { self.new.shared.globals.rows ≡ self.old.shared.globals.rows }
         ensures start { start_of self.new ≡ start_of self.old }
+        ensures aside { aside_in self.new ≡ aside_in self.old }
         ensures mark { stood_of self.new ≡ stood_of self.old }
     {
         let Choice { target, thread, .. } = choice;
@@ -73,6 +75,7 @@ impl Machine {
     /// On an error nothing has changed (docs/RUNNING.md, "Choosing and jumping").
     pub fn choose(&mut self, story: &Story, number: usize) -> Result<(), Refusal>
         ensures chooses { let s = story_tree story.now in let c = config_of s self.old in Chooses s (marked_in (stood_of self.old)) (open_choice number c) c (config_of s self.new) result }
+        ensures aside { aside_in self.new ≡ aside_in self.old }
         ensures mark { stood_of self.new ≡ stood_of self.old }
     {
         if self.can_go_on() {
@@ -118,6 +121,7 @@ impl Machine {
         requires choices_room { 1 ≤ choices_spare self.old.flow.choices }
         requires own_room { 1 ≤ own_spare self.old.trail }
         ensures taken { (s : StoryTree) → let c = config_of s self.old in config_of s self.new ≡ taken_up (map_choice (place_of s) choice) (record c { shared = record c.shared { turn = turn } }) }
+        ensures aside { aside_in self.new ≡ aside_in self.old }
         ensures mark { stood_of self.new ≡ stood_of self.old }
     {
         self.set_turn(turn);
@@ -145,6 +149,7 @@ impl Machine {
     fn make_choosing_room(&mut self) -> Result<(), Refusal>
         ensures config { (s : StoryTree) → config_of s self.new ≡ config_of s self.old }
         ensures items { self.new.flow.choices.items ≡ self.old.flow.choices.items }
+        ensures aside { aside_in self.new ≡ aside_in self.old }
         ensures mark { stood_of self.new ≡ stood_of self.old }
         ensures threads { OnOk result (2 ≤ threads_spare self.new.flow.threads) }
         ensures choices { OnOk result (2 ≤ choices_spare self.new.flow.choices) }
@@ -169,6 +174,7 @@ impl Machine {
         ensures err { let s = story_tree story.now in OnErr result (config_of s self.new ≡ config_of s self.old) }
         ensures memory { let s = story_tree story.now in let there = jumped (place_of s place) (config_of s self.old) in
             OnErr result ((turn_lacks (length (around s there.flow.threads)) self.new || entering_asks s there) ≡ true) }
+        ensures aside { aside_in self.new ≡ aside_in self.old }
         ensures mark { stood_of self.new ≡ stood_of self.old }
     {
         if self.make_choosing_room().is_err() {

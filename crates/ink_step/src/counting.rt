@@ -13,7 +13,7 @@ ghost use Rattle.ink_model.specs.Tree.{at};
 ghost use Rattle.ink_model.specs.Visits.{adds_rows, all_visited, around, entering_around};
 ghost use Rattle.ink_stack.specs.Undo.{threads_spare};
 ghost use Rattle.ink_step.specs.Marks.{counts_lack, lacks, landing_lacks, stood_of};
-ghost use Rattle.ink_step.specs.Words.{config_of, counts_in, start_of};
+ghost use Rattle.ink_step.specs.Words.{aside_in, config_of, counts_in, start_of};
 ghost use Rattle.ink_tree.specs.Kept.{leaf_in};
 ghost use Rattle.ink_tree.specs.Nodes.{node_place, place_of, story_tree};
 ghost use Rattle.ink_tree.specs.Walks.{still_entered};
@@ -213,6 +213,7 @@ impl Machine {
         ensures memory { let s = story_tree tree.now in OnErr result ((counts_lack 2 self.new || going_in_asks s (place_of s place) (config_of s self.old)) ≡ true) }
         ensures globals { self.new.shared.globals.rows ≡ self.old.shared.globals.rows }
         ensures start { start_of self.new ≡ start_of self.old }
+        ensures aside { aside_in self.new ≡ aside_in self.old }
         ensures stack { self.new.flow.stack ≡ self.old.flow.stack }
         ensures mark { stood_of self.new ≡ stood_of self.old }
         ensures spare { threads_spare self.old.flow.threads ≤ threads_spare self.new.flow.threads + 1 }
@@ -238,6 +239,7 @@ impl Machine {
         ensures kept { let s = story_tree tree.now in OnErr result (config_of s self.new ≡ config_of s self.old) }
         ensures globals { self.new.shared.globals.rows ≡ self.old.shared.globals.rows }
         ensures start { start_of self.new ≡ start_of self.old }
+        ensures aside { aside_in self.new ≡ aside_in self.old }
         ensures mark { stood_of self.new ≡ stood_of self.old }
         ensures spare { threads_spare self.old.flow.threads ≤ threads_spare self.new.flow.threads + 0 }
     {

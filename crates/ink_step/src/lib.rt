@@ -7,6 +7,7 @@ mod diverting;
 mod evaluating;
 mod external;
 mod flow;
+mod flows;
 mod frames;
 mod machine;
 mod marking;
@@ -26,7 +27,8 @@ mod transfer;
 mod writing;
 
 pub use flow::StepEnd;
-pub use machine::{Flow, Machine, Shared};
+pub use ink_flows::{Aside, DEFAULT_FLOW, Flow, is_flow_name};
+pub use machine::{Machine, Shared};
 pub use opening::Unopened;
 pub use own::OwnPair;
 pub use parts::{Fields, Parts};

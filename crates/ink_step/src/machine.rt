@@ -8,25 +8,12 @@ ghost use Rattle.ink_model.specs.Tree.{StoryTree};
 ghost use Rattle.ink_step.specs.Marks.{stood_of, unmarked};
 
 use crate::own::OwnPair;
-use ink_choice::Choices;
+use ink_flows::{Aside, Flow};
 use ink_model::Value;
 use ink_out::Output;
-use ink_stack::Threads;
 use ink_trail::Trail;
-use ink_tree::Spot;
-use ink_value::EvalStack;
 use ink_vars::{Counts, Globals, Turn};
 use std::alloc::Global;
-
-/// A flow: where it is, what it evaluates, and what it offers.
-#[derive(Drop)]
-pub struct Flow {
-    pub threads: Threads<Spot>,
-    pub stack: EvalStack,
-    pub choices: Choices<Spot>,
-    /// Whether its last stop was a safe one.
-    pub safe: bool,
-}
 
 /// What all flows of a story share.
 #[derive(Drop)]
@@ -36,11 +23,12 @@ pub struct Shared {
     pub turn: Turn,
 }
 
-/// What changes while a story runs: a configuration; what the globals were when the last running command began; and while a mark
-/// stands the trail of what all was.
+/// What changes while a story runs: a configuration, which has the current flow; the flows that stand aside; what the globals were
+/// when the last running command began; and while a mark stands the trail of what all was.
 #[derive(Drop)]
 pub struct Machine {
     pub(crate) flow: Flow,
+    pub(crate) aside: Aside,
     pub(crate) shared: Shared,
     pub(crate) output: Output,
     pub(crate) trail: Trail<OwnPair>,
@@ -48,7 +36,7 @@ pub struct Machine {
 }
 
 impl Machine {
-    ghost use Rattle.ink_step.specs.Words.{config_of, globals_of, start_of};
+    ghost use Rattle.ink_step.specs.Words.{aside_in, config_of, globals_of, start_of};
 
     /// Whether flow has not stopped. Takes no memory.
     pub fn can_go_on(&self) -> bool
@@ -73,6 +61,7 @@ impl Machine {
         ensures err { (s : StoryTree) → OnErr result (config_of s self.new ≡ config_of s self.old) }
         ensures handed_back { IfErr result (λ handed_back. handed_back ≡ value) }
         ensures start { start_of self.new ≡ globals_of self.new }
+        ensures aside { aside_in self.new ≡ aside_in self.old }
         ensures mark { stood_of self.new ≡ stood_of self.old }
     {
         self.shared.globals.replace(name, value)
@@ -83,6 +72,7 @@ impl Machine {
         ensures config { (s : StoryTree) → config_of s self.new ≡ config_of s self.old }
         ensures globals { globals_of self.new ≡ globals_of self.old }
         ensures start { start_of self.new ≡ start_of self.old }
+        ensures aside { aside_in self.new ≡ aside_in self.old }
         ensures mark { stood_of self.new ≡ unmarked }
     {
         self.forget_own();
@@ -100,6 +90,7 @@ impl Machine {
         ensures begun { (s : StoryTree) → config_of s self.new ≡ begun (config_of s self.old) }
         ensures globals { globals_of self.new ≡ globals_of self.old }
         ensures start { start_of self.new ≡ globals_of self.old }
+        ensures aside { aside_in self.new ≡ aside_in self.old }
         ensures mark { stood_of self.new ≡ unmarked }
     {
         self.flow.safe = false;
@@ -115,6 +106,7 @@ impl Machine {
         ensures settled { (s : StoryTree) → config_of s self.new ≡ settled (config_of s self.old) }
         ensures globals { globals_of self.new ≡ globals_of self.old }
         ensures start { start_of self.new ≡ start_of self.old }
+        ensures aside { aside_in self.new ≡ aside_in self.old }
         ensures mark { stood_of self.new ≡ unmarked }
     {
         self.flow.threads.clear_numbers();

@@ -8,12 +8,13 @@ use crate::machine::Machine;
 use std::alloc::AllocError;
 
 impl Machine {
-    ghost use Rattle.ink_step.specs.Words.{config_of, start_of};
+    ghost use Rattle.ink_step.specs.Words.{aside_in, config_of, start_of};
 
     /// Starts a mark, at which all stands as it does now, and forgets an older one. Takes no memory.
     pub fn mark(&mut self)
         ensures config { (s : StoryTree) → config_of s self.new ≡ config_of s self.old }
         ensures start { start_of self.new ≡ start_of self.old }
+        ensures aside { aside_in self.new ≡ aside_in self.old }
         ensures mark { stood_of self.new ≡ marked_at self.old }
         ensures writes { writes_in self.new ≡ 0 }
     {
@@ -46,6 +47,7 @@ impl Machine {
     pub fn back(&mut self) -> u64
         ensures config { (s : StoryTree) → config_of s self.new ≡ config_back s self.old }
         ensures start { start_of self.new ≡ start_of self.old }
+        ensures aside { aside_in self.new ≡ aside_in self.old }
         ensures mark { stood_of self.new ≡ unmarked }
         ensures pairs { result ≡ pairs_in self.old }
         ensures few { result ≤ writes_in self.old }
@@ -85,6 +87,7 @@ impl Machine {
     pub fn make_room(&mut self, count: usize) -> Result<(), AllocError>
         ensures config { (s : StoryTree) → config_of s self.new ≡ config_of s self.old }
         ensures start { start_of self.new ≡ start_of self.old }
+        ensures aside { aside_in self.new ≡ aside_in self.old }
         ensures mark { stood_of self.new ≡ stood_of self.old }
         ensures kept { KeepsTrails self.old self.new }
         ensures ok { OnOk result (count ≤ room_in self.new) }

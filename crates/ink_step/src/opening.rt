@@ -2,6 +2,7 @@
 
 ghost use Rattle.std.specs.Prelude.{◌≡◌, [], Ok, IfOk, IfErr, false, option_map};
 ghost use Rattle.ink_model.specs.Configuration.{fresh_at, start, with_globals};
+ghost use Rattle.ink_model.specs.Flows.{one_flow};
 ghost use Rattle.ink_model.specs.Host.{nothing_bound};
 ghost use Rattle.ink_model.specs.Opening.{declarations, opening};
 ghost use Rattle.ink_model.specs.Place.{landed};
@@ -10,16 +11,14 @@ ghost use Rattle.ink_check.specs.Words.{story_tree};
 ghost use Rattle.ink_step.specs.Runs.{RunsToStop};
 ghost use Rattle.ink_tree.specs.Nodes.{place_of};
 
-use crate::machine::{Flow, Machine, Shared};
+use crate::machine::{Machine, Shared};
 use ink_check::Story;
-use ink_choice::Choices;
+use ink_flows::{Aside, Flow};
 use ink_host::{Desk, Nobody};
 use ink_model::Fault;
 use ink_out::Output;
-use ink_stack::Threads;
 use ink_trail::Trail;
 use ink_tree::Spot;
-use ink_value::EvalStack;
 use ink_vars::{Counts, Globals, Turn};
 use std::alloc::Global;
 
@@ -33,12 +32,13 @@ pub struct Unopened {
 impl Machine {
     ghost use Rattle.ink_step.specs.Marks.{stood_of, unmarked};
     ghost use Rattle.ink_step.specs.Steps.{FailsToOpen};
-    ghost use Rattle.ink_step.specs.Words.{config_of, globals_of};
+    ghost use Rattle.ink_step.specs.Words.{aside_in, config_of, globals_of};
 
-    /// A machine at the story's start, with the globals that the story declares. The fault is that of the declarations, or
+    /// A machine at the story's start, with the globals that the story declares, and one flow. The fault is that of the declarations, or
     /// `OutOfMemory`. A story without declarations needs no memory. No mark stands in the machine.
     pub fn open(alloc: Global, story: &Story) -> Result<Machine, Unopened>
         ensures ok { let s = story_tree story.now in IfOk result (λ m. opening s ≡ Ok (config_of s m)) }
+        ensures aside { IfOk result (λ m. aside_in m ≡ one_flow) }
         ensures mark { IfOk result (λ m. stood_of m ≡ unmarked) }
         ensures err { IfErr result (λ e. FailsToOpen (story_tree story.now) e.fault e.globals.rows) }
     {
@@ -67,11 +67,12 @@ impl Machine {
         outcome
     }
 
-    /// A machine at the story's start with these globals, where no mark stands. Takes no memory.
+    /// A machine at the story's start with these globals and one flow, where no mark stands. Takes no memory.
     #[tactic(auto, unfolding(ink_model::specs::Configuration::start, ink_model::specs::Configuration::fresh_at))]
     pub fn at_start(alloc: Global, story: &Story, globals: Globals) -> Machine
         ensures at_start { let s = story_tree story.now in config_of s result ≡ start s globals.rows }
         ensures globals { globals_of result ≡ globals.rows }
+        ensures aside { aside_in result ≡ one_flow }
         ensures mark { stood_of result ≡ unmarked }
     {
         Machine::fresh(alloc, story.tree().start(), globals)
@@ -82,16 +83,13 @@ impl Machine {
     fn fresh(alloc: Global, place: Spot, mut globals: Globals) -> Machine
         ensures fresh { (s : StoryTree) → config_of s result ≡ with_globals globals.rows (fresh_at (place_of s place)) }
         ensures globals { globals_of result ≡ globals.rows }
+        ensures aside { aside_in result ≡ one_flow }
         ensures mark { stood_of result ≡ unmarked }
     {
         globals.forget();
         Machine {
-            flow: Flow {
-                threads: Threads::new(alloc, Some(place)),
-                stack: EvalStack::new(alloc),
-                choices: Choices::new(alloc),
-                safe: false,
-            },
+            flow: Flow::new(alloc, Some(place)),
+            aside: Aside::new(alloc),
             shared: Shared {
                 globals,
                 counts: Counts::new(alloc),

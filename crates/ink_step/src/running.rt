@@ -18,7 +18,7 @@ use ink_model::{Fault, MAX_STEPS, Seq, Shown};
 use std::alloc::AllocError;
 
 impl Machine {
-    ghost use Rattle.ink_step.specs.Words.{config_of, start_of};
+    ghost use Rattle.ink_step.specs.Words.{aside_in, config_of, start_of};
 
     /// Steps to the stop, from where a running command has begun. The fault is that of the step that faulted, `OutOfSteps` after
     /// 1,000,000 steps, or `OutOfMemory` where memory was refused to a step that asks for it, or for what came of a call that it
@@ -33,6 +33,7 @@ impl Machine {
             (made : List Made) × Grew T.log (log_of W.state) desk.old (calls desk.old.next made) desk.new × RunsToStop s b (is_some (stack_stood self.old.flow.stack)) (pressed s self.new) (config_of s self.old) made (config_of s self.new) result × AreBound b made }
         ensures watchers { desk.new.watchers ≡ desk.old.watchers }
         ensures start { start_of self.new ≡ start_of self.old }
+        ensures aside { aside_in self.new ≡ aside_in self.old }
         ensures mark { stood_of self.new ≡ stood_of self.old }
     {
         for _step in 0..MAX_STEPS {

@@ -27,7 +27,7 @@ ghost use Rattle.ink_step.specs.Marks.{pressed, presses, stack_lacks, stood_of, 
 ghost use Rattle.ink_step.specs.Performs.{Keeps, KeepsChoices, Performs, landing_of, leading, storing_in, unstored};
 ghost use Rattle.ink_step.specs.External.{call_of};
 ghost use Rattle.ink_step.specs.Steps.{Passes, StepEnds, StepMakes, Steps, ended, wants};
-ghost use Rattle.ink_step.specs.Words.{config_of, globals_of, start_of};
+ghost use Rattle.ink_step.specs.Words.{aside_in, config_of, globals_of, start_of};
 ghost use Rattle.ink_step.specs.declared.flow.StepEnd.TheVariants.{WantsCall, Went};
 ghost use Rattle.ink_step.specs.declared.machine.Machine.{Machine as Before};
 ghost use Rattle.ink_tree.specs.Kept.{leaf_in};
@@ -76,6 +76,7 @@ impl Machine {
         ensures machine { result ≡ Ok WantsCall → self.new ≡ self.old }
         ensures desk { result ≡ Ok WantsCall → desk.new ≡ desk.old }
         ensures start { start_of self.new ≡ start_of self.old }
+        ensures aside { aside_in self.new ≡ aside_in self.old }
         ensures mark { stood_of self.new ≡ stood_of self.old }
     {
         if quiet && self.wants_call(story, desk) {
@@ -99,6 +100,7 @@ impl Machine {
             (es : List Happening) × Grew T.log (log_of W.state) desk.old es desk.new × StepMakes s b desk.old.next (presses s self.old self.new) (asks s b c) (step s b c) es self.old.shared.globals.rows (config_of s self.new) (ended result) }
         ensures watchers { desk.new.watchers ≡ desk.old.watchers }
         ensures start { start_of self.new ≡ start_of self.old }
+        ensures aside { aside_in self.new ≡ aside_in self.old }
         ensures mark { stood_of self.new ≡ stood_of self.old }
     {
         let Some(place) = self.flow.threads.place() else {
@@ -123,6 +125,7 @@ impl Machine {
             (es : List Happening) × Grew T.log (log_of W.state) desk.old es desk.new × StepMakes s b desk.old.next (presses s self.old self.new) (asks s b c) (step s b c) es self.old.shared.globals.rows (config_of s self.new) (ended result) }
         ensures watchers { desk.new.watchers ≡ desk.old.watchers }
         ensures start { start_of self.new ≡ start_of self.old }
+        ensures aside { aside_in self.new ≡ aside_in self.old }
         ensures mark { stood_of self.new ≡ stood_of self.old }
     {
         match self.pass(story, place)? {
@@ -149,6 +152,7 @@ impl Machine {
             (es : List Happening) × Grew T.log (log_of W.state) desk.old es desk.new × StepMakes s b desk.old.next (presses s self.old self.new) (asks s b c) (step s b c) es self.old.shared.globals.rows (config_of s self.new) result }
         ensures watchers { desk.new.watchers ≡ desk.old.watchers }
         ensures start { start_of self.new ≡ start_of self.old }
+        ensures aside { aside_in self.new ≡ aside_in self.old }
         ensures mark { stood_of self.new ≡ stood_of self.old }
     {
         let (here, found) = self.go_in(story.tree(), place)?;
@@ -168,6 +172,7 @@ impl Machine {
         ensures passes { (b : Bound) → let s = story_tree story.now in let c = config_of s self.old in Passes (presses s self.old self.new || asks s b c) (step s b c) self.old.shared.globals.rows (config_of s self.new) result }
         ensures kept { result ≡ Ok None → self.new ≡ self.old }
         ensures start { start_of self.new ≡ start_of self.old }
+        ensures aside { aside_in self.new ≡ aside_in self.old }
         ensures mark { stood_of self.new ≡ stood_of self.old }
     {
         match story.tree().leaf_at(place) {
@@ -214,6 +219,7 @@ impl Machine {
             × StepMakes s b desk.old.next (pressed s self.new) (calling_asks s (external_asks (b k.name) k.arguments k.conditional (fields_of c)) called c) (call_made s called c) es self.old.shared.globals.rows (config_of s self.new) result }
         ensures watchers { desk.new.watchers ≡ desk.old.watchers }
         ensures start { start_of self.new ≡ start_of self.old }
+        ensures aside { aside_in self.new ≡ aside_in self.old }
         ensures mark { stood_of self.new ≡ stood_of self.old }
     {
         let mut transfer = external::call_external(
@@ -236,6 +242,7 @@ impl Machine {
             let e = effect s p stands (context_of c) (fields_of c) in
             StepEnds (((takes_there stands && is_some (stack_stood self.old.flow.stack)) || pressed s self.new) || acting_asks s (content_asks s p stands (context_of c) (fields_of c)) e c) (acted s e c) self.old.shared.globals.rows (config_of s self.new) result }
         ensures start { start_of self.new ≡ start_of self.old }
+        ensures aside { aside_in self.new ≡ aside_in self.old }
         ensures mark { stood_of self.new ≡ stood_of self.old }
     {
         let mut transfer = Transfer::Next;
@@ -268,6 +275,7 @@ impl Machine {
             StepEnds (moved_asks (next_place s) c.flow.threads (written_in c)) (going (moved_on (next_place s)) c) self.old.shared.globals.rows (config_of s self.new) (Ok Went) }
         ensures globals { self.new.shared.globals.rows ≡ self.old.shared.globals.rows }
         ensures start { start_of self.new ≡ start_of self.old }
+        ensures aside { aside_in self.new ≡ aside_in self.old }
         ensures mark { stood_of self.new ≡ stood_of self.old }
     {
         move_to(story.tree(), &mut self.flow.threads, next);
@@ -281,6 +289,7 @@ impl Machine {
             → self.old.flow.safe ≡ old.flow.safe → self.old.shared.counts.rows ≡ old.shared.counts.rows → self.old.shared.turn ≡ old.shared.turn → self.old.shared.globals.rows ≡ old.shared.globals.rows → let c = config_of s old in
             StepEnds (pressed s self.new || ((asks || move_asks s e c) || following_asks s (moved s e c))) (following s (moved s e c)) old.shared.globals.rows (config_of s self.new) result }
         ensures start { start_of self.new ≡ start_of self.old }
+        ensures aside { aside_in self.new ≡ aside_in self.old }
         ensures mark { stood_of self.new ≡ stood_of self.old }
     {
         let end = self.go(story, transfer)?;
@@ -296,6 +305,7 @@ impl Machine {
             StepEnds (pressed s self.new || ((asks || move_asks s e (config_of s self.old)) || following_asks s o)) (following s o) self.old.shared.globals.rows (config_of s self.new) result }
         ensures globals { self.new.shared.globals.rows ≡ self.old.shared.globals.rows }
         ensures start { start_of self.new ≡ start_of self.old }
+        ensures aside { aside_in self.new ≡ aside_in self.old }
         ensures mark { stood_of self.new ≡ stood_of self.old }
     {
         match self.follow(story, transfer)? {
@@ -310,6 +320,7 @@ impl Machine {
     #[inline(always)]
     fn store(&mut self, transfer: &mut Transfer<'_>, end: StepEnd) -> Result<StepEnd, Fault>
         ensures start { start_of self.new ≡ start_of self.old }
+        ensures aside { aside_in self.new ≡ aside_in self.old }
         ensures stored { (s : StoryTree) (asks whole : Bool) (e : Effect) (f : Fields) (o : Outcome) → (asks ≡ true → whole ≡ true) → f.globals ≡ self.old.shared.globals.rows → Performs s asks e f (Ok transfer.old)
             → StepEnds whole o self.old.shared.globals.rows (config_of s self.old) (Ok end) → StepEnds whole (storing_in e o) self.old.shared.globals.rows (config_of s self.new) result }
         ensures mark { stood_of self.new ≡ stood_of self.old }
@@ -350,6 +361,7 @@ impl Machine {
         ensures safe { self.new.flow.safe ≡ self.old.flow.safe }
         ensures globals { self.new.shared.globals.rows ≡ self.old.shared.globals.rows }
         ensures start { start_of self.new ≡ start_of self.old }
+        ensures aside { aside_in self.new ≡ aside_in self.old }
         ensures mark { stood_of self.new ≡ stood_of self.old }
         ensures spare { threads_spare self.old.flow.threads ≤ threads_spare self.new.flow.threads + 1 }
     {
@@ -383,6 +395,7 @@ impl Machine {
         ensures safe { self.new.flow.safe ≡ self.old.flow.safe }
         ensures globals { self.new.shared.globals.rows ≡ self.old.shared.globals.rows }
         ensures start { start_of self.new ≡ start_of self.old }
+        ensures aside { aside_in self.new ≡ aside_in self.old }
         ensures mark { stood_of self.new ≡ stood_of self.old }
         ensures spare { threads_spare self.old.flow.threads ≤ threads_spare self.new.flow.threads + 1 }
     {
@@ -528,6 +541,7 @@ impl Machine {
         ensures safe { self.new.flow.safe ≡ self.old.flow.safe }
         ensures globals { self.new.shared.globals.rows ≡ self.old.shared.globals.rows }
         ensures start { start_of self.new ≡ start_of self.old }
+        ensures aside { aside_in self.new ≡ aside_in self.old }
         ensures mark { stood_of self.new ≡ stood_of self.old }
         ensures spare { threads_spare self.old.flow.threads ≤ threads_spare self.new.flow.threads + 1 }
     {
@@ -595,6 +609,7 @@ impl Machine {
             → StepEnds (pressed s self.new || (asks || move_asks s e (config_of s self.old))) (moved s (unstored self.old.shared.globals.rows e) (config_of s self.old)) self.old.shared.globals.rows (config_of s self.new) result }
         ensures globals { self.new.shared.globals.rows ≡ self.old.shared.globals.rows }
         ensures start { start_of self.new ≡ start_of self.old }
+        ensures aside { aside_in self.new ≡ aside_in self.old }
         ensures mark { stood_of self.new ≡ stood_of self.old }
         ensures enough { OnOk result (2 ≤ threads_spare self.new.flow.threads) }
     {
@@ -676,6 +691,7 @@ impl Machine {
             StepEnds (pressed s self.new || landed_asks s to.enters c.shared.counts (how c.flow.threads (written_in c))) (landing s to.enters how c) self.old.shared.globals.rows (config_of s self.new) result }
         ensures globals { self.new.shared.globals.rows ≡ self.old.shared.globals.rows }
         ensures start { start_of self.new ≡ start_of self.old }
+        ensures aside { aside_in self.new ≡ aside_in self.old }
         ensures mark { stood_of self.new ≡ stood_of self.old }
         ensures spare { threads_spare self.old.flow.threads ≤ threads_spare self.new.flow.threads + 2 }
     {
@@ -693,6 +709,7 @@ impl Machine {
             (landing s to.enters how c) self.old.shared.globals.rows (config_of s self.new) result }
         ensures globals { self.new.shared.globals.rows ≡ self.old.shared.globals.rows }
         ensures start { start_of self.new ≡ start_of self.old }
+        ensures aside { aside_in self.new ≡ aside_in self.old }
         ensures mark { stood_of self.new ≡ stood_of self.old }
         ensures spare { threads_spare self.old.flow.threads ≤ threads_spare self.new.flow.threads + 4 }
     {
@@ -715,6 +732,7 @@ impl Machine {
             (landing s (may_enter goal) how c) self.old.shared.globals.rows (config_of s self.new) result }
         ensures globals { self.new.shared.globals.rows ≡ self.old.shared.globals.rows }
         ensures start { start_of self.new ≡ start_of self.old }
+        ensures aside { aside_in self.new ≡ aside_in self.old }
         ensures mark { stood_of self.new ≡ stood_of self.old }
         ensures enough { 5 ≤ threads_spare self.new.flow.threads }
     {
@@ -738,6 +756,7 @@ impl Machine {
             StepEnds (moved_asks (next_place s) c.flow.threads (written_in c)) (going (moved_on (next_place s)) c) self.old.shared.globals.rows (config_of s self.new) result }
         ensures globals { self.new.shared.globals.rows ≡ self.old.shared.globals.rows }
         ensures start { start_of self.new ≡ start_of self.old }
+        ensures aside { aside_in self.new ≡ aside_in self.old }
         ensures mark { stood_of self.new ≡ stood_of self.old }
         ensures enough { 6 ≤ threads_spare self.new.flow.threads }
     {

@@ -17,6 +17,7 @@ pub(crate) fn shown_machine(alloc: Global, machine: &Machine) -> Result<String, 
         flow,
         shared,
         output,
+        ..
     } = machine.parts();
     let mut said = String::new(alloc);
     show_flow(alloc, &mut said, flow)?;

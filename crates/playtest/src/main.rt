@@ -18,9 +18,10 @@ use std::alloc::Global;
 use std::process::ExitCode;
 
 /// The tables that are read where none are named.
-const TABLES: [&str; 24] = [
+const TABLES: [&str; 27] = [
     "boxes.txt",
     "players.txt",
+    "players_flows.txt",
     "players_large.txt",
     "players_lines.txt",
     "players_objects.txt",
@@ -35,6 +36,7 @@ const TABLES: [&str; 24] = [
     "sessions_counts.txt",
     "sessions_counts_large.txt",
     "sessions_cut.txt",
+    "sessions_flows.txt",
     "sessions_games.txt",
     "sessions_large.txt",
     "sessions_limits.txt",
@@ -42,6 +44,7 @@ const TABLES: [&str; 24] = [
     "sessions_lines_large.txt",
     "sessions_refused.txt",
     "sessions_saves.txt",
+    "sessions_saves_old.txt",
     "sessions_variables.txt",
 ];
 

@@ -6,6 +6,7 @@
 //! - `choices`: each text and its tags as a passage has them, apart by ` | `; `none` where there is none
 //! - `restart`, `can_continue`, `get NAME`, `set NAME VALUE`, `visits PATH`, `choose N`, `jump PATH`
 //! - `save`: the text of the save; `load JSON`
+//! - `flow NAME`, `drop NAME`, where NAME is what stands behind the word as it is; `flow_name`, and `flows`, apart by spaces
 //! - `turn NAME DEED..`, `pure NAME DEED`, `watch NAME`, `unbind NAME`, `unwatch NAME`: what is handed back, or `nothing`. A deed
 //!   is a value, `refuses` or `short`, which finds no memory; a watcher does not with `watch NAME short`
 //! - `short CALL`: `continue`, `through`, `restart`, `set` or `load`, of which want of memory is an answer, with the events until
@@ -22,8 +23,9 @@ use ink_json::read_story;
 use ink_model::{Cause, Event, Fault, Given, Halt, Passage, Refusal, Seq, Shared, Text, Value};
 use ink_player::{Bound, Desk, PlayFault, Player, open_story};
 use inkcases::{
-    Answer, NoAnswer, Table, Tally, Verdict, compared, encode, expanded, first_line, first_word,
-    given_of, is_comment, question_and_answer, show_given, show_value, shown_value, text, value_of,
+    Answer, NoAnswer, Table, Tally, Verdict, append, compared, encode, expanded, first_line,
+    first_word, given_of, is_comment, question_and_answer, show_given, show_value, shown_value,
+    text, value_of,
 };
 use serde_json::Value as Json;
 use std::alloc::{AllocError, Global};
@@ -183,6 +185,10 @@ fn said(alloc: Global, player: &mut TestPlayer, call: &str) -> Answer {
         "jump" => landed(alloc, player.jump(rest)),
         "save" => saved(alloc, player),
         "load" => done(alloc, load(alloc, player, rest)?),
+        "flow" => landed(alloc, player.flow(rest)),
+        "drop" => landed(alloc, player.drop_flow(rest)),
+        "flow_name" => text(alloc, player.flow_name()),
+        "flows" => flows(alloc, player),
         "turn" => bind_turn(alloc, player, rest),
         "pure" => bind_pure(alloc, player, rest),
         "watch" => watch(alloc, player, rest),
@@ -282,6 +288,15 @@ fn load(alloc: Global, player: &mut TestPlayer, save: &str) -> Result<Outcome, N
         Err(why) if why.is_memory() => Err(NoAnswer::OutOfMemory),
         Err(_) => Err(NoAnswer::NoQuestion),
     }
+}
+
+fn flows(alloc: Global, player: &TestPlayer) -> Answer {
+    let names = player.flows()?;
+    let mut said = String::new(alloc);
+    for name in names.as_slice() {
+        append(&mut said, name.as_str())?;
+    }
+    Ok(said)
 }
 
 /// What a call says that may find no memory, which is an answer here.

@@ -102,7 +102,7 @@ abbrev pub choice_asks : Data → Bool
 choice_asks (object ms) = choice_asks_by ms
 choice_asks j = false
 
--- ---- configurations
+-- ---- layout 1
 
 -- the places and numbers of visits or turns
 abbrev pub counts_ask : Data → Bool
@@ -118,11 +118,16 @@ abbrev pub threads_ask : Members → Bool
 threads_ask = take_asks (codes "threads") (list_of thread_in) (list_asks thread_in thread_asks) turn_asks
 
 abbrev pub members_ask : Members → Bool
-members_ask = take_asks (codes "choices") (list_of choice_of) (list_asks choice_of choice_asks) (take_asks (codes "format") format_of none_asks
+members_ask = take_asks (codes "choices") (list_of choice_of) (list_asks choice_of choice_asks) (take_asks (codes "format") (format_of 1) none_asks
     (take_asks (codes "globals") (list_of (pair_of text_of value_of)) (list_asks (pair_of text_of value_of) (pair_asks text_of text_asks value_asks))
     (take_asks (codes "safe") truth_of none_asks (take_asks (codes "stack") (list_of value_of) (list_asks value_of value_asks) threads_ask))))
 
--- a whole save
+-- ---- a whole save
+
+-- layout 2 begins with the current flow's name
+abbrev pub spelled_asks : Members → Bool
+spelled_asks = take_asks (codes "current") text_of text_asks none_asks
+
 abbrev pub load_asks : Data → Bool
-load_asks (object ms) = members_ask ms
+load_asks (object ms) = spelled_asks ms || members_ask ms
 load_asks j = false

@@ -1,21 +1,23 @@
--- What is asked of a configuration that is saved or loaded (docs/SAVES.md). Each one that a session comes to has it.
+-- What is asked of a game that is saved or loaded (docs/SAVES.md). Each one that a session comes to has it.
 use Rattle.std.specs.Prelude.{◌≡◌, ℕ, ◌≤◌, ℤ, pos, negsuc, List, [], ◌∷◌, length, Bool, true, false, not, ◌&&◌, IsTrue, Option, Some, None, is_some}
 use Rattle.std.specs.List.{AllByRecursion as Each}
 use Rattle.ink_model.specs.Bases.{BaseFirst}
 use Rattle.ink_model.specs.Bytes.{fits_text}
-use Rattle.ink_model.specs.Configuration.{ChoiceOf, Configuration, FlowOf, SharedOf}
+use Rattle.ink_model.specs.Configuration.{ChoiceOf, Configuration, FlowOf, SharedOf, unnumbered_flow}
 use Rattle.ink_model.specs.Counts.{CountsOf}
 use Rattle.ink_model.specs.Entered.{flags_at}
 use Rattle.ink_model.specs.Flags.{counts_visits, notes_turns}
+use Rattle.ink_model.specs.Flows.{Aside, begins_with_default, holes, is_flow_name}
 use Rattle.ink_model.specs.Frames.{FrameOf, ThreadOf, ThreadsOf, place_in}
 use Rattle.ink_model.specs.Leaves.{is_small}
+use Rattle.ink_model.specs.Named.{once}
 use Rattle.ink_model.specs.Page.{Page}
 use Rattle.ink_model.specs.Path.{is_place, path_text, read_path, target}
 use Rattle.ink_model.specs.Rows.{name_order, place_order, rows_rise}
 use Rattle.ink_model.specs.Store.{Values, stored}
 use Rattle.ink_model.specs.Threads.{frame_count, thread_count}
 use Rattle.ink_model.specs.Tree.{StoryTree, at}
-use Rattle.ink_model.specs.declared.limits.TheConstants.{MAX_CHOICES, MAX_COUNT, MAX_FRAMES, MAX_SECTIONS, MAX_STACK, MAX_THREADS}
+use Rattle.ink_model.specs.declared.limits.TheConstants.{MAX_CHOICES, MAX_COUNT, MAX_FLOWS, MAX_FRAMES, MAX_SECTIONS, MAX_STACK, MAX_THREADS}
 use Rattle.ink_model.specs.declared.place.Part.{Part}
 use Rattle.ink_model.specs.declared.place.Path.{Path}
 use Rattle.ink_model.specs.declared.value.Value.{Value}
@@ -165,3 +167,21 @@ pub record Sound (s : StoryTree) (c : Configuration) : Type 0 where
   pub flow : FlowSound s c.flow
   pub shared : SharedSound s c.shared
   pub page : PageFits c.page
+
+-- ---- flows
+
+-- a flow that stands aside is sound, and no frame of it has the number of an Enter
+abbrev pub FlowStandsAside : StoryTree → Option (FlowOf (List Part)) → Type 0
+FlowStandsAside s None = Unit {0}
+FlowStandsAside s (Some f) = FlowSound s f × (unnumbered_flow f ≡ f)
+
+-- a flow's name and parts
+abbrev pub NamedFits : StoryTree → List ℕ × Option (FlowOf (List Part)) → Type 0
+NamedFits s r = IsTrue (is_flow_name r.0) × FlowStandsAside s r.1
+
+pub record AsideFits (s : StoryTree) (rows : Aside) : Type 0 where
+  pub first : IsTrue (begins_with_default rows)
+  pub names : IsTrue (once rows)
+  pub current : holes rows ≡ 1
+  pub few : length rows ≤ MAX_FLOWS
+  pub each : Each (NamedFits s) rows

@@ -1,9 +1,10 @@
--- The JSON value that a configuration is saved as: layout 1 (docs/SAVES.md).
+-- The JSON value that a game is saved as: layout 2; and layout 1, of a configuration alone (docs/SAVES.md).
 use Rattle.std.specs.Prelude.{ℕ, pos, List, [], ◌∷◌, map, reverse, codes, Option, Some, None}
 use Rattle.serde_json.specs.Data.{Data, null, boolean, number, string, array, object, Members, no_members, member, put}
 use Rattle.serde_json.specs.Find.{of_integer}
 use Rattle.ink_model.specs.Configuration.{ChoiceOf, Configuration, FlowOf}
 use Rattle.ink_model.specs.Events.{items_of}
+use Rattle.ink_model.specs.Flows.{Game, all_flows, current_name}
 use Rattle.ink_model.specs.Frames.{FrameOf, ThreadOf, ThreadsOf}
 use Rattle.ink_model.specs.ValueJson.{value_data}
 use Rattle.ink_model.specs.declared.frame.FrameKind.{FrameKind}
@@ -77,9 +78,24 @@ abbrev pub flow_members : FlowOf (List Part) → Members → Members
 flow_members f others = put (codes "choices") (list_data choice_data f.choices) (put (codes "safe") (boolean f.safe)
     (put (codes "stack") (list_data value_data f.stack) (put (codes "threads") (threads_data f.threads) others)))
 
+-- a flow with its name
+abbrev pub named_flow_data : List ℕ × FlowOf (List Part) → Data
+named_flow_data r = object (flow_members r.1 (member (codes "name") (string r.0) no_members))
+
 -- the text that is being written is not saved
-abbrev pub spelling : Configuration → Data
-spelling c = object (flow_members c.flow
+abbrev pub spelling : Game → Data
+spelling g = object
+    (member (codes "current") (string (current_name g.aside))
+    (member (codes "flows") (list_data named_flow_data (all_flows g.now.flow g.aside))
+    (member (codes "format") (count_data 2)
+    (member (codes "globals") (list_data global_data g.now.shared.globals)
+    (member (codes "turn") (count_data g.now.shared.turn)
+    (member (codes "turns") (list_data row_data g.now.shared.counts.turns)
+    (member (codes "visits") (list_data row_data g.now.shared.counts.visits) no_members)))))))
+
+-- layout 1, which knew no flows
+abbrev pub old_spelling : Configuration → Data
+old_spelling c = object (flow_members c.flow
     (member (codes "format") (count_data 1)
     (member (codes "globals") (list_data global_data c.shared.globals)
     (member (codes "turn") (count_data c.shared.turn)

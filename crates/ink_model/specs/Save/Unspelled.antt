@@ -1,9 +1,11 @@
--- The configuration that a JSON value spells in layout 1, whatever the story is (docs/SAVES.md).
-use Rattle.std.specs.Prelude.{ℕ, ◌^◌, List, [], ◌∷◌, reverse, Bool, bytes_eq, codes, nat_lt, ◌==◌, if◌then◌else◌, Option, Some, None, option_and_then}
-use Rattle.std.specs.Option.{option_map}
+-- The game that a JSON value spells, whatever the story is (docs/SAVES.md).
+use Rattle.std.specs.Prelude.{ℕ, ◌^◌, List, [], ◌∷◌, map, reverse, Bool, bytes_eq, codes, nat_lt, ◌==◌, if◌then◌else◌, Option, Some, None, option_and_then}
+use Rattle.std.specs.Option.{option_map, option_or}
 use Rattle.serde_json.specs.Data.{Num, unsigned, negative, float, Data, null, boolean, number, string, array, object, Items, no_items, item, Members, no_members, member}
-use Rattle.ink_model.specs.Configuration.{ChoiceOf, Configuration}
+use Rattle.ink_model.specs.Configuration.{ChoiceOf, Configuration, FlowOf, SharedOf}
+use Rattle.ink_model.specs.Flows.{Aside, Game, alone}
 use Rattle.ink_model.specs.Frames.{FrameOf, ThreadOf, ThreadsOf}
+use Rattle.ink_model.specs.Named.{Rows, at}
 use Rattle.ink_model.specs.Output.{empty_page}
 use Rattle.ink_model.specs.declared.frame.FrameKind.{FrameKind}
 use Rattle.ink_model.specs.declared.frame.FrameKind.TheVariants.{Base, Function, Tunnel}
@@ -22,10 +24,10 @@ abbrev pub truth_of : Data → Option Bool
 truth_of (boolean b) = Some b
 truth_of j = None
 
--- the number of the layout
-abbrev pub format_of : Data → Option (Unit {0})
-format_of (number (unsigned n)) = if n == 1 then Some tt else None
-format_of j = None
+-- the number of a layout
+abbrev pub format_of : ℕ → Data → Option (Unit {0})
+format_of layout (number (unsigned n)) = if n == layout then Some tt else None
+format_of layout j = None
 
 -- ---- lists
 
@@ -118,7 +120,7 @@ abbrev pub choice_of : Data → Option (ChoiceOf (List Part))
 choice_of (object ms) = choice_by ms
 choice_of j = None
 
--- ---- configurations
+-- ---- layout 1
 
 -- by what was read of its members so far, from the turn number on
 abbrev pub from_turn : List (ChoiceOf (List Part)) → List (List ℕ × Value) → Bool → List Value → List (ThreadOf (List Part)) → Members → Option Configuration
@@ -136,10 +138,62 @@ abbrev pub from_threads : List (ChoiceOf (List Part)) → List (List ℕ × Valu
 from_threads choices globals safe stack = take (codes "threads") (list_of thread_in) (λ threads. from_turn choices globals safe stack threads)
 
 abbrev pub unspelled_by : Members → Option Configuration
-unspelled_by = take (codes "choices") (list_of choice_of) (λ choices. take (codes "format") format_of (λ one.
+unspelled_by = take (codes "choices") (list_of choice_of) (λ choices. take (codes "format") (format_of 1) (λ one.
     take (codes "globals") (list_of (pair_of text_of value_of)) (λ globals. take (codes "safe") truth_of (λ safe.
     take (codes "stack") (list_of value_of) (λ stack. from_threads choices globals safe stack)))))
 
-abbrev pub unspelled : Data → Option Configuration
-unspelled (object ms) = unspelled_by ms
-unspelled j = None
+-- ---- layout 2
+
+-- a flow with its name
+abbrev pub named_flow_by : Members → Option (List ℕ × FlowOf (List Part))
+named_flow_by = take (codes "choices") (list_of choice_of) (λ choices. take (codes "name") text_of (λ name. take (codes "safe") truth_of (λ safe.
+    take (codes "stack") (list_of value_of) (λ stack. take (codes "threads") (list_of thread_in) (λ threads ms.
+    option_and_then (λ ts. closed (name, record { threads = ts; stack = stack; choices = choices; safe = safe }) ms) (threads_with (reverse threads)))))))
+
+abbrev pub named_flow_of : Data → Option (List ℕ × FlowOf (List Part))
+named_flow_of (object ms) = named_flow_by ms
+named_flow_of j = None
+
+-- What is spelled in layout 2: the current flow's name, all flows, and what they share.
+pub record Spelled : Type 0 where
+  pub current : List ℕ
+  pub flows : Rows (FlowOf (List Part))
+  pub shared : SharedOf (List Part)
+
+abbrev pub spelled_by : Members → Option Spelled
+spelled_by = take (codes "current") text_of (λ current. take (codes "flows") (list_of named_flow_of) (λ flows. take (codes "format") (format_of 2) (λ two.
+    take (codes "globals") (list_of (pair_of text_of value_of)) (λ globals. take (codes "turn") count_of (λ turn.
+    take (codes "turns") (list_of (pair_of place_of count_of)) (λ turns. take (codes "visits") (list_of (pair_of place_of count_of)) (λ visits.
+    closed (record { current = current; flows = flows; shared = record { globals = globals; counts = record { visits = visits; turns = turns }; turn = turn } }))))))))
+
+-- these flows stand aside, but for the current one
+abbrev pub aside_but : List ℕ → Rows (FlowOf (List Part)) → Aside
+aside_but current flows = map (λ r. (r.0, if bytes_eq current r.0 then None else Some r.1)) flows
+
+-- with the current flow, if it is among them
+abbrev pub game_with : Spelled → Option (FlowOf (List Part)) → Option Game
+game_with x None = None
+game_with x (Some f) = Some (record { now = record { flow = f; shared = x.shared; page = empty_page }; aside = aside_but x.current x.flows })
+
+abbrev pub game_spelled : Spelled → Option Game
+game_spelled x = game_with x (at x.current x.flows)
+
+-- ---- either
+
+pub data Layout : Type 0 where
+  First : (now : Configuration) → Layout
+  Second : (spelled : Spelled) → Layout
+
+abbrev pub layout_by : Members → Option Layout
+layout_by ms = option_or (option_map Second (spelled_by ms)) (option_map First (unspelled_by ms))
+
+abbrev pub layout_of : Data → Option Layout
+layout_of (object ms) = layout_by ms
+layout_of j = None
+
+abbrev pub game_of : Layout → Option Game
+game_of (First c) = Some (alone c)
+game_of (Second x) = game_spelled x
+
+abbrev pub unspelled : Data → Option Game
+unspelled j = option_and_then game_of (layout_of j)

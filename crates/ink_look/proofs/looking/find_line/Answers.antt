@@ -17,6 +17,7 @@ loop-step-init g c =
       ran = ran_none g.F.TurnFn.log (log_of g.O.Watcher.state) g.P.PureFn.meaning s c.args.desk.now (config_of s c.args.machine.now) (config_back s c.args.machine.now);
       watchers = refl;
       start = refl;
+      aside = refl;
       waits = c.requires.unmarked;
     }
 
@@ -35,6 +36,7 @@ loop-step-preserved g c =
             (config_back s c.step_on.new.machine) (config_of s c.step_on.new.machine) l _ w.in-Nothing.is w.waiting-is ran;
         watchers = c.in_ok-step_on.ensures.watchers ∙ inv.watchers;
         start = c.in_ok-step_on.ensures.start ∙ inv.start;
+        aside = c.in_ok-step_on.ensures.aside ∙ inv.aside;
         waits = waits_for l _ c.step_on.new.machine (w.waiting-is ∙ ap waiting_after (sym w.in-Nothing.is)) c.in_ok-step_on.ensures.waits;
       }
       | in-Newline w ↦ record {
@@ -42,6 +44,7 @@ loop-step-preserved g c =
             (config_back s c.step_on.new.machine) (config_of s c.step_on.new.machine) l w.in-Newline.newline _ w.in-Newline.is w.waiting-is ran;
         watchers = c.in_ok-step_on.ensures.watchers ∙ inv.watchers;
         start = c.in_ok-step_on.ensures.start ∙ inv.start;
+        aside = c.in_ok-step_on.ensures.aside ∙ inv.aside;
         waits = waits_for l _ c.step_on.new.machine (w.waiting-is ∙ ap waiting_after (sym w.in-Newline.is)) c.in_ok-step_on.ensures.waits;
       }
     ]

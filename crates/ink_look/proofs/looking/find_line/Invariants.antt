@@ -5,7 +5,7 @@ use Rattle.ink_look.specs.Looking.{Waits, search_at}
 use Rattle.ink_look.proofs.Searches.{Ran}
 use Rattle.ink_look.proofs.looking.find_line.Given as goal
 use Rattle.ink_step.specs.Marks.{config_back}
-use Rattle.ink_step.specs.Words.{config_of, start_of}
+use Rattle.ink_step.specs.Words.{aside_in, config_of, start_of}
 
 -- the search got here and is not over
 abbrev pub invariant-loop-step : goal.invariant-loop-step
@@ -16,5 +16,6 @@ invariant-loop-step g l =
           (search_at l.waiting (config_back s l.machine) (config_of s l.machine));
       watchers : l.desk.watchers ≡ l.initial.desk.watchers;
       start : start_of l.machine ≡ start_of l.initial.machine;
+      aside : aside_in l.machine ≡ aside_in l.initial.machine;
       waits : Waits l.waiting l.machine;
     }

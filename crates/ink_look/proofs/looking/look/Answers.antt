@@ -30,7 +30,7 @@ returns-in-Ok-Went-clause-steps g c =
         λ left made. goes s b c.args.newline (config_back s c.args.machine.now) old left made new q.1 (config_back s c.step.new.self)
             (back_stays s c.args.machine.now c.step.new.self c.requires.waits c.in-Ok-Went.ensures.mark)
             (search_after c.went_on.result (config_back s c.went_on.new.machine) (config_of s c.went_on.new.machine) left made) (q.2 left made)
-            (c.went_on.ensures.looked s old (sym (c.len-marks.ensures.marks ∙ ap (λ d. length d.page.line) (c.parts.ensures s))) left made),
+            (c.went_on.ensures.looked s old (sym (c.len-marks.ensures.marks ∙ ap (λ d. length d.page.line) (c.parts.ensures.config s))) left made),
       ),
     )
 

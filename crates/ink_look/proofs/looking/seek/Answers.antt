@@ -16,7 +16,7 @@ returns-in-Went-clause-steps g c =
       h.0,
       h.1,
       seeks_on s b c.args.desk.now.next h.0 (config_back s c.args.machine.now) (config_of s c.args.machine.now) (config_of s c.step.new.self) (config_back s c.found.new.machine) (config_of s c.found.new.machine)
-          (c.found.ensures.config s) c.len-marks.result c.found.result (sym (c.len-marks.ensures.marks ∙ ap (λ d. length d.page.line) (c.parts.ensures s))) (c.found.ensures.found s) (c.found.ensures.here s)
+          (c.found.ensures.config s) c.len-marks.result c.found.result (sym (c.len-marks.ensures.marks ∙ ap (λ d. length d.page.line) (c.parts.ensures.config s))) (c.found.ensures.found s) (c.found.ensures.here s)
           (unmarked_makes s b c.args.desk.now.next c.args.machine.now c.step.new.self h.0 _ (Ok ends.Went) c.requires.unmarked c.in_ok-step.ensures.mark (ap Ok c.in-Went.is) h.2),
     )
 

@@ -102,5 +102,23 @@ returns-in-Some-Load-clause-does g c =
       does.2,
     )
 
+pub returns-in-Some-Flow-clause-does : goal.returns-in-Some-Flow-clause-does
+returns-in-Some-Flow-clause-does g c = (
+  [],
+  null,
+  tt,
+  command_does _ _ _ _ _ c.args.command (Some (line.Flow c.in-Some-Flow.name)) (c.in-Some-Flow.is ∙ ap (λ k. Some k) c.in-Some-Flow.field-0-is) (inl (refl, c.flow.ensures.does)),
+  dealt-kept g.F.TurnFn.log g.O.Watcher.state (desk_of c.args.player.now) (desk_of c.flow.new.self) c.flow.ensures.desk,
+)
+
+pub returns-in-Some-Drop-clause-does : goal.returns-in-Some-Drop-clause-does
+returns-in-Some-Drop-clause-does g c = (
+  [],
+  null,
+  tt,
+  command_does _ _ _ _ _ c.args.command (Some (line.Drop c.in-Some-Drop.name)) (c.in-Some-Drop.is ∙ ap (λ k. Some k) c.in-Some-Drop.field-0-is) (inl (refl, c.drop_flow.ensures.does)),
+  dealt-kept g.F.TurnFn.log g.O.Watcher.state (desk_of c.args.player.now) (desk_of c.drop_flow.new.self) c.drop_flow.ensures.desk,
+)
+
 pub returns-in-None-clause-does : goal.returns-in-None-clause-does
 returns-in-None-clause-does g c = ([], null, tt, command_does _ _ _ _ _ c.args.command None c.in-None.is (inl (refl, (refl, refl))), dealt-none g.F.TurnFn.log g.O.Watcher.state (desk_of c.args.player.now))

@@ -1,7 +1,7 @@
 use Rattle.std.proofs.Common.{◌≡◌, ◌∙◌, IfOk, OnErr, option_map, subst, sym, true}
 use Rattle.ink_model.specs.Command.{line_asks}
 use Rattle.ink_protocol.specs.Commands.{command_by}
-use Rattle.ink_protocol.proofs.Commands.{choose_word, get_word, jump_word, load_word, set_word, visits_word}
+use Rattle.ink_protocol.proofs.Commands.{choose_word, drop_word, flow_word, get_word, jump_word, load_word, set_word, visits_word}
 use Rattle.ink_protocol.proofs.command.command_in.Goals as goal
 
 pub returns-in-Some-clause-command : goal.returns-in-Some-clause-command
@@ -32,3 +32,9 @@ returns-in-Some-after-5-clause-command c =
 pub returns-in-Some-after-5-clause-memory : goal.returns-in-Some-after-5-clause-memory
 returns-in-Some-after-5-clause-memory c =
     subst (λ k. OnErr c.load_command.result (line_asks k ≡ true)) (sym (load_word c.args.text.now c.in-Some-after-5.json.now (sym c.in-Some-after-5.ensures))) c.load_command.ensures.memory
+
+pub returns-in-Some-after-6-clause-command : goal.returns-in-Some-after-6-clause-command
+returns-in-Some-after-6-clause-command c = c.flow_command.ensures ∙ sym (flow_word c.args.text.now c.in-Some-after-6.name.now (sym c.in-Some-after-6.ensures))
+
+pub returns-in-Some-after-7-clause-command : goal.returns-in-Some-after-7-clause-command
+returns-in-Some-after-7-clause-command c = c.drop_command.ensures ∙ sym (drop_word c.args.text.now c.in-Some-after-7.name.now (sym c.in-Some-after-7.ensures))

@@ -1,7 +1,20 @@
-use Rattle.std.proofs.Common.{◌∙◌, sym}
+use Rattle.std.proofs.Common.{◌∙◌, ap, sym}
 use Rattle.serde_json.specs.View.{view}
-use Rattle.ink_spelling.proofs.Asking.{or_else, spelled_asks}
+use Rattle.ink_save.proofs.Reading.{found_of, none_of}
+use Rattle.ink_spelling.proofs.Asking.{layouts_ask, or_else}
+use Rattle.ink_spelling.specs.Layouts.{layout_as}
+use Rattle.ink_tree.specs.Nodes.{story_tree}
+use Rattle.std.specs.Option.{option_map}
 use Rattle.ink_save.proofs.loading.read_machine.Goals as goal
 
+pub returns-in-Some-clause-made : goal.returns-in-Some-clause-made
+returns-in-Some-clause-made c =
+    found_of (story_tree c.args.tree.now) (view c.args.json.now) c.in-Some.saved c.build_machine.result (ap (option_map layout_as) (sym c.in-Some.is) ∙ c.in_ok-saved.ensures.saved) c.build_machine.ensures.made
+
+pub returns-in-None-clause-made : goal.returns-in-None-clause-made
+returns-in-None-clause-made c =
+    none_of (story_tree c.args.tree.now) (view c.args.json.now) (ap (option_map layout_as) (sym c.in-None.is) ∙ c.in_ok-saved.ensures.saved)
+
 pub returns-in-Some-clause-memory : goal.returns-in-Some-clause-memory
-returns-in-Some-clause-memory c = or_else c.build_machine.result (spelled_asks (view c.args.json.now) c.in-Some.saved (sym c.in_ok-saved.ensures.saved ∙ c.in-Some.is))
+returns-in-Some-clause-memory c =
+    or_else c.build_machine.result (layouts_ask (view c.args.json.now) (layout_as c.in-Some.saved) (sym c.in_ok-saved.ensures.saved ∙ ap (option_map layout_as) c.in-Some.is))

@@ -1,16 +1,11 @@
-use Rattle.std.proofs.Common.{◌≡◌, ◌∙◌, IfOk, ap, subst}
+use Rattle.std.proofs.Common.{◌≡◌, IfOk, subst}
 use Rattle.serde_json.specs.View.{view}
 use Rattle.ink_check.specs.Words.{story_tree}
-use Rattle.ink_model.specs.Output.{empty_page}
-use Rattle.ink_model.specs.Save.Spelling.{spelling}
-use Rattle.ink_step.specs.Words.{flow_of, shared_of}
+use Rattle.ink_save.proofs.Keeping.{kept_game}
 use Rattle.ink_save.proofs.saving.write.Goals as goal
 
 pub returns : goal.returns
 returns c =
     let s = story_tree c.args.story.now in
-    let parts = c.parts-parts.result in
-    subst (λ q. IfOk c.write.result (λ json. view json ≡ q))
-    (ap spelling c.kept_of.ensures
-    ∙ ap (λ t. spelling (record { flow = flow_of t parts.flow.now; shared = shared_of t parts.shared.now; page = empty_page })) c.tree-tree.ensures.tree
-    ∙ ap spelling (c.parts-parts.ensures s)) c.write.ensures
+    subst (λ g. IfOk c.write.result (λ json. view json ≡ g))
+    (kept_game s c.args.machine.now c.parts-parts.result c.kept_of-kept.result _ c.kept_of-kept.ensures c.tree-tree.ensures.tree (c.parts-parts.ensures.config s) c.parts-parts.ensures.aside) c.write.ensures

@@ -1,4 +1,4 @@
-use Rattle.std.proofs.Common.{◌≡◌, ◌∙◌, ap, inl, subst, sym, true}
+use Rattle.std.proofs.Common.{◌∙◌, ap, inl, sym, true}
 use Rattle.std.proofs.lemmas.Result.{on_err_weaker, on_ok_weaker}
 use Rattle.ink_model.specs.Counts.{adds_row, visited}
 use Rattle.ink_model.specs.Entered.{flags_at}

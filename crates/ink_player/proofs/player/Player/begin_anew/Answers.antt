@@ -1,8 +1,7 @@
 use Rattle.std.proofs.Common.{None, ap, refl, sym}
 use Rattle.ink_model.specs.Answer.{reply_of_events}
-use Rattle.ink_model.specs.State.{Ready}
 use Rattle.ink_check.specs.Words.{story_tree}
-use Rattle.ink_player.specs.Words.{PlayerView, is_empty, condition_by, desk_of, story_of}
+use Rattle.ink_player.specs.Words.{PlayerView, aside_seen, is_empty, condition_by, desk_of, story_of}
 use Rattle.ink_step.specs.Words.{config_of}
 use Rattle.ink_player.proofs.Anew.{begun-anew}
 use Rattle.ink_player.proofs.Tellings.{tells-kept}
@@ -12,7 +11,7 @@ use Rattle.ink_player.proofs.player.Player.begin_anew.Goals as goal
 pub returns-in_default-clause-does : goal.returns-in_default-clause-does
 returns-in_default-clause-does g c =
     let p : PlayerView g.row.P.Denot g.row.F.Denot g.row.O.Denot = record { story = c.self.inside.story; desk = c.self.inside.desk; machine = c.self.inside.machine; broken = c.self.inside.broken } in
-    rw (sym c.self.view_is) (tells-kept g.F.TurnFn.log g.O.Watcher.state _ _ (condition_by p.broken (config_of (story_of p) p.machine)) (Ready (config_of (story_of p) c.args.machine))
+    rw (sym c.self.view_is) (tells-kept g.F.TurnFn.log g.O.Watcher.state _ _ (condition_by p.broken (config_of (story_of p) p.machine)) (aside_seen p)
     (desk_of p) c.tell_between.new.desk c.in_default.ensures.tells.0 c.in_default.ensures.tells.1)
 
 pub returns-clause-does : goal.returns-clause-does
@@ -25,4 +24,5 @@ pub invariant_of-self-2 : goal.invariant_of-self-2
 invariant_of-self-2 g c =
     let s = story_tree c.self.inside.story in
     stands-told s c.self.invariant.story c.args.machine c.end_telling.new.desk.events c.in-Ok.all c.end_telling.new.broken None (ap (λ d. is_empty d.events) c.end_telling.ensures.desk) refl c.end_telling.ensures.broken c.requires.unmarked
-    (stands-as (story_of c.args.self.now) s c.args.machine (ap (λ q. story_of q) (sym c.self.view_is)) c.requires.fits)
+    (stands-as (story_of c.args.self.now) s c.args.machine (ap (λ q. story_of q) (sym c.self.view_is)) (c.requires.fits.sound, c.requires.fits.rests))
+    (rw (ap (λ q. story_of q) c.self.view_is) c.requires.fits.aside)

@@ -1,7 +1,7 @@
 use Rattle.std.proofs.Common.{◌∙◌}
 use Rattle.ink_check.specs.Words.{story_tree}
 use Rattle.ink_step.specs.Words.{config_of}
-use Rattle.ink_player.proofs.Standing.{choose-stands, chooses-free, free-stands, stands-free}
+use Rattle.ink_player.proofs.Standing.{aside-stays, choose-stands, chooses-free, free-stands, stands-free}
 use Rattle.ink_player.proofs.player.Player.choose.Goals as goal
 
 pub invariant_of-self : goal.invariant_of-self
@@ -12,3 +12,4 @@ invariant_of-self g c =
     stands-free s kept.story c.choose.new.self c.self.inside.desk.events c.self.inside.broken kept.taken c.in_default.is (c.choose.ensures.mark ∙ kept.unmarked)
     (choose-stands s kept.story start (free-stands s kept.story c.self.inside.broken start c.in_default.is kept.fits) _ (config_of s c.choose.new.self) c.choose.result
     (chooses-free s c.self.inside.machine kept.unmarked _ (config_of s c.choose.new.self) c.choose.result c.choose.ensures.chooses))
+    (aside-stays s kept.story c.self.inside.machine c.choose.new.self c.choose.ensures.aside kept.aside)

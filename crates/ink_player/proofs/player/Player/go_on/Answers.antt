@@ -7,20 +7,20 @@ use Rattle.ink_model.specs.declared.host.Change.{Change}
 use Rattle.ink_player.specs.Words.{PlayerView, desk_of, is_empty, state_of, story_of}
 use Rattle.ink_step.specs.Words.{config_of, globals_of}
 use Rattle.ink_player.proofs.Tellings.{broken-as, goes-broken, goes-fault, goes-told, goes-untold, goes-where, none-left, once-none, stops, tells-all, told-state, told-watched, with_parts}
-use Rattle.ink_player.proofs.Standing.{free-stands, run-stands, stands-told}
+use Rattle.ink_player.proofs.Standing.{aside-stays, free-stands, run-stands, stands-told}
 use Rattle.ink_player.proofs.player.Player.go_on.Goals as goal
 
 pub returns-in-Some-clause-does : goal.returns-in-Some-clause-does
 returns-in-Some-clause-does g c =
     let p : PlayerView g.row.P.Denot g.row.F.Denot g.row.O.Denot = record { story = c.self.inside.story; desk = c.self.inside.desk; machine = c.self.inside.machine; broken = c.self.inside.broken } in
-    rw (sym c.self.view_is) ([], goes-broken _ _ p.broken _ _ c.args.extent c.in-Some.fault c.in-Some.is, once-none g.F.TurnFn.log g.O.Watcher.state _ (desk_of p))
+    rw (sym c.self.view_is) ([], goes-broken _ _ p.broken _ _ _ c.args.extent c.in-Some.fault c.in-Some.is, once-none g.F.TurnFn.log g.O.Watcher.state _ (desk_of p))
 
 pub returns-then-not-can_go_on-clause-does : goal.returns-then-not-can_go_on-clause-does
 returns-then-not-can_go_on-clause-does g c =
     let p : PlayerView g.row.P.Denot g.row.F.Denot g.row.O.Denot = record { story = c.self.inside.story; desk = c.self.inside.desk; machine = c.self.inside.machine; broken = c.self.inside.broken } in
     let s = story_of p in
     let stopped = sym (c.can_go_on.ensures s) ∙ c.if-not-can_go_on.true in
-    rw (sym c.self.view_is) ([], goes-where s _ p.broken _ _ c.args.extent [] _ _ false c.in_default.is stopped (refl, (refl, refl)), once-none g.F.TurnFn.log g.O.Watcher.state _ (desk_of p))
+    rw (sym c.self.view_is) ([], goes-where s _ p.broken _ _ _ c.args.extent [] _ _ false c.in_default.is stopped (refl, (refl, refl)), once-none g.F.TurnFn.log g.O.Watcher.state _ (desk_of p))
 
 pub returns-in_default-told-clause-does : goal.returns-in_default-told-clause-does
 returns-in_default-told-clause-does g c =
@@ -35,7 +35,7 @@ returns-in_default-told-clause-does g c =
     let broken = c.break_by-in_default-told in
     let q = with_parts p c.run_to.new.machine broken.new.desk broken.new.broken in
     rw (sym c.self.view_is) (goes-untold g.F.TurnFn.log g.O.Watcher.state c.args.extent g.P.PureFn.meaning p c.run_to.new.machine mid runs.0 c.in_default.is (none-left p.desk.events c.self.invariant.taken)
-    (sym (c.can_go_on.ensures (story_of p)) ∙ c.if-not-can_go_on.false) runs.1 c.in-Ok.ensures.watchers c.in-Ok.passage q mid (reply_of_halt broken.result)
+    (sym (c.can_go_on.ensures (story_of p)) ∙ c.if-not-can_go_on.false) c.in-Ok.ensures.aside runs.1 c.in-Ok.ensures.watchers c.in-Ok.passage q mid (reply_of_halt broken.result)
     runs.2 some refl broken.ensures.reply (broken-as p c.run_to.new.machine broken.new.desk mid broken.new.broken _ broken.ensures.desk broken.ensures.broken))
 
 pub returns-in-Ok-tell-clause-does : goal.returns-in-Ok-tell-clause-does
@@ -50,7 +50,7 @@ returns-in-Ok-tell-clause-does g c =
     let leaves = told-state p c.run_to.new.machine c.end_run.new.desk c.tell.new.desk c.end_run.new.broken p.broken c.in-Ok-tell.all after c.in_default.is
     c.end_run.ensures.broken c.end_run.ensures.desk refl in
     rw (sym c.self.view_is) (goes-told g.F.TurnFn.log g.O.Watcher.state c.args.extent g.P.PureFn.meaning p c.run_to.new.machine mid runs.0 c.in_default.is (none-left p.desk.events c.self.invariant.taken)
-    (sym (c.can_go_on.ensures (story_of p)) ∙ c.if-not-can_go_on.false) runs.1 c.in-Ok.ensures.watchers c.in-Ok.passage c.in-Ok-tell.all c.tell.new.desk (desk_of q) (reply_of c.end_run.result) (state_of q)
+    (sym (c.can_go_on.ensures (story_of p)) ∙ c.if-not-can_go_on.false) c.in-Ok.ensures.aside runs.1 c.in-Ok.ensures.watchers c.in-Ok.passage c.in-Ok-tell.all c.tell.new.desk (desk_of q) (reply_of c.end_run.result) (state_of q)
     runs.2 tells c.end_run.ensures.reply leaves c.end_run.ensures.desk)
 
 pub returns-in-Err-tell-clause-does : goal.returns-in-Err-tell-clause-does
@@ -67,7 +67,7 @@ returns-in-Err-tell-clause-does g c =
     let broken = c.break_by-in-Err-tell in
     let q = with_parts p c.run_to.new.machine broken.new.desk broken.new.broken in
     rw (sym c.self.view_is) (goes-untold g.F.TurnFn.log g.O.Watcher.state c.args.extent g.P.PureFn.meaning p c.run_to.new.machine mid runs.0 c.in_default.is (none-left p.desk.events c.self.invariant.taken)
-    (sym (c.can_go_on.ensures (story_of p)) ∙ c.if-not-can_go_on.false) runs.1 c.in-Ok.ensures.watchers c.in-Ok.passage q c.tell.new.desk (reply_of_halt broken.result)
+    (sym (c.can_go_on.ensures (story_of p)) ∙ c.if-not-can_go_on.false) c.in-Ok.ensures.aside runs.1 c.in-Ok.ensures.watchers c.in-Ok.passage q c.tell.new.desk (reply_of_halt broken.result)
     runs.2 some c.in-Err-tell.ensures.tells.1 broken.ensures.reply (broken-as p c.run_to.new.machine broken.new.desk c.tell.new.desk broken.new.broken _ broken.ensures.desk broken.ensures.broken))
 
 pub returns-in-Err-clause-does : goal.returns-in-Err-clause-does
@@ -77,7 +77,7 @@ returns-in-Err-clause-does g c =
     let runs = c.in-Err.ensures.runs in
     let q = with_parts p c.run_to.new.machine c.break_by.new.desk c.break_by.new.broken in
     rw (sym c.self.view_is) (goes-fault g.F.TurnFn.log g.O.Watcher.state c.args.extent g.P.PureFn.meaning p c.run_to.new.machine mid runs.0 c.in_default.is (none-left p.desk.events c.self.invariant.taken)
-    (sym (c.can_go_on.ensures (story_of p)) ∙ c.if-not-can_go_on.false) runs.1 c.in-Err.ensures.watchers c.in-Err.fault q (reply_of_halt c.break_by.result)
+    (sym (c.can_go_on.ensures (story_of p)) ∙ c.if-not-can_go_on.false) c.in-Err.ensures.aside runs.1 c.in-Err.ensures.watchers c.in-Err.fault q (reply_of_halt c.break_by.result)
     runs.2 c.break_by.ensures.reply (broken-as p c.run_to.new.machine c.break_by.new.desk mid c.break_by.new.broken _ c.break_by.ensures.desk c.break_by.ensures.broken))
 
 pub invariant_of-self-in-Ok-tell : goal.invariant_of-self-in-Ok-tell
@@ -88,7 +88,8 @@ invariant_of-self-in-Ok-tell g c =
     let runs = c.in-Ok.ensures.runs in
     let goes = sym (c.can_go_on.ensures s) ∙ c.if-not-can_go_on.false in
     let before = config_of s p.machine in
-    let stopped = stops g.F.TurnFn.log g.O.Watcher.state c.args.extent g.P.PureFn.meaning p c.run_to.new.machine c.run_to.new.desk runs.0 c.in_default.is (none-left p.desk.events kept.taken) goes runs.1 c.in-Ok.ensures.watchers
+    let stopped = stops g.F.TurnFn.log g.O.Watcher.state c.args.extent g.P.PureFn.meaning p c.run_to.new.machine c.run_to.new.desk runs.0 c.in_default.is (none-left p.desk.events kept.taken) goes c.in-Ok.ensures.aside runs.1 c.in-Ok.ensures.watchers
     c.in-Ok.passage runs.2 in
     stands-told s kept.story c.run_to.new.machine c.end_run.new.desk.events c.in-Ok-tell.all c.end_run.new.broken p.broken (ap (λ d. is_empty d.events) c.end_run.ensures.desk) c.in_default.is c.end_run.ensures.broken c.in-Ok.ensures.mark
     (run-stands s kept.story before (free-stands s kept.story p.broken before c.in_default.is kept.fits) c.args.extent (bound_by g.P.PureFn.meaning p.desk.functions) runs.0 stopped.0 (config_of s c.run_to.new.machine) goes stopped.1 stopped.3)
+    (aside-stays s kept.story p.machine c.run_to.new.machine c.in-Ok.ensures.aside kept.aside)

@@ -4,9 +4,9 @@ use Rattle.ink_check.specs.Words.{story_tree}
 use Rattle.ink_model.specs.Answer.{Refuses, reply_of_events}
 use Rattle.ink_player.specs.Saving.{ReadsAsState}
 use Rattle.ink_player.specs.Words.{PlayerView, bindings, desk_of, state_of, story_of}
-use Rattle.ink_step.specs.Words.{config_of, globals_of}
+use Rattle.ink_step.specs.Words.{config_of, game_of, globals_of}
 use Rattle.ink_player.proofs.Saves.{load-read, load-reads, load-refused, load-stands}
-use Rattle.ink_player.proofs.Standing.{stands-as}
+use Rattle.ink_player.proofs.Standing.{game-as}
 use Rattle.ink_player.proofs.Tellings.{globals-by, once-none}
 use Rattle.ink_player.proofs.player.Player.load.Goals as goal
 
@@ -17,7 +17,7 @@ returns-in-Ok-clause-does g c =
     let does = rw (sym c.self.view_is) at c.begin_anew.ensures.does in
     rw (sym c.self.view_is) (
       does.0,
-      load-read s (bindings g.P.PureFn.meaning (desk_of p)) (view c.args.json.now) (state_of p) (config_of s c.in-Ok.found) (globals_of p.machine) does.0 _ _ c.in-Ok.ensures.finds
+      load-read s (bindings g.P.PureFn.meaning (desk_of p)) (view c.args.json.now) (state_of p) (game_of s c.in-Ok.found) (globals_of p.machine) does.0 _ _ c.in-Ok.ensures.finds
           (globals-by p.broken (config_of s p.machine)) does.1,
       does.2,
     )
@@ -33,7 +33,7 @@ returns-in-Err-clause-does g c =
 
 pub begin_anew-requires : goal.begin_anew-requires
 begin_anew-requires g c = record {
-  fits = stands-as (story_tree c.self.inside.story) (story_of c.args.self.now) c.in-Ok.found (ap (λ q. story_of q) c.self.view_is) (c.in-Ok.ensures.finds.sound, c.in-Ok.ensures.finds.rests);
+  fits = game-as (story_tree c.self.inside.story) (story_of c.args.self.now) c.in-Ok.found (ap (λ q. story_of q) c.self.view_is) c.in-Ok.ensures.finds.stands;
   unmarked = c.in-Ok.ensures.mark;
 }
 

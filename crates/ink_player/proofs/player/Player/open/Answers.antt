@@ -3,6 +3,7 @@ use Rattle.ink_check.specs.Words.{story_tree}
 use Rattle.ink_step.specs.Words.{config_of}
 use Rattle.ink_player.specs.Words.{is_empty}
 use Rattle.ink_sound.proofs.Sessions.{opened_fits}
+use Rattle.ink_player.proofs.Standing.{alone-fits}
 use Rattle.ink_player.proofs.player.Player.open.Goals as goal
 
 pub invariant_of-result : goal.invariant_of-result
@@ -10,5 +11,6 @@ invariant_of-result g c = record {
   taken = ap (λ d. is_empty d.events) c.start_anew.ensures;
   story = c.story_fits.ensures;
   unmarked = c.in-Ok.ensures.mark;
-  fits = opened_fits (story_tree c.args.story) c.story_fits.ensures (config_of (story_tree c.args.story) c.in-Ok.machine) c.in-Ok.ensures.ok;
+  fits = (opened_fits (story_tree c.args.story) c.story_fits.ensures (config_of (story_tree c.args.story) c.in-Ok.machine) c.in-Ok.ensures.ok).condition;
+  aside = alone-fits (story_tree c.args.story) c.in-Ok.machine c.in-Ok.ensures.aside;
 }

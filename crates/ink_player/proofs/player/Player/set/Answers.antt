@@ -4,7 +4,7 @@ use Rattle.ink_model.specs.Host.{value_given}
 use Rattle.ink_model.specs.Store.{stored}
 use Rattle.ink_model.specs.Told.{told}
 use Rattle.ink_model.specs.declared.host.Change.{Change}
-use Rattle.ink_player.specs.Words.{TellsOnce, bindings, desk_of, state_of, story_of, told_from}
+use Rattle.ink_player.specs.Words.{TellsOnce, aside_seen, bindings, desk_of, state_of, story_of, told_from}
 use Rattle.ink_step.specs.Words.{config_of, globals_of}
 use Rattle.ink_player.proofs.Tellings.{globals-by, once-none, set-broken, sets, sets-where}
 use Rattle.ink_player.proofs.player.Player.set.Goals as goal
@@ -14,7 +14,7 @@ returns-in-Some-clause-does g c =
     let p = c.args.self.now in
     let h = bindings g.P.PureFn.meaning (desk_of p) in (
       [],
-      set-broken h c.args.name.now (config_of (story_of p) p.machine) p.broken (desk_of p).next (Some c.args.value) c.in-Some.cause
+      set-broken h c.args.name.now (config_of (story_of p) p.machine) p.broken (aside_seen p) (desk_of p).next (Some c.args.value) c.in-Some.cause
           (ap (λ q. q.broken) (sym c.self.view_is) ∙ c.in-Some.is),
       once-none g.F.TurnFn.log g.O.Watcher.state _ (desk_of p),
     )
@@ -24,7 +24,7 @@ returns-then-not-is_settable-clause-does g c =
     let p = c.args.self.now in
     let h = bindings g.P.PureFn.meaning (desk_of p) in (
       [],
-      sets-where h c.args.name.now (config_of (story_of p) p.machine) p.broken (desk_of p).next c.args.value [] _ _ false _
+      sets-where h c.args.name.now (config_of (story_of p) p.machine) p.broken (aside_seen p) (desk_of p).next c.args.value [] _ _ false _
           (ap (λ q. q.broken) (sym c.self.view_is) ∙ c.in_default.is)
           (sym c.is_settable.ensures ∙ c.if-not-is_settable.true) refl (refl, (refl, refl)),
       once-none g.F.TurnFn.log g.O.Watcher.state _ (desk_of p),
@@ -37,7 +37,7 @@ returns-then-not-contains-clause-does g c =
     ap (λ vs. is_some (stored c.args.name.now vs)) (ap (λ q. globals_of q.machine) (sym c.self.view_is) ∙ sym c.globals.ensures) ∙ sym c.contains.ensures in
     let h = bindings g.P.PureFn.meaning (desk_of p) in (
       [],
-      sets-where h c.args.name.now (config_of (story_of p) p.machine) p.broken (desk_of p).next c.args.value [] _ _ true false
+      sets-where h c.args.name.now (config_of (story_of p) p.machine) p.broken (aside_seen p) (desk_of p).next c.args.value [] _ _ true false
           (ap (λ q. q.broken) (sym c.self.view_is) ∙ c.in_default.is)
           (sym c.is_settable.ensures ∙ c.if-not-is_settable.false)
           (known ∙ c.if-not-contains.true) (refl, (refl, refl)),
@@ -58,7 +58,7 @@ returns-clause-does g c =
     ap (λ v. told w (globals_of p.machine) ((c.args.name.now, v) ∷ [])) c.value_given.ensures
     ∙ ap (λ vs. told w vs ((c.args.name.now, value_given c.args.value) ∷ [])) (sym (globals-by p.broken start)) in (
       does.0,
-      sets h c.args.name.now start p.broken (desk_of p).next c.args.value does.0 _ _ c.value_given.result c.value_given.ensures
+      sets h c.args.name.now start p.broken (aside_seen p) (desk_of p).next c.args.value does.0 _ _ c.value_given.result c.value_given.ensures
           (ap (λ q. q.broken) (sym c.self.view_is) ∙ c.in_default.is) (sym c.is_settable.ensures ∙ c.if-not-is_settable.false)
           (known ∙ c.if-not-contains.false) does.1,
       (does.2.0, subst (λ (cs : List Change). TellsOnce state cs (desk_of p).watchers (desk_of c.store.new.self).watchers) changes does.2.1),

@@ -1,4 +1,4 @@
-use Rattle.std.proofs.Common.{◌≡◌, ◌&&◌, ◌||◌, ap, option_map, refl, rules, subst, sym, true, Err, Ok}
+use Rattle.std.proofs.Common.{◌≡◌, ◌&&◌, ◌||◌, option_map, refl, rules, subst, sym, true, Err, Ok}
 use Rattle.ink_check.specs.Words.{story_tree}
 use Rattle.ink_model.specs.Flow.{returned}
 use Rattle.ink_model.specs.Frames.{map_threads}

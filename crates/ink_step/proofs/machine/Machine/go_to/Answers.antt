@@ -1,4 +1,4 @@
-use Rattle.std.proofs.Common.{◌≡◌, ◌&&◌, ◌||◌, ap, cond, false, rules, subst, sym, true, Err}
+use Rattle.std.proofs.Common.{◌≡◌, ◌&&◌, ◌||◌, cond, false, rules, subst, sym, true, Err}
 use Rattle.ink_check.specs.Words.{story_tree}
 use Rattle.ink_model.specs.Flow.{reach}
 use Rattle.ink_model.specs.Frames.{map_threads}

@@ -10,7 +10,7 @@ use Rattle.ink_value.specs.Undo.{stack_stood}
 pub loop-step-init : goal.loop-step-init
 loop-step-init g c =
     let s = story_tree c.args.story.now in
-    record { ran = ran_none g.T.TurnFn.log (log_of g.W.Watcher.state) g.P.PureFn.meaning s c.args.desk.now (config_of s c.args.self.now); watchers = refl; start = refl; mark = refl }
+    record { ran = ran_none g.T.TurnFn.log (log_of g.W.Watcher.state) g.P.PureFn.meaning s c.args.desk.now (config_of s c.args.self.now); watchers = refl; start = refl; aside = refl; mark = refl }
 
 pub loop-step-preserved : goal.loop-step-preserved
 loop-step-preserved g c =
@@ -20,6 +20,7 @@ loop-step-preserved g c =
           (config_of s c.loop-step.self) (config_of s c.forward.new.self) c.loop-step.invariant.ran _ c.if-not-branch.false c.in_ok-forward.ensures.step;
       watchers = c.in_ok-forward.ensures.watchers ∙ c.loop-step.invariant.watchers;
       start = c.in_ok-forward.ensures.start ∙ c.loop-step.invariant.start;
+      aside = c.in_ok-forward.ensures.aside ∙ c.loop-step.invariant.aside;
       mark = c.in_ok-forward.ensures.mark ∙ c.loop-step.invariant.mark;
     }
 

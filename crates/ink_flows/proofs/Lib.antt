@@ -1,0 +1,5 @@
+pub mod Laws
+pub mod Mapped
+mod Holes
+mod Listed
+mod Going

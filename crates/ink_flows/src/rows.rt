@@ -1,0 +1,106 @@
+//! Flows by name, without the view on them.
+
+ghost use Rattle.std.specs.Prelude.{◌≡◌, ◌++◌, [], ◌∷◌, None, Some, is_some, IfOk, OnErr, OnOk, false, true};
+ghost use Rattle.ink_flows.specs.declared.flow.Flow.{Flow as Made};
+ghost use Rattle.ink_flows.specs.Words.{flow_of, hole_in, listed, parts_of, rows_of};
+ghost use Rattle.ink_model.specs.Configuration.{fresh_flow};
+ghost use Rattle.ink_model.specs.Flows.{filled, flow_named};
+ghost use Rattle.ink_model.specs.Named.{at, names, put};
+ghost use Rattle.ink_model.specs.Tree.{StoryTree};
+ghost use Rattle.ink_tree.specs.Nodes.{place_of};
+
+use crate::aside::DEFAULT_FLOW;
+use crate::flow::Flow;
+use indexmap::IndexMap;
+use ink_model::Text;
+use ink_tree::Spot;
+use std::alloc::{AllocError, Global};
+use std::mem;
+
+/// The index of the name at which nothing stands.
+#[tactic(auto, using(crate::proofs::Holes::hole_start, crate::proofs::Holes::hole_later, crate::proofs::Holes::hole_here))]
+pub(crate) fn hole(rows: &IndexMap<String, Option<Flow>>) -> Option<usize>
+    ensures { result ≡ hole_in (parts_of rows.now.entries) }
+{
+    for (index, flow) in rows.values().enumerate() {
+        if flow.is_none() {
+            return Some(index);
+        }
+    }
+    None
+}
+
+/// Puts the names behind those that were found. The one error is a refused request for memory.
+pub(crate) fn add_names(
+    found: &mut Vec<Text>,
+    alloc: Global,
+    rows: &IndexMap<String, Option<Flow>>,
+) -> Result<(), AllocError>
+    ensures { OnOk result (found.new.items ≡ found.old.items ++ names (rows_of rows.now.entries)) }
+{
+    for name in rows.keys() {
+        found.push(Text::from_str(alloc, name.as_str())?)?;
+    }
+    Ok(())
+}
+
+/// A flow of a name that is not there, at a place, behind all others. The one error is a refused request for memory, after which
+/// the same flows are there.
+pub(crate) fn make(
+    rows: &mut IndexMap<String, Option<Flow>>,
+    alloc: Global,
+    name: &str,
+    start: Spot,
+) -> Result<(), AllocError>
+    requires { at name.now (listed (rows_of rows.old.entries)) ≡ None }
+    ensures ok { OnOk result ((made : Made) × (rows_of rows.new.entries ≡ listed (rows_of rows.old.entries) ++ (name.now, Some made) ∷ []) × ((s : StoryTree) → flow_of s made ≡ fresh_flow (place_of s start))) }
+    ensures err { OnErr result (listed (rows_of rows.new.entries) ≡ listed (rows_of rows.old.entries)) }
+{
+    let key = String::from_str(alloc, name)?;
+    list_first(rows, alloc)?;
+    rows.insert(key, Some(Flow::new(alloc, Some(start))))?;
+    Ok(())
+}
+
+// The first flow has a row of its own then, where it is the only one and has none. The one error is a refused request for memory.
+fn list_first(rows: &mut IndexMap<String, Option<Flow>>, alloc: Global) -> Result<(), AllocError>
+    ensures same { listed (rows_of rows.new.entries) ≡ listed (rows_of rows.old.entries) }
+    ensures ok { OnOk result (rows_of rows.new.entries ≡ listed (rows_of rows.old.entries)) }
+{
+    if rows.is_empty() {
+        let first = String::from_str(alloc, DEFAULT_FLOW)?;
+        rows.insert(first, None)?;
+    }
+    Ok(())
+}
+
+/// The current flow is put aside, and the flow of a name that is there is taken.
+pub(crate) fn exchange(
+    rows: &mut IndexMap<String, Option<Flow>>,
+    name: &str,
+    current: &mut Flow,
+    fresh: Flow,
+)
+    requires { is_some (at name.now (rows_of rows.old.entries)) ≡ true }
+    ensures rows { rows_of rows.new.entries ≡ put name.now None (filled current.old (rows_of rows.old.entries)) }
+    ensures current { current.new ≡ flow_named name.now fresh (filled current.old (rows_of rows.old.entries)) }
+{
+    let left = mem::replace(current, fresh);
+    fill(rows, left);
+    if let Some(slot) = rows.get_mut(name) {
+        if let Some(flow) = mem::replace(slot, None) {
+            *current = flow;
+        }
+    }
+}
+
+// Puts a flow where nothing stands.
+fn fill(rows: &mut IndexMap<String, Option<Flow>>, flow: Flow)
+    ensures { rows_of rows.new.entries ≡ filled flow (rows_of rows.old.entries) }
+{
+    if let Some(index) = hole(rows) {
+        if let Some(slot) = rows.get_index_mut(index) {
+            *slot = Some(flow);
+        }
+    }
+}

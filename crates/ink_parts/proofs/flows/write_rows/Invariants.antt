@@ -1,0 +1,8 @@
+use Rattle.std.proofs.Common.{◌≡◌, map, take}
+use Rattle.serde_json.specs.View.{view}
+use Rattle.ink_tree.specs.Nodes.{story_tree}
+use Rattle.ink_parts.specs.Parts.{row_in}
+use Rattle.ink_parts.proofs.flows.write_rows.Given as goal
+
+abbrev pub invariant-loop-index : goal.invariant-loop-index
+invariant-loop-index l = map view l.made.items ≡ map (row_in (story_tree l.tree) l.current) (take l.index l.aside)

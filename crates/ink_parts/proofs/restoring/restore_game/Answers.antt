@@ -1,0 +1,30 @@
+use Rattle.std.proofs.Common.{ap, refl}
+use Rattle.ink_model.specs.Named.{at}
+use Rattle.ink_model.specs.Save.Sound.{SharedSound}
+use Rattle.ink_model.specs.Save.Unspelled.{aside_but}
+use Rattle.ink_tree.specs.Nodes.{story_tree}
+use Rattle.ink_parts.proofs.Making.{built, never}
+use Rattle.ink_parts.proofs.Whole.{flows_refused, game_built, shared_refused}
+use Rattle.ink_parts.specs.Gathered.{AllStand, flows_as}
+use Rattle.ink_parts.specs.Parts.{shared_as}
+use Rattle.ink_parts.proofs.restoring.restore_game.Goals as goal
+
+pub returns-in_default-clause-restores : goal.returns-in_default-clause-restores
+returns-in_default-clause-restores c =
+    let s = story_tree c.args.tree.now in
+    let x = c.args.saved.now in
+    flows_refused s x (never (flows_as s) (AllStand s) (at x.current x.flows, aside_but x.current x.flows) (at x.current x.flows, aside_but x.current x.flows) c.in_ok-flows.field-0 refl c.in_default.is c.in_ok-flows.ensures)
+
+pub returns-in_default-2-clause-restores : goal.returns-in_default-2-clause-restores
+returns-in_default-2-clause-restores c =
+    let s = story_tree c.args.tree.now in
+    let x = c.args.saved.now in
+    shared_refused s x (never (shared_as s) (SharedSound s) c.saved.inside.shared x.shared c.in_ok-shared.field-0 (ap (λ y. y.shared) c.saved.view_is) c.in_default-2.is c.in_ok-shared.ensures.builds)
+
+pub returns-clause-restores : goal.returns-clause-restores
+returns-clause-restores c =
+    let s = story_tree c.args.tree.now in
+    let x = c.args.saved.now in
+    game_built s x c.in-Some.flows.flow c.in-Some.flows.aside c.in-Some-2.shared c.requires
+    (built (flows_as s) (AllStand s) (at x.current x.flows, aside_but x.current x.flows) (at x.current x.flows, aside_but x.current x.flows) c.in_ok-flows.field-0 c.in-Some.flows refl c.in-Some.is c.in_ok-flows.ensures)
+    (built (shared_as s) (SharedSound s) c.saved.inside.shared x.shared c.in_ok-shared.field-0 c.in-Some-2.shared (ap (λ y. y.shared) c.saved.view_is) c.in-Some-2.is c.in_ok-shared.ensures.builds)

@@ -1,0 +1,234 @@
+-- What commands do to the flows that stand aside, and that those make no difference to most.
+use Rattle.std.proofs.Common.{◌≡◌, ap, refl, true, true≢false, sym, ℕ, List, [], ◌∷◌, inl, inr, Bool, false, Option, Some, None, is_some, Result, Ok, Err, MatchBool}
+use Rattle.ink_model.specs.Answer.{Reply, Refuses}
+use Rattle.ink_model.specs.Changed.{Keeps}
+use Rattle.ink_model.specs.Choosing.{chosen, jump_place, jumped, open_choice}
+use Rattle.ink_model.specs.Command as command
+use Rattle.ink_model.specs.Command.{Command}
+use Rattle.ink_model.specs.Configuration.{ChoiceOf, Configuration, can_go_on, settled, with_globals}
+use Rattle.ink_model.specs.Flows.{Aside, Game, alone}
+use Rattle.ink_model.specs.Host.{Bindings, value_given}
+use Rattle.ink_model.specs.Line.{EndsLine}
+use Rattle.ink_model.specs.Memory.{FallsShort, LineFallsShort}
+use Rattle.ink_model.specs.Opening.{Unopened, opening}
+use Rattle.ink_model.specs.Run.{Made, RunEnd, Kept, Broke, EndsThrough}
+use Rattle.ink_model.specs.Session.{BeginsAnew, BreaksBy, ContinueFrom, Does, EndsAs, FailsToRestart, GetsFrom, Load, RestartsAs, RunsFrom, RunsLine, RunsThrough, RunsTo, SavesFrom, SetsFrom, SetsIn, TellsDone, TellsOrKeeps, ThroughFrom, VisitsBy, VisitsFrom, settable}
+use Rattle.ink_model.specs.State.{State, Condition, Ready, Broken}
+use Rattle.ink_model.specs.Store.{Values, store, stored}
+use Rattle.ink_model.specs.Told.{told}
+use Rattle.ink_model.specs.Tree.{StoryTree}
+use Rattle.ink_model.specs.Turns.{ChoosesBy, ChoosesFrom, JumpsBy, JumpsFrom, LandsFor}
+use Rattle.ink_model.specs.Visits.{visits_by}
+use Rattle.ink_model.specs.declared.fault.Fault.{Fault}
+use Rattle.ink_model.specs.declared.fault.Fault.TheVariants.{OutOfMemory}
+use Rattle.ink_model.specs.declared.fault.Refusal.TheVariants as refusal
+use Rattle.ink_model.specs.declared.host.Change.{Change}
+use Rattle.ink_model.specs.declared.host.Event.{Event}
+use Rattle.ink_model.specs.declared.host.Given.{Given}
+use Rattle.ink_model.specs.declared.place.Part.{Part}
+use Rattle.serde_json.specs.Data.{Data}
+use Rattle.ink_sound.specs.Beside.{keeps_flows, shows_no_flows}
+
+module _ (s : StoryTree) (h : Bindings) (others : Aside) where
+  -- the same with these flows aside
+  abbrev beside : State → State
+  beside st = record st { aside = others }
+
+  -- the flows aside are as they were, and the same holds beside others
+  abbrev Stays : State → State → Type 0 → Type 0
+  Stays old new P = (new.aside ≡ old.aside) × P
+
+  module _ (es : List Event) (reply : Reply) where
+    -- ---- what is left
+
+    kept : (refused : Reply) (old new : State) → Keeps refused old reply new → Stays old new (Keeps refused (beside old) reply (beside new))
+    kept refused old new x = (ap (λ st. st.aside) x.1, (x.0, ap beside x.1))
+
+    refused_with : (refused : Reply) (old new : State) → (es ≡ []) × Keeps refused old reply new → Stays old new ((es ≡ []) × Keeps refused (beside old) reply (beside new))
+    refused_with refused old new x = ((kept refused old new x.1).0, (x.0, (kept refused old new x.1).1))
+
+    broken_by : (f : Fault) (globals : Values) (before : List Event) (old new : State) → BreaksBy f globals before es old reply new
+        → Stays old new (BreaksBy f globals before es (beside old) reply (beside new))
+    broken_by f globals before old new x = (ap (λ st. st.aside) x.2, (x.0, x.1, ap beside x.2))
+
+    done_with : (cs : List Change) (done : Condition) (answers : List Event → Reply) (before : List Event) (old new : State) → TellsDone cs done answers before es old reply new
+        → Stays old new (TellsDone cs done answers before es (beside old) reply (beside new))
+    done_with cs done answers before old new x =
+        (ap (λ st. st.aside) x.leaves, record { all = x.all; saw = x.saw; telling = x.telling; events = x.events; replies = x.replies; leaves = ap beside x.leaves })
+
+    tells : (cs : List Change) (done : Condition) (old new : State) → TellsOrKeeps cs done es old reply new → Stays old new (TellsOrKeeps cs done es (beside old) reply (beside new))
+    tells cs done old new (inl x) = let y = done_with cs done _ [] old new x in (y.0, inl y.1)
+    tells cs done old new (inr x) = let y = kept _ old new x.2 in (y.0, inr (x.0, x.1, y.1))
+
+    -- ---- choosing and jumping
+
+    lands : (c : Configuration) (old new : State) → LandsFor s c old reply new → Stays old new (LandsFor s c (beside old) reply (beside new))
+    lands c old new (inl x) = (ap (λ st. st.aside) x.1, inl (x.0, ap beside x.1))
+    lands c old new (inr x) = let y = kept _ old new x.1 in (y.0, inr (x.0, y.1))
+
+    chooses : (n : ℕ) (k : Condition) (old new : State) → ChoosesFrom s n k old reply new → Stays old new (ChoosesFrom s n k (beside old) reply (beside new))
+    chooses n (Broken f globals) old new x = kept _ old new x
+    chooses n (Ready c) old new x = by (open_choice n c) x
+      where
+        by : (choice : Option (ChoiceOf (List Part))) → ChoosesBy s choice c old reply new → Stays old new (ChoosesBy s choice c (beside old) reply (beside new))
+        by None y = kept _ old new y
+        by (Some choice) y = lands (chosen choice c) old new y
+
+    jumps : (path : List ℕ) (k : Condition) (old new : State) → JumpsFrom s path k old reply new → Stays old new (JumpsFrom s path k (beside old) reply (beside new))
+    jumps path (Broken f globals) old new x = kept _ old new x
+    jumps path (Ready c) old new x = by (jump_place s path) x
+      where
+        by : (q : Option (List Part)) → JumpsBy s q c old reply new → Stays old new (JumpsBy s q c (beside old) reply (beside new))
+        by None y = kept _ old new y
+        by (Some q) y = lands (jumped q c) old new y
+
+    -- ---- setting and asking
+
+    abbrev Sets : List ℕ → Given → Configuration → State → State → Type 0
+    Sets name g c a b = TellsOrKeeps (told h.watches c.shared.globals ((name, value_given g) ∷ [])) (Ready (with_globals (store name (value_given g) c.shared.globals) c)) es a reply b
+
+    abbrev NoVariable : State → State → Type 0
+    NoVariable a b = (es ≡ []) × Keeps (Refuses refusal.NoSuchVariable) a reply b
+
+    abbrev NoValue : State → State → Type 0
+    NoValue a b = (es ≡ []) × Keeps (Refuses refusal.BadValue) a reply b
+
+    sets_in : (name : List ℕ) (g : Given) (c : Configuration) (old new : State) → SetsIn h name g c es old reply new → Stays old new (SetsIn h name g c es (beside old) reply (beside new))
+    sets_in name g c old new x = by (settable g) (is_some (stored name c.shared.globals)) x
+      where
+        by : (b d : Bool) → MatchBool b (MatchBool d (Sets name g c old new) (NoVariable old new)) (NoValue old new)
+            → Stays old new (MatchBool b (MatchBool d (Sets name g c (beside old) (beside new)) (NoVariable (beside old) (beside new))) (NoValue (beside old) (beside new)))
+        by true true y = tells _ _ old new y
+        by true false y = refused_with _ old new y
+        by false d y = refused_with _ old new y
+
+    sets : (name : List ℕ) (value : Option Given) (k : Condition) (old new : State) → SetsFrom h name value k es old reply new
+        → Stays old new (SetsFrom h name value k es (beside old) reply (beside new))
+    sets name value (Broken f globals) old new x = refused_with _ old new x
+    sets name None (Ready c) old new x = refused_with _ old new x
+    sets name (Some g) (Ready c) old new x = sets_in name g c old new x
+
+    gets : (v : Option _) (old new : State) → GetsFrom v old reply new → Stays old new (GetsFrom v (beside old) reply (beside new))
+    gets None old new x = kept _ old new x
+    gets (Some v) old new (inl x) = let y = kept _ old new x in (y.0, inl y.1)
+    gets (Some v) old new (inr x) = let y = kept _ old new x.1 in (y.0, inr (x.0, y.1))
+
+    visits : (path : List ℕ) (k : Condition) (old new : State) → VisitsFrom s path k old reply new → Stays old new (VisitsFrom s path k (beside old) reply (beside new))
+    visits path (Broken f globals) old new x = kept _ old new x
+    visits path (Ready c) old new x = by (visits_by s path c) x
+      where
+        by : (z : Option _) → VisitsBy z old reply new → Stays old new (VisitsBy z (beside old) reply (beside new))
+        by None y = kept _ old new y
+        by (Some z) y = kept _ old new y
+
+    -- ---- running
+
+    ends : (start : Values) (end : RunEnd) (made : List Made) (old new : State) → EndsAs h start end made es old reply new → Stays old new (EndsAs h start end made es (beside old) reply (beside new))
+    ends start (Kept c) made old new (inl x) = let y = done_with _ (Ready (settled c)) _ _ old new x in (y.0, inl y.1)
+    ends start (Kept c) made old new (inr x) = let y = broken_by _ _ _ old new x.1 in (y.0, inr (x.0, y.1))
+    ends start (Broke f globals) made old new x = broken_by f globals _ old new x
+
+    runs_to : (Ends : RunEnd → Type 0) (FallShort : Values → Type 0) (c : Configuration) (made : List Made) (old new : State) → RunsTo Ends FallShort h c made es old reply new
+        → Stays old new (RunsTo Ends FallShort h c made es (beside old) reply (beside new))
+    runs_to Ends FallShort c made old new (inl x) = let y = ends c.shared.globals x.0 made old new x.2 in (y.0, inl (x.0, x.1, y.1))
+    runs_to Ends FallShort c made old new (inr x) = let y = broken_by OutOfMemory x.0 _ old new x.2 in (y.0, inr (x.0, x.1, y.1))
+
+    runs : (Runs : Configuration → List Made → List Event → State → Reply → State → Type 0) (k : Condition) (old new : State)
+        → ((c : Configuration) (made : List Made) → Runs c made es old reply new → Stays old new (Runs c made es (beside old) reply (beside new)))
+        → RunsFrom Runs es k old reply new → Stays old new (RunsFrom Runs es k (beside old) reply (beside new))
+    runs Runs (Broken f globals) old new on x = refused_with _ old new x
+    runs Runs (Ready c) old new on x = by (can_go_on c) x
+      where
+        by : (b : Bool) → MatchBool b ((made : List Made) × Runs c made es old reply new) ((es ≡ []) × Keeps (Refuses refusal.CannotContinue) old reply new)
+            → Stays old new (MatchBool b ((made : List Made) × Runs c made es (beside old) reply (beside new)) ((es ≡ []) × Keeps (Refuses refusal.CannotContinue) (beside old) reply (beside new)))
+        by true y = let z = on c y.0 y.1 in (z.0, (y.0, z.1))
+        by false y = refused_with _ old new y
+
+    throughs : (k : Condition) (old new : State) → ThroughFrom s h es k old reply new → Stays old new (ThroughFrom s h es k (beside old) reply (beside new))
+    throughs k old new x = runs (RunsThrough s h) k old new (λ c made y. runs_to (EndsThrough s h.functions c made) (FallsShort s h.functions c made) c made old new y) x
+
+    continues : (k : Condition) (old new : State) → ContinueFrom s h es k old reply new → Stays old new (ContinueFrom s h es k (beside old) reply (beside new))
+    continues k old new x = runs (RunsLine s h) k old new (λ c made y. runs_to (EndsLine s h.functions c made) (LineFallsShort s h.functions c made) c made old new y) x
+
+    -- ---- what begins anew
+
+    -- a command does this from a state beside others too, and leaves the same but for the flows aside
+    record DoesSo (Leads : State → Type 0) (new : State) : Type 0 where
+      after : State
+      leads : Leads after
+      condition : after.condition ≡ new.condition
+      stamp : after.stamp ≡ new.stamp
+
+    staying : (Leads : State → Type 0) (old new : State) → Stays old new (Leads (beside new)) → DoesSo Leads new
+    staying Leads old new x = record { after = beside new; leads = x.1; condition = refl; stamp = refl }
+
+    begins : (cs : List Change) (g : Game) (old new : State) → BeginsAnew cs g es old reply new → DoesSo (λ st. BeginsAnew cs g es (beside old) reply st) new
+    begins cs g old new (inl x) = record { after = new; leads = inl x; condition = refl; stamp = refl }
+    begins cs g old new (inr x) = let y = kept _ old new x.2 in record { after = beside new; leads = inr (x.0, x.1, y.1); condition = refl; stamp = refl }
+
+    loads : (saved : Option Data) (old new : State) → Load s h es saved old reply new → DoesSo (λ st. Load s h es saved (beside old) reply st) new
+    loads None old new x = staying _ old new (refused_with _ old new x)
+    loads (Some j) old new (inl x) =
+        let y = begins _ x.loaded old new x.tells in
+        record { after = y.after; leads = inl (record { loaded = x.loaded; reads = x.reads; tells = y.leads }); condition = y.condition; stamp = y.stamp }
+    loads (Some j) old new (inr (inl x)) = let y = kept _ old new x.2 in record { after = beside new; leads = inr (inl (x.0, x.1, y.1)); condition = refl; stamp = refl }
+    loads (Some j) old new (inr (inr x)) = let y = kept _ old new x.2 in record { after = beside new; leads = inr (inr (x.0, x.1, y.1)); condition = refl; stamp = refl }
+
+    fails : (f : Fault) (globals : Values) (old new : State) → FailsToRestart f globals es old reply new → DoesSo (λ st. FailsToRestart f globals es (beside old) reply st) new
+    fails OutOfMemory globals old new x = staying _ old new (refused_with _ old new x)
+    fails f globals old new x = record { after = new; leads = x; condition = refl; stamp = refl }
+
+    restarts : (r : Result Configuration Unopened) (old new : State) → RestartsAs h r es old reply new → DoesSo (λ st. RestartsAs h r es (beside old) reply st) new
+    restarts (Ok c) old new x = begins _ (alone c) old new x
+    restarts (Err e) old new x = fails e.fault e.globals old new x
+
+    -- ---- commands
+
+    does_so : (k : Option Command) (old new : State) → Does s h es k old reply new → shows_no_flows k ≡ true → DoesSo (λ st. Does s h es k (beside old) reply st) new
+    does_so None old new x e = staying _ old new (refused_with _ old new x)
+    does_so (Some command.Continue) old new x e = staying _ old new (continues old.condition old new x)
+    does_so (Some command.Through) old new x e = staying _ old new (throughs old.condition old new x)
+    does_so (Some (command.Set name value)) old new x e = staying _ old new (sets name value old.condition old new x)
+    does_so (Some (command.Get name)) old new x e = let y = gets _ old new x.1 in staying _ old new (y.0, (x.0, y.1))
+    does_so (Some (command.Visits path)) old new x e = let y = visits path old.condition old new x.1 in staying _ old new (y.0, (x.0, y.1))
+    does_so (Some (command.Choose number)) old new x e = let y = chooses number old.condition old new x.1 in staying _ old new (y.0, (x.0, y.1))
+    does_so (Some (command.Jump path)) old new x e = let y = jumps path old.condition old new x.1 in staying _ old new (y.0, (x.0, y.1))
+    does_so (Some command.Save) old new x e = absurd (true≢false (sym e))
+    does_so (Some (command.Load saved)) old new x e = loads saved old new x
+    does_so (Some command.Restart) old new (inl x) e =
+        let y = restarts (opening s) old new x in record { after = y.after; leads = inl y.leads; condition = y.condition; stamp = y.stamp }
+    does_so (Some command.Restart) old new (inr x) e =
+        let y = kept _ old new x.2 in record { after = beside new; leads = inr (x.0, x.1, y.1); condition = refl; stamp = refl }
+    does_so (Some (command.Flow name)) old new x e = absurd (true≢false (sym e))
+    does_so (Some (command.Drop name)) old new x e = absurd (true≢false (sym e))
+
+    saves : (k : Condition) (old new : State) → SavesFrom k old reply new → new.aside ≡ old.aside
+    saves (Broken f globals) old new x = ap (λ st. st.aside) x.1
+    saves (Ready c) old new (inl x) = ap (λ st. st.aside) x.1
+    saves (Ready c) old new (inr x) = ap (λ st. st.aside) x.1
+
+    does_keep : (k : Option Command) (old new : State) → Does s h es k old reply new → keeps_flows k ≡ true → new.aside ≡ old.aside
+    does_keep None old new x e = ap (λ st. st.aside) x.1.1
+    does_keep (Some command.Continue) old new x e = (continues old.condition old new x).0
+    does_keep (Some command.Through) old new x e = (throughs old.condition old new x).0
+    does_keep (Some (command.Set name value)) old new x e = (sets name value old.condition old new x).0
+    does_keep (Some (command.Get name)) old new x e = (gets _ old new x.1).0
+    does_keep (Some (command.Visits path)) old new x e = (visits path old.condition old new x.1).0
+    does_keep (Some (command.Choose number)) old new x e = (chooses number old.condition old new x.1).0
+    does_keep (Some (command.Jump path)) old new x e = (jumps path old.condition old new x.1).0
+    does_keep (Some command.Save) old new x e = saves old.condition old new x.1
+    does_keep (Some (command.Load saved)) old new x e = absurd (true≢false (sym e))
+    does_keep (Some command.Restart) old new x e = absurd (true≢false (sym e))
+    does_keep (Some (command.Flow name)) old new x e = absurd (true≢false (sym e))
+    does_keep (Some (command.Drop name)) old new x e = absurd (true≢false (sym e))
+
+-- a command that goes to no flow, drops none and does not begin anew
+pub flows_stay_by : (s : StoryTree) (h : Bindings) (es : List Event) (k : Option Command) (old : State) (reply : Reply) (new : State)
+    → Does s h es k old reply new → keeps_flows k ≡ true → new.aside ≡ old.aside
+flows_stay_by s h es k old reply new x e = does_keep s h old.aside es reply k old new x e
+
+-- one that does not save, goes to no flow and drops none
+pub does_beside : (s : StoryTree) (h : Bindings) (es : List Event) (k : Option Command) (old : State) (reply : Reply) (new : State)
+    → Does s h es k old reply new → shows_no_flows k ≡ true → (others : Aside)
+    → (after : State) × Does s h es k (record old { aside = others }) reply after × (after.condition ≡ new.condition) × (after.stamp ≡ new.stamp)
+does_beside s h es k old reply new x e others = let y = does_so s h others es reply k old new x e in (y.after, y.leads, y.condition, y.stamp)

@@ -1,0 +1,125 @@
+//! What a save of layout 2 spells.
+
+ghost use Rattle.std.specs.Prelude.{◌≡◌, IfOk, OnErr, true};
+ghost use Rattle.serde_json.specs.View.{members_view};
+ghost use Rattle.ink_model.specs.Save.Asks.{spelled_asks};
+ghost use Rattle.ink_model.specs.Save.Unspelled.{spelled_by};
+ghost use Rattle.ink_spelling.specs.Words.{spelled_from_flows, spelled_from_globals};
+
+use crate::flow::NamedFlow;
+use crate::listed::Listed;
+use crate::members::{alone, next_named};
+use crate::plain::is_layout;
+use crate::saved::SavedShared;
+use crate::spelled::Spelled;
+use crate::value::SavedValue;
+use ink_model::{Part, Text};
+use serde_json::{Map, Value as Json};
+use std::alloc::{AllocError, Global};
+use std::collections::btree_map::Iter;
+use std::marker::Model;
+
+/// All flows, the current one's name, and what they share, as they are spelled. A contract sees them.
+#[derive(Drop)]
+pub struct SavedGame {
+    pub current: Text,
+    pub flows: Listed<NamedFlow>,
+    pub shared: SavedShared,
+}
+
+impl Model for SavedGame {
+    ghost use Rattle.ink_model.specs.Save.Unspelled as rules;
+
+    ghost Value = { rules.Spelled };
+
+    ghost view = { λ g. record { current = g.current; flows = g.flows; shared = g.shared } };
+}
+
+/// What members spell in layout 2. The one error is a refused request for memory, which is asked for from the current flow's
+/// name on.
+pub(crate) fn read_game(
+    alloc: Global,
+    members: &Map<String, Json>,
+) -> Result<Option<SavedGame>, AllocError>
+    ensures game { IfOk result (λ game. game ≡ spelled_by (members_view members.now.entries)) }
+    ensures memory { OnErr result (spelled_asks (members_view members.now.entries) ≡ true) }
+{
+    let mut rest = members.iter();
+    let Some(json) = next_named(&mut rest, "current") else {
+        return Ok(None);
+    };
+    let Some(current) = Text::read(alloc, json)? else {
+        return Ok(None);
+    };
+    read_flows(alloc, &mut rest, current)
+}
+
+// The same from the flows on.
+fn read_flows(
+    alloc: Global,
+    rest: &mut Iter<'_, String, Json>,
+    current: Text,
+) -> Result<Option<SavedGame>, AllocError>
+    ensures { IfOk result (λ game. game ≡ spelled_from_flows current (members_view rest.old)) }
+{
+    let Some(json) = next_named(rest, "flows") else {
+        return Ok(None);
+    };
+    let Some(flows) = Listed::<NamedFlow>::read(alloc, json)? else {
+        return Ok(None);
+    };
+    let Some(json) = next_named(rest, "format") else {
+        return Ok(None);
+    };
+    if !is_layout(json, 2) {
+        return Ok(None);
+    }
+    read_globals(alloc, rest, current, flows)
+}
+
+// The same from the globals on.
+fn read_globals(
+    alloc: Global,
+    rest: &mut Iter<'_, String, Json>,
+    current: Text,
+    flows: Listed<NamedFlow>,
+) -> Result<Option<SavedGame>, AllocError>
+    ensures { IfOk result (λ game. game ≡ spelled_from_globals current flows (members_view rest.old)) }
+{
+    let Some(json) = next_named(rest, "globals") else {
+        return Ok(None);
+    };
+    let Some(globals) = Listed::<(Text, SavedValue)>::read(alloc, json)? else {
+        return Ok(None);
+    };
+    let Some(json) = next_named(rest, "turn") else {
+        return Ok(None);
+    };
+    let Some(turn) = u64::read(alloc, json)? else {
+        return Ok(None);
+    };
+    let Some(json) = next_named(rest, "turns") else {
+        return Ok(None);
+    };
+    let Some(turns) = Listed::<(Listed<Part>, u64)>::read(alloc, json)? else {
+        return Ok(None);
+    };
+    let Some(json) = next_named(rest, "visits") else {
+        return Ok(None);
+    };
+    let Some(visits) = Listed::<(Listed<Part>, u64)>::read(alloc, json)? else {
+        return Ok(None);
+    };
+    let shared = SavedShared {
+        globals,
+        turn,
+        turns,
+        visits,
+    };
+    let game = SavedGame {
+        current,
+        flows,
+        shared,
+    };
+    Ok(alone(rest, game))
+}
