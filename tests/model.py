@@ -996,7 +996,7 @@ class Run:
         if self.moments[-1].frame.place is None:
             self.end = NO_STEP
             return
-        if len(self.moments) > 5000:
+        if len(self.moments) > 5000 or len(self.moments[-1].marks) > 1000:
             raise TooSlow()
         machine = self.moments[-1].again()
         machine.host = host
