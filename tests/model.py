@@ -152,51 +152,54 @@ def cut(text):
     return piece(head[:head.index("\n")]) + [("newline", "\n")] + cut_end(text[head.rindex("\n") + 1:])
 
 
-def glued(marks):
-    """A glue, and no text behind it."""
-    kinds = [kind for kind, _ in marks if kind in ("glue", "text")]
-    return kinds[-1:] == ["glue"]
-
-
-def glue_comes(marks, keepers):
-    """A glue, and none of these before it."""
+def last_before(marks, kinds):
+    """For each mark, the kind of the last one before it that is of these."""
+    last, found = None, []
     for kind, _ in marks:
-        if kind == "glue" or kind in keepers:
-            return kind == "glue"
-    return False
+        found.append(last)
+        last = kind if kind in kinds else last
+    return found
 
 
-def broken(marks):
-    """A newline, and no text behind it."""
-    for kind, _ in reversed(marks):
-        if kind in ("newline", "text"):
-            return kind == "newline"
-    return False
+def first_behind(marks, kinds):
+    """For each mark, the kind of the first one behind it that is of these."""
+    return last_before(marks[::-1], kinds)[::-1]
 
 
-def left(marks, i):
-    """A Leave, no text before it, whose Enter stands before this mark or nowhere among the marks."""
-    for kind, number in marks[i + 1:]:
-        if kind == "text":
-            return False
-        if kind == "leave" and (("enter", number) in marks[:i] or ("enter", number) not in marks):
-            return True
-    return False
+def left(marks):
+    """For each mark, whether a Leave stands behind it, no text between them, whose Enter stands before the mark or nowhere."""
+    enters = {}
+    for i, (kind, number) in enumerate(marks):
+        if kind == "enter":
+            enters.setdefault(number, i)
+    # the first Enter of all that are left behind a mark, before any text
+    found, first = [], len(marks)
+    for i in reversed(range(len(marks))):
+        found.append(first < i)
+        kind, number = marks[i]
+        if kind == "leave":
+            first = min(first, enters.get(number, -1))
+        elif kind == "text":
+            first = len(marks)
+    return found[::-1]
 
 
 def shown_marks(marks):
     """The indexes of the marks that are shown."""
+    is_left, glued, broken = left(marks), last_before(marks, ("glue", "text")), last_before(marks, ("newline", "text"))
+    glue_or_text, glue_or_tag = first_behind(marks, ("glue", "text")), first_behind(marks, ("glue", "text", "tag"))
     indexes, last = [], None
     for i, (kind, _) in enumerate(marks):
-        before, after = marks[:i], marks[i + 1:]
         if kind == "text":
-            indexes, last = indexes + [i], "text"
-        elif kind in ("blank", "newline") and left(marks, i):
+            indexes.append(i)
+            last = "text"
+        elif kind in ("blank", "newline") and is_left[i]:
             continue
-        elif kind == "blank" and not (broken(before) and glue_comes(after, ("text",))):
-            indexes = indexes + [i]
-        elif kind == "newline" and indexes and last != "newline" and not glued(before) and not glue_comes(after, ("text", "tag")):
-            indexes, last = indexes + [i], "newline"
+        elif kind == "blank" and not (broken[i] == "newline" and glue_or_text[i] == "glue"):
+            indexes.append(i)
+        elif kind == "newline" and indexes and last != "newline" and glued[i] != "glue" and glue_or_tag[i] != "glue":
+            indexes.append(i)
+            last = "newline"
     return indexes
 
 

@@ -18,22 +18,6 @@ other_way a b h = one_answer {P = a ≡ b} (bytes_eq a b) (bytes_eq b a) (bytes_
 module _ {F : Type 0} where
   -- ---- the first flow
 
-  pub begins_filled : (f : F) (rows : AsideOf F) → begins_with_default (filled f rows) ≡ begins_with_default rows
-  begins_filled f [] = refl
-  begins_filled f (r ∷ rows) = by (is_none r.1)
-    where
-      by : (b : Bool) → begins_with_default (if b then (r.0, Some f) ∷ rows else r ∷ filled f rows) ≡ bytes_eq r.0 default_flow
-      by true = refl
-      by false = refl
-
-  pub begins_put : (name : List ℕ) (x : Option F) (rows : AsideOf F) → IsTrue (begins_with_default rows) → IsTrue (begins_with_default (put name x rows))
-  begins_put name x [] h = absurd (cc)
-  begins_put name x (r ∷ rows) h = by (bytes_eq name r.0)
-    where
-      by : (b : Bool) → IsTrue (begins_with_default (if b then (r.0, x) ∷ rows else r ∷ put name x rows))
-      by true = h
-      by false = h
-
   pub begins_without : (name : List ℕ) (rows : AsideOf F) → bytes_eq name default_flow ≡ false → IsTrue (begins_with_default rows) → IsTrue (begins_with_default (without name rows))
   begins_without name [] other h = absurd (cc)
   begins_without name (r ∷ rows) other h = by (bytes_eq name r.0) refl
@@ -124,21 +108,3 @@ module _ {F : Type 0} where
 
   pub gone_last : (name : List ℕ) (f x : F) (rows : AsideOf F) → at name rows ≡ None → put name None (filled f (rows ++ (name, Some x) ∷ [])) ≡ put name None (filled f rows)
   gone_last name f x rows h = ap (λ rs. put name None rs) (filled_last f name x rows) ∙ put_last name (Some x) None (filled f rows) (none_filled name f rows h)
-
-  -- ---- to the first flow
-
-  -- it is there, so that it begins as nothing else
-  pub first_there : (name : List ℕ) (f x y : F) (rows : AsideOf F) → bytes_eq name default_flow ≡ false → IsTrue (begins_with_default rows) → bytes_eq (current_name rows) name ≡ true
-      → flow_named default_flow x (filled f rows) ≡ flow_named default_flow y (filled f rows)
-  first_there name f x y [] other h is = absurd (cc)
-  first_there name f x y (r ∷ rows) other h is = by r.1 is
-    where
-      first : r.0 ≡ default_flow
-      first = same_name r.0 default_flow h
-
-      by : (o : Option F) → bytes_eq (if is_none o then r.0 else current_name rows) name ≡ true
-          → flow_named default_flow x (if is_none o then (r.0, Some f) ∷ rows else (r.0, o) ∷ filled f rows) ≡ flow_named default_flow y (if is_none o then (r.0, Some f) ∷ rows else (r.0, o) ∷ filled f rows)
-      by None k = let never : bytes_eq name default_flow ≡ true = ap (λ n. bytes_eq name n) (sym first ∙ same_name r.0 name k) ∙ (bytes_eq-Decides name name).1 refl in absurd (cc)
-      by (Some z) k =
-          let there : bytes_eq default_flow r.0 ≡ true = ap (λ n. bytes_eq default_flow n) first ∙ (bytes_eq-Decides default_flow default_flow).1 refl in
-          ap (λ b. named_by x (if b then Some (Some z) else at default_flow (filled f rows))) there ∙ sym (ap (λ b. named_by y (if b then Some (Some z) else at default_flow (filled f rows))) there)

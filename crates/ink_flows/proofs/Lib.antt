@@ -1,5 +1,6 @@
 pub mod Laws
 pub mod Mapped
-mod Holes
+mod Indexes
 mod Listed
+mod Current
 mod Going

@@ -1,5 +1,5 @@
 -- Rows, where there is one at least.
-use Rattle.std.proofs.Common.{◌≡◌, ap, refl, List, [], ◌∷◌, length, map, Bool, false, IsTrue, Option, String, Global, string_bytes}
+use Rattle.std.proofs.Common.{◌≡◌, ap, refl, ℕ, List, [], ◌∷◌, ◌++◌, length, map, Bool, false, IsTrue, Option, String, Global, string_bytes}
 use Rattle.ink_model.specs.Flows.{AsideOf, current_name, one_flow}
 use Rattle.ink_model.specs.Named.{names}
 use Rattle.ink_flows.specs.Words.{listed, rows_of}
@@ -17,6 +17,6 @@ pub names_keys : (es : List (String Global × Option Flow)) → map string_bytes
 names_keys [] = refl
 names_keys (e ∷ es) = ap (λ ns. string_bytes e.0 ∷ ns) (names_keys es)
 
-pub listed_named : (rows : AsideOf Flow) → current_name (listed rows) ≡ current_name rows
-listed_named [] = refl
-listed_named (r ∷ rows) = refl
+pub listed_behind : (rows : AsideOf Flow) (r : List ℕ × Option Flow) → listed (rows ++ r ∷ []) ≡ rows ++ r ∷ []
+listed_behind [] r = refl
+listed_behind (x ∷ rows) r = refl

@@ -1,7 +1,7 @@
 -- Rows of flows, by what each flow stands for.
 use Rattle.std.proofs.Common.{◌≡◌, ◌∙◌, ap, refl, sym, ℕ, suc, List, [], ◌∷◌, ◌++◌, length, Bool, true, false, bytes_eq, is_none, is_some, unwrap_or, option_and_then, if◌then◌else◌, Option, Some, None}
 use Rattle.std.specs.Option.{option_map}
-use Rattle.ink_model.specs.Flows.{AsideOf, begins_with_default, current_name, filled, flow_named}
+use Rattle.ink_model.specs.Flows.{AsideOf, begins_with_default, current_name, filled, flow_named, holes}
 use Rattle.ink_model.specs.Named.{at, each, names, put, without}
 
 module _ {F G : Type 0} (g : F → G) where
@@ -67,6 +67,12 @@ module _ {F G : Type 0} (g : F → G) where
   begins_seen [] = refl
   begins_seen (r ∷ rows) = refl
 
+  -- at as many names nothing stands
+  pub holes_seen : (rows : AsideOf F) → holes (seen rows) ≡ holes rows
+  holes_seen [] = refl
+  holes_seen ((n, None) ∷ rows) = ap suc (holes_seen rows)
+  holes_seen ((n, Some f) ∷ rows) = holes_seen rows
+
   pub length_seen : (rows : AsideOf F) → length (seen rows) ≡ length rows
   length_seen [] = refl
   length_seen (r ∷ rows) = ap suc (length_seen rows)
@@ -74,14 +80,3 @@ module _ {F G : Type 0} (g : F → G) where
   pub names_seen : (rows : AsideOf F) → names (seen rows) ≡ names rows
   names_seen [] = refl
   names_seen (r ∷ rows) = ap (λ ns. r.0 ∷ ns) (names_seen rows)
-
-  abbrev by_found : {H : Type 0} → H → Option (Option H) → H
-  by_found h o = unwrap_or (option_and_then (λ x. x) o) h
-
-  pub named_seen : (name : List ℕ) (f : F) (rows : AsideOf F) → g (flow_named name f rows) ≡ flow_named name (g f) (seen rows)
-  named_seen name f rows = by (at name rows) ∙ sym (ap (by_found (g f)) (at_seen name rows))
-    where
-      by : (o : Option (Option F)) → g (by_found f o) ≡ by_found (g f) (option_map (option_map g) o)
-      by None = refl
-      by (Some None) = refl
-      by (Some (Some x)) = refl

@@ -1,9 +1,9 @@
 -- What flows in code stand for.
-use Rattle.std.specs.Prelude.{ℕ, suc, List, [], ◌∷◌, map, is_none, Option, Some, None, String, string_bytes, if◌then◌else◌}
+use Rattle.std.specs.Prelude.{◌≡◌, ℕ, zero, suc, List, [], ◌∷◌, map, true, false, bytes_eq, is_none, is_some, option_and_then, slice_get, Option, Some, None, String, string_bytes, if◌then◌else◌}
 use Rattle.std.specs.Global.{Global}
 use Rattle.std.specs.Option.{option_map}
 use Rattle.ink_model.specs.Configuration.{FlowOf, map_choice}
-use Rattle.ink_model.specs.Flows.{Aside, AsideOf, FlowsOf, one_flow}
+use Rattle.ink_model.specs.Flows.{Aside, AsideOf, FlowsOf, holes, one_flow}
 use Rattle.ink_model.specs.Frames.{map_threads}
 use Rattle.ink_model.specs.Named.{each}
 use Rattle.ink_model.specs.Tree.{StoryTree}
@@ -37,7 +37,24 @@ shown_rows entries = listed (rows_of entries)
 abbrev pub parts_of : List (String Global × Option Flow) → List (Option Flow)
 parts_of entries = map (λ e. e.1) entries
 
+-- what stands at an index, if anything does
+abbrev pub part_at : ℕ → List (String Global × Option Flow) → Option Flow
+part_at i entries = option_and_then (λ o. o) (slice_get (parts_of entries) i)
+
 -- the index of the first at which nothing stands
 abbrev pub hole_in : List (Option Flow) → Option ℕ
 hole_in [] = None
 hole_in (o ∷ os) = if is_none o then Some 0 else option_map suc (hole_in os)
+
+module _ {F : Type 0} where
+  -- nothing stands at this index, and a flow at each other one
+  abbrev pub CurrentAt : ℕ → AsideOf F → Type 0
+  CurrentAt i [] = ⊥
+  CurrentAt zero (r ∷ rows) = (r.1 ≡ None) × (holes rows ≡ 0)
+  CurrentAt (suc i) (r ∷ rows) = (is_some r.1 ≡ true) × CurrentAt i rows
+
+  -- this index is the first of a name
+  abbrev pub NamedAt : List ℕ → ℕ → AsideOf F → Type 0
+  NamedAt name i [] = ⊥
+  NamedAt name zero (r ∷ rows) = bytes_eq name r.0 ≡ true
+  NamedAt name (suc i) (r ∷ rows) = (bytes_eq name r.0 ≡ false) × NamedAt name i rows

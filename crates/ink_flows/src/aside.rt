@@ -1,23 +1,24 @@
 //! All flows by name.
 
-ghost use Rattle.std.specs.Prelude.{◌≡◌, List, None, bytes_eq, false, is_some, length, option_map, slice_get, true, IfOk, IsTrue, OnErr, OnOk};
+ghost use Rattle.std.specs.Prelude.{◌≡◌, ℕ, List, None, bytes_eq, false, is_some, length, option_map, slice_get, IfOk, IfSome, IsTrue, OnErr, OnOk};
 ghost use Rattle.std.specs.List.{list_any};
-ghost use Rattle.ink_flows.specs.Words.{flows_of, rows_of};
+ghost use Rattle.ink_flows.specs.Words.{NamedAt, flows_of, rows_of};
 ghost use Rattle.ink_model.specs.Configuration.{FlowOf, fresh_flow};
-ghost use Rattle.ink_model.specs.Flows.{begins_with_default, current_name, default_flow, dropped, goes_to, is_gap, one_flow};
+ghost use Rattle.ink_model.specs.Flows.{begins_with_default, current_name, default_flow, dropped, goes_to, holes, is_gap, one_flow};
 ghost use Rattle.ink_model.specs.Flows as rules;
-ghost use Rattle.ink_model.specs.Named.{at, names};
+ghost use Rattle.ink_model.specs.Named.{at, names, without};
 ghost use Rattle.ink_model.specs.Tree.{StoryTree};
 ghost use Rattle.ink_model.specs.declared.place.Part.{Part};
 ghost use Rattle.ink_tree.specs.Nodes.{place_of};
 
 use crate::flow::Flow;
-use crate::rows::{add_names, exchange, hole, make};
+use crate::rows::{add_names, hole, make, replace_at};
 use indexmap::IndexMap;
 use ink_model::{MAX_TEXT, Seq, Text};
 use ink_tree::Spot;
 use std::alloc::{AllocError, Global};
 use std::marker::Model;
+use std::mem;
 
 /// The name of the first flow, which is always there.
 pub const DEFAULT_FLOW: &str = "DEFAULT_FLOW";
@@ -44,11 +45,13 @@ fn has_gap(name: &str) -> bool
 #[derive(Drop)]
 pub struct Aside {
     rows: IndexMap<String, Option<Flow>>,
+    // The index of the current flow.
+    current: usize,
     alloc: Global,
 }
 
 impl Model for Aside {
-    ghost use Rattle.ink_flows.specs.Words.{shown_rows};
+    ghost use Rattle.ink_flows.specs.Words.{CurrentAt, shown_rows};
     ghost use Rattle.ink_flows.specs.declared.flow.Flow.{Flow};
     ghost use Rattle.ink_model.specs.Flows.{AsideOf, begins_with_default};
     ghost use Rattle.std.specs.Prelude.{IsTrue};
@@ -57,7 +60,7 @@ impl Model for Aside {
 
     ghost view = { λ a. shown_rows a.rows.entries };
 
-    ghost invariant = { λ a. IsTrue (begins_with_default (shown_rows a.rows.entries)) };
+    ghost invariant = { λ a. IsTrue (begins_with_default (shown_rows a.rows.entries)) × CurrentAt a.current (shown_rows a.rows.entries) };
 }
 
 impl Aside {
@@ -67,16 +70,24 @@ impl Aside {
     {
         Aside {
             rows: IndexMap::new(alloc),
+            current: 0,
             alloc,
         }
     }
 
-    /// These flows, the first of which has the name that is always there. Takes no memory.
+    /// These flows, the first of which has the name that is always there, and one of which is the current one, with nothing at its
+    /// name. Takes no memory.
     pub fn from_rows(alloc: Global, rows: IndexMap<String, Option<Flow>>) -> Aside
-        requires { IsTrue (begins_with_default (rows_of rows.entries)) }
+        requires first { IsTrue (begins_with_default (rows_of rows.entries)) }
+        requires current { holes (rows_of rows.entries) ≡ 1 }
         ensures { result ≡ rows_of rows.entries }
     {
-        Aside { rows, alloc }
+        let current = hole(&rows).unwrap_or(0);
+        Aside {
+            rows,
+            current,
+            alloc,
+        }
     }
 
     /// How many flows there are. Takes no memory.
@@ -94,21 +105,14 @@ impl Aside {
     pub fn contains(&self, name: &str) -> bool
         ensures { result ≡ is_some (at name.now self.now) }
     {
-        if self.rows.is_empty() {
-            name == DEFAULT_FLOW
-        } else {
-            self.rows.contains_key(name)
-        }
+        self.index_of(name).is_some()
     }
 
     /// The name of the current flow. Takes no memory.
     pub fn current_name(&self) -> &str
         ensures { result.now ≡ current_name self.now }
     {
-        let Some(index) = hole(&self.rows) else {
-            return DEFAULT_FLOW;
-        };
-        match self.rows.get_index(index) {
+        match self.rows.get_index(self.current) {
             Some((name, _)) => name.as_str(),
             None => DEFAULT_FLOW,
         }
@@ -152,26 +156,39 @@ impl Aside {
         ensures kept { OnErr result (current.new ≡ current.old) }
         ensures memory { OnErr result (at name.now self.old ≡ None) }
     {
-        if self.contains(name) {
-            self.go_there(name, current, start);
+        if let Some(index) = self.index_of(name) {
+            self.go_to(index, current);
             return Ok(());
         }
+        let last = self.len();
         make(&mut self.rows, self.alloc, name, start)?;
-        let fresh = Flow::new(self.alloc, Some(start));
-        exchange(&mut self.rows, name, current, fresh);
+        self.go_to(last, current);
         Ok(())
     }
 
-    // Goes to a flow that is there.
-    fn go_there(&mut self, name: &str, current: &mut Flow, start: Spot)
-        requires { is_some (at name.now self.old) ≡ true }
-        ensures { (s : StoryTree) → flows_of s current.new self.new ≡ goes_to (fresh_flow (place_of s start)) name.now (flows_of s current.old self.old) }
+    // The index of the flow of a name.
+    fn index_of(&self, name: &str) -> Option<usize>
+        ensures found { is_some result ≡ is_some (at name.now self.now) }
+        ensures index { IfSome result (λ i. NamedAt name.now i self.now) }
     {
         if self.rows.is_empty() {
-            return;
+            return if name == DEFAULT_FLOW { Some(0) } else { None };
         }
-        let fresh = Flow::new(self.alloc, Some(start));
-        exchange(&mut self.rows, name, current, fresh);
+        self.rows.get_index_of(name)
+    }
+
+    // Goes to the flow at an index: the current one is put aside, and that one is taken.
+    fn go_to(&mut self, index: usize, current: &mut Flow)
+        ensures gone { (name : List ℕ) → NamedAt name index self.old → (s : StoryTree) (fresh : FlowOf (List Part)) → flows_of s current.new self.new ≡ goes_to fresh name (flows_of s current.old self.old) }
+        ensures named { (name : List ℕ) → NamedAt name index self.old → current_name self.new ≡ name }
+        ensures first { NamedAt default_flow 0 self.old }
+    {
+        let Some(flow) = replace_at(&mut self.rows, index, None) else {
+            return;
+        };
+        let left = mem::replace(current, flow);
+        let _none = replace_at(&mut self.rows, self.current, Some(left));
+        self.current = index;
     }
 
     /// Takes the flow of a name away, but not the first. Where it is the current one, the first becomes that before. Takes no memory
@@ -180,12 +197,25 @@ impl Aside {
         requires { bytes_eq name.now default_flow ≡ false }
         ensures { (s : StoryTree) (fresh : FlowOf (List Part)) → flows_of s current.new self.new ≡ dropped fresh name.now (flows_of s current.old self.old) }
     {
-        if self.current_name() == name {
-            let none = Flow::new(self.alloc, None);
-            exchange(&mut self.rows, DEFAULT_FLOW, current, none);
-            let _current = self.rows.shift_remove(name);
+        if self.current_name() != name {
+            self.remove(name);
             return;
         }
-        let _other = self.rows.shift_remove(name);
+        self.go_to(0, current);
+        self.remove(name);
+    }
+
+    // Takes a flow away that is neither the current one nor the first.
+    fn remove(&mut self, name: &str)
+        requires other { bytes_eq name.now default_flow ≡ false }
+        requires aside { bytes_eq (current_name self.old) name.now ≡ false }
+        ensures { self.new ≡ without name.now self.old }
+    {
+        let Some((index, _, _)) = self.rows.shift_remove_full(name) else {
+            return;
+        };
+        if index < self.current {
+            self.current -= 1;
+        }
     }
 }

@@ -1,11 +1,11 @@
 //! Flows by name, without the view on them.
 
-ghost use Rattle.std.specs.Prelude.{◌≡◌, ◌++◌, [], ◌∷◌, None, Some, is_some, IfOk, OnErr, OnOk, false, true};
+ghost use Rattle.std.specs.Prelude.{◌≡◌, ◌++◌, [], ◌∷◌, None, Some, IfOk, OnErr, OnOk};
+ghost use Rattle.indexmap.specs.IndexMap.{set_value_at};
 ghost use Rattle.ink_flows.specs.declared.flow.Flow.{Flow as Made};
-ghost use Rattle.ink_flows.specs.Words.{flow_of, hole_in, listed, parts_of, rows_of};
+ghost use Rattle.ink_flows.specs.Words.{flow_of, hole_in, listed, part_at, parts_of, rows_of};
 ghost use Rattle.ink_model.specs.Configuration.{fresh_flow};
-ghost use Rattle.ink_model.specs.Flows.{filled, flow_named};
-ghost use Rattle.ink_model.specs.Named.{at, names, put};
+ghost use Rattle.ink_model.specs.Named.{at, names};
 ghost use Rattle.ink_model.specs.Tree.{StoryTree};
 ghost use Rattle.ink_tree.specs.Nodes.{place_of};
 
@@ -18,7 +18,7 @@ use std::alloc::{AllocError, Global};
 use std::mem;
 
 /// The index of the name at which nothing stands.
-#[tactic(auto, using(crate::proofs::Holes::hole_start, crate::proofs::Holes::hole_later, crate::proofs::Holes::hole_here))]
+#[tactic(auto, using(crate::proofs::Indexes::hole_start, crate::proofs::Indexes::hole_later, crate::proofs::Indexes::hole_here))]
 pub(crate) fn hole(rows: &IndexMap<String, Option<Flow>>) -> Option<usize>
     ensures { result ≡ hole_in (parts_of rows.now.entries) }
 {
@@ -74,33 +74,17 @@ fn list_first(rows: &mut IndexMap<String, Option<Flow>>, alloc: Global) -> Resul
     Ok(())
 }
 
-/// The current flow is put aside, and the flow of a name that is there is taken.
-pub(crate) fn exchange(
+/// Puts a flow, or none, at an index, and answers the one that stood there.
+pub(crate) fn replace_at(
     rows: &mut IndexMap<String, Option<Flow>>,
-    name: &str,
-    current: &mut Flow,
-    fresh: Flow,
-)
-    requires { is_some (at name.now (rows_of rows.old.entries)) ≡ true }
-    ensures rows { rows_of rows.new.entries ≡ put name.now None (filled current.old (rows_of rows.old.entries)) }
-    ensures current { current.new ≡ flow_named name.now fresh (filled current.old (rows_of rows.old.entries)) }
+    index: usize,
+    flow: Option<Flow>,
+) -> Option<Flow>
+    ensures rows { rows.new.entries ≡ set_value_at rows.old.entries index flow }
+    ensures before { result ≡ part_at index rows.old.entries }
 {
-    let left = mem::replace(current, fresh);
-    fill(rows, left);
-    if let Some(slot) = rows.get_mut(name) {
-        if let Some(flow) = mem::replace(slot, None) {
-            *current = flow;
-        }
-    }
-}
-
-// Puts a flow where nothing stands.
-fn fill(rows: &mut IndexMap<String, Option<Flow>>, flow: Flow)
-    ensures { rows_of rows.new.entries ≡ filled flow (rows_of rows.old.entries) }
-{
-    if let Some(index) = hole(rows) {
-        if let Some(slot) = rows.get_index_mut(index) {
-            *slot = Some(flow);
-        }
+    match rows.get_index_mut(index) {
+        Some(slot) => mem::replace(slot, flow),
+        None => None,
     }
 }

@@ -1,12 +1,12 @@
 -- What is restored, whole.
-use Rattle.std.proofs.Common.{◌≡◌, ◌∙◌, sym, ap, refl, subst, ℕ, length, List, [], ◌∷◌, ◌≤◌, Bool, true, false, true≢false, ◌&&◌, bytes_eq, nat_le, if◌then◌else◌, Option, Some, None, is_none, option_map, arith}
+use Rattle.std.proofs.Common.{◌≡◌, ◌∙◌, sym, ap, refl, subst, ℕ, length, List, [], ◌∷◌, ◌≤◌, Bool, true, false, true≢false, ◌&&◌, bytes_eq, nat_le, if◌then◌else◌, Option, Some, None, is_none, option_map, IfSome, arith}
 use Rattle.std.proofs.lemmas.Bool.{and_from}
 use Rattle.std.proofs.lemmas.List.{length-map}
 use Rattle.std.specs.List.{AllByRecursion}
 use Rattle.ink_flows.specs.Words.{aside_of, flow_of}
 use Rattle.ink_flows.specs.declared.flow.Flow.{Flow}
 use Rattle.ink_model.specs.Configuration.{Configuration, FlowOf, settled, unnumbered_flow}
-use Rattle.ink_model.specs.Flows.{Aside, AsideOf, Game, alone, begins_with_default, one_flow}
+use Rattle.ink_model.specs.Flows.{Aside, AsideOf, Game, alone, begins_with_default, holes, one_flow}
 use Rattle.ink_model.specs.Named.{Rows, at, once}
 use Rattle.ink_model.specs.Output.{empty_page}
 use Rattle.ink_model.specs.Save.Reads.{Rests, Stands}
@@ -20,7 +20,7 @@ use Rattle.ink_parts.specs.Gathered.{AllStand, CurrentSound, FlowsFit, NamedSoun
 use Rattle.ink_parts.specs.Parts.{Restores, restored_as, shared_as}
 use Rattle.ink_parts.specs.declared.restoring.AllFlows.{AllFlows}
 use Rattle.ink_parts.specs.declared.restoring.SharedParts.{SharedParts}
-use Rattle.ink_flows.proofs.Mapped.{begins_seen}
+use Rattle.ink_flows.proofs.Mapped.{begins_seen, holes_seen}
 use Rattle.ink_parts.proofs.Joining.{begins_but, once_but, one_hole, same_names}
 use Rattle.ink_parts.proofs.Standing.{both, is_within, within}
 
@@ -128,6 +128,12 @@ module _ (s : StoryTree) (cur : List ℕ) (xs : Rows FlowHere) where
   pub rows_begin : (rows : AsideOf Flow) → aside_of s rows ≡ aside_but cur xs → (first_is_default xs && nat_le (length xs) MAX_FLOWS) ≡ true → begins_with_default rows ≡ true
   rows_begin rows same e =
       sym (begins_seen (flow_of s) rows) ∙ ap begins_with_default same ∙ begins_but cur xs ∙ (both (first_is_default xs) (nat_le (length xs) MAX_FLOWS) e).0
+
+  -- nothing stands at one name, where the current one is among them
+  pub rows_current : (rows : AsideOf Flow) (current : Option Flow) → (◌≡◌ {A = Aside × Option FlowHere} (aside_of s rows, option_map (flow_of s) current) (aside_but cur xs, at cur xs)) × FlowsFit s xs
+      → IfSome current (λ _. holes rows ≡ 1)
+  rows_current rows None h = tt
+  rows_current rows (Some f) h = sym (holes_seen (flow_of s) rows) ∙ ap (λ p. holes p.0) h.0 ∙ one_hole cur xs (flow_of s f) h.1.names (sym (ap (λ p. p.1) h.0))
 
   aside_fits : (f : FlowHere) → at cur xs ≡ Some f → AllByRecursion Plain xs → (first_is_default xs && nat_le (length xs) MAX_FLOWS) ≡ true → FlowsFit s xs → AsideFits s (aside_but cur xs)
   aside_fits f there plain e fit =

@@ -4,7 +4,7 @@ ghost use Rattle.std.specs.Prelude.{◌≡◌, ◌≤◌, ◌&&◌, IfOk, IfSome
 ghost use Rattle.std.specs.List.{AllByRecursion};
 ghost use Rattle.ink_flows.specs.Words.{rows_of};
 ghost use Rattle.ink_model.specs.Configuration.{unnumbered_flow};
-ghost use Rattle.ink_model.specs.Flows.{alone, begins_with_default};
+ghost use Rattle.ink_model.specs.Flows.{alone, begins_with_default, holes};
 ghost use Rattle.ink_model.specs.Named.{at};
 ghost use Rattle.ink_model.specs.Save.Reads.{Rests, Stands};
 ghost use Rattle.ink_model.specs.Save.Sound.{SharedSound};
@@ -143,7 +143,8 @@ fn may_be_all(flows: &[NamedFlow]) -> bool
 
 // The current flow and the others, if that one came.
 fn with_aside(alloc: Global, gathered: Gathered) -> Option<AllFlows>
-    requires { IsTrue (begins_with_default (rows_of gathered.rows.entries)) }
+    requires first { IsTrue (begins_with_default (rows_of gathered.rows.entries)) }
+    requires current { IfSome gathered.current (λ _. holes (rows_of gathered.rows.entries) ≡ 1) }
     ensures { option_map parts_of result ≡ option_map (with_rows (rows_of gathered.rows.entries)) gathered.current }
 {
     let Gathered { rows, current } = gathered;

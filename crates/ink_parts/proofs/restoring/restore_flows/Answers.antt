@@ -5,7 +5,7 @@ use Rattle.ink_model.specs.Named.{at}
 use Rattle.ink_model.specs.Save.Unspelled.{aside_but}
 use Rattle.ink_tree.specs.Nodes.{story_tree}
 use Rattle.ink_parts.proofs.Making.{built, never}
-use Rattle.ink_parts.proofs.Whole.{Plain, flows_built, flows_found, gather_refused}
+use Rattle.ink_parts.proofs.Whole.{Plain, flows_built, flows_found, gather_refused, rows_current}
 use Rattle.ink_parts.specs.Gathered.{FlowsFit, gathered_as}
 use Rattle.ink_parts.proofs.restoring.restore_flows.Goals as goal
 
@@ -27,3 +27,12 @@ returns-in-None c =
     let xs = c.as_slice-flows.result.now in
     flows_found s c.args.saved.now cur xs (c.as_str.ensures ∙ ap (λ x. x.current) c.saved.view_is) (c.as_slice-flows.ensures ∙ ap (λ x. x.flows) c.saved.view_is) None
     (gather_refused s cur xs (never (gathered_as s) (λ p. FlowsFit s xs) (aside_but cur xs, at cur xs) (aside_but cur xs, at cur xs) c.in_ok-gathered.field-0 refl c.in-None.is c.in_ok-gathered.ensures))
+
+-- one name has nothing, where the current flow came
+pub with_aside-requires-clause-current : goal.with_aside-requires-clause-current
+with_aside-requires-clause-current c =
+    let s = story_tree c.args.tree.now in
+    let cur = c.as_str.result.now in
+    let xs = c.as_slice-flows.result.now in
+    rows_current s cur xs (rows_of c.in-Some.gathered.rows.entries) c.in-Some.gathered.current
+    (built (gathered_as s) (λ p. FlowsFit s xs) (aside_but cur xs, at cur xs) (aside_but cur xs, at cur xs) c.in_ok-gathered.field-0 c.in-Some.gathered refl c.in-Some.is c.in_ok-gathered.ensures)
