@@ -174,8 +174,8 @@ impl<P: Copy> Choices<P> {
         ensures stood { choices_stood self.new ≡ choices_stood self.old }
         ensures spare { choices_spare self.old ≤ choices_spare self.new + 1 }
     {
-        let copy = self.items[index].clone_in(*self.items.allocator())?;
         self.trail.ready(1)?;
+        let copy = self.items[index].clone_in(*self.items.allocator())?;
         let choice = self.items.remove(index);
         self.settled = self.settled.min(index);
         self.trail.note(ChoicePair::Taken(index, choice), 1);

@@ -97,7 +97,7 @@ pub enum Bound<P, T> {
 }
 
 /// Which kind of function is bound to a name.
-#[derive(Clone, Copy, Debug, PartialEq, Eq)]
+#[derive(Clone, Copy, PartialEq, Eq)]
 pub enum FnKind {
     Pure,
     Turn,

@@ -1,6 +1,6 @@
 //! The list of a story's nodes.
 
-ghost use Rattle.std.specs.Prelude.{◌≡◌, ◌<◌, ◌^◌, ◌+◌, ◌++◌, ◌∷◌, [], ℕ, List, Option, length, slice_get, slice_set, get_or, Some, OnOk};
+ghost use Rattle.std.specs.Prelude.{◌≡◌, ◌<◌, ◌^◌, ◌+◌, ◌++◌, ◌∷◌, [], ℕ, List, Option, length, slice_get, slice_set, get_or, Some, OnOk, OnErr};
 ghost use Rattle.ink_model.specs.declared.place.Part.{Part};
 ghost use Rattle.ink_model.specs.declared.place.Part.TheVariants.{Name};
 ghost use Rattle.ink_json.specs.Kept.{IsNoName, part_at, filled_at};
@@ -119,16 +119,16 @@ impl Nodes {
         requires { length self.old + 1 < 2 ^ 31 }
         ensures { OnOk result (self.new ≡ self.old ++ record { content = content; holder = holder; last = Some (Name name.now) } ∷ []) }
     {
-        let text = Text::from_str(alloc, name)?;
+        let number = self.list.len();
         let last = FIRST_NAME + self.names.len() as u32;
         self.list.push(Kept {
             content,
             holder,
             last,
         })?;
-        if let Err(error) = self.names.push(text) {
-            self.list.pop();
-            return Err(error.into());
+        if let Err(error) = add_name(alloc, &mut self.names, name) {
+            self.list.truncate(number);
+            return Err(error);
         }
         Ok(())
     }
@@ -165,6 +165,16 @@ impl Nodes {
         let size = (self.list.len() - number) as u32;
         fill(&mut self.list, number, width, keys, size);
     }
+}
+
+// One name more, a copy of this one.
+fn add_name(alloc: Global, names: &mut Vec<Text>, name: &str) -> Result<(), AllocError>
+    ensures ok { OnOk result (names.new.items ≡ names.old.items ++ name.now ∷ []) }
+    ensures err { OnErr result (names.new.items ≡ names.old.items) }
+{
+    let text = Text::from_str(alloc, name)?;
+    names.push(text)?;
+    Ok(())
 }
 
 // So much is in the container of a number.

@@ -7,23 +7,17 @@ use crate::host::Event;
 use crate::place::Place;
 use crate::seq::Seq;
 use std::alloc::{AllocError, AllocFailed, Global};
+use std::fmt;
 
 /// Why a story is refused.
 #[derive(Clone, Copy, Debug, PartialEq, Eq, thiserror::Error)]
 pub enum Cause {
-    #[error("NotJson")]
     NotJson,
-    #[error("Version")]
     Version,
-    #[error("Shape")]
     Shape,
-    #[error("Unsupported")]
     Unsupported,
-    #[error("BadPath")]
     BadPath,
-    #[error("Limit")]
     Limit,
-    #[error("OutOfMemory")]
     OutOfMemory,
 }
 
@@ -37,66 +31,38 @@ pub struct ReadRefusal {
 /// What can go wrong while a story runs.
 #[derive(Clone, Copy, Debug, PartialEq, Eq, thiserror::Error)]
 pub enum Fault {
-    #[error("StackEmpty")]
     StackEmpty,
-    #[error("BadOperands")]
     BadOperands,
-    #[error("Divide")]
     Divide,
-    #[error("BadMode")]
     BadMode,
-    #[error("BadPop")]
     BadPop,
-    #[error("BadTarget")]
     BadTarget,
-    #[error("BadPointer")]
     BadPointer,
-    #[error("NotCounted")]
     NotCounted,
-    #[error("NoTemp")]
     NoTemp,
-    #[error("UnsafeInString")]
     UnsafeInString,
-    #[error("Unbound")]
     Unbound,
-    #[error("HostRefused")]
     HostRefused,
-    #[error("StopInString")]
     StopInString,
-    #[error("TooDeep")]
     TooDeep,
-    #[error("OutOfSteps")]
     OutOfSteps,
-    #[error("OutOfMemory")]
     OutOfMemory,
 }
 
 /// Why a command is refused. Nothing has changed then.
 #[derive(Clone, Copy, Debug, PartialEq, Eq, thiserror::Error)]
 pub enum Refusal {
-    #[error("CannotContinue")]
     CannotContinue,
-    #[error("NotAChoice")]
     NotAChoice,
-    #[error("NoSuchVariable")]
     NoSuchVariable,
-    #[error("NoSuchPath")]
     NoSuchPath,
-    #[error("BadValue")]
     BadValue,
-    #[error("BadSave")]
     BadSave,
-    #[error("BadCommand")]
     BadCommand,
-    #[error("NoSuchFlow")]
     NoSuchFlow,
-    #[error("DefaultFlow")]
     DefaultFlow,
-    #[error("TooManyFlows")]
     TooManyFlows,
-    #[error("Broken")]
     Broken(Fault),
-    #[error("OutOfMemory")]
     OutOfMemory,
 }
 
@@ -123,6 +89,12 @@ impl Cause {
             Cause::Limit => "Limit",
             Cause::OutOfMemory => "OutOfMemory",
         }
+    }
+}
+
+impl fmt::Display for Cause {
+    fn fmt<W: fmt::Write>(&self, f: &mut fmt::Formatter<W>) -> fmt::Result {
+        f.write_str(self.name())
     }
 }
 
@@ -154,6 +126,12 @@ impl Fault {
     }
 }
 
+impl fmt::Display for Fault {
+    fn fmt<W: fmt::Write>(&self, f: &mut fmt::Formatter<W>) -> fmt::Result {
+        f.write_str(self.name())
+    }
+}
+
 impl Refusal {
     ghost use Rattle.ink_model.specs.Answer.{refusal_name};
 
@@ -175,6 +153,12 @@ impl Refusal {
             Refusal::Broken(_) => "Broken",
             Refusal::OutOfMemory => "OutOfMemory",
         }
+    }
+}
+
+impl fmt::Display for Refusal {
+    fn fmt<W: fmt::Write>(&self, f: &mut fmt::Formatter<W>) -> fmt::Result {
+        f.write_str(self.name())
     }
 }
 

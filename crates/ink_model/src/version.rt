@@ -1,7 +1,7 @@
 //! Versions of compiled ink (docs/STORY_FORMAT.md).
 
 /// A version of compiled ink whose stories are read.
-#[derive(Clone, Copy, Debug, PartialEq, Eq)]
+#[derive(Clone, Copy, PartialEq, Eq)]
 pub enum InkVersion {
     V20,
     V21,

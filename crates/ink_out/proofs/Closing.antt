@@ -1,12 +1,20 @@
 -- What is open on top is closed.
-use Rattle.std.proofs.Common.{◌≡◌, ℕ, ◌-◌, ◌<◌, List, [], ◌∷◌, ◌++◌, length, take, drop, reverse, get_or, Result, Ok, Err, refl, sym, ap, ◌∙◌, subst, arith}
+use Rattle.std.proofs.Common.{◌≡◌, ℕ, ◌-◌, ◌<◌, List, [], ◌∷◌, ◌++◌, length, take, drop, reverse, get_or, slice_get, if◌then◌else◌, Bool, true, false, Option, Some, None, Result, Ok, Err, inl, inr, refl, sym, ap, ◌∙◌, subst, arith}
+use Rattle.std.specs.List.{list_any}
 use Rattle.std.specs.Result.{IsErrAnd}
-use Rattle.std.proofs.lemmas.List.{append-nil, reverse-append, drop_all, take_all}
-use Rattle.ink_model.specs.Configuration.{Page, Section, string_section}
-use Rattle.ink_model.specs.Memory.{Gives, Leaves}
-use Rattle.ink_model.specs.Output.{writes_marks}
+use Rattle.std.proofs.lemmas.List.{append-nil, length-reverse, reverse-append, drop_all, take_all}
+use Rattle.std.proofs.lemmas.Option.{get_or_from_slice_get, slice_get-get_or, slice_get_within}
+use Rattle.ink_model.specs.Asks.{asks_for}
+use Rattle.ink_model.specs.Bytes.{fits_text}
+use Rattle.ink_model.specs.Clean.{clean}
+use Rattle.ink_model.specs.Configuration.{Page, Section, SectionKind, string_section, tag_section}
+use Rattle.ink_model.specs.Memory.{Gives, Hands, Leaves}
+use Rattle.ink_model.specs.Output.{closes_string, closes_string_of, closes_tag, closes_tag_of, is_crowded, is_string, kept_text, tagged, writes_marks}
+use Rattle.ink_model.specs.Shown.{shown_text}
 use Rattle.ink_model.specs.declared.fault.Fault.{Fault}
+use Rattle.ink_model.specs.declared.fault.Fault.TheVariants.{BadMode, TooDeep}
 use Rattle.ink_model.specs.declared.mark.Mark.{Mark}
+use Rattle.ink_model.specs.declared.mark.Mark.TheVariants.{Tag}
 use Rattle.ink_out.specs.Writing.{page_of, closed}
 use Rattle.ink_out.proofs.Noting.{last_is}
 
@@ -56,3 +64,151 @@ closed_err ms line new_line xs slice ys len n g answer same fits some kept stays
     let as_before : page_of new_line (take len (ys ++ drop (length ys) xs)) n ≡ page_of line xs n = rw (whole, stays.1, same, stays.0) refl in
     let is_below : page_of line (take (length slice - 1) slice) n ≡ closed (page_of line xs n) = ap (λ (s : List Section). page_of line (take (length s - 1) s) n) same ∙ sym (closed_page line xs n some) in
     subst (λ (p : Page). Leaves {A = Unit {0}} (writes_marks ms p) (page_of line xs n) (page_of new_line (take len (ys ++ drop (length ys) xs)) n) answer) is_below (unchanged (writes_marks ms (page_of line (take (length slice - 1) slice) n)) (page_of line xs n) (page_of new_line (take len (ys ++ drop (length ys) xs)) n) g answer as_before told is.0)
+
+-- ---- a closed tag
+
+-- what is open below what is open on top
+pub any_below : (sections slice there : List Section) (n : ℕ) (b : Bool) → reverse sections ≡ there → slice ≡ sections → 0 < length there → n ≡ length there → b ≡ list_any is_string (reverse (take (n - 1) slice)) → list_any is_string (drop 1 there) ≡ b
+any_below sections slice there n b turned lent some is told =
+    let len : length sections ≡ length there = sym (length-reverse sections) ∙ ap (λ (s : List Section). length s) turned in
+    ap (λ (s : List Section). list_any is_string (drop 1 s)) (sym turned)
+    ∙ ap (list_any is_string) (below_last sections (omega (arith, len, some)))
+    ∙ ap (λ (k : ℕ). list_any is_string (reverse (take (k - 1) sections))) (len ∙ sym is)
+    ∙ ap (λ (s : List Section). list_any is_string (reverse (take (n - 1) s))) (sym lent)
+    ∙ sym told
+
+handing_out : List ℕ → Result Page Fault → Result (Option (List ℕ) × Page) Fault
+handing_out t (Ok page) = Ok (Some t, page)
+handing_out t (Err f) = Err f
+
+-- it is handed out where a string is open below it
+pub handed_out : (t : List ℕ) (page next : Page) → list_any is_string (drop 1 page.sections) ≡ true → written (closed page) ≡ written next → tagged t (closed page) ≡ Ok (Some t, next)
+unfolding handing_out
+handed_out t page next is same = rw is (ap (handing_out t) same)
+
+-- else it is a mark
+pub marked : (t : List ℕ) (page next : Page) → list_any is_string (drop 1 page.sections) ≡ false → writes_marks (Tag t ∷ []) (closed page) ≡ Ok next → tagged t (closed page) ≡ Ok (None, next)
+marked t page next is written = rw (is, written) refl
+
+-- ---- what is open on top
+
+pub on_top : (sections slice there : List Section) (x : Section) → reverse sections ≡ there → slice ≡ sections → slice_get slice (length slice - 1) ≡ Some x → there ≡ x ∷ drop 1 there
+on_top sections slice there x turned lent is =
+    let below = take (length slice - 1) slice in
+    let within = slice_get_within slice (length slice - 1) x is in
+    let last : slice ≡ below ++ x ∷ [] = last_is slice x (omega (arith, within)) ∙ ap (λ (y : Section). below ++ y ∷ []) (get_or_from_slice_get slice (length slice - 1) x x is) in
+    let shown : there ≡ x ∷ reverse below = sym turned ∙ ap (λ (s : List Section). reverse s) (sym lent ∙ last) ∙ reverse-append below (x ∷ []) in
+    shown ∙ ap (λ (s : List Section). x ∷ drop 1 s) (sym shown)
+
+pub nothing_open : (sections slice there : List Section) → reverse sections ≡ there → slice ≡ sections → slice_get slice (length slice - 1) ≡ None → there ≡ []
+nothing_open sections [] there turned lent is = sym turned ∙ ap (λ (s : List Section). reverse s) (sym lent)
+nothing_open sections (y ∷ ys) there turned lent is = absurd (grind (slice_get-get_or (y ∷ ys) (length (y ∷ ys) - 1) y (omega arith), is, arith))
+
+-- nothing is closed where none is open
+pub none_closed : (page : Page) → page.sections ≡ [] → (closes_string page ≡ Err BadMode) × (closes_tag page ≡ Err BadMode)
+none_closed page is = (ap (closes_string_of page) is, ap (closes_tag_of page) is)
+
+pub no_tag : (page : Page) (x : Section) → page.sections ≡ x ∷ drop 1 page.sections → true ≡ is_string x → closes_tag page ≡ Err BadMode
+no_tag page x top is = ap (closes_tag_of page) top ∙ by x.kind x.marks is
+  where
+    by : (kind : SectionKind) (marks : List Mark) → true ≡ is_string (record { kind = kind; marks = marks }) → closes_tag_of page (record { kind = kind; marks = marks } ∷ drop 1 page.sections) ≡ Err BadMode
+    by string_section marks is = refl
+    by tag_section marks is = absurd (cc)
+
+-- a tag is closed by its text
+closing : List ℕ → Page → Bool → Result (Option (List ℕ) × Page) Fault
+closing t page fits = if fits then tagged t page else Err TooDeep
+
+by_text : (page : Page) (x : Section) (t : List ℕ) → page.sections ≡ x ∷ drop 1 page.sections → false ≡ is_string x → t ≡ clean (shown_text x.marks) → closes_tag page ≡ closing t (closed page) (fits_text t)
+unfolding closing
+by_text page x t top is text = ap (closes_tag_of page) top ∙ by x.kind x.marks is text
+  where
+    by : (kind : SectionKind) (marks : List Mark) → false ≡ is_string (record { kind = kind; marks = marks }) → t ≡ clean (shown_text marks) → closes_tag_of page (record { kind = kind; marks = marks } ∷ drop 1 page.sections) ≡ closing t (closed page) (fits_text t)
+    by string_section marks is text = absurd (cc)
+    by tag_section marks is text = rw text refl
+
+pub tag_closed : (page : Page) (x : Section) (t text : List ℕ) → page.sections ≡ x ∷ drop 1 page.sections → false ≡ is_string x → t ≡ clean (shown_text x.marks) → kept_text t t ≡ Ok text → closes_tag page ≡ tagged text (closed page)
+unfolding closing
+tag_closed page x t text top is cleaned kept = by_text page x t top is cleaned ∙ by (fits_text t) kept
+  where
+    by : (fits : Bool) → (if fits then Ok t else Err TooDeep) ≡ Ok text → closing t (closed page) fits ≡ tagged text (closed page)
+    by true kept = ap (λ s. tagged s (closed page)) cc
+    by false kept = absurd (cc)
+
+-- ---- a tag that is not closed
+
+asks_tagged : (t : List ℕ) (page : Page) → asks_for (tagged t page) ≡ true
+asks_tagged t page = by (list_any is_string page.sections) (is_crowded (Tag t ∷ []) page) refl refl
+  where
+    by : (inside crowded : Bool) → list_any is_string page.sections ≡ inside → is_crowded (Tag t ∷ []) page ≡ crowded → asks_for (tagged t page) ≡ true
+    by true crowded is full = rw is refl
+    by false true is full = rw (is, full) refl
+    by false false is full = rw (is, full) refl
+
+-- where a tag is open, what is refused for its text is refused for the whole
+pub tag_refused : (page : Page) (x : Section) (t : List ℕ) (f : Fault) → page.sections ≡ x ∷ drop 1 page.sections → false ≡ is_string x → t ≡ clean (shown_text x.marks) → Gives {A = List ℕ} (Err f) (kept_text t t) → Gives {A = Option (List ℕ) × Page} (Err f) (closes_tag page)
+unfolding closing
+tag_refused page x t f top is cleaned refused = rw (by_text page x t top is cleaned) (by (fits_text t) refused)
+  where
+    by : (fits : Bool) → Gives {A = List ℕ} (Err f) (if fits then Ok t else Err TooDeep) → Gives {A = Option (List ℕ) × Page} (Err f) (closing t (closed page) fits)
+    by true (inl p) = inl (p.0, asks_tagged t (closed page))
+    by true (inr e) = absurd (cc)
+    by false (inl p) = inl p
+    by false (inr e) = inr cc
+
+-- an open tag's text is made in memory
+pub tag_asks : (page : Page) (x : Section) → page.sections ≡ x ∷ drop 1 page.sections → false ≡ is_string x → asks_for (closes_tag page) ≡ true
+unfolding closing
+tag_asks page x top is = rw (by_text page x _ top is refl) (by (fits_text (clean (shown_text x.marks))))
+  where
+    by : (fits : Bool) → asks_for (closing (clean (shown_text x.marks)) (closed page) fits) ≡ true
+    by true = asks_tagged (clean (shown_text x.marks)) (closed page)
+    by false = refl
+
+pub hands_nothing : {A : Type 0} (r : Result (A × Page) Fault) (page : Page) (g : Fault) (answer : Result A Fault) → IsErrAnd answer (λ f. f ≡ g) → Gives {A = A × Page} (Err g) r → Hands r page page answer
+hands_nothing {A} r page g (Err f) told is = (subst (λ (e : Fault). Gives {A = A × Page} (Err e) r) (sym told) is, refl)
+hands_nothing r page g (Ok a) told is = absurd told
+
+-- ---- a closed string
+
+abbrev keeping : {A : Type 0} → Bool → A → Result A Fault
+keeping fits a = if fits then Ok a else Err TooDeep
+
+pub no_string : (page : Page) (x : Section) → page.sections ≡ x ∷ drop 1 page.sections → false ≡ is_string x → closes_string page ≡ Err BadMode
+no_string page x top is = ap (closes_string_of page) top ∙ by x.kind x.marks is
+  where
+    by : (kind : SectionKind) (marks : List Mark) → false ≡ is_string (record { kind = kind; marks = marks }) → closes_string_of page (record { kind = kind; marks = marks } ∷ drop 1 page.sections) ≡ Err BadMode
+    by string_section marks is = absurd (cc)
+    by tag_section marks is = refl
+
+by_raw_text : (page : Page) (x : Section) (t : List ℕ) → page.sections ≡ x ∷ drop 1 page.sections → true ≡ is_string x → t ≡ shown_text x.marks → closes_string page ≡ kept_text t (t, closed page)
+by_raw_text page x t top is text = ap (closes_string_of page) top ∙ by x.kind x.marks is text
+  where
+    by : (kind : SectionKind) (marks : List Mark) → true ≡ is_string (record { kind = kind; marks = marks }) → t ≡ shown_text marks → closes_string_of page (record { kind = kind; marks = marks } ∷ drop 1 page.sections) ≡ kept_text t (t, closed page)
+    by string_section marks is text = rw text refl
+    by tag_section marks is text = absurd (cc)
+
+pub string_closed : (page next : Page) (x : Section) (t text : List ℕ) → page.sections ≡ x ∷ drop 1 page.sections → true ≡ is_string x → t ≡ shown_text x.marks → kept_text t t ≡ Ok text → written (closed page) ≡ written next → closes_string page ≡ Ok (text, next)
+string_closed page next x t text top is shown kept left = by_raw_text page x t top is shown ∙ by (fits_text t) kept
+  where
+    by : (fits : Bool) → keeping {A = List ℕ} fits t ≡ Ok text → keeping {A = List ℕ × Page} fits (t, closed page) ≡ Ok (text, next)
+    by true kept = cc
+    by false kept = absurd (cc)
+
+-- where a string is open, what is refused for its text is refused for the whole
+pub string_refused : (page : Page) (x : Section) (t : List ℕ) (f : Fault) → page.sections ≡ x ∷ drop 1 page.sections → true ≡ is_string x → t ≡ shown_text x.marks → Gives {A = List ℕ} (Err f) (kept_text t t) → Gives {A = List ℕ × Page} (Err f) (closes_string page)
+string_refused page x t f top is shown refused = rw (by_raw_text page x t top is shown) (by (fits_text t) refused)
+  where
+    by : (fits : Bool) → Gives {A = List ℕ} (Err f) (keeping {A = List ℕ} fits t) → Gives {A = List ℕ × Page} (Err f) (keeping {A = List ℕ × Page} fits (t, closed page))
+    by true (inl p) = inl (p.0, refl)
+    by true (inr e) = absurd (cc)
+    by false (inl p) = inl p
+    by false (inr e) = inr cc
+
+-- an open string's text is made in memory
+pub string_asks : (page : Page) (x : Section) → page.sections ≡ x ∷ drop 1 page.sections → true ≡ is_string x → asks_for (closes_string page) ≡ true
+string_asks page x top is = rw (by_raw_text page x _ top is refl) (by (fits_text (shown_text x.marks)))
+  where
+    by : (fits : Bool) → asks_for {A = List ℕ × Page} (keeping {A = List ℕ × Page} fits (shown_text x.marks, closed page)) ≡ true
+    by true = refl
+    by false = refl

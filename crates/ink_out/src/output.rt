@@ -7,7 +7,7 @@ ghost use Rattle.ink_model.specs.Clean.{clean};
 ghost use Rattle.ink_model.specs.Configuration.{string_section, tag_section};
 ghost use Rattle.ink_model.specs.Mark.{cut, piece, tags};
 ghost use Rattle.ink_model.specs.Memory.{Gives, Hands, Leaves};
-ghost use Rattle.ink_model.specs.Output.{writes_marks, writes_value, writes_text, writes_newline, writes_glue, begins_function, ends_function, opens, closes_string, closes_tag, writes_tag, prints_text, ends_line, empty_page, is_string, is_text, kept_text, let_through};
+ghost use Rattle.ink_model.specs.Output.{writes_marks, writes_value, writes_text, writes_newline, writes_glue, begins_function, ends_function, opens, closes_string, closes_tag, writes_tag, prints_text, ends_line, empty_page, is_string, is_text, kept_text, let_through, tagged};
 ghost use Rattle.ink_model.specs.declared.limits.TheConstants.{MAX_MARKS};
 ghost use Rattle.ink_model.specs.Shown.{shown_text, shows_more, is_shown, open_newline, more_from};
 ghost use Rattle.ink_model.specs.Step.Host as host;
@@ -251,11 +251,14 @@ impl Output {
         ensures stood { output_stood self.new ≡ output_stood self.old }
         ensures spare { output_spare self.old ≤ output_spare self.new + 1 }
     {
-        let opened = self.sections.last().ok_or(Fault::BadMode)?;
+        let Some(opened) = self.sections.last() else {
+            return Err(Fault::BadMode);
+        };
         if !opened.is_string() {
             return Err(Fault::BadMode);
         }
-        let text = within(self.alloc, opened.raw_text(self.alloc)?)?;
+        let raw_text = opened.raw_text(self.alloc)?;
+        let text = within(self.alloc, raw_text)?;
         self.close()?;
         Ok(text)
     }
@@ -269,11 +272,23 @@ impl Output {
         ensures stood { output_stood self.new ≡ output_stood self.old }
         ensures spare { output_spare self.old ≤ output_spare self.new + 2 }
     {
-        let opened = self.sections.last().ok_or(Fault::BadMode)?;
+        let Some(opened) = self.sections.last() else {
+            return Err(Fault::BadMode);
+        };
         if opened.is_string() {
             return Err(Fault::BadMode);
         }
-        let text = within(self.alloc, opened.text(self.alloc)?)?;
+        let text = opened.text(self.alloc)?;
+        let text = within(self.alloc, text)?;
+        self.end_tag(text)
+    }
+
+    // Closes what is open on top, a tag of this text.
+    fn end_tag(&mut self, text: Shared<Text>) -> Result<Option<Shared<Text>>, Fault>
+        requires { 0 < length self.old.page.sections }
+        ensures page { Hands (tagged text (closed self.old.page)) self.old.page self.new.page result }
+        ensures trail { TrailsOrKeeps output_back 2 self.old.page self.old.trail self.new.page self.new.trail result }
+    {
         let below = self.depth() - 1;
         if has_string(&self.sections[..below]) {
             self.close()?;

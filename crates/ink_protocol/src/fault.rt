@@ -3,21 +3,19 @@
 ghost use Rattle.std.specs.Prelude.{◌≡◌};
 ghost use Rattle.ink_protocol.specs.Ends.{run_fault_name};
 
+use std::fmt;
+
 /// Why a session ended before its reader did. What was answered before stands.
 #[derive(Clone, Copy, Debug, PartialEq, Eq, thiserror::Error)]
 pub enum RunFault {
     /// The reader failed.
-    #[error("Read")]
     Read,
     /// The writer failed, or took no byte. The command whose answer could not be written has taken effect.
-    #[error("Write")]
     Write,
     /// A line or the input is longer than its limit.
-    #[error("TooLong")]
     TooLong,
     /// Memory was refused: for a line, which was not served then, or for the text of an answer, whose command has taken
     /// effect.
-    #[error("OutOfMemory")]
     OutOfMemory,
 }
 
@@ -32,5 +30,11 @@ impl RunFault {
             RunFault::TooLong => "TooLong",
             RunFault::OutOfMemory => "OutOfMemory",
         }
+    }
+}
+
+impl fmt::Display for RunFault {
+    fn fmt<W: fmt::Write>(&self, f: &mut fmt::Formatter<W>) -> fmt::Result {
+        f.write_str(self.name())
     }
 }

@@ -97,6 +97,13 @@ impl Ahead {
         let _ = &self.chunk;
     }
 
+    // How many bytes were read and not yet taken.
+    fn len(&self) -> usize
+        ensures { result ≡ length self.now.unread }
+    {
+        self.end - self.at
+    }
+
     /// What stands next. Where nothing is left of what was read, reads no more than `room` bytes and than may be taken, but
     /// one in any case, which tells whether there is any.
     pub(crate) fn next<S: Source>(
@@ -111,7 +118,7 @@ impl Ahead {
         ensures room { length self.new.unread ≤ max (length self.old.unread) (max room 1) }
     {
         self.fill(source, room)?;
-        if self.at == self.end {
+        if self.len() == 0 {
             return Ok(Next::End);
         }
         if self.spare == 0 {
@@ -130,7 +137,7 @@ impl Ahead {
         ensures bound { length self.new.unread ≤ max self.new.spare 1 }
         ensures room { length self.new.unread ≤ max (length self.old.unread) (max room 1) }
     {
-        if self.at < self.end {
+        if self.len() > 0 {
             return Ok(());
         }
         let room = room.min(self.spare).min(CHUNK).max(1);
@@ -157,7 +164,7 @@ impl Ahead {
                 Ok(Cut::Newline)
             }
             None => {
-                if let Err(fault) = self.give(self.end - self.at, line, limit) {
+                if let Err(fault) = self.give(self.len(), line, limit) {
                     return Err(fault);
                 }
                 Ok(Cut::More)

@@ -1,3 +1,4 @@
+pub mod Listed
 pub mod Nodes
 pub mod Standing
 pub mod Stepping

@@ -16,13 +16,11 @@ impl Children {
     /// The numbers of these nodes by what is around them. The one error is a refused request for memory.
     pub(crate) fn of(alloc: Global, nodes: &Nodes) -> Result<Children, AllocError> {
         let mut ends = starts(alloc, nodes)?;
-        let mut numbers = filled(alloc, nodes.len())?;
+        let mut numbers = Vec::from_elem(alloc, 0, nodes.len())?;
         for number in 1..nodes.len() {
-            if let Some(end) = ends.get_mut(holder(nodes, number)) {
-                if let Some(slot) = numbers.get_mut(*end as usize) {
-                    *slot = small(number);
-                }
-                *end = (*end).wrapping_add(1);
+            let place = count_up(&mut ends, holder(nodes, number));
+            if let Some(slot) = numbers.get_mut(place) {
+                *slot = small(number);
             }
         }
         Ok(Children { numbers, ends })
@@ -80,11 +78,9 @@ impl Children {
 
 // Where the block of each container starts.
 fn starts(alloc: Global, nodes: &Nodes) -> Result<Vec<u32>, AllocError> {
-    let mut starts = filled(alloc, nodes.len())?;
+    let mut starts = Vec::from_elem(alloc, 0, nodes.len())?;
     for number in 1..nodes.len() {
-        if let Some(count) = starts.get_mut(holder(nodes, number)) {
-            *count = (*count).wrapping_add(1);
-        }
+        count_up(&mut starts, holder(nodes, number));
     }
     let mut before: u32 = 0;
     for start in starts.iter_mut() {
@@ -93,6 +89,18 @@ fn starts(alloc: Global, nodes: &Nodes) -> Result<Vec<u32>, AllocError> {
         before = before.wrapping_add(count);
     }
     Ok(starts)
+}
+
+// Counts one more at an index, and answers the count before; the length, where there is no such index.
+fn count_up(counts: &mut Vec<u32>, index: usize) -> usize {
+    match counts.get_mut(index) {
+        Some(count) => {
+            let before = *count;
+            *count = before.wrapping_add(1);
+            before as usize
+        }
+        None => counts.len(),
+    }
 }
 
 // The number of the content around the content of a number, of which the root, the first, has none.
@@ -105,18 +113,7 @@ fn holder(nodes: &Nodes, number: usize) -> usize {
 
 // A number, or the largest of the list's where it is larger: then nothing is found there.
 fn small(number: usize) -> u32 {
-    match u32::try_from(number) {
-        Ok(number) => number,
-        Err(_) => u32::MAX,
-    }
-}
-
-fn filled(alloc: Global, count: usize) -> Result<Vec<u32>, AllocError> {
-    let mut zeros = Vec::with_capacity(alloc, count)?;
-    for _ in 0..count {
-        zeros.push(0)?;
-    }
-    Ok(zeros)
+    u32::try_from(number).unwrap_or(u32::MAX)
 }
 
 // How the key of a node stands to a name.

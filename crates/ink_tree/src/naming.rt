@@ -28,9 +28,10 @@ impl Tree {
         let mut lists = Vec::new(self.alloc);
         for number in 0..self.len() {
             let holder = NodeId { number };
-            if let Some(names) = self.new_names(holder)? {
-                lists.push(Listed { holder, names })?;
-            }
+            let Some(names) = self.new_names(holder)? else {
+                continue;
+            };
+            lists.push(Listed { holder, names })?;
         }
         Ok(lists)
     }

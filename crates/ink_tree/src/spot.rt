@@ -4,13 +4,13 @@ ghost use Rattle.std.specs.Prelude.{◌≡◌, None};
 
 /// Content of a story, by its number in reading order, the root's being 0 (docs/STORY_FORMAT.md, "Places"). Every call takes
 /// a number beyond the story's content for the root.
-#[derive(Clone, Copy, Debug, Default, PartialEq, Eq)]
+#[derive(Clone, Copy, Default, PartialEq, Eq)]
 pub struct NodeId {
     pub number: usize,
 }
 
 /// A place of a story: an index in a container, which may be the container's end, or without an index the container itself.
-#[derive(Clone, Copy, Debug, PartialEq, Eq)]
+#[derive(Clone, Copy, PartialEq, Eq)]
 pub struct Spot {
     pub holder: NodeId,
     pub index: Option<u32>,

@@ -1,6 +1,6 @@
 use Rattle.std.proofs.Common.{ap, arith, length, vec_capacity}
-use Rattle.ink_trail.proofs.Undoing.{trails-one}
-use Rattle.ink_choice.specs.Undo.{choices_back}
+use Rattle.ink_trail.proofs.Undoing.{spare-trails, stood-trails, trails-one}
+use Rattle.ink_choice.specs.Undo.{choices_back, choices_spare, choices_stood}
 use Rattle.ink_choice.specs.declared.undo.ChoicePair.TheVariants.{Cleared}
 use Rattle.ink_choice.proofs.Undoing.{held-with}
 use Rattle.ink_choice.proofs.choices.Choices.clear_marked.Goals as goal
@@ -22,3 +22,11 @@ pub returns-clause-trail : goal.returns-clause-trail
 returns-clause-trail g c =
     rw (← c.self.view_is) (trails-one choices_back (Cleared c.taken_whole-cleared.result) 1 _ _ _ _ (omega arith) (ap (λ v. v.items) c.taken_whole-cleared.ensures.whole)
     c.note.ensures.undo c.note.ensures.room)
+
+pub returns-clause-stood : goal.returns-clause-stood
+unfolding choices_stood
+returns-clause-stood g c = stood-trails choices_back (returns-clause-trail g c)
+
+pub returns-clause-spare : goal.returns-clause-spare
+unfolding choices_spare
+returns-clause-spare g c = spare-trails choices_back (returns-clause-trail g c)

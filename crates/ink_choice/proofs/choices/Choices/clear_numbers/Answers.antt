@@ -4,7 +4,7 @@ use Rattle.std.proofs.lemmas.List.{with_items_is}
 use Rattle.ink_trail.proofs.Undoing.{none-stood, stood-none}
 use Rattle.ink_choice.proofs.Settling.{settled-all, settled-walked, settled-within}
 use Rattle.ink_choice.proofs.Undoing.{held-unmarked}
-use Rattle.ink_choice.specs.Undo.{choices_back, choices_stood}
+use Rattle.ink_choice.specs.Undo.{choices_back, choices_spare, choices_stood}
 use Rattle.ink_choice.proofs.choices.Choices.clear_numbers.Goals as goal
 
 pub clear_numbers_from-requires : goal.clear_numbers_from-requires
@@ -40,3 +40,7 @@ returns-clause-stood g c =
     let none : c.self.inside.trail.undo ≡ None =
     ap (λ s. s.trail.undo) c.self.view_is ∙ none-stood choices_back c.args.self.now.trail c.args.self.now.items c.requires.unmarked in
     stood-none choices_back c.self.inside.trail _ none ∙ sym c.requires.unmarked
+
+pub returns-clause-spare : goal.returns-clause-spare
+unfolding choices_spare
+returns-clause-spare g c = omega (arith, ap choices_spare c.self.view_is)

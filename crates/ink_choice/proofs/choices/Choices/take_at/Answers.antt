@@ -1,7 +1,7 @@
-use Rattle.std.proofs.Common.{◌∙◌, arith, refl, sym, vec_capacity}
+use Rattle.std.proofs.Common.{◌∙◌, ap, arith, refl, sym, vec_capacity}
 use Rattle.ink_trail.proofs.Undoing.{stood-trails, trails-unmarked}
 use Rattle.ink_trail.specs.Undo.{trail_of}
-use Rattle.ink_choice.specs.Undo.{choices_back, choices_stood}
+use Rattle.ink_choice.specs.Undo.{choices_back, choices_spare, choices_stood}
 use Rattle.ink_choice.proofs.Settling.{settled-removed}
 use Rattle.ink_choice.proofs.Undoing.{held-now, held-unmarked}
 use Rattle.ink_choice.proofs.choices.Choices.take_at.Goals as goal
@@ -24,3 +24,7 @@ returns-clause-trail g c =
 pub returns-clause-stood : goal.returns-clause-stood
 unfolding choices_stood
 returns-clause-stood g c = stood-trails choices_back (returns-clause-trail g c)
+
+pub returns-clause-spare : goal.returns-clause-spare
+unfolding choices_spare
+returns-clause-spare g c = omega (arith, ap choices_spare c.self.view_is)

@@ -1,8 +1,8 @@
 use Rattle.std.proofs.Common.{◌≡◌, ◌∙◌, ◌<◌, ap, arith, length, refl, vec_capacity}
 use Rattle.std.specs.List.{insert}
-use Rattle.ink_trail.proofs.Undoing.{stood-trails, trails-after, trails-one}
+use Rattle.ink_trail.proofs.Undoing.{spare-kept, stood-kept, stood-trails, trails-after, trails-one}
 use Rattle.ink_trail.specs.Undo.{trail_of}
-use Rattle.ink_choice.specs.Undo.{choices_back, choices_stood}
+use Rattle.ink_choice.specs.Undo.{choices_back, choices_spare, choices_stood}
 use Rattle.ink_choice.specs.declared.undo.ChoicePair.TheVariants.{Taken}
 use Rattle.ink_choice.proofs.Settling.{settled-removed}
 use Rattle.ink_choice.proofs.Undoing.{held-as, held-now, held-with, taken_back}
@@ -39,3 +39,33 @@ returns-clause-trail g c =
 pub returns-clause-stood : goal.returns-clause-stood
 unfolding choices_stood
 returns-clause-stood g c = stood-trails choices_back (returns-clause-trail g c)
+
+pub invariant_of-self : goal.invariant_of-self
+invariant_of-self g c = (
+  c.self.invariant.0,
+  held-as _ _ c.self.inside.trail.undo _ c.self.inside.items.items _ c.ready.ensures.kept.0 refl (omega arith) c.self.invariant.1,
+  c.self.invariant.2,
+)
+
+pub invariant_of-self-in_err-copy : goal.invariant_of-self-in_err-copy
+invariant_of-self-in_err-copy g c = (
+  c.self.invariant.0,
+  held-as _ _ c.self.inside.trail.undo _ c.self.inside.items.items _ c.ready.ensures.kept.0 refl (omega arith) c.self.invariant.1,
+  c.self.invariant.2,
+)
+
+pub returns-in_err-ready-clause-stood : goal.returns-in_err-ready-clause-stood
+unfolding choices_stood
+returns-in_err-ready-clause-stood g c = stood-kept choices_back c.self.inside.items.items c.self.inside.items.items c.self.inside.trail c.ready.new.self refl c.ready.ensures.kept ∙ ap choices_stood c.self.view_is
+
+pub returns-in_err-ready-clause-spare : goal.returns-in_err-ready-clause-spare
+unfolding choices_spare
+returns-in_err-ready-clause-spare g c = omega (arith, spare-kept c.self.inside.trail c.ready.new.self c.ready.ensures.kept, ap choices_spare c.self.view_is)
+
+pub returns-in_err-copy-clause-stood : goal.returns-in_err-copy-clause-stood
+unfolding choices_stood
+returns-in_err-copy-clause-stood g c = stood-kept choices_back c.self.inside.items.items c.self.inside.items.items c.self.inside.trail c.ready.new.self refl c.ready.ensures.kept ∙ ap choices_stood c.self.view_is
+
+pub returns-in_err-copy-clause-spare : goal.returns-in_err-copy-clause-spare
+unfolding choices_spare
+returns-in_err-copy-clause-spare g c = omega (arith, spare-kept c.self.inside.trail c.ready.new.self c.ready.ensures.kept, ap choices_spare c.self.view_is)

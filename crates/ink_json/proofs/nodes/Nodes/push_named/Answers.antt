@@ -13,11 +13,11 @@ coded c = omega (arith, c.len.ensures, c.self.inside.names.ok.0)
 
 pub invariant_of-self-in_default : goal.invariant_of-self-in_default
 invariant_of-self-in_default c =
-    rw (c.in_default.ensures.items, c.in_ok-push.ensures.items)
-    (named_known c.self.inside.names.items c.in_ok-text.text c.self.inside.list.items _ (coded c) (room c) c.self.invariant.1 c.self.invariant.2)
+    rw (c.in_default.ensures.ok, c.in_ok-push.ensures.items)
+    (named_known c.self.inside.names.items c.args.name.now c.self.inside.list.items _ (coded c) (room c) c.self.invariant.1 c.self.invariant.2)
 
 pub returns : goal.returns
 returns c =
-    (λ i. nodes_kept (c.in_default.ensures.items i) (c.in_ok-push.ensures.items i))
-    ∙ named_pushed c.self.inside.names.items c.in_ok-text.text c.self.inside.list.items _ (coded c) (omega (arith, room c, c.self.invariant.1)) c.self.invariant.2
-    ∙ (λ i. c.self.view_is i ++ record { content = c.args.content; holder = c.args.holder; last = Some (Name (c.in_ok-text.ensures i)) } ∷ [])
+    (λ i. nodes_kept (c.in_default.ensures.ok i) (c.in_ok-push.ensures.items i))
+    ∙ named_pushed c.self.inside.names.items c.args.name.now c.self.inside.list.items _ (coded c) (omega (arith, room c, c.self.invariant.1)) c.self.invariant.2
+    ∙ ap (λ before. before ++ record { content = c.args.content; holder = c.args.holder; last = Some (Name c.args.name.now) } ∷ []) c.self.view_is

@@ -1,6 +1,38 @@
+use Rattle.std.proofs.Common.{◌≡◌, ap, inl, inr, refl, reverse, sym}
+use Rattle.ink_model.specs.declared.fault.Fault.TheVariants.{OutOfMemory}
 use Rattle.ink_out.specs.Undo.{output_back, output_spare, output_stood}
+use Rattle.ink_out.proofs.Closing.{hands_nothing, no_string, none_closed, nothing_open, on_top, string_asks, string_closed, string_refused}
 use Rattle.ink_out.proofs.output.Output.close_string.Goals as goal
 use Rattle.ink_trail.proofs.Undoing.{spare-or-kept, stood-or-kept}
+
+pub returns-in_default-clause-page : goal.returns-in_default-clause-page
+returns-in_default-clause-page c =
+    let turned : reverse c.self.inside.sections.items ≡ c.args.self.now.page.sections = ap (λ w. w.page.sections) c.self.view_is in
+    (inr (none_closed c.args.self.now.page (nothing_open c.self.inside.sections.items c.deref.result.now c.args.self.now.page.sections turned c.deref.ensures.value (sym c.in_default.ensures.value))).0, refl)
+
+pub returns-then-not-is_string-clause-page : goal.returns-then-not-is_string-clause-page
+returns-then-not-is_string-clause-page c =
+    let turned : reverse c.self.inside.sections.items ≡ c.args.self.now.page.sections = ap (λ w. w.page.sections) c.self.view_is in
+    let top = on_top c.self.inside.sections.items c.deref.result.now c.args.self.now.page.sections c.in-Some.opened.now turned c.deref.ensures.value (sym c.in-Some.ensures.value) in
+    (inr (no_string c.args.self.now.page c.in-Some.opened.now top c.if-not-is_string.ensures), refl)
+
+pub returns-in_err-raw_text-clause-page : goal.returns-in_err-raw_text-clause-page
+returns-in_err-raw_text-clause-page c =
+    let turned : reverse c.self.inside.sections.items ≡ c.args.self.now.page.sections = ap (λ w. w.page.sections) c.self.view_is in
+    let top = on_top c.self.inside.sections.items c.deref.result.now c.args.self.now.page.sections c.in-Some.opened.now turned c.deref.ensures.value (sym c.in-Some.ensures.value) in
+    hands_nothing _ c.args.self.now.page OutOfMemory c.from_residual.result c.from_residual.ensures.1 (inl (refl, string_asks c.args.self.now.page c.in-Some.opened.now top c.if-not-is_string.ensures))
+
+pub returns-in_err-text-clause-page : goal.returns-in_err-text-clause-page
+returns-in_err-text-clause-page c =
+    let turned : reverse c.self.inside.sections.items ≡ c.args.self.now.page.sections = ap (λ w. w.page.sections) c.self.view_is in
+    let top = on_top c.self.inside.sections.items c.deref.result.now c.args.self.now.page.sections c.in-Some.opened.now turned c.deref.ensures.value (sym c.in-Some.ensures.value) in
+    hands_nothing _ c.args.self.now.page c.in_err-text.field-0.0 c.from_residual-in_err-text.result c.from_residual-in_err-text.ensures.1 (string_refused c.args.self.now.page c.in-Some.opened.now c.in_ok-raw_text.raw_text c.in_err-text.field-0.0 top c.if-not-is_string.ensures c.in_ok-raw_text.ensures c.in_err-text.ensures)
+
+pub returns-clause-page : goal.returns-clause-page
+returns-clause-page c =
+    let turned : reverse c.self.inside.sections.items ≡ c.args.self.now.page.sections = ap (λ w. w.page.sections) c.self.view_is in
+    let top = on_top c.self.inside.sections.items c.deref.result.now c.args.self.now.page.sections c.in-Some.opened.now turned c.deref.ensures.value (sym c.in-Some.ensures.value) in
+    (string_closed c.args.self.now.page c.close.new.self.page c.in-Some.opened.now c.in_ok-raw_text.raw_text c.in_ok-text.text top c.if-not-is_string.ensures c.in_ok-raw_text.ensures c.in_ok-text.ensures c.in_ok-close.ensures.page.0, tt)
 
 pub returns-in_err-close-clause-stood : goal.returns-in_err-close-clause-stood
 unfolding output_stood

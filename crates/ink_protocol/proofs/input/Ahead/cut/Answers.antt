@@ -1,16 +1,14 @@
 use Rattle.std.proofs.Common.{◌≡◌, ◌-◌, length, take, ap, arith}
 use Rattle.std.proofs.lemmas.List.{take_all}
-use Rattle.ink_protocol.proofs.Reading.{as_slice, count_unread, cuts_all, cuts_newline}
+use Rattle.ink_protocol.proofs.Reading.{as_slice, cuts_all, cuts_newline}
 use Rattle.ink_protocol.proofs.input.Ahead.cut.Goals as goal
 
 pub returns-in-Err-give : goal.returns-in-Err-give
 returns-in-Err-give c =
     let a = c.self.inside in
-    let b = c.give-in-None.inside in
     let same = as_slice a.chunk _ a.at a.end (omega arith) (ap (λ v. v.unread) c.self.view_is) in
-    let all = count_unread b.chunk _ b.at b.end (omega arith) (omega arith) (ap (λ v. v.unread) c.give-in-None.view_is) in
     let end = c.in-Err-give.ensures in
-    (take (b.end - b.at) c.args.self.now.unread, cuts_all _ _ _ (b.end - b.at) same c.in-None.ensures all end.bytes end.count, end.line)
+    (take c.len.result c.args.self.now.unread, cuts_all _ _ _ c.len.result same c.in-None.ensures c.len.ensures end.bytes end.count, end.line)
 
 pub returns-in_default : goal.returns-in_default
 returns-in_default c =
@@ -22,13 +20,11 @@ returns-in_default c =
 pub returns-in_default-give : goal.returns-in_default-give
 returns-in_default-give c =
     let a = c.self.inside in
-    let b = c.give-in-None.inside in
     let same = as_slice a.chunk _ a.at a.end (omega arith) (ap (λ v. v.unread) c.self.view_is) in
-    let all = count_unread b.chunk _ b.at b.end (omega arith) (omega arith) (ap (λ v. v.unread) c.give-in-None.view_is) in
     let end = c.in_default-give.ensures in
-    let whole : take (b.end - b.at) c.args.self.now.unread ≡ c.args.self.now.unread = take_all _ _ (omega (arith, all)) in (
-      take (b.end - b.at) c.args.self.now.unread,
-      cuts_all _ _ _ (b.end - b.at) same c.in-None.ensures all end.bytes end.count,
+    let whole : take c.len.result c.args.self.now.unread ≡ c.args.self.now.unread = take_all _ _ (omega (arith, c.len.ensures)) in (
+      take c.len.result c.args.self.now.unread,
+      cuts_all _ _ _ c.len.result same c.in-None.ensures c.len.ensures end.bytes end.count,
       omega (arith, ap length whole, c.requires.some),
       end.line,
     )
