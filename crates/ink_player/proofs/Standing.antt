@@ -71,9 +71,6 @@ does_as s h extent.Line es old reply new goes = goes
 does_as s h extent.Stop es old reply new goes = goes
 
 -- a machine stands in a story as in one that is the same
-pub stands-as : (s t : StoryTree) (m : Machine) → s ≡ t → ConditionFits s (Ready (config_of s m)) → ConditionFits t (Ready (config_of t m))
-stands-as s t m e h = subst (λ u. ConditionFits u (Ready (config_of u m))) e h
-
 pub game-as : (s t : StoryTree) (m : Machine) → s ≡ t → rules.Stands s (game_of s m) → rules.Stands t (game_of t m)
 game-as s t m e h = subst (λ u. rules.Stands u (game_of u m)) e h
 

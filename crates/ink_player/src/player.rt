@@ -33,7 +33,7 @@ ghost use Rattle.serde_json.specs.Written.{compact_text};
 use crate::passages::{Extent, run_to};
 use crate::path::landing_by;
 use crate::saving::{loaded, saved, saved_text, story_fits};
-use crate::telling::{tell, tell_between, tell_one};
+use crate::telling::{tell_between, tell_changed, tell_one};
 use crate::visits::visits_by;
 use ink_check::Story;
 use ink_host::{Bound, Desk, PureFn, TurnFn, Watcher};
@@ -182,10 +182,7 @@ impl<P: PureFn, F: TurnFn, O: Watcher> Player<P, F, O> {
             Ok(passage) => passage,
             Err(fault) => return Err(break_by(&mut self.desk, &mut self.broken, fault)),
         };
-        let Ok(changes) = self.machine.told(&self.desk) else {
-            return Err(break_by(&mut self.desk, &mut self.broken, Fault::OutOfMemory));
-        };
-        match tell(&mut self.desk, changes.as_slice()) {
+        match tell_changed(&mut self.desk, &self.machine) {
             Ok(all) => end_run(&mut self.desk, &mut self.broken, passage, all),
             Err(AllocError) => Err(break_by(&mut self.desk, &mut self.broken, Fault::OutOfMemory)),
         }

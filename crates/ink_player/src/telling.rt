@@ -6,7 +6,7 @@ ghost use Rattle.ink_host.specs.Telling.{rests};
 ghost use Rattle.ink_model.specs.Told as rules;
 ghost use Rattle.ink_model.specs.Told.{change_of, told};
 ghost use Rattle.ink_player.specs.Words.{TellsWatchers};
-ghost use Rattle.ink_step.specs.Words.{globals_of};
+ghost use Rattle.ink_step.specs.Words.{globals_of, start_of};
 
 use ink_host::{Change, Desk, PureFn, TellFault, TurnFn, Watcher};
 use ink_model::{Seq, Text, Value};
@@ -60,6 +60,19 @@ pub(crate) fn tell_between<P: PureFn, F: TurnFn, O: Watcher>(
     ensures rest { Resting (rests O.state) desk.old.watchers → Resting (rests O.state) desk.new.watchers }
 {
     let changes = told_between(alloc, old.globals(), new.globals(), desk)?;
+    tell(desk, changes.as_slice())
+}
+
+/// Tells the watchers, as `tell` does, of the globals that have another value than when the last running command began, or were not
+/// there then.
+pub(crate) fn tell_changed<P: PureFn, F: TurnFn, O: Watcher>(
+    desk: &mut Desk<P, F, O>,
+    machine: &Machine,
+) -> Result<bool, AllocError>
+    ensures tells { let cs = told (watches desk.old.watchers) (start_of machine.now) (globals_of machine.now) in TellsWatchers F.log O.state desk.old cs cs result desk.new }
+    ensures rest { Resting (rests O.state) desk.old.watchers → Resting (rests O.state) desk.new.watchers }
+{
+    let changes = machine.told(desk)?;
     tell(desk, changes.as_slice())
 }
 

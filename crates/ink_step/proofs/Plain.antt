@@ -1,21 +1,25 @@
 -- Effects that store nothing and offer nothing: those of control content, and of calls.
 use Rattle.std.proofs.Common.{◌≡◌, ap, refl, ℕ, ℤ, List, Bool, true, false, if◌then◌else◌, Option, Some, None, OnOk, Result, Ok, Err, reverse}
+use Rattle.ink_model.specs.Acceptance.{leads}
 use Rattle.ink_model.specs.Configuration.{ChoiceOf}
 use Rattle.ink_model.specs.Effect.{Context, Fields, Effect, Stores, Offers, or_else, or_fault, pushing, writing, writing_text}
 use Rattle.ink_model.specs.Frames.{ThreadsOf, map_threads, mode_in, on_top}
 use Rattle.ink_model.specs.Output.{closes_string, opens, writes_tag}
 use Rattle.ink_model.specs.Page.{Page, tag_section}
 use Rattle.ink_model.specs.Path.{above}
-use Rattle.ink_model.specs.Stack.{popped, pushed}
-use Rattle.ink_model.specs.Step.{control_effect}
+use Rattle.ink_model.specs.Stack.{applied, popped, pushed}
+use Rattle.ink_model.specs.Step.{control_effect, leaf_effect}
 use Rattle.ink_model.specs.Step.Calls.{led_back}
 use Rattle.ink_model.specs.Step.Counts.{asking, pushing_count, turns_there, visits_there}
-use Rattle.ink_model.specs.Step.Diverts.{landing_by}
-use Rattle.ink_model.specs.Step.Evaluation.{output_popped}
+use Rattle.ink_model.specs.Step.Diverts.{condition, landing_by, led_to, where_true}
+use Rattle.ink_model.specs.Step.Evaluation.{output_popped, push_value}
 use Rattle.ink_model.specs.Step.Text.{closed_tag, in_tag, keeps_tag, write_tag}
 use Rattle.ink_model.specs.Tree.{StoryTree}
+use Rattle.ink_model.specs.Variables.{read}
 use Rattle.ink_model.specs.declared.content.Control.{Control}
 use Rattle.ink_model.specs.declared.content.Control.TheVariants as control
+use Rattle.ink_model.specs.declared.content.Leaf.{Leaf}
+use Rattle.ink_model.specs.declared.content.Leaf.TheVariants as leaves
 use Rattle.ink_model.specs.declared.fault.Fault.{Fault}
 use Rattle.ink_model.specs.declared.place.Part.{Part}
 use Rattle.ink_model.specs.declared.value.Value.{Value}
@@ -99,6 +103,46 @@ control_plain s p seen o f = tt
 pub tag_plain : (t : List ℕ) (f : Fields) → IsPlain (write_tag t f)
 tag_plain t f = plain_or (if in_tag f.page.sections then closed_tag f.stack f.page else Ok (f.stack, f.page)) _
     (λ r. plain_or (keeps_tag r.0 (writes_tag t r.1)) _ (λ q. tt))
+
+-- ---- content that neither stores nor offers
+
+abbrev pub IsPlainLeaf : Leaf → Type 0
+IsPlainLeaf (leaves.Declare name) = ⊥
+IsPlainLeaf (leaves.DeclareTemp name) = ⊥
+IsPlainLeaf (leaves.Assign name) = ⊥
+IsPlainLeaf (leaves.AssignTemp name) = ⊥
+IsPlainLeaf (leaves.Choice text flags) = ⊥
+IsPlainLeaf l = Unit {0}
+
+value_plain : (v : Value) (f : Fields) → IsPlain (push_value v f)
+value_plain v f = plain_if f.evaluating _ _ (push_plain v f) tt
+
+where_plain : (conditional : Bool) (f : Fields) (so : Fields → Effect) → ((g : Fields) → IsPlain (so g)) → IsPlain (where_true conditional f so)
+where_plain conditional f so plain = plain_or (condition conditional f) _ (λ r. plain_if r.0 (so r.1) _ (plain r.1) tt)
+
+pub leaf_plain : (s : StoryTree) (p : List Part) (seen : Context) (l : Leaf) (f : Fields) → IsPlainLeaf l → IsPlain (leaf_effect s p seen l f)
+leaf_plain s p seen (leaves.Text t) f h = plain_if f.evaluating _ _ (push_plain (value.Text t) f) (text_plain _ _ f)
+leaf_plain s p seen leaves.Newline f h = plain_if f.evaluating _ _ (push_plain _ f) (write_plain _ f)
+leaf_plain s p seen leaves.Glue f h = plain_if f.evaluating _ _ tt (write_plain _ f)
+leaf_plain s p seen (leaves.Tag t) f h = tag_plain t f
+leaf_plain s p seen (leaves.Int z) f h = value_plain (value.Int z) f
+leaf_plain s p seen (leaves.Bool truth) f h = value_plain (value.Bool truth) f
+leaf_plain s p seen leaves.Void f h = value_plain value.Void f
+leaf_plain s p seen (leaves.Target text) f h = value_plain _ f
+leaf_plain s p seen (leaves.Control o) f h = control_plain s p seen o f
+leaf_plain s p seen (leaves.Op o) f h = plain_or (applied o f.stack) _ (λ vs. tt)
+leaf_plain s p seen (leaves.Divert to conditional) f h = where_plain conditional f _ (λ g. plain_or (led_to s p seen to g.globals) _ (λ l. tt))
+leaf_plain s p seen (leaves.Declare name) f h = absurd h
+leaf_plain s p seen (leaves.Assign name) f h = absurd h
+leaf_plain s p seen (leaves.Variable name) f h = plain_or (read f.globals seen.thread name) _ (λ v. push_plain v f)
+leaf_plain s p seen (leaves.Pointer name frame) f h = value_plain _ f
+leaf_plain s p seen (leaves.Call to conditional) f h = where_plain conditional f _ (λ g. plain_or (led_to s p seen to g.globals) _ (λ l. tt))
+leaf_plain s p seen (leaves.Tunnel to conditional) f h = where_plain conditional f _ (λ g. plain_or (led_to s p seen to g.globals) _ (λ l. tt))
+leaf_plain s p seen (leaves.External name arguments conditional) f h = tt
+leaf_plain s p seen (leaves.DeclareTemp name) f h = absurd h
+leaf_plain s p seen (leaves.AssignTemp name) f h = absurd h
+leaf_plain s p seen (leaves.Count text) f h = plain_else _ (leads s p text) _ (λ q. count_plain s seen _ f)
+leaf_plain s p seen (leaves.Choice text flags) f h = absurd h
 
 -- what holds whatever a call returns
 pub when_ok : {A : Type 0} (r : Result A Fault) (B : Type 0) → B → OnOk r B

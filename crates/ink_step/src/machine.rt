@@ -14,6 +14,7 @@ use ink_out::Output;
 use ink_trail::Trail;
 use ink_vars::{Counts, Globals, Turn};
 use std::alloc::Global;
+use std::mem;
 
 /// What all flows of a story share.
 #[derive(Drop)]
@@ -25,7 +26,6 @@ pub struct Shared {
 
 /// What changes while a story runs: a configuration, which has the current flow; the flows that stand aside; what the globals were
 /// when the last running command began; and while a mark stands the trail of what all was.
-#[derive(Drop)]
 pub struct Machine {
     pub(crate) flow: Flow,
     pub(crate) aside: Aside,
@@ -33,6 +33,20 @@ pub struct Machine {
     pub(crate) output: Output,
     pub(crate) trail: Trail<OwnPair>,
     pub(crate) alloc: Global,
+}
+
+/// Written out, so that wherever a machine is let go that is one call, and a proof there does not go through its fields.
+impl Drop for Machine {
+    fn drop(self) {
+        let Machine {
+            flow: _,
+            aside: _,
+            shared: _,
+            output: _,
+            trail: _,
+            alloc: _,
+        } = self;
+    }
 }
 
 impl Machine {
@@ -50,6 +64,13 @@ impl Machine {
         ensures { result.now.rows ≡ globals_of self.now }
     {
         &self.shared.globals
+    }
+
+    /// The globals, without the machine. Takes no memory.
+    pub(crate) fn into_globals(mut self) -> Globals
+        ensures { result.rows ≡ globals_of self }
+    {
+        mem::replace(&mut self.shared.globals, Globals::new(self.alloc))
     }
 
     /// Gives a global that is there a value, without memory. Where there is none nothing has changed, and the value is handed

@@ -47,8 +47,7 @@ impl Machine {
         };
         let mut machine = Machine::fresh(alloc, place, Globals::new(alloc));
         let outcome = machine.run_alone(alloc, story);
-        let Machine { shared, .. } = machine;
-        let Shared { globals, .. } = shared;
+        let globals = machine.into_globals();
         match outcome {
             Ok(()) => Ok(Machine::at_start(alloc, story, globals)),
             Err(fault) => Err(Unopened { fault, globals }),

@@ -1,6 +1,6 @@
 //! What watchers are to be told of globals (docs/HOST.md, "Telling").
 
-ghost use Rattle.std.specs.Prelude.{◌≡◌, ◌≢◌, [], IfOk, OnErr, option_map};
+ghost use Rattle.std.specs.Prelude.{◌≡◌, ◌≢◌, ◌++◌, ◌∷◌, [], IfOk, OnErr, OnOk, option_map};
 ghost use Rattle.ink_host.specs.Desk.{watches};
 ghost use Rattle.ink_model.specs.Told.{is_other, told};
 
@@ -27,14 +27,14 @@ impl Machine {
         if !desk.has_watchers() {
             return Ok(Seq::new(self.alloc));
         }
-        let mut told = Vec::new(self.alloc);
         let numbers = self
             .shared
             .globals
             .changed(self.alloc, |name| desk.watches(name))?;
+        let mut told = Vec::new(self.alloc);
         for number in &numbers {
             if let Some((name, value)) = self.shared.globals.pair(*number) {
-                told.push(change(self.alloc, name, value)?)?;
+                add_change(self.alloc, &mut told, name, value)?;
             }
         }
         Ok(Seq::from_vec(told))
@@ -56,7 +56,7 @@ pub fn told_between<P: PureFn, T: TurnFn, W: Watcher>(
     for number in 0..new.len() {
         if let Some((name, value)) = new.pair(number) {
             if desk.watches(name) && is_other(old.get(name), value) {
-                told.push(change(alloc, name, value)?)?;
+                add_change(alloc, &mut told, name, value)?;
             }
         }
     }
@@ -73,12 +73,18 @@ fn is_other(was: Option<&Value>, value: &Value) -> bool
     }
 }
 
-/// A change, with copies of name and value. The one error is a refused request for memory.
-fn change(alloc: Global, name: &str, value: &Value) -> Result<Change, AllocError>
-    ensures { IfOk result (λ change. change ≡ record { name = name.now; value = value.now }) }
+/// Adds a change, with copies of name and value. The one error is a refused request for memory.
+fn add_change(
+    alloc: Global,
+    told: &mut Vec<Change>,
+    name: &str,
+    value: &Value,
+) -> Result<(), AllocError>
+    ensures { OnOk result (told.new.items ≡ told.old.items ++ record { name = name.now; value = value.now } ∷ []) }
 {
-    Ok(Change {
+    told.push(Change {
         name: Text::from_str(alloc, name)?,
         value: value.clone_in(alloc)?,
-    })
+    })?;
+    Ok(())
 }

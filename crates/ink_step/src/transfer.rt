@@ -24,7 +24,6 @@ pub(crate) struct Assignment<'a> {
 
 /// Where flow goes once a content has been performed. A global that the content stores is stored last, after flow has
 /// moved and may have followed a choice: a fault on the way leaves the globals as they were.
-#[derive(Drop)]
 pub(crate) enum Transfer<'a> {
     /// On, after the content.
     Next,
@@ -44,6 +43,22 @@ pub(crate) enum Transfer<'a> {
     Done,
     /// To a safe stop, and nothing is left of where it was.
     End,
+}
+
+/// Written out, so that wherever one is let go, or another takes its place, that is one call, and a proof there does not go
+/// through the values that may be stored.
+impl Drop for Transfer<'_> {
+    #[inline(always)]
+    fn drop(self) {
+        match self {
+            Transfer::Next | Transfer::Wrote => {}
+            Transfer::Store(_) => {}
+            Transfer::Land(_) => {}
+            Transfer::Call(_, _) => {}
+            Transfer::Return(_, _) => {}
+            Transfer::Fork | Transfer::Done | Transfer::End => {}
+        }
+    }
 }
 
 /// Flow goes on after a content that was performed without a fault.

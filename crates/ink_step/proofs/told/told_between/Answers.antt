@@ -4,7 +4,7 @@ use Rattle.ink_model.specs.Store.{stored}
 use Rattle.ink_model.specs.Told.{change_of, is_other, told}
 use Rattle.ink_vars.proofs.Noting.{on_error}
 use Rattle.ink_step.proofs.Telling.{told_past, told_same, told_some, told_there, told_unwatched}
-use Rattle.ink_step.proofs.told.told_between.Goals.{in-Some+then-watches+then-is_other+in_ok-change+in_ok-push, in-Some+else-watches, else-watches-via-then-watches+else-is_other, else-watches-via-else-watches, in_default}
+use Rattle.ink_step.proofs.told.told_between.Goals.{in-Some+then-watches+then-is_other+in_ok-add_change, in-Some+else-watches, else-watches-via-then-watches+else-is_other, else-watches-via-else-watches, in_default}
 use Rattle.ink_step.proofs.told.told_between.Given as given
 use Rattle.ink_step.proofs.told.told_between.Goals as goal
 use Rattle.ink_step.proofs.told.told_between.Goals.{Then-is_other}
@@ -17,11 +17,8 @@ is_there g c =
     told_some (watches c.args.desk.now.watchers) c.args.old.now.rows c.args.new.now.rows c.loop-number.number (c.in-Some.name.now, c.in-Some.value.now)
     (sym c.in-Some.ensures) (sym c.watches.ensures ∙ c.if-watches.true) other
 
-pub returns-in_err-change-clause-memory : goal.returns-in_err-change-clause-memory
-returns-in_err-change-clause-memory g c = on_error c.from_residual.result (is_there g (goal.at.returns-in_err-change-clause-memory g c).Then-is_other)
-
-pub returns-in_err-push-clause-memory : goal.returns-in_err-push-clause-memory
-returns-in_err-push-clause-memory g c = on_error c.from_residual-in_err-push.result (is_there g (goal.at.returns-in_err-push-clause-memory g c).Then-is_other)
+pub returns-in_err-add_change-clause-memory : goal.returns-in_err-add_change-clause-memory
+returns-in_err-add_change-clause-memory g c = on_error c.from_residual.result (is_there g (goal.at.returns-in_err-add_change-clause-memory g c).Then-is_other)
 
 pub loop-number-preserved : goal.loop-number-preserved
 loop-number-preserved g c =
@@ -30,11 +27,11 @@ loop-number-preserved g c =
     let new = c.args.new.now.rows in
     let i = c.loop-number.number in
     elim c.match-pair.branch [
-      | in-Some+then-watches+then-is_other+in_ok-change+in_ok-push w ↦
+      | in-Some+then-watches+then-is_other+in_ok-add_change w ↦
           let name = w.in-Some.name.now in
           let value = w.in-Some.value.now in
           let other : is_other (stored name old) value ≡ true = ap (λ o. is_other o value) (sym w.get.ensures) ∙ sym w.is_other.ensures ∙ w.if-is_other.true in
-          ap (λ v. v.items) w.told-is ∙ w.in_ok-push.ensures.items ∙ ap (λ x. c.loop-number.told.items ++ x ∷ []) w.in_ok-change.ensures
+          ap (λ v. v.items) w.told-is ∙ w.in_ok-add_change.ensures
           ∙ ap (λ cs. cs ++ change_of (name, value) ∷ []) c.loop-number.invariant
           ∙ sym (told_there watched old new i (name, value) (sym w.in-Some.ensures) (sym w.watches.ensures ∙ w.if-watches.true) other)
       | in-Some+else-watches w ↦

@@ -1,11 +1,12 @@
-use Rattle.std.proofs.Common.{None, ap, refl, sym}
+use Rattle.std.proofs.Common.{None, ap, refl, subst, sym}
+use Rattle.ink_host.specs.Desk.{DeskView}
 use Rattle.ink_model.specs.Answer.{reply_of_events}
 use Rattle.ink_check.specs.Words.{story_tree}
-use Rattle.ink_player.specs.Words.{PlayerView, aside_seen, is_empty, condition_by, desk_of, story_of}
+use Rattle.ink_player.specs.Words.{PlayerView, Stands, aside_seen, is_empty, condition_by, desk_of, story_of}
 use Rattle.ink_step.specs.Words.{config_of}
 use Rattle.ink_player.proofs.Anew.{begun-anew}
 use Rattle.ink_player.proofs.Tellings.{tells-kept}
-use Rattle.ink_player.proofs.Standing.{stands-as, stands-told}
+use Rattle.ink_player.proofs.Standing.{game-as, stands-told}
 use Rattle.ink_player.proofs.player.Player.begin_anew.Goals as goal
 
 pub returns-in_default-clause-does : goal.returns-in_default-clause-does
@@ -20,9 +21,13 @@ returns-clause-does g c =
     rw (sym c.self.view_is) (begun-anew g.F.TurnFn.log g.O.Watcher.state p c.args.machine c.tell_between.new.desk c.end_telling.new.desk c.end_telling.new.broken c.in-Ok.all
     (reply_of_events c.end_telling.result) c.self.invariant.taken c.in-Ok.ensures.tells c.end_telling.ensures.reply c.end_telling.ensures.broken c.end_telling.ensures.desk)
 
+pub invariant_of-self : goal.invariant_of-self
+invariant_of-self g c =
+    subst (λ (d : DeskView g.row.P.Denot g.row.F.Denot g.row.O.Denot). Stands (story_tree c.self.inside.story) d.events c.self.inside.broken c.self.inside.machine) (sym c.in_default.ensures.tells.1) c.self.invariant
+
 pub invariant_of-self-2 : goal.invariant_of-self-2
 invariant_of-self-2 g c =
     let s = story_tree c.self.inside.story in
+    let fits = game-as (story_of c.args.self.now) s c.args.machine (ap (λ q. story_of q) (sym c.self.view_is)) c.requires.fits in
     stands-told s c.self.invariant.story c.args.machine c.end_telling.new.desk.events c.in-Ok.all c.end_telling.new.broken None (ap (λ d. is_empty d.events) c.end_telling.ensures.desk) refl c.end_telling.ensures.broken c.requires.unmarked
-    (stands-as (story_of c.args.self.now) s c.args.machine (ap (λ q. story_of q) (sym c.self.view_is)) (c.requires.fits.sound, c.requires.fits.rests))
-    (rw (ap (λ q. story_of q) c.self.view_is) c.requires.fits.aside)
+    (fits.sound, fits.rests) fits.aside

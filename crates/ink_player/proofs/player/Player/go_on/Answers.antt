@@ -1,12 +1,11 @@
-use Rattle.std.proofs.Common.{◌≢◌, ◌∙◌, [], List, false, ap, filter, refl, subst, sym, Ok}
+use Rattle.std.proofs.Common.{◌≢◌, ◌∙◌, [], false, ap, subst, sym, refl, Ok}
 use Rattle.ink_host.specs.Desk.{Rows, bound_by, watches}
 use Rattle.ink_model.specs.Answer.{reply_of, reply_of_halt}
 use Rattle.ink_model.specs.Store.{Values}
 use Rattle.ink_model.specs.Told.{told}
-use Rattle.ink_model.specs.declared.host.Change.{Change}
-use Rattle.ink_player.specs.Words.{PlayerView, desk_of, is_empty, state_of, story_of}
+use Rattle.ink_player.specs.Words.{PlayerView, TellsWatchers, desk_of, is_empty, state_of, story_of}
 use Rattle.ink_step.specs.Words.{config_of, globals_of}
-use Rattle.ink_player.proofs.Tellings.{broken-as, goes-broken, goes-fault, goes-told, goes-untold, goes-where, none-left, once-none, stops, tells-all, told-state, told-watched, with_parts}
+use Rattle.ink_player.proofs.Tellings.{broken-as, goes-broken, goes-fault, goes-told, goes-untold, goes-where, none-left, once-none, stops, told-state, with_parts}
 use Rattle.ink_player.proofs.Standing.{aside-stays, free-stands, run-stands, stands-told}
 use Rattle.ink_player.proofs.player.Player.go_on.Goals as goal
 
@@ -22,8 +21,24 @@ returns-then-not-can_go_on-clause-does g c =
     let stopped = sym (c.can_go_on.ensures s) ∙ c.if-not-can_go_on.true in
     rw (sym c.self.view_is) ([], goes-where s _ p.broken _ _ _ c.args.extent [] _ _ false c.in_default.is stopped (refl, (refl, refl)), once-none g.F.TurnFn.log g.O.Watcher.state _ (desk_of p))
 
-pub returns-in_default-told-clause-does : goal.returns-in_default-told-clause-does
-returns-in_default-told-clause-does g c =
+pub returns-in-Ok-tell_changed-clause-does : goal.returns-in-Ok-tell_changed-clause-does
+returns-in-Ok-tell_changed-clause-does g c =
+    let p : PlayerView g.row.P.Denot g.row.F.Denot g.row.O.Denot = record { story = c.self.inside.story; desk = c.self.inside.desk; machine = c.self.inside.machine; broken = c.self.inside.broken } in
+    let mid = c.run_to.new.desk in
+    let runs = c.in-Ok.ensures.runs in
+    let q = with_parts p c.run_to.new.machine c.end_run.new.desk c.end_run.new.broken in
+    let after = config_of (story_of p) c.run_to.new.machine in
+    let now = globals_of c.run_to.new.machine in
+    let tells = subst (λ (vs : Values). let cs = told (watches mid.watchers) vs now in TellsWatchers {E = Unit {0}} g.F.TurnFn.log g.O.Watcher.state mid cs cs (Ok c.in-Ok-tell_changed.all) c.tell_changed.new.desk)
+    c.in-Ok.ensures.start c.in-Ok-tell_changed.ensures.tells in
+    let leaves = told-state p c.run_to.new.machine c.end_run.new.desk c.tell_changed.new.desk c.end_run.new.broken p.broken c.in-Ok-tell_changed.all after c.in_default.is
+    c.end_run.ensures.broken c.end_run.ensures.desk refl in
+    rw (sym c.self.view_is) (goes-told g.F.TurnFn.log g.O.Watcher.state c.args.extent g.P.PureFn.meaning p c.run_to.new.machine mid runs.0 c.in_default.is (none-left p.desk.events c.self.invariant.taken)
+    (sym (c.can_go_on.ensures (story_of p)) ∙ c.if-not-can_go_on.false) c.in-Ok.ensures.aside runs.1 c.in-Ok.ensures.watchers c.in-Ok.passage c.in-Ok-tell_changed.all c.tell_changed.new.desk (desk_of q) (reply_of c.end_run.result) (state_of q)
+    runs.2 tells c.end_run.ensures.reply leaves c.end_run.ensures.desk)
+
+pub returns-in-Err-tell_changed-clause-does : goal.returns-in-Err-tell_changed-clause-does
+returns-in-Err-tell_changed-clause-does g c =
     let p : PlayerView g.row.P.Denot g.row.F.Denot g.row.O.Denot = record { story = c.self.inside.story; desk = c.self.inside.desk; machine = c.self.inside.machine; broken = c.self.inside.broken } in
     let mid = c.run_to.new.desk in
     let runs = c.in-Ok.ensures.runs in
@@ -31,44 +46,12 @@ returns-in_default-told-clause-does g c =
     let now = globals_of c.run_to.new.machine in
     let some : told (watches p.desk.watchers) start now ≢ [] =
     subst (λ (ws : Rows _). told (watches ws) start now ≢ []) c.in-Ok.ensures.watchers
-    (subst (λ (vs : Values). told (watches mid.watchers) vs now ≢ []) c.in-Ok.ensures.start c.in_default-told.ensures.memory) in
-    let broken = c.break_by-in_default-told in
+    (subst (λ (vs : Values). told (watches mid.watchers) vs now ≢ []) c.in-Ok.ensures.start c.in-Err-tell_changed.ensures.tells.0) in
+    let broken = c.break_by-in-Err-tell_changed in
     let q = with_parts p c.run_to.new.machine broken.new.desk broken.new.broken in
     rw (sym c.self.view_is) (goes-untold g.F.TurnFn.log g.O.Watcher.state c.args.extent g.P.PureFn.meaning p c.run_to.new.machine mid runs.0 c.in_default.is (none-left p.desk.events c.self.invariant.taken)
-    (sym (c.can_go_on.ensures (story_of p)) ∙ c.if-not-can_go_on.false) c.in-Ok.ensures.aside runs.1 c.in-Ok.ensures.watchers c.in-Ok.passage q mid (reply_of_halt broken.result)
-    runs.2 some refl broken.ensures.reply (broken-as p c.run_to.new.machine broken.new.desk mid broken.new.broken _ broken.ensures.desk broken.ensures.broken))
-
-pub returns-in-Ok-tell-clause-does : goal.returns-in-Ok-tell-clause-does
-returns-in-Ok-tell-clause-does g c =
-    let p : PlayerView g.row.P.Denot g.row.F.Denot g.row.O.Denot = record { story = c.self.inside.story; desk = c.self.inside.desk; machine = c.self.inside.machine; broken = c.self.inside.broken } in
-    let mid = c.run_to.new.desk in
-    let runs = c.in-Ok.ensures.runs in
-    let q = with_parts p c.run_to.new.machine c.end_run.new.desk c.end_run.new.broken in
-    let after = config_of (story_of p) c.run_to.new.machine in
-    let tells = tells-all g.F.TurnFn.log g.O.Watcher.state {E = Unit {0}} (Ok c.in-Ok-tell.all) mid c.tell.new.desk (globals_of p.machine) (globals_of c.run_to.new.machine) _
-    (c.as_slice.ensures ∙ c.in-Ok-told.ensures.told ∙ ap (λ vs. told (watches mid.watchers) vs (globals_of c.run_to.new.machine)) c.in-Ok.ensures.start) c.in-Ok-tell.ensures.tells in
-    let leaves = told-state p c.run_to.new.machine c.end_run.new.desk c.tell.new.desk c.end_run.new.broken p.broken c.in-Ok-tell.all after c.in_default.is
-    c.end_run.ensures.broken c.end_run.ensures.desk refl in
-    rw (sym c.self.view_is) (goes-told g.F.TurnFn.log g.O.Watcher.state c.args.extent g.P.PureFn.meaning p c.run_to.new.machine mid runs.0 c.in_default.is (none-left p.desk.events c.self.invariant.taken)
-    (sym (c.can_go_on.ensures (story_of p)) ∙ c.if-not-can_go_on.false) c.in-Ok.ensures.aside runs.1 c.in-Ok.ensures.watchers c.in-Ok.passage c.in-Ok-tell.all c.tell.new.desk (desk_of q) (reply_of c.end_run.result) (state_of q)
-    runs.2 tells c.end_run.ensures.reply leaves c.end_run.ensures.desk)
-
-pub returns-in-Err-tell-clause-does : goal.returns-in-Err-tell-clause-does
-returns-in-Err-tell-clause-does g c =
-    let p : PlayerView g.row.P.Denot g.row.F.Denot g.row.O.Denot = record { story = c.self.inside.story; desk = c.self.inside.desk; machine = c.self.inside.machine; broken = c.self.inside.broken } in
-    let mid = c.run_to.new.desk in
-    let runs = c.in-Ok.ensures.runs in
-    let start = globals_of p.machine in
-    let now = globals_of c.run_to.new.machine in
-    let w = watches mid.watchers in
-    let all = ap (λ (cs : List Change). filter (λ x. w x.name) cs) (c.as_slice.ensures ∙ c.in-Ok-told.ensures.told ∙ ap (λ vs. told w vs now) c.in-Ok.ensures.start) ∙ told-watched w start now in
-    let some : told (watches p.desk.watchers) start now ≢ [] =
-    subst (λ (ws : Rows _). told (watches ws) start now ≢ []) c.in-Ok.ensures.watchers (λ none. c.in-Err-tell.ensures.tells.0 (all ∙ none)) in
-    let broken = c.break_by-in-Err-tell in
-    let q = with_parts p c.run_to.new.machine broken.new.desk broken.new.broken in
-    rw (sym c.self.view_is) (goes-untold g.F.TurnFn.log g.O.Watcher.state c.args.extent g.P.PureFn.meaning p c.run_to.new.machine mid runs.0 c.in_default.is (none-left p.desk.events c.self.invariant.taken)
-    (sym (c.can_go_on.ensures (story_of p)) ∙ c.if-not-can_go_on.false) c.in-Ok.ensures.aside runs.1 c.in-Ok.ensures.watchers c.in-Ok.passage q c.tell.new.desk (reply_of_halt broken.result)
-    runs.2 some c.in-Err-tell.ensures.tells.1 broken.ensures.reply (broken-as p c.run_to.new.machine broken.new.desk c.tell.new.desk broken.new.broken _ broken.ensures.desk broken.ensures.broken))
+    (sym (c.can_go_on.ensures (story_of p)) ∙ c.if-not-can_go_on.false) c.in-Ok.ensures.aside runs.1 c.in-Ok.ensures.watchers c.in-Ok.passage q c.tell_changed.new.desk (reply_of_halt broken.result)
+    runs.2 some c.in-Err-tell_changed.ensures.tells.1 broken.ensures.reply (broken-as p c.run_to.new.machine broken.new.desk c.tell_changed.new.desk broken.new.broken _ broken.ensures.desk broken.ensures.broken))
 
 pub returns-in-Err-clause-does : goal.returns-in-Err-clause-does
 returns-in-Err-clause-does g c =
@@ -80,8 +63,8 @@ returns-in-Err-clause-does g c =
     (sym (c.can_go_on.ensures (story_of p)) ∙ c.if-not-can_go_on.false) c.in-Err.ensures.aside runs.1 c.in-Err.ensures.watchers c.in-Err.fault q (reply_of_halt c.break_by.result)
     runs.2 c.break_by.ensures.reply (broken-as p c.run_to.new.machine c.break_by.new.desk mid c.break_by.new.broken _ c.break_by.ensures.desk c.break_by.ensures.broken))
 
-pub invariant_of-self-in-Ok-tell : goal.invariant_of-self-in-Ok-tell
-invariant_of-self-in-Ok-tell g c =
+pub invariant_of-self-in-Ok-tell_changed : goal.invariant_of-self-in-Ok-tell_changed
+invariant_of-self-in-Ok-tell_changed g c =
     let p : PlayerView g.row.P.Denot g.row.F.Denot g.row.O.Denot = record { story = c.self.inside.story; desk = c.self.inside.desk; machine = c.self.inside.machine; broken = c.self.inside.broken } in
     let s = story_of p in
     let kept = c.self.invariant in
@@ -90,6 +73,6 @@ invariant_of-self-in-Ok-tell g c =
     let before = config_of s p.machine in
     let stopped = stops g.F.TurnFn.log g.O.Watcher.state c.args.extent g.P.PureFn.meaning p c.run_to.new.machine c.run_to.new.desk runs.0 c.in_default.is (none-left p.desk.events kept.taken) goes c.in-Ok.ensures.aside runs.1 c.in-Ok.ensures.watchers
     c.in-Ok.passage runs.2 in
-    stands-told s kept.story c.run_to.new.machine c.end_run.new.desk.events c.in-Ok-tell.all c.end_run.new.broken p.broken (ap (λ d. is_empty d.events) c.end_run.ensures.desk) c.in_default.is c.end_run.ensures.broken c.in-Ok.ensures.mark
+    stands-told s kept.story c.run_to.new.machine c.end_run.new.desk.events c.in-Ok-tell_changed.all c.end_run.new.broken p.broken (ap (λ d. is_empty d.events) c.end_run.ensures.desk) c.in_default.is c.end_run.ensures.broken c.in-Ok.ensures.mark
     (run-stands s kept.story before (free-stands s kept.story p.broken before c.in_default.is kept.fits) c.args.extent (bound_by g.P.PureFn.meaning p.desk.functions) runs.0 stopped.0 (config_of s c.run_to.new.machine) goes stopped.1 stopped.3)
     (aside-stays s kept.story p.machine c.run_to.new.machine c.in-Ok.ensures.aside kept.aside)

@@ -1,4 +1,5 @@
 use Rattle.std.proofs.Common.{◌≡◌, ◌∙◌, None, ap, inl, refl, subst, sym}
+use Rattle.ink_host.specs.Desk.{DeskView}
 use Rattle.ink_model.specs.Answer.{reply_of_events}
 use Rattle.ink_model.specs.Configuration.{with_globals}
 use Rattle.ink_model.specs.Session.{condition_told}
@@ -7,7 +8,7 @@ use Rattle.ink_model.specs.Store.{store}
 use Rattle.ink_check.specs.Words.{story_tree}
 use Rattle.ink_model.specs.Host.{value_given}
 use Rattle.ink_sound.specs.Kept.{ConditionFits}
-use Rattle.ink_player.specs.Words.{PlayerView, aside_seen, is_empty, condition_by, desk_of, state_of, story_of}
+use Rattle.ink_player.specs.Words.{PlayerView, Stands, aside_seen, is_empty, condition_by, desk_of, state_of, story_of}
 use Rattle.ink_step.specs.Words.{aside_of, config_of}
 use Rattle.ink_player.proofs.Tellings.{at_stamp, none-left, on-ok, tells-kept, told-done, told-state, with_parts}
 use Rattle.ink_player.proofs.Standing.{aside-stays, free-stands, set-stands, stands-told}
@@ -36,6 +37,10 @@ returns-clause-does g c =
     let done = told-done g.F.TurnFn.log g.O.Watcher.state _ (condition_by p.broken before) (Ready after) (aside_seen p) (desk_of p) c.tell_one.new.desk (desk_of q) c.in-Ok.all
     (reply_of_events c.end_telling.result) (state_of q) (none-left p.desk.events c.self.invariant.taken) c.in-Ok.ensures.tells c.end_telling.ensures.reply leaves c.end_telling.ensures.desk _ refl in
     rw (sym c.self.view_is) (done.0, inl done.1, done.2)
+
+pub invariant_of-self : goal.invariant_of-self
+invariant_of-self g c =
+    subst (λ (d : DeskView g.row.P.Denot g.row.F.Denot g.row.O.Denot). Stands (story_tree c.self.inside.story) d.events c.self.inside.broken c.self.inside.machine) (sym c.in_default.ensures.tells.1) c.self.invariant
 
 pub invariant_of-self-2 : goal.invariant_of-self-2
 invariant_of-self-2 g c =

@@ -16,7 +16,7 @@ use Rattle.ink_step.specs.declared.machine.Machine.{Machine}
 use Rattle.ink_step.specs.declared.transfer.Transfer.{Transfer}
 use Rattle.ink_step.proofs.Landings.{leaf_landing}
 use Rattle.ink_step.proofs.Stored.{fields_kept}
-use Rattle.ink_step.proofs.Plain.{control_plain, keeps_plain, offers_plain, tag_plain, when_ok}
+use Rattle.ink_step.proofs.Plain.{IsPlainLeaf, control_plain, keeps_plain, leaf_plain, offers_plain, when_ok}
 use Rattle.ink_step.proofs.machine.Machine.perform_leaf.Goals as goal
 use Rattle.ink_stack.specs.Threads.{ThreadsView}
 use Rattle.ink_tree.specs.Nodes.{place_of}
@@ -47,6 +47,20 @@ module _ (s : StoryTree) (p : List Part) (machine : Machine) where
     keeps : (l k : Leaf) (threads : ThreadsOf Spot) (r : Result A Fault) → l ≡ k → KeptBy k threads r → KeptBy l threads r
     keeps l k threads r is h = subst (λ x. KeptBy x threads r) (sym is) h
 
+    -- content that neither stores nor offers keeps threads and choices
+    kept_plain : (l k : Leaf) (r : Result A Fault) → l ≡ k → IsPlainLeaf k → KeptBy l machine.flow.threads.threads r
+    kept_plain l k r is plain =
+        let c = config_of s machine in
+        let threads = machine.flow.threads.threads in
+        keeps l k threads r is (when_ok r _ (keeps_plain s _ threads threads (leaf_plain s p (context_of c) k (fields_of c) plain) refl))
+
+    offers_none : (l k : Leaf) (r : Result A Fault) → l ≡ k → IsPlainLeaf k → (let c = config_of s machine in let choices = machine.flow.choices.items in OnOk r (KeepsChoices s (leaf_effect s p (context_of c) l (fields_of c)) choices choices))
+    offers_none l k r is plain =
+        let c = config_of s machine in
+        let choices = machine.flow.choices.items in
+        subst (λ x. OnOk r (KeepsChoices s (leaf_effect s p (context_of c) x (fields_of c)) choices choices)) (sym is)
+        (when_ok r _ (offers_plain s _ choices (leaf_plain s p (context_of c) k (fields_of c) plain)))
+
 -- ---- each content
 
 pub divert-requires-clause-path : goal.divert-requires-clause-path
@@ -74,24 +88,6 @@ returns-in-Tag-clause-effect c =
     let machine = c.args.self.now in
     let f = fields_of (config_of s machine) in
     does s (place_of s c.args.here) machine _ _ _ _ _ c.in-Tag.is (ap (leading c.write_tag.result) c.requires.on) (rw c.as_str.ensures at (c.write_tag.ensures.effect f.evaluating f.fresh f.globals s))
-
-pub returns-in-Tag-clause-threads : goal.returns-in-Tag-clause-threads
-returns-in-Tag-clause-threads c =
-    let s = story_tree c.args.story.now in
-    let machine = c.args.self.now in
-    let threads = machine.flow.threads.threads in
-    keeps s (place_of s c.args.here) machine _ _ threads _ c.in-Tag.is
-    (when_ok c.write_tag.result _ (keeps_plain s _ threads threads (tag_plain c.in-Tag.text (fields_of (config_of s machine))) refl))
-
-pub returns-in-Tag-clause-choices : goal.returns-in-Tag-clause-choices
-returns-in-Tag-clause-choices c =
-    let s = story_tree c.args.story.now in
-    let p = place_of s c.args.here in
-    let seen = context_of (config_of s c.args.self.now) in
-    let old = fields_of (config_of s c.args.self.now) in
-    let choices = c.args.self.now.flow.choices.items in
-    subst (λ l. OnOk c.write_tag.result (KeepsChoices s (leaf_effect s p seen l old) choices choices)) (sym c.in-Tag.is)
-    (when_ok c.write_tag.result _ (offers_plain s _ choices (tag_plain c.in-Tag.text old)))
 
 pub returns-in-Divert-clause-effect : goal.returns-in-Divert-clause-effect
 returns-in-Divert-clause-effect c =
@@ -193,3 +189,93 @@ returns-in-Choice-clause-choices c =
     let l = leaves.Choice c.in-Choice.target c.in-Choice.flags in
     subst (λ l. OnOk c.offer.result (KeepsChoices s (leaf_effect s p seen l old) c.args.self.now.flow.choices.items c.offer.new.choices.items)) (sym c.in-Choice.is)
     (c.offer.ensures.choices (rest_of c.args.self.now) old.evaluating old.fresh old.page old.globals)
+
+pub returns-in-Text-clause-threads : goal.returns-in-Text-clause-threads
+returns-in-Text-clause-threads c = kept_plain (story_tree c.args.story.now) (place_of (story_tree c.args.story.now) c.args.here) c.args.self.now _ _ c.after_text.result c.in-Text.is tt
+
+pub returns-in-Text-clause-choices : goal.returns-in-Text-clause-choices
+returns-in-Text-clause-choices c = offers_none (story_tree c.args.story.now) (place_of (story_tree c.args.story.now) c.args.here) c.args.self.now _ _ c.after_text.result c.in-Text.is tt
+
+pub returns-in-Newline-clause-threads : goal.returns-in-Newline-clause-threads
+returns-in-Newline-clause-threads c = kept_plain (story_tree c.args.story.now) (place_of (story_tree c.args.story.now) c.args.here) c.args.self.now _ _ c.write_newline.result c.in-Newline.is tt
+
+pub returns-in-Newline-clause-choices : goal.returns-in-Newline-clause-choices
+returns-in-Newline-clause-choices c = offers_none (story_tree c.args.story.now) (place_of (story_tree c.args.story.now) c.args.here) c.args.self.now _ _ c.write_newline.result c.in-Newline.is tt
+
+pub returns-in-Glue-clause-threads : goal.returns-in-Glue-clause-threads
+returns-in-Glue-clause-threads c = kept_plain (story_tree c.args.story.now) (place_of (story_tree c.args.story.now) c.args.here) c.args.self.now _ _ c.write_glue.result c.in-Glue.is tt
+
+pub returns-in-Glue-clause-choices : goal.returns-in-Glue-clause-choices
+returns-in-Glue-clause-choices c = offers_none (story_tree c.args.story.now) (place_of (story_tree c.args.story.now) c.args.here) c.args.self.now _ _ c.write_glue.result c.in-Glue.is tt
+
+pub returns-in-Tag-clause-threads : goal.returns-in-Tag-clause-threads
+returns-in-Tag-clause-threads c = kept_plain (story_tree c.args.story.now) (place_of (story_tree c.args.story.now) c.args.here) c.args.self.now _ _ c.write_tag.result c.in-Tag.is tt
+
+pub returns-in-Tag-clause-choices : goal.returns-in-Tag-clause-choices
+returns-in-Tag-clause-choices c = offers_none (story_tree c.args.story.now) (place_of (story_tree c.args.story.now) c.args.here) c.args.self.now _ _ c.write_tag.result c.in-Tag.is tt
+
+pub returns-in-Int-clause-threads : goal.returns-in-Int-clause-threads
+returns-in-Int-clause-threads c = kept_plain (story_tree c.args.story.now) (place_of (story_tree c.args.story.now) c.args.here) c.args.self.now _ _ c.push_value.result c.in-Int.is tt
+
+pub returns-in-Int-clause-choices : goal.returns-in-Int-clause-choices
+returns-in-Int-clause-choices c = offers_none (story_tree c.args.story.now) (place_of (story_tree c.args.story.now) c.args.here) c.args.self.now _ _ c.push_value.result c.in-Int.is tt
+
+pub returns-in-Bool-clause-threads : goal.returns-in-Bool-clause-threads
+returns-in-Bool-clause-threads c = kept_plain (story_tree c.args.story.now) (place_of (story_tree c.args.story.now) c.args.here) c.args.self.now _ _ c.push_value-in-Bool.result c.in-Bool.is tt
+
+pub returns-in-Bool-clause-choices : goal.returns-in-Bool-clause-choices
+returns-in-Bool-clause-choices c = offers_none (story_tree c.args.story.now) (place_of (story_tree c.args.story.now) c.args.here) c.args.self.now _ _ c.push_value-in-Bool.result c.in-Bool.is tt
+
+pub returns-in-Void-clause-threads : goal.returns-in-Void-clause-threads
+returns-in-Void-clause-threads c = kept_plain (story_tree c.args.story.now) (place_of (story_tree c.args.story.now) c.args.here) c.args.self.now _ _ c.push_value-in-Void.result c.in-Void.is tt
+
+pub returns-in-Void-clause-choices : goal.returns-in-Void-clause-choices
+returns-in-Void-clause-choices c = offers_none (story_tree c.args.story.now) (place_of (story_tree c.args.story.now) c.args.here) c.args.self.now _ _ c.push_value-in-Void.result c.in-Void.is tt
+
+pub returns-in-Target-clause-threads : goal.returns-in-Target-clause-threads
+returns-in-Target-clause-threads c = kept_plain (story_tree c.args.story.now) (place_of (story_tree c.args.story.now) c.args.here) c.args.self.now _ _ c.push_target.result c.in-Target.is tt
+
+pub returns-in-Target-clause-choices : goal.returns-in-Target-clause-choices
+returns-in-Target-clause-choices c = offers_none (story_tree c.args.story.now) (place_of (story_tree c.args.story.now) c.args.here) c.args.self.now _ _ c.push_target.result c.in-Target.is tt
+
+pub returns-in-Op-clause-threads : goal.returns-in-Op-clause-threads
+returns-in-Op-clause-threads c = kept_plain (story_tree c.args.story.now) (place_of (story_tree c.args.story.now) c.args.here) c.args.self.now _ _ c.operate.result c.in-Op.is tt
+
+pub returns-in-Op-clause-choices : goal.returns-in-Op-clause-choices
+returns-in-Op-clause-choices c = offers_none (story_tree c.args.story.now) (place_of (story_tree c.args.story.now) c.args.here) c.args.self.now _ _ c.operate.result c.in-Op.is tt
+
+pub returns-in-Divert-clause-threads : goal.returns-in-Divert-clause-threads
+returns-in-Divert-clause-threads c = kept_plain (story_tree c.args.story.now) (place_of (story_tree c.args.story.now) c.args.here) c.args.self.now _ _ c.divert.result c.in-Divert.is tt
+
+pub returns-in-Divert-clause-choices : goal.returns-in-Divert-clause-choices
+returns-in-Divert-clause-choices c = offers_none (story_tree c.args.story.now) (place_of (story_tree c.args.story.now) c.args.here) c.args.self.now _ _ c.divert.result c.in-Divert.is tt
+
+pub returns-in-Variable-clause-threads : goal.returns-in-Variable-clause-threads
+returns-in-Variable-clause-threads c = kept_plain (story_tree c.args.story.now) (place_of (story_tree c.args.story.now) c.args.here) c.args.self.now _ _ c.push_variable.result c.in-Variable.is tt
+
+pub returns-in-Variable-clause-choices : goal.returns-in-Variable-clause-choices
+returns-in-Variable-clause-choices c = offers_none (story_tree c.args.story.now) (place_of (story_tree c.args.story.now) c.args.here) c.args.self.now _ _ c.push_variable.result c.in-Variable.is tt
+
+pub returns-in-Pointer-clause-threads : goal.returns-in-Pointer-clause-threads
+returns-in-Pointer-clause-threads c = kept_plain (story_tree c.args.story.now) (place_of (story_tree c.args.story.now) c.args.here) c.args.self.now _ _ c.push_pointer.result c.in-Pointer.is tt
+
+pub returns-in-Pointer-clause-choices : goal.returns-in-Pointer-clause-choices
+returns-in-Pointer-clause-choices c = offers_none (story_tree c.args.story.now) (place_of (story_tree c.args.story.now) c.args.here) c.args.self.now _ _ c.push_pointer.result c.in-Pointer.is tt
+
+pub returns-in-Count-clause-threads : goal.returns-in-Count-clause-threads
+returns-in-Count-clause-threads c = kept_plain (story_tree c.args.story.now) (place_of (story_tree c.args.story.now) c.args.here) c.args.self.now _ _ c.push_count.result c.in-Count.is tt
+
+pub returns-in-Count-clause-choices : goal.returns-in-Count-clause-choices
+returns-in-Count-clause-choices c = offers_none (story_tree c.args.story.now) (place_of (story_tree c.args.story.now) c.args.here) c.args.self.now _ _ c.push_count.result c.in-Count.is tt
+
+pub returns-in-Call-clause-threads : goal.returns-in-Call-clause-threads
+returns-in-Call-clause-threads c = kept_plain (story_tree c.args.story.now) (place_of (story_tree c.args.story.now) c.args.here) c.args.self.now _ _ c.call.result c.in-Call.is tt
+
+pub returns-in-Call-clause-choices : goal.returns-in-Call-clause-choices
+returns-in-Call-clause-choices c = offers_none (story_tree c.args.story.now) (place_of (story_tree c.args.story.now) c.args.here) c.args.self.now _ _ c.call.result c.in-Call.is tt
+
+pub returns-in-Tunnel-clause-threads : goal.returns-in-Tunnel-clause-threads
+returns-in-Tunnel-clause-threads c = kept_plain (story_tree c.args.story.now) (place_of (story_tree c.args.story.now) c.args.here) c.args.self.now _ _ c.call-in-Tunnel.result c.in-Tunnel.is tt
+
+pub returns-in-Tunnel-clause-choices : goal.returns-in-Tunnel-clause-choices
+returns-in-Tunnel-clause-choices c = offers_none (story_tree c.args.story.now) (place_of (story_tree c.args.story.now) c.args.here) c.args.self.now _ _ c.call-in-Tunnel.result c.in-Tunnel.is tt

@@ -1,4 +1,4 @@
-use Rattle.std.proofs.Common.{◌≡◌, ◌≢◌, ◌<◌, ◌≤◌, ◌∙◌, ◌++◌, ◌∷◌, ℕ, List, [], Some, None, ap, arith, length, rules, sym}
+use Rattle.std.proofs.Common.{◌≡◌, ◌≢◌, ◌<◌, ◌≤◌, ◌∙◌, ℕ, List, [], Some, None, ap, arith, length, rules, sym}
 use Rattle.std.proofs.lemmas.List.{append-nil, take_all}
 use Rattle.ink_host.specs.Desk.{watches}
 use Rattle.ink_model.specs.Told.{told}
@@ -6,7 +6,7 @@ use Rattle.ink_model.specs.declared.value.Value.{Value}
 use Rattle.ink_vars.proofs.Noting.{on_error}
 use Rattle.ink_step.specs.Words.{globals_of, start_of}
 use Rattle.ink_step.proofs.Telling.{told_at, told_changed, told_next, told_nobody, told_some_at, told_some_of}
-use Rattle.ink_step.proofs.machine.Machine.told.Goals.{in-Some+in_ok-change+in_ok-push, in_default}
+use Rattle.ink_step.proofs.machine.Machine.told.Goals.{in-Some+in_ok-add_change, in_default}
 use Rattle.ink_step.proofs.machine.Machine.told.Given as given
 use Rattle.ink_step.proofs.machine.Machine.told.Goals as goal
 use Rattle.ink_step.proofs.machine.Machine.told.Goals.{After-from_vec, In-Some}
@@ -30,13 +30,9 @@ is_there g c =
     told_some_at (globals_of c.args.self.now) watched (start_of c.args.self.now) ns c.loop-number.number-index
     (c.deref-number-items.ensures.value ∙ c.in_ok-numbers.ensures.numbers watched (λ name answer k. search rules)) within
 
-pub returns-in_err-change-clause-memory : goal.returns-in_err-change-clause-memory
-returns-in_err-change-clause-memory g c =
-    on_error c.from_residual-in_err-change.result (is_there g (goal.at.returns-in_err-change-clause-memory g c).In-Some)
-
-pub returns-in_err-push-clause-memory : goal.returns-in_err-push-clause-memory
-returns-in_err-push-clause-memory g c =
-    on_error c.from_residual-in_err-push.result (is_there g (goal.at.returns-in_err-push-clause-memory g c).In-Some)
+pub returns-in_err-add_change-clause-memory : goal.returns-in_err-add_change-clause-memory
+returns-in_err-add_change-clause-memory g c =
+    on_error c.from_residual-in_err-add_change.result (is_there g (goal.at.returns-in_err-add_change-clause-memory g c).In-Some)
 
 pub loop-number-preserved : goal.loop-number-preserved
 loop-number-preserved g c =
@@ -46,10 +42,10 @@ loop-number-preserved g c =
     let so_far = c.loop-number.told.items in
     let within : i < length ns = omega (arith, c.loop-number-test.true) in
     elim c.match-pair.branch [
-      | in-Some+in_ok-change+in_ok-push w ↦
+      | in-Some+in_ok-add_change w ↦
           let e : List ℕ × Value = (w.in-Some.name.now, w.in-Some.value.now) in
           told_next now ns i so_far c.match-pair.told.items (Some e) within (sym w.in-Some.ensures) c.loop-number.invariant
-          (ap (λ v. v.items) w.told-is ∙ w.in_ok-push.ensures.items ∙ ap (λ x. so_far ++ x ∷ []) w.in_ok-change.ensures)
+          (ap (λ v. v.items) w.told-is ∙ w.in_ok-add_change.ensures)
       | in_default w ↦
           told_next now ns i so_far c.match-pair.told.items None within (sym w.in_default.ensures) c.loop-number.invariant
           (ap (λ v. v.items) w.told-is ∙ sym (append-nil so_far))
