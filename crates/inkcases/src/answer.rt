@@ -41,7 +41,14 @@ impl From<Fault> for NoAnswer {
 
 impl From<ReadRefusal> for NoAnswer {
     fn from(refusal: ReadRefusal) -> NoAnswer {
-        match refusal.cause {
+        NoAnswer::from_cause(refusal.cause)
+    }
+}
+
+impl NoAnswer {
+    /// That of a refused story.
+    pub fn from_cause(cause: Cause) -> NoAnswer {
+        match cause {
             Cause::OutOfMemory => NoAnswer::OutOfMemory,
             cause => NoAnswer::Unread(cause),
         }

@@ -5,13 +5,18 @@
 mod answer;
 mod expansion;
 mod lines;
+mod report;
 mod table;
 mod tally;
 mod words;
 
 pub use answer::{Answer, NoAnswer, append, compared, counted, first_word, text, told};
 pub use expansion::{expand, expanded};
-pub use lines::{Answers, first_line, is_comment, question_and_answer, run_lines, run_stories};
+pub use lines::{
+    Answers, Questions, ask_below, ask_lines, ask_stories, first_line, is_comment,
+    question_and_answer, run_lines, run_stories,
+};
+pub use report::Report;
 pub use table::{Table, Tables, run_tables};
 pub use tally::{Tally, Verdict};
 pub use words::{

@@ -1,5 +1,6 @@
 //! How the cases of the tables went.
 
+use crate::report::Report;
 use std::alloc::AllocError;
 use std::io;
 
@@ -47,6 +48,20 @@ impl Tally {
                 self.fail();
             }
             Err(_) => self.refuse(),
+        }
+    }
+
+    /// Counts a case of a file by what was said and what is wanted, and prints it where it fails.
+    pub fn judge(&mut self, rt: &impl Print, file: &str, case: &str, said: &Report, wanted: &str) {
+        if said.is_refused() {
+            self.refuse();
+        } else if said.as_str() == wanted {
+            self.cases = self.cases.saturating_add(1);
+        } else {
+            let came = said.as_str();
+            let came = came.get(..MOST_PRINTED).unwrap_or(came);
+            let _ = println!(rt; "{file}: {case}: came {came}");
+            self.fail();
         }
     }
 

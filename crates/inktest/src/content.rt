@@ -1,104 +1,114 @@
 //! Content as tables have it.
 
 use ink_model::{Container, Content, Destination, Leaf, Shared, Text};
-use inkcases::{Answer, text};
-use std::alloc::{AllocError, Global};
+use inkcases::Report;
+use std::fmt::Display;
 
-/// Content as a table has it: a leaf by its form, a container by its name, its flags, how many contents stand in its list, how
-/// many containers by key, and how many contents there are with all in it.
-pub(crate) fn shown_content(alloc: Global, content: Option<&Content>) -> Answer {
+/// Writes content as a table has it: a leaf by its form, a container by its name, its flags, how many contents stand in its list,
+/// how many containers by key, and how many contents there are with all in it.
+pub(crate) fn show_content(said: &mut Report, content: Option<&Content>) {
     match content {
-        None => text(alloc, "nothing"),
-        Some(content) => {
-            let mut text = String::new(alloc);
-            show_content(&mut text, content)?;
-            Ok(text)
-        }
+        None => said.put("nothing"),
+        Some(Content::Leaf(leaf)) => show_form(said, leaf),
+        Some(Content::Container(container)) => show_container(said, container),
     }
 }
 
-/// Content that holds no other.
-pub(crate) fn shown_leaf(alloc: Global, leaf: Option<&Leaf>) -> Answer {
+/// Writes content that holds no other.
+pub(crate) fn show_leaf(said: &mut Report, leaf: Option<&Leaf>) {
     match leaf {
-        None => text(alloc, "nothing"),
-        Some(leaf) => {
-            let mut text = String::new(alloc);
-            show_leaf(&mut text, leaf)?;
-            Ok(text)
-        }
+        None => said.put("nothing"),
+        Some(leaf) => show_form(said, leaf),
     }
 }
 
-/// Writes content behind a text.
-pub(crate) fn show_content(text: &mut String, content: &Content) -> Result<(), AllocError> {
-    match content {
-        Content::Leaf(leaf) => show_leaf(text, leaf),
-        Content::Container(container) => show_container(text, container),
+fn show_container(said: &mut Report, container: &Container) {
+    said.put("container ");
+    match &container.name {
+        Some(name) => said.put(name.as_str()),
+        None => said.put("-"),
     }
+    said.number(" ", u64::from(container.flags));
+    said.number(" ", u64::from(container.width));
+    said.number(" ", u64::from(container.keys));
+    said.number(" ", u64::from(container.size));
 }
 
-fn show_container(text: &mut String, container: &Container) -> Result<(), AllocError> {
-    let Container {
-        name,
-        width,
-        keys,
-        size,
-        flags,
-    } = container;
-    let name = match name {
-        Some(name) => name.as_str(),
-        None => "-",
-    };
-    write!(text, "container {name} {flags} {width} {keys} {size}")
-}
-
-fn show_leaf(text: &mut String, leaf: &Leaf) -> Result<(), AllocError> {
+fn show_form(said: &mut Report, leaf: &Leaf) {
     match leaf {
-        Leaf::Text(written) => write!(text, "text \"{}\"", written.get().as_str()),
-        Leaf::Newline => text.push_str("newline"),
-        Leaf::Glue => text.push_str("glue"),
-        Leaf::Tag(tag) => write!(text, "tag \"{}\"", tag.get().as_str()),
-        Leaf::Void => text.push_str("void"),
-        Leaf::Int(number) => write!(text, "int {number}"),
-        Leaf::Bool(truth) => write!(text, "bool {truth}"),
-        Leaf::Control(control) => write!(text, "{control:?}"),
-        Leaf::Op(operator) => write!(text, "{operator:?}"),
-        Leaf::Pointer(name, frame) => write!(text, "pointer {} {frame}", name.get().as_str()),
-        Leaf::Divert { to, conditional } => show_jump(text, "divert", to, *conditional),
-        Leaf::Call { to, conditional } => show_jump(text, "call", to, *conditional),
-        Leaf::Tunnel { to, conditional } => show_jump(text, "tunnel", to, *conditional),
+        Leaf::Text(text) => show_quoted(said, "text", text),
+        Leaf::Tag(tag) => show_quoted(said, "tag", tag),
+        Leaf::Newline => said.put("newline"),
+        Leaf::Glue => said.put("glue"),
+        Leaf::Void => said.put("void"),
+        Leaf::Int(number) => show_with(said, "int", *number),
+        Leaf::Bool(truth) => show_with(said, "bool", *truth),
+        Leaf::Control(control) => said.debug(*control),
+        Leaf::Op(operator) => said.debug(*operator),
+        _ => show_named_form(said, leaf),
+    }
+}
+
+fn show_named_form(said: &mut Report, leaf: &Leaf) {
+    match leaf {
+        Leaf::Target(path) => show_name(said, "target", path),
+        Leaf::Declare(name) => show_name(said, "declare", name),
+        Leaf::Assign(name) => show_name(said, "assign", name),
+        Leaf::DeclareTemp(name) => show_name(said, "declare temporary", name),
+        Leaf::AssignTemp(name) => show_name(said, "assign temporary", name),
+        Leaf::Variable(name) => show_name(said, "variable", name),
+        Leaf::Count(path) => show_name(said, "count", path),
+        _ => show_long_form(said, leaf),
+    }
+}
+
+fn show_long_form(said: &mut Report, leaf: &Leaf) {
+    match leaf {
+        Leaf::Pointer(name, frame) => show_named(said, "pointer", name, *frame),
+        Leaf::Choice { target, flags } => show_named(said, "choice", target, *flags),
+        Leaf::Divert { to, conditional } => show_jump(said, "divert", to, *conditional),
+        Leaf::Call { to, conditional } => show_jump(said, "call", to, *conditional),
+        Leaf::Tunnel { to, conditional } => show_jump(said, "tunnel", to, *conditional),
         Leaf::External {
             name,
             arguments,
             conditional,
-        } => write!(text, "external {} {arguments} {conditional}", name.as_str()),
-        Leaf::Choice { target, flags } => write!(text, "choice {} {flags}", target.as_str()),
-        Leaf::Target(path) => show_name(text, "target", path),
-        Leaf::Declare(name) => show_name(text, "declare", name),
-        Leaf::Assign(name) => show_name(text, "assign", name),
-        Leaf::DeclareTemp(name) => show_name(text, "declare temporary", name),
-        Leaf::AssignTemp(name) => show_name(text, "assign temporary", name),
-        Leaf::Variable(name) => show_name(text, "variable", name),
-        Leaf::Count(path) => show_name(text, "count", path),
+        } => {
+            show_named(said, "external", name, *arguments);
+            show_with(said, "", *conditional);
+        }
+        _ => {}
     }
 }
 
-fn show_name(text: &mut String, form: &str, name: &Shared<Text>) -> Result<(), AllocError> {
-    write!(text, "{form} {}", name.as_str())
+fn show_with<D: Display + Drop>(said: &mut Report, form: &str, item: D) {
+    said.put(form);
+    said.put(" ");
+    said.show(item);
 }
 
-fn show_jump(
-    text: &mut String,
-    form: &str,
-    to: &Destination,
-    conditional: bool,
-) -> Result<(), AllocError> {
+fn show_quoted(said: &mut Report, form: &str, text: &Shared<Text>) {
+    said.put(form);
+    said.put(" \"");
+    said.put(text.as_str());
+    said.put("\"");
+}
+
+fn show_name(said: &mut Report, form: &str, name: &Shared<Text>) {
+    said.put(form);
+    said.put(" ");
+    said.put(name.as_str());
+}
+
+fn show_named<D: Display + Drop>(said: &mut Report, form: &str, name: &Shared<Text>, item: D) {
+    show_name(said, form, name);
+    show_with(said, "", item);
+}
+
+fn show_jump(said: &mut Report, form: &str, to: &Destination, conditional: bool) {
+    said.put(form);
     match to {
-        Destination::Path(target) => {
-            write!(text, "{form} path {} {conditional}", target.as_str())
-        }
-        Destination::Variable(name) => {
-            write!(text, "{form} variable {} {conditional}", name.as_str())
-        }
+        Destination::Path(path) => show_named(said, " path", path, conditional),
+        Destination::Variable(name) => show_named(said, " variable", name, conditional),
     }
 }

@@ -5,6 +5,7 @@
 //! are any. The status is 0 where none failed.
 #![tactic(auto)]
 
+mod alike;
 mod content;
 mod operators;
 mod output;
@@ -14,8 +15,12 @@ mod spelling;
 mod stories;
 mod twin;
 mod twins;
+mod walks;
+mod written;
 
-use inkcases::{Answer, Answers, Table, Tables, Tally, run_lines, run_stories, run_tables};
+use inkcases::{
+    NoAnswer, Questions, Report, Table, Tables, Tally, ask_lines, ask_stories, run_tables,
+};
 use std::alloc::Global;
 use std::process::ExitCode;
 
@@ -66,22 +71,23 @@ impl Tables for Kind {
     }
 
     fn run(&self, rt: &impl Print, alloc: Global, table: Table<'_>, tally: &mut Tally) {
+        let mut kind = *self;
         match self {
-            Kind::Stories => run_stories(rt, alloc, self, table, tally),
-            _ => run_lines(rt, alloc, self, table, tally),
+            Kind::Stories => ask_stories(rt, alloc, &mut kind, table, tally),
+            _ => ask_lines(rt, alloc, &mut kind, table, tally),
         }
     }
 }
 
-impl Answers for Kind {
-    fn answer(&self, alloc: Global, story: &str, question: &str) -> Answer {
+impl Questions for Kind {
+    fn answer(&mut self, said: &mut Report, story: &str, question: &str) -> Result<(), NoAnswer> {
         match self {
-            Kind::Operators => operators::answer(alloc, question),
-            Kind::Output => output::answer(alloc, question),
-            Kind::Paths => paths::answer(alloc, question),
-            Kind::Reading => reading::answer(alloc, question),
-            Kind::Stories => stories::answer(alloc, story, question),
-            Kind::Twins => twins::answer(alloc, question),
+            Kind::Operators => operators::answer(said, question),
+            Kind::Output => output::answer(said, question),
+            Kind::Paths => paths::answer(said, question),
+            Kind::Reading => reading::answer(said, question),
+            Kind::Stories => stories::answer(said, story, question),
+            Kind::Twins => twins::answer(said, question),
         }
     }
 }

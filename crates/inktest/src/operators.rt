@@ -2,39 +2,36 @@
 
 use ink_model::{Op, Shared, Value};
 use ink_value::{EvalStack, apply, is_true, printed};
-use inkcases::{
-    Answer, NoAnswer, append, counted, first_word, number, shown_value, text, told, value_of,
-};
+use inkcases::{NoAnswer, Report, first_word, number, value_of};
 use std::alloc::Global;
 
 /// The answer to an operator and its operands, `truth VALUE`, `printed VALUE`, `copied VALUE`, or `stack CALL..`.
-pub(crate) fn answer(alloc: Global, question: &str) -> Answer {
+pub(crate) fn answer(said: &mut Report, question: &str) -> Result<(), NoAnswer> {
     let (word, rest) = first_word(question);
     if word == "stack" {
-        return stack_answers(alloc, rest);
+        let mut stack = EvalStack::new(said.alloc());
+        answer_calls(said, &mut stack, rest);
+        return Ok(());
     }
-    let mut values = Vec::new(alloc);
-    for value in rest.split_whitespace() {
-        values.push(value_of(alloc, value)?)?;
+    let mut values = Vec::new(said.alloc());
+    read_values(said, &mut values, rest)?;
+    said.value(&result_of(said.alloc(), word, values.as_slice())?);
+    Ok(())
+}
+
+fn read_values(said: &Report, values: &mut Vec<Value>, words: &str) -> Result<(), NoAnswer> {
+    for word in words.split_whitespace() {
+        values.push(value_of(said.alloc(), word)?)?;
     }
-    let value = result_of(alloc, word, values.as_slice())?;
-    shown_value(alloc, &value)
+    Ok(())
 }
 
 fn result_of(alloc: Global, word: &str, values: &[Value]) -> Result<Value, NoAnswer> {
-    match (operator_of(word), values) {
-        (Some(operator), _) => Ok(apply(alloc, operator, values)?),
-        (None, [value]) => made_of(alloc, word, value),
-        _ => Err(NoAnswer::NoQuestion),
-    }
-}
-
-fn made_of(alloc: Global, word: &str, value: &Value) -> Result<Value, NoAnswer> {
-    match word {
-        "truth" => Ok(Value::Bool(is_true(value)?)),
-        "printed" => Ok(Value::Text(Shared::new(alloc, printed(alloc, value)?)?)),
-        "copied" => Ok(value.clone_in(alloc)?),
-        _ => Err(NoAnswer::NoQuestion),
+    match (word, values) {
+        ("truth", [value]) => Ok(Value::Bool(is_true(value)?)),
+        ("printed", [value]) => Ok(Value::Text(Shared::new(alloc, printed(alloc, value)?)?)),
+        ("copied", [value]) => Ok(value.clone_in(alloc)?),
+        _ => Ok(apply(alloc, operator_of(word)?, values)?),
     }
 }
 
@@ -64,13 +61,13 @@ const OPERATORS: [(&str, Op); 22] = [
     ("!?", Op::HasNot),
 ];
 
-fn operator_of(word: &str) -> Option<Op> {
-    for (name, operator) in OPERATORS {
-        if name == word {
-            return Some(operator);
+fn operator_of(word: &str) -> Result<Op, NoAnswer> {
+    for (name, operator) in &OPERATORS {
+        if *name == word {
+            return Ok(*operator);
         }
     }
-    None
+    Err(NoAnswer::NoQuestion)
 }
 
 // ---- the evaluation stack
@@ -78,62 +75,71 @@ fn operator_of(word: &str) -> Option<Op> {
 /// The answers of calls: `push:VALUE`, `pop`, `peek:DEPTH`, `apply:OPERATOR` and `len`; `mark` starts a mark, `back` goes back to
 /// it and answers how many changes were noted, `forget` ends it, `writes` asks how many there were, and `room:COUNT` makes room for
 /// so many.
-fn stack_answers(alloc: Global, calls: &str) -> Answer {
-    let mut stack = EvalStack::new(alloc);
-    let mut answers = String::new(alloc);
+fn answer_calls(said: &mut Report, stack: &mut EvalStack, calls: &str) {
     for call in calls.split_whitespace() {
-        let answer = told(alloc, stack_answer(alloc, &mut stack, call))?;
-        append(&mut answers, answer.as_str())?;
-    }
-    Ok(answers)
-}
-
-fn stack_answer(alloc: Global, stack: &mut EvalStack, call: &str) -> Answer {
-    match call.split_once(':').unwrap_or((call, "")) {
-        ("push", value) => pushed(alloc, stack, value),
-        ("apply", word) => applied(alloc, stack, word),
-        ("peek", depth) => shown_value(alloc, stack.peek(number(depth)?)?),
-        ("pop", _) => shown_value(alloc, &stack.pop()?),
-        ("len", _) => counted(alloc, stack.len()),
-        ("room", count) => made_room(alloc, stack, count),
-        (call, _) => noted(alloc, stack, call),
+        said.append("");
+        if let Err(why) = answer_call(said, stack, call) {
+            said.halt(why);
+        }
     }
 }
 
-fn pushed(alloc: Global, stack: &mut EvalStack, value: &str) -> Answer {
-    stack.push(value_of(alloc, value)?)?;
-    text(alloc, "ok")
-}
-
-fn applied(alloc: Global, stack: &mut EvalStack, word: &str) -> Answer {
-    let operator = operator_of(word).ok_or(NoAnswer::NoQuestion)?;
-    stack.apply_top(alloc, operator)?;
-    text(alloc, "ok")
-}
-
-fn made_room(alloc: Global, stack: &mut EvalStack, count: &str) -> Answer {
-    let count = number::<usize>(count)?;
-    stack.make_room(count)?;
-    text(alloc, if stack.room() < count { "none" } else { "ok" })
-}
-
-/// The calls of a mark.
-fn noted(alloc: Global, stack: &mut EvalStack, call: &str) -> Answer {
-    match call {
-        "mark" => {
-            stack.mark();
-            text(alloc, "ok")
-        }
-        "forget" => {
-            stack.forget();
-            text(alloc, "ok")
-        }
-        "back" => told_count(alloc, stack.back()),
-        "writes" => told_count(alloc, stack.writes()),
+fn answer_call(said: &mut Report, stack: &mut EvalStack, call: &str) -> Result<(), NoAnswer> {
+    let (word, rest) = call.split_once(':').unwrap_or((call, ""));
+    match word {
+        "push" => push(said, stack, rest),
+        "apply" => apply_top(said, stack, rest),
+        "room" => make_room(said, stack, number(rest)?),
+        "peek" => peek(said, stack, number(rest)?),
+        "pop" => pop(said, stack),
+        "mark" | "forget" => set_mark(said, stack, word == "mark"),
+        "len" => tell(said, stack.len() as u64),
+        "back" => tell(said, stack.back()),
+        "writes" => tell(said, stack.writes()),
         _ => Err(NoAnswer::NoQuestion),
     }
 }
 
-fn told_count(alloc: Global, count: u64) -> Answer {
-    Ok(format!(in alloc; "{count}")?)
+fn push(said: &mut Report, stack: &mut EvalStack, word: &str) -> Result<(), NoAnswer> {
+    stack.push(value_of(said.alloc(), word)?)?;
+    said.put("ok");
+    Ok(())
+}
+
+fn apply_top(said: &mut Report, stack: &mut EvalStack, word: &str) -> Result<(), NoAnswer> {
+    stack.apply_top(said.alloc(), operator_of(word)?)?;
+    said.put("ok");
+    Ok(())
+}
+
+fn make_room(said: &mut Report, stack: &mut EvalStack, count: usize) -> Result<(), NoAnswer> {
+    stack.make_room(count)?;
+    said.put(if stack.room() < count { "none" } else { "ok" });
+    Ok(())
+}
+
+fn peek(said: &mut Report, stack: &EvalStack, depth: usize) -> Result<(), NoAnswer> {
+    said.value(stack.peek(depth)?);
+    Ok(())
+}
+
+fn pop(said: &mut Report, stack: &mut EvalStack) -> Result<(), NoAnswer> {
+    let value = stack.pop()?;
+    said.value(&value);
+    Ok(())
+}
+
+fn set_mark(said: &mut Report, stack: &mut EvalStack, is_set: bool) -> Result<(), NoAnswer> {
+    if is_set {
+        stack.mark();
+    } else {
+        stack.forget();
+    }
+    said.put("ok");
+    Ok(())
+}
+
+fn tell(said: &mut Report, count: u64) -> Result<(), NoAnswer> {
+    said.show(count);
+    Ok(())
 }

@@ -1,96 +1,94 @@
 //! Paths that are spelled from two places of a story, some of which lead nowhere.
 
-use crate::twin::{self, Plain};
+use crate::alike::in_common;
+use crate::twins::Twins;
 use ink_model::Part;
-use std::alloc::{AllocError, Global};
+use inkcases::Report;
 
-/// A story whose places are spelled, by the names that containers give themselves or by indexes.
-#[derive(Clone, Copy)]
-struct Speller<'s, 'r> {
-    alloc: Global,
-    story: &'s Plain<'r>,
-    by_name: bool,
-}
+/// How many paths are spelled from a content.
+pub(crate) const SPELLED: usize = 9;
 
-/// Paths from a place to another: from the root and from the first one, each by indexes and by names. Then paths that are mostly
-/// wrong: further up than the root; to the other place's end, past the end and on from the end; and by a name that is not there.
-pub(crate) fn spelled(
-    alloc: Global,
-    story: &Plain<'_>,
-    from: &[Part],
-    to: &[Part],
-) -> Result<Vec<String>, AllocError> {
-    let mut paths = Vec::new(alloc);
-    for by_name in [false, true] {
-        let speller = Speller {
-            alloc,
-            story,
-            by_name,
-        };
-        paths.push(speller.down(to)?)?;
-        paths.push(speller.across(from, to)?)?;
+impl Twins<'_, '_> {
+    /// Paths to another content: from the first one and from the root, each by indexes and by names. Then paths that are mostly
+    /// wrong: further up than the root; to the other place's end, past the end and on from the end; and by a name that is not there.
+    pub(crate) fn compare_spelled(&self, said: &mut Report, from: usize, to: usize) {
+        self.compare_right(said, from, to, false);
+        self.compare_right(said, from, to, true);
+        let mut path = Report::new(self.alloc);
+        for _ in 0..=self.twin.parts(from).len() {
+            path.put(".^");
+        }
+        self.compare_spelling(said, from, &path);
+        self.compare_ends(said, from, &self.down(to, true), self.twin.width(to));
     }
-    paths.push(too_far_up(alloc, from)?)?;
-    let speller = Speller {
-        alloc,
-        story,
-        by_name: true,
-    };
-    let (to, end) = (speller.down(to)?, twin::width(story, to));
-    let (to, past) = (to.as_str(), end.saturating_add(1));
-    paths.push(format!(in alloc; "{to}.{end}")?)?;
-    paths.push(format!(in alloc; "{to}.{past}")?)?;
-    paths.push(format!(in alloc; "{to}.{end}.^")?)?;
-    paths.push(format!(in alloc; "{to}.nowhere")?)?;
-    Ok(paths)
-}
 
-fn too_far_up(alloc: Global, from: &[Part]) -> Result<String, AllocError> {
-    let mut path = String::from_str(alloc, ".^")?;
-    for _ in from {
-        path.push_str(".^")?;
+    fn compare_right(&self, said: &mut Report, from: usize, to: usize, by_name: bool) {
+        let mut path = Report::new(self.alloc);
+        self.spell(&mut path, from, to, by_name);
+        self.compare_spelling(said, from, &path);
+        self.compare_end(said, from, &self.down(to, by_name), None, "");
     }
-    Ok(path)
-}
 
-impl Speller<'_, '_> {
+    fn compare_ends(&self, said: &mut Report, from: usize, down: &Report, end: u32) {
+        self.compare_end(said, from, down, Some(end), "");
+        self.compare_end(said, from, down, Some(end.saturating_add(1)), "");
+        self.compare_end(said, from, down, Some(end), ".^");
+        self.compare_end(said, from, down, None, ".nowhere");
+    }
+
     /// From the root, of which there is no path.
-    fn down(self, to: &[Part]) -> Result<String, AllocError> {
-        let path = self.across(&[], to)?;
-        let path = path.as_str();
-        String::from_str(self.alloc, path.strip_prefix('.').unwrap_or(path))
+    fn down(&self, to: usize, by_name: bool) -> Report {
+        let mut path = Report::new(self.alloc);
+        self.spell(&mut path, 0, to, by_name);
+        path
     }
 
-    /// From a place up to what is around both, and down from there.
-    fn across(self, from: &[Part], to: &[Part]) -> Result<String, AllocError> {
-        let common = twin::in_common(from, to);
-        let mut path = String::new(self.alloc);
+    /// By a path from the root, which has a dot in front there, an index behind it and more.
+    fn compare_end(
+        &self,
+        said: &mut Report,
+        from: usize,
+        down: &Report,
+        index: Option<u32>,
+        rest: &str,
+    ) {
+        let mut path = Report::new(self.alloc);
+        path.put(down.as_str().strip_prefix('.').unwrap_or(""));
+        if let Some(index) = index {
+            path.put(".");
+            path.show(index);
+        }
+        path.put(rest);
+        self.compare_spelling(said, from, &path);
+    }
+
+    fn compare_spelling(&self, said: &mut Report, from: usize, path: &Report) {
+        said.note_of(path);
+        self.compare_path(said, from, path.as_str());
+    }
+
+    /// Writes a path from a stand up to what is around both, and down from there.
+    fn spell(&self, path: &mut Report, from: usize, to: usize, by_name: bool) {
+        let (from, to) = (self.twin.parts(from), self.twin.parts(to));
+        let common = in_common(from, to);
         for _ in common..from.len() {
-            path.push_str(".^")?;
+            path.put(".^");
         }
-        for depth in common..to.len() {
-            path.push('.')?;
-            self.push(&mut path, &to[..depth], &to[depth])?;
-        }
-        Ok(path)
-    }
-
-    /// Writes a part below a place, or the name that the container there gives itself.
-    fn push(self, path: &mut String, place: &[Part], part: &Part) -> Result<(), AllocError> {
-        match part {
-            Part::Name(name) => path.push_str(name.as_str()),
-            Part::Index(index) => match self.own_name(place, *index)? {
-                Some(name) => path.push_str(name),
-                None => write!(path, "{index}"),
-            },
+        let mut here = 0usize;
+        for (depth, part) in to.iter().enumerate() {
+            here = self.twin.down(here, part).unwrap_or(0);
+            if depth >= common {
+                path.put(".");
+                self.spell_part(path, here, part, by_name);
+            }
         }
     }
 
-    fn own_name(&self, place: &[Part], index: u32) -> Result<Option<&str>, AllocError> {
-        if !self.by_name {
-            return Ok(None);
+    /// Writes a part, or the name that the container there gives itself.
+    fn spell_part(&self, path: &mut Report, at: usize, part: &Part, by_name: bool) {
+        match (part, self.twin.own_name(at)) {
+            (Part::Index(_), Some(name)) if by_name => path.put(name),
+            _ => path.part(part),
         }
-        let place = twin::below(self.alloc, place, index)?;
-        Ok(twin::content_at(self.story, place.parts()).and_then(twin::name_of))
     }
 }

@@ -1,14 +1,12 @@
 //! A story's content and places by calls of its tree, and where its paths lead.
 
-use crate::content::{shown_content, shown_leaf};
+use crate::content::{show_content, show_leaf};
 use ink_check::{Story, check};
-use ink_json::{RawStory, read_story};
-use ink_tree::{NodeId, Spot, Tree, print_path, read_path};
-use inkcases::{
-    Answer, NoAnswer, append, counted, expanded, first_word, number, parts_of, show_parts,
-    shown_parts, text,
-};
-use std::alloc::{AllocError, Global};
+use ink_json::read_story;
+use ink_model::{Path, Shared};
+use ink_tree::{NodeId, Spot, Tree, read_path};
+use inkcases::{NoAnswer, Report, expanded, first_word, number, parts_of};
+use std::alloc::AllocError;
 
 /// The most containers that are told one by one.
 const MOST_TOLD: usize = 20;
@@ -30,111 +28,177 @@ const MOST_TOLD: usize = 20;
 ///   `pushed NODE`: the path that it pushes; `variable NODE`: the number of its variable
 ///
 /// A node is a number, a spot a node, and behind a colon perhaps an index.
-pub(crate) fn answer(alloc: Global, story: &str, question: &str) -> Answer {
+pub(crate) fn answer(said: &mut Report, story: &str, question: &str) -> Result<(), NoAnswer> {
     let (word, rest) = first_word(question);
-    let story = expanded(alloc, story)?;
-    let raw = read_story(alloc, story.as_slice())?;
-    asked(alloc, raw, word, rest)
-}
-
-fn asked(alloc: Global, raw: RawStory, word: &str, rest: &str) -> Answer {
-    if word == "at" {
-        return content_at(alloc, &raw, rest);
-    }
-    if is_of_story(word) {
-        return of_story(alloc, &check(alloc, raw)?, word, rest);
-    }
-    of_tree(alloc, &Tree::build(alloc, raw)?, word, rest)
-}
-
-/// Whether a question asks for what is kept of checked content.
-fn is_of_story(word: &str) -> bool {
-    matches!(word, "target" | "counted" | "pushed" | "variable")
-}
-
-fn content_at(alloc: Global, raw: &RawStory, place: &str) -> Answer {
-    let parts = parts_of(alloc, place)?;
-    shown_content(alloc, raw.at(parts.as_slice()))
-}
-
-fn of_story(alloc: Global, story: &Story, word: &str, node: &str) -> Answer {
+    let story = expanded(said.alloc(), story)?;
     match word {
-        "target" => target(alloc, story, node),
-        "counted" => counted_container(alloc, story, node),
-        "pushed" => pushed(alloc, story, node),
-        _ => variable(alloc, story, node),
-    }
-}
-
-fn target(alloc: Global, story: &Story, node: &str) -> Answer {
-    shown_target(alloc, story.tree(), story.target(node_of(node)?))
-}
-
-fn variable(alloc: Global, story: &Story, node: &str) -> Answer {
-    match story.variable(node_of(node)?) {
-        Some(number) => counted(alloc, number),
-        None => text(alloc, "none"),
-    }
-}
-
-fn counted_container(alloc: Global, story: &Story, node: &str) -> Answer {
-    match story.counted(node_of(node)?) {
-        Some(container) => shown_place(alloc, story.tree(), on(container)),
-        None => text(alloc, "nowhere"),
-    }
-}
-
-fn pushed(alloc: Global, story: &Story, node: &str) -> Answer {
-    match story.pushed(node_of(node)?) {
-        Some(path) => {
-            let path = print_path(alloc, path.get())?;
-            text(alloc, path.as_str())
+        "at" => ask_content(said, story.as_slice(), rest),
+        "target" | "counted" | "pushed" | "variable" => {
+            ask_checked(said, story.as_slice(), word, rest)
         }
-        None => text(alloc, "nothing"),
+        _ => ask_built(said, story.as_slice(), word, rest),
     }
 }
 
-fn of_tree(alloc: Global, tree: &Tree, word: &str, rest: &str) -> Answer {
+fn ask_content(said: &mut Report, story: &[u8], place: &str) -> Result<(), NoAnswer> {
+    let parts = parts_of(said.alloc(), place)?;
+    let raw = read_story(said.alloc(), story)?;
+    show_content(said, raw.at(parts.as_slice()));
+    Ok(())
+}
+
+fn ask_checked(said: &mut Report, story: &[u8], word: &str, rest: &str) -> Result<(), NoAnswer> {
+    let node = node_of(rest)?;
+    let story = check(said.alloc(), read_story(said.alloc(), story)?)?;
+    ask_story(said, &story, word, node);
+    Ok(())
+}
+
+fn ask_built(said: &mut Report, story: &[u8], word: &str, rest: &str) -> Result<(), NoAnswer> {
+    let tree = Tree::build(said.alloc(), read_story(said.alloc(), story)?)?;
+    ask_tree(said, &tree, word, rest)
+}
+
+/// Asks for what is kept of checked content.
+fn ask_story(said: &mut Report, story: &Story, word: &str, node: NodeId) {
+    let tree = story.tree();
     match word {
-        "len" => counted(alloc, tree.len()),
-        "start" => shown_place(alloc, tree, tree.start()),
-        "knot" => shown_node(alloc, tree.knot(rest)),
-        "flags" => counted(alloc, tree.flags(node_of(rest)?) as usize),
-        "entered" => entered(alloc, tree, rest),
-        "resolve" => resolved(alloc, tree, rest),
-        "content" | "place" | "node" => of_spot(alloc, tree, word, spot_of(rest)?),
-        "number" | "holder" | "inside" | "leaf" => of_node(alloc, tree, word, node_of(rest)?),
-        _ => of_place(alloc, tree, word, spot_at(alloc, tree, rest)?),
+        "target" => show_place(said, tree, story.target(node)),
+        "counted" => show_container(said, tree, story.counted(node)),
+        "pushed" => show_path(said, story.pushed(node)),
+        _ => said.number_or(story.variable(node), "none"),
     }
 }
 
-fn of_spot(alloc: Global, tree: &Tree, word: &str, spot: Spot) -> Answer {
+fn show_container(said: &mut Report, tree: &Tree, node: Option<NodeId>) {
+    match node {
+        Some(node) => show_place(said, tree, Some(on(node))),
+        None => said.put("nowhere"),
+    }
+}
+
+fn show_path(said: &mut Report, path: Option<&Shared<Path>>) {
+    match path {
+        Some(path) => said.path(path.get()),
+        None => said.put("nothing"),
+    }
+}
+
+fn ask_tree(said: &mut Report, tree: &Tree, word: &str, rest: &str) -> Result<(), NoAnswer> {
     match word {
-        "content" => shown_content(alloc, tree.content(spot)),
-        "place" => shown_place(alloc, tree, spot),
-        _ => shown_node(alloc, tree.node(spot)),
+        "len" => {
+            said.show(tree.len());
+            Ok(())
+        },
+        "start" => {
+            show_place(said, tree, Some(tree.start()));
+            Ok(())
+        }
+        "knot" => {
+            show_node(said, tree.knot(rest));
+            Ok(())
+        }
+        "entered" => ask_entered(said, tree, rest),
+        "resolve" => ask_path(said, tree, rest),
+        "content" | "place" | "node" => {
+            ask_spot(said, tree, word, spot_of(rest)?);
+            Ok(())
+        }
+        "number" | "holder" | "inside" | "leaf" | "flags" => {
+            ask_node(said, tree, word, node_of(rest)?);
+            Ok(())
+        }
+        _ => {
+            let spot = spot_at(said, tree, rest)?;
+            ask_place(said, tree, word, spot)
+        }
     }
 }
 
-fn of_node(alloc: Global, tree: &Tree, word: &str, node: NodeId) -> Answer {
+fn ask_spot(said: &mut Report, tree: &Tree, word: &str, spot: Spot) {
     match word {
-        "number" => counted(alloc, tree.number_of(node)),
-        "holder" => shown_node(alloc, tree.holder(node)),
-        "inside" => shown_node(alloc, tree.first(node)),
-        _ => shown_leaf(alloc, tree.leaf(node)),
+        "content" => show_content(said, tree.content(spot)),
+        "place" => show_place(said, tree, Some(spot)),
+        _ => show_node(said, tree.node(spot)),
     }
 }
 
-fn of_place(alloc: Global, tree: &Tree, word: &str, spot: Option<Spot>) -> Answer {
-    match (word, spot) {
-        ("spot", spot) => shown_spot(alloc, spot),
-        ("land", Some(spot)) => shown_place(alloc, tree, tree.land(spot)),
-        ("next", Some(spot)) => shown_target(alloc, tree, tree.next(spot)),
-        ("first", Some(spot)) => first(alloc, tree, spot),
-        ("first_leaf", Some(spot)) => first_leaf(alloc, tree, spot),
-        ("leaf_at", Some(spot)) => shown_leaf(alloc, tree.leaf_at(spot)),
+fn ask_node(said: &mut Report, tree: &Tree, word: &str, node: NodeId) {
+    match word {
+        "number" => said.show(tree.number_of(node)),
+        "holder" => show_node(said, tree.holder(node)),
+        "inside" => show_node(said, tree.first(node)),
+        "flags" => said.show(tree.flags(node)),
+        _ => show_leaf(said, tree.leaf(node)),
+    }
+}
+
+fn ask_place(
+    said: &mut Report,
+    tree: &Tree,
+    word: &str,
+    spot: Option<Spot>,
+) -> Result<(), NoAnswer> {
+    if word == "spot" {
+        show_spot(said, spot);
+        return Ok(());
+    }
+    let spot = spot.ok_or(NoAnswer::NoQuestion)?;
+    match word {
+        "land" => {
+            show_place(said, tree, Some(tree.land(spot)));
+            Ok(())
+        }
+        "next" => {
+            show_place(said, tree, tree.next(spot));
+            Ok(())
+        }
+        "leaf_at" => {
+            show_leaf(said, tree.leaf_at(spot));
+            Ok(())
+        }
+        "first" => {
+            ask_first(said, tree, spot);
+            Ok(())
+        }
+        "first_leaf" => {
+            ask_first_leaf(said, tree, spot);
+            Ok(())
+        }
         _ => Err(NoAnswer::NoQuestion),
     }
+}
+
+fn ask_first(said: &mut Report, tree: &Tree, spot: Spot) {
+    let (spot, content) = tree.first_content(spot);
+    show_place(said, tree, Some(spot));
+    said.put(" ");
+    show_content(said, content);
+}
+
+fn ask_first_leaf(said: &mut Report, tree: &Tree, spot: Spot) {
+    let (spot, leaf) = tree.first_leaf(spot);
+    show_place(said, tree, Some(spot));
+    said.put(" ");
+    show_leaf(said, leaf);
+}
+
+fn ask_path(said: &mut Report, tree: &Tree, rest: &str) -> Result<(), NoAnswer> {
+    let (from, path) = first_word(rest);
+    let path = read_path(said.alloc(), path)?;
+    let spot = spot_at(said, tree, from)?.ok_or(NoAnswer::NoQuestion)?;
+    let from = tree.node(spot).ok_or(NoAnswer::NoQuestion)?;
+    show_place(said, tree, tree.resolve(from, &path));
+    Ok(())
+}
+
+fn ask_entered(said: &mut Report, tree: &Tree, rest: &str) -> Result<(), NoAnswer> {
+    let (previous, at) = first_word(rest);
+    let previous = spot_at(said, tree, previous)?;
+    let at = spot_at(said, tree, at)?.ok_or(NoAnswer::NoQuestion)?;
+    let entered = tree.entered(previous, at)?;
+    show_entered(said, tree, entered.as_slice());
+    Ok(())
 }
 
 // ---- questions
@@ -163,96 +227,51 @@ fn on(holder: NodeId) -> Spot {
 }
 
 /// The spot of a place, none where the story has no such place.
-fn spot_at(alloc: Global, tree: &Tree, place: &str) -> Result<Option<Spot>, AllocError> {
-    let parts = parts_of(alloc, place)?;
+fn spot_at(said: &Report, tree: &Tree, place: &str) -> Result<Option<Spot>, AllocError> {
+    let parts = parts_of(said.alloc(), place)?;
     Ok(tree.spot(parts.as_slice()))
 }
 
 // ---- answers
 
-fn shown_node(alloc: Global, node: Option<NodeId>) -> Answer {
+fn show_node(said: &mut Report, node: Option<NodeId>) {
     match node {
-        Some(NodeId { number }) => counted(alloc, number),
-        None => text(alloc, "none"),
+        Some(node) => said.show(node.number),
+        None => said.put("none"),
     }
 }
 
-fn shown_spot(alloc: Global, spot: Option<Spot>) -> Answer {
+fn show_spot(said: &mut Report, spot: Option<Spot>) {
+    let Some(Spot { holder, index }) = spot else {
+        return said.put("none");
+    };
+    said.show(holder.number);
+    if let Some(index) = index {
+        said.put(":");
+        said.show(index);
+    }
+}
+
+fn show_place(said: &mut Report, tree: &Tree, spot: Option<Spot>) {
     match spot {
-        None => text(alloc, "none"),
-        Some(
-            Spot {
-                holder,
-                index: None,
-            },
-        ) => counted(alloc, holder.number),
-        Some(
-            Spot {
-                holder,
-                index: Some(index),
-            },
-        ) => Ok(format!(in alloc; "{}:{index}", holder.number)?),
+        Some(spot) => match tree.place(spot) {
+            Ok(place) => said.place(place.parts()),
+            Err(_) => said.refuse(),
+        },
+        None => said.put("nowhere"),
     }
 }
 
-fn shown_place(alloc: Global, tree: &Tree, spot: Spot) -> Answer {
-    let place = tree.place(spot)?;
-    shown_parts(alloc, place.parts())
-}
-
-fn shown_target(alloc: Global, tree: &Tree, spot: Option<Spot>) -> Answer {
-    match spot {
-        Some(spot) => shown_place(alloc, tree, spot),
-        None => text(alloc, "nowhere"),
-    }
-}
-
-fn first(alloc: Global, tree: &Tree, spot: Spot) -> Answer {
-    let (spot, content) = tree.first_content(spot);
-    standing(alloc, tree, spot, shown_content(alloc, content))
-}
-
-fn first_leaf(alloc: Global, tree: &Tree, spot: Spot) -> Answer {
-    let (spot, leaf) = tree.first_leaf(spot);
-    standing(alloc, tree, spot, shown_leaf(alloc, leaf))
-}
-
-/// A place, and what stands there.
-fn standing(alloc: Global, tree: &Tree, spot: Spot, content: Answer) -> Answer {
-    let mut answer = shown_place(alloc, tree, spot)?;
-    append(&mut answer, content?.as_str())?;
-    Ok(answer)
-}
-
-fn resolved(alloc: Global, tree: &Tree, rest: &str) -> Answer {
-    let (from, path) = first_word(rest);
-    let path = read_path(alloc, path)?;
-    match spot_at(alloc, tree, from)?.and_then(|spot| tree.node(spot)) {
-        Some(from) => shown_target(alloc, tree, tree.resolve(from, &path)),
-        None => Err(NoAnswer::NoQuestion),
-    }
-}
-
-fn entered(alloc: Global, tree: &Tree, rest: &str) -> Answer {
-    let (previous, at) = first_word(rest);
-    let previous = spot_at(alloc, tree, previous)?;
-    match spot_at(alloc, tree, at)? {
-        Some(at) => shown_entered(alloc, tree, tree.entered(previous, at)?.as_slice()),
-        None => Err(NoAnswer::NoQuestion),
-    }
-}
-
-fn shown_entered(alloc: Global, tree: &Tree, holders: &[NodeId]) -> Answer {
+fn show_entered(said: &mut Report, tree: &Tree, holders: &[NodeId]) {
     if holders.is_empty() {
-        return text(alloc, "none");
+        said.put("none");
     }
     if holders.len() > MOST_TOLD {
-        return Ok(format!(in alloc; "{} containers", holders.len())?);
+        said.show(holders.len());
+        return said.put(" containers");
     }
-    let mut places = String::new(alloc);
     for holder in holders {
-        let place = shown_place(alloc, tree, on(*holder))?;
-        append(&mut places, place.as_str())?;
+        said.append("");
+        show_place(said, tree, Some(on(*holder)));
     }
-    Ok(places)
 }

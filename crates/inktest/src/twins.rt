@@ -1,16 +1,18 @@
 //! Stories, each asked by the calls of `Tree` and `Story` and by their slow twin: at each content and each container's end, and
 //! for `entered` from each of these, or from some where they are many, to each. A line is a story. Its answer is how much was
-//! compared, and `alike`, or else the first call that differs, with what it was asked about, what it gave and what its twin gave.
+//! compared, and `alike`, or else the first call that differs, with the place that it was asked about, what it gave and what its
+//! twin gave; stands are told by their numbers.
 
-use crate::content::{shown_content, shown_leaf};
-use crate::spelling::spelled;
-use crate::twin::{self, Plain};
+use crate::spelling::SPELLED;
+use crate::twin::{Twin, below, under};
+use crate::written::{is_path, is_spelled};
 use ink_check::{Story, check};
 use ink_json::{RawStory, read_story};
-use ink_model::{Part, Path, Place, ReadRefusal, Shared};
+use ink_model::{Part, Place, ReadRefusal};
 use ink_tree::{NodeId, Spot, Tree, read_path};
-use inkcases::{Answer, NoAnswer, append, counted, refused, show_parts, shown_parts, text};
-use std::alloc::{AllocError, AllocFailed, Global};
+use inkcases::{NoAnswer, Report};
+use std::alloc::{AllocError, Global};
+use std::collections::BTreeMap;
 
 /// The most pairs of two places, or of a path and a place, that are compared for one story.
 const MOST_PAIRS: usize = 100_000;
@@ -19,638 +21,370 @@ const MOST_PAIRS: usize = 100_000;
 /// some ten places are compared.
 const MOST_PASSED: usize = 10_000;
 
-/// A story by number, the same story as it was read and as a tree, and the places of all content in it, by number.
+/// A story by number, the same story as it was read, and its twin.
 #[derive(Clone, Copy)]
-struct Twins<'s, 'r> {
-    alloc: Global,
-    tree: &'s Tree,
+pub(crate) struct Twins<'s, 'r> {
+    pub alloc: Global,
+    pub tree: &'s Tree,
     raw: &'s RawStory,
-    plain: &'s Plain<'r>,
-    places: &'s [Place],
+    pub twin: &'s Twin<'r>,
 }
 
-/// A place of a story, of content or a container's end, and two spots that stand for it.
-#[derive(Drop)]
-struct Stand {
-    place: Place,
-    spots: [Spot; 2],
+/// Writes how much of a story was compared: its content, pairs of a place before and a landing place, and paths from content.
+pub(crate) fn answer(said: &mut Report, story: &str) -> Result<(), NoAnswer> {
+    let raw = read_story(said.alloc(), story.as_bytes())?;
+    compare_read(said, &raw, story)
 }
 
-/// What is asked, and of which place.
-#[derive(Clone, Copy)]
-struct Asked<'q> {
-    call: &'q str,
-    at: &'q [Part],
+fn compare_read(said: &mut Report, raw: &RawStory, story: &str) -> Result<(), NoAnswer> {
+    let tree = Tree::build(said.alloc(), read_story(said.alloc(), story.as_bytes())?)?;
+    let checked = check(said.alloc(), read_story(said.alloc(), story.as_bytes())?);
+    compare_built(said, raw, &tree, &checked);
+    Ok(())
 }
 
-/// Why no more is compared: there was no answer, or one that differs.
-#[derive(Drop)]
-enum Stop {
-    NoAnswer(NoAnswer),
-    Differs(String),
-}
-
-impl From<AllocError> for Stop {
-    fn from(_refused: AllocError) -> Stop {
-        Stop::NoAnswer(NoAnswer::OutOfMemory)
-    }
-}
-
-impl<T: Drop> From<AllocFailed<T>> for Stop {
-    fn from(_refused: AllocFailed<T>) -> Stop {
-        Stop::NoAnswer(NoAnswer::OutOfMemory)
-    }
-}
-
-impl From<NoAnswer> for Stop {
-    fn from(why: NoAnswer) -> Stop {
-        Stop::NoAnswer(why)
-    }
-}
-
-/// How much of a story was compared: its content, pairs of a place before and a landing place, and paths from content.
-pub(crate) fn answer(alloc: Global, story: &str) -> Answer {
-    let raw = read(alloc, story)?;
-    let tree = Tree::build(alloc, read(alloc, story)?)?;
-    match compare(alloc, &tree, &raw, story) {
-        Ok(compared) => Ok(compared),
-        Err(Stop::Differs(what)) => Ok(what),
-        Err(Stop::NoAnswer(why)) => Err(why),
-    }
-}
-
-fn compare<'s>(
-    alloc: Global,
-    tree: &'s Tree,
-    raw: &'s RawStory,
-    story: &str,
-) -> Result<String, Stop> {
-    let Some(plain) = twin::tree_of(alloc, raw)? else {
-        return Ok(text(alloc, "its list is empty")?);
-    };
-    let places = twin::places(alloc, &plain)?;
+fn compare_built(
+    said: &mut Report,
+    raw: &RawStory,
+    tree: &Tree,
+    checked: &Result<Story, ReadRefusal>,
+) {
+    let alloc = said.alloc();
+    let mut twin = Twin::new(alloc);
+    said.note(twin.read(alloc, raw.nodes()));
     let twins = Twins {
         alloc,
         tree,
         raw,
-        plain: &plain,
-        places: places.as_slice(),
+        twin: &twin,
     };
-    twins.compare(story)
+    twins.compare(said, checked);
 }
 
-fn read(alloc: Global, story: &str) -> Result<RawStory, NoAnswer> {
-    Ok(read_story(alloc, story.as_bytes())?)
+/// How far apart those of so many are that are taken, so that there are not too many pairs of them and of others.
+fn apart(count: usize, others: usize) -> usize {
+    (count.saturating_mul(others) / MOST_PAIRS).saturating_add(1)
 }
 
-/// All items, or every k-th where there are too many pairs of them and of others.
-fn some_of<'i, T>(alloc: Global, items: &'i [T], others: usize) -> Result<Vec<&'i T>, AllocError> {
-    let pairs = items.len().saturating_mul(others);
-    let apart = (pairs / MOST_PAIRS).saturating_add(1);
-    let mut some = Vec::new(alloc);
-    for (number, item) in items.iter().enumerate() {
-        if number % apart == 0 {
-            some.push(item)?;
-        }
-    }
-    Ok(some)
+/// How many of so many are taken.
+fn taken(count: usize, apart: usize) -> usize {
+    count.div_ceil(apart.max(1))
 }
 
 /// The spot of a content itself.
-fn on(holder: NodeId) -> Spot {
+fn on(number: usize) -> Spot {
     Spot {
-        holder,
+        holder: NodeId { number },
         index: None,
     }
 }
 
 impl Twins<'_, '_> {
-    fn compare(&self, story: &str) -> Result<String, Stop> {
-        self.compare_contents()?;
-        self.compare_raw()?;
-        self.compare_knots()?;
-        self.compare_checked(check(self.alloc, read(self.alloc, story)?))?;
-        let landings = self.compare_landings()?;
-        let paths = self.compare_paths()?;
-        let nodes = self.places.len();
-        let compared = format!(in self.alloc;
-            "{nodes} nodes, {landings} landings, {paths} paths: alike"
-        )?;
-        Ok(compared)
+    fn compare(&self, said: &mut Report, checked: &Result<Story, ReadRefusal>) {
+        self.compare_contents(said);
+        self.compare_raw(said);
+        self.compare_knots(said);
+        self.compare_checked(said, checked);
+        let landings = self.compare_landings(said);
+        let paths = self.compare_paths(said);
+        if said.is_empty() {
+            said.show(self.twin.contents());
+            said.put(" nodes, ");
+            said.show(landings);
+            said.put(" landings, ");
+            said.show(paths);
+            said.put(" paths: alike");
+        }
     }
 
     // ---- content
 
-    fn compare_contents(&self) -> Result<(), Stop> {
-        let len = Asked {
-            call: "len",
-            at: &[],
-        };
-        self.alike(
-            len,
-            counted(self.alloc, self.tree.len()),
-            counted(self.alloc, self.places.len()),
-        )?;
-        for (number, place) in self.places.iter().enumerate() {
-            self.compare_node(NodeId { number }, place.parts())?;
-            self.compare_content(NodeId { number }, place.parts())?;
+    fn compare_contents(&self, said: &mut Report) {
+        let len = self.twin.contents();
+        self.alike_numbers(said, "len", 0, Some(self.tree.len()), Some(len));
+        for at in 0..len {
+            self.compare_content(said, at);
         }
-        Ok(())
     }
 
-    /// Where a content is.
-    fn compare_node(&self, node: NodeId, at: &[Part]) -> Result<(), Stop> {
-        let (alloc, tree, plain) = (self.alloc, self.tree, self.plain);
-        let asked = |call| Asked { call, at };
-        let number = counted(alloc, tree.number_of(node));
-        self.alike(asked("number_of"), number, counted(alloc, node.number))?;
-        self.alike_spots(asked("place"), Some(on(node)), Some(at))?;
-        self.alike_spots(asked("spot"), tree.spot(at), Some(at))?;
-        let holder = twin::holder(alloc, at)?;
-        self.alike_nodes(asked("holder"), tree.holder(node), parts_of(&holder))?;
-        let inside = twin::inside(alloc, plain, at)?;
-        self.alike_nodes(asked("first"), tree.first(node), parts_of(&inside))
-    }
-
-    /// What it is.
-    fn compare_content(&self, node: NodeId, at: &[Part]) -> Result<(), Stop> {
-        let (alloc, tree, plain) = (self.alloc, self.tree, self.plain);
-        let asked = |call| Asked { call, at };
-        let content = shown_content(alloc, tree.content(on(node)));
-        self.alike(
-            asked("content"),
-            content,
-            shown_content(alloc, twin::content_at(plain, at)),
-        )?;
-        let leaf = shown_leaf(alloc, tree.leaf(node));
-        self.alike(
-            asked("leaf"),
-            leaf,
-            shown_leaf(alloc, twin::leaf_at(plain, at)),
-        )?;
-        let flags = counted(alloc, usize::from(tree.flags(node)));
-        let slow = counted(alloc, usize::from(twin::flags(plain, at)));
-        self.alike(asked("flags"), flags, slow)
+    /// Where a content is, and what it is.
+    fn compare_content(&self, said: &mut Report, at: usize) {
+        let (tree, twin) = (self.tree, self.twin);
+        let node = NodeId { number: at };
+        let flags = usize::from(tree.flags(node));
+        let slow = usize::from(twin.flags(at));
+        self.alike_numbers(said, "number_of", at, Some(tree.number_of(node)), Some(at));
+        self.alike_numbers(said, "flags", at, Some(flags), Some(slow));
+        self.alike_places(said, at, on(at));
+        self.alike_spots(said, "spot", at, tree.spot(twin.parts(at)), Some(at));
+        self.alike_nodes(said, "holder", at, tree.holder(node), twin.holder(at));
+        self.alike_nodes(said, "first", at, tree.first(node), twin.inside(at));
+        self.alike_contents(said, "content", at, tree.content(on(at)), twin.content(at));
+        self.alike_leaves(said, "leaf", at, tree.leaf(node), twin.leaf(at));
     }
 
     /// The content at all places, or the last and some, as it was read, and what stands behind a container's last content and at
     /// no key.
-    fn compare_raw(&self) -> Result<(), Stop> {
-        if let Some(last) = self.places.last() {
-            self.compare_raw_in(last.parts())?;
+    fn compare_raw(&self, said: &mut Report) {
+        let len = self.twin.contents();
+        self.compare_raw_in(said, len.saturating_sub(1));
+        let apart = apart(len, len.min(MOST_PASSED));
+        for turn in 0..taken(len, apart) {
+            self.compare_raw_in(said, turn.saturating_mul(apart));
         }
-        for place in some_of(self.alloc, self.places, self.places.len().min(MOST_PASSED))? {
-            self.compare_raw_in(place.parts())?;
-        }
-        Ok(())
     }
 
-    fn compare_raw_in(&self, place: &[Part]) -> Result<(), Stop> {
-        self.compare_raw_at(place)?;
-        let end = twin::below(self.alloc, place, twin::width(self.plain, place))?;
-        self.compare_raw_at(end.parts())?;
-        let absent = twin::under(self.alloc, place, "nowhere")?;
-        self.compare_raw_at(absent.parts())
+    fn compare_raw_in(&self, said: &mut Report, at: usize) {
+        let (parts, twin) = (self.twin.parts(at), self.twin);
+        self.alike_contents(said, "at", at, self.raw.at(parts), twin.content(at));
+        self.compare_nothing(said, at, below(self.alloc, parts, twin.width(at)));
+        if twin.named(at, "nowhere").is_none() {
+            self.compare_nothing(said, at, under(self.alloc, parts, "nowhere"));
+        }
     }
 
-    fn compare_raw_at(&self, at: &[Part]) -> Result<(), Stop> {
-        let content = shown_content(self.alloc, self.raw.at(at));
-        let slow = shown_content(self.alloc, twin::content_at(self.plain, at));
-        self.alike(Asked { call: "at", at }, content, slow)
+    /// Nothing stands at a place in a container.
+    fn compare_nothing(&self, said: &mut Report, at: usize, place: Result<Place, AllocError>) {
+        match place {
+            Ok(place) => {
+                self.alike_contents(said, "at in", at, self.raw.at(place.parts()), None);
+            }
+            Err(_) => said.refuse(),
+        }
     }
 
     /// By the name of each container that gives itself one, and by each key.
-    fn compare_knots(&self) -> Result<(), Stop> {
-        self.compare_knot("nowhere")?;
-        for place in self.places {
-            if let Some(name) = twin::content_at(self.plain, place.parts()).and_then(
-                twin::name_of,
-            ) {
-                self.compare_knot(name)?;
+    fn compare_knots(&self, said: &mut Report) {
+        self.compare_knot(said, "nowhere");
+        for at in 0..self.twin.contents() {
+            if let Some(name) = self.twin.own_name(at) {
+                self.compare_knot(said, name);
             }
-            if let Some(Part::Name(name)) = place.parts().last() {
-                self.compare_knot(name.as_str())?;
+            if let Some(Part::Name(name)) = self.twin.parts(at).last() {
+                self.compare_knot(said, name.as_str());
             }
         }
-        Ok(())
     }
 
-    fn compare_knot(&self, name: &str) -> Result<(), Stop> {
-        let place = twin::under(self.alloc, &[], name)?;
-        let knot = Asked {
-            call: "knot",
-            at: place.parts(),
-        };
-        let slow = twin::named(self.alloc, self.plain, &[], name)?;
-        self.alike_nodes(knot, self.tree.knot(name), parts_of(&slow))
+    fn compare_knot(&self, said: &mut Report, name: &str) {
+        self.alike_nodes(
+            said,
+            "knot",
+            0,
+            self.tree.knot(name),
+            self.twin.named(0, name),
+        );
     }
 
     // ---- what is written
 
-    fn compare_checked(&self, checked: Result<Story, ReadRefusal>) -> Result<(), Stop> {
-        let check = Asked {
-            call: "check",
-            at: &[],
-        };
-        let slow = self.accepted();
+    fn compare_checked(&self, said: &mut Report, checked: &Result<Story, ReadRefusal>) {
+        let mut fast = Report::new(self.alloc);
+        let mut slow = Report::new(self.alloc);
+        self.accept(&mut slow);
         match checked {
             Ok(story) => {
-                self.alike(check, text(self.alloc, "accepted"), slow)?;
-                self.compare_written(&story)
+                fast.put("accepted");
+                self.compare_written(said, story);
             }
-            Err(refusal) => self.alike(check, refused(self.alloc, &refusal), slow),
+            Err(refusal) => fast.unread(refusal),
         }
+        self.alike(said, "check", 0, &fast, &slow);
     }
 
     /// Whether each path leads where it has to, or the first place where one does not.
-    fn accepted(&self) -> Answer {
-        for place in self.places {
-            if twin::is_bad(self.alloc, self.plain, place.parts())? {
-                let mut answer = String::from_str(self.alloc, "BadPath ")?;
-                show_parts(&mut answer, place.parts())?;
-                return Ok(answer);
+    fn accept(&self, said: &mut Report) {
+        match self.twin.first_bad() {
+            Some(at) => {
+                said.put("BadPath ");
+                said.place(self.twin.parts(at));
             }
+            None => said.put("accepted"),
         }
-        text(self.alloc, "accepted")
     }
 
-    fn compare_written(&self, story: &Story) -> Result<(), Stop> {
-        let (alloc, plain) = (self.alloc, self.plain);
-        let variables = twin::variables(alloc, plain, self.places)?;
-        for (number, place) in self.places.iter().enumerate() {
-            let (node, at) = (NodeId { number }, place.parts());
-            let asked = |call| Asked { call, at };
-            let target = twin::target(alloc, plain, at)?;
-            self.alike_spots(asked("target"), story.target(node), parts_of(&target))?;
-            let counted = twin::counted(alloc, plain, at)?;
-            self.alike_nodes(asked("counted"), story.counted(node), parts_of(&counted))?;
-            let pushed = twin::pushed(alloc, plain, at)?;
-            let fast = story.pushed(node).map(Shared::get);
-            self.alike_paths(asked("pushed"), fast, pushed.as_ref())?;
-            let variable = twin::leaf_at(plain, at).and_then(twin::variable);
-            let slow = variable.and_then(|name| variables.get_index_of(name));
-            self.alike_numbers(asked("variable"), story.variable(node), slow)?;
+    fn compare_written(&self, said: &mut Report, story: &Story) {
+        let mut variables = BTreeMap::new(self.alloc);
+        for at in 0..self.twin.contents() {
+            let node = NodeId { number: at };
+            let number = self.number_in(said, &mut variables, self.twin.variable(at));
+            self.alike_numbers(said, "variable", at, story.variable(node), number);
+            self.alike_spots(said, "target", at, story.target(node), self.twin.target(at));
+            self.alike_nodes(
+                said,
+                "counted",
+                at,
+                story.counted(node),
+                self.twin.counted(at),
+            );
+            self.compare_pushed(said, story, at);
         }
-        Ok(())
+    }
+
+    /// The number of a variable, which is the next where it is new.
+    fn number_in<'n>(
+        &self,
+        said: &mut Report,
+        variables: &mut BTreeMap<&'n str, usize>,
+        variable: Option<&'n str>,
+    ) -> Option<usize> {
+        let name = variable?;
+        if let Some(number) = variables.get(name) {
+            return Some(*number);
+        }
+        let number = variables.len();
+        if variables.insert(name, number).is_err() {
+            said.refuse();
+        }
+        Some(number)
+    }
+
+    fn compare_pushed(&self, said: &mut Report, story: &Story, at: usize) {
+        let is_alike = match (story.pushed(NodeId { number: at }), self.twin.pushed(at)) {
+            (Some(fast), Some(slow)) => is_spelled(fast.get(), slow),
+            (None, None) => true,
+            _ => false,
+        };
+        self.hold(said, "pushed", at, is_alike);
     }
 
     // ---- landings
 
     /// At each place, and from each, or some, to each. Says how many pairs there are, those without a place before among them.
-    fn compare_landings(&self) -> Result<usize, Stop> {
-        let root = twin::landed(self.alloc, self.plain, &[])?;
-        let start = Asked {
-            call: "start",
-            at: &[],
-        };
-        self.alike_spots(start, Some(self.tree.start()), Some(root.parts()))?;
-        let mut landings = 0usize;
-        let stands = self.stands()?;
-        let before = some_of(self.alloc, stands.as_slice(), stands.len())?;
-        for at in &stands {
-            self.compare_flow(at)?;
-            self.compare_landing(None, at)?;
-            for previous in &before {
-                self.compare_landing(Some(previous), at)?;
-            }
-            landings = landings.saturating_add(before.len()).saturating_add(1);
-        }
-        Ok(landings)
-    }
-
-    /// The places of all content, and the ends of containers.
-    fn stands(&self) -> Result<Vec<Stand>, Stop> {
-        let mut stands = Vec::new(self.alloc);
-        for (number, place) in self.places.iter().enumerate() {
-            let holder = NodeId { number };
-            stands.push(self.stand(place.parts(), on(holder))?)?;
-            if twin::container_at(self.plain, place.parts()).is_some() {
-                let index = twin::width(self.plain, place.parts());
-                let end = twin::below(self.alloc, place.parts(), index)?;
-                let index = Some(index);
-                stands.push(self.stand(end.parts(), Spot { holder, index })?)?;
+    fn compare_landings(&self, said: &mut Report) -> usize {
+        let start = Some(self.twin.landed(0));
+        self.alike_spots(said, "start", 0, Some(self.tree.start()), start);
+        let len = self.twin.len();
+        let apart = apart(len, len);
+        let before = taken(len, apart);
+        for at in 0..len {
+            self.compare_flow(said, at, self.spot(at));
+            self.compare_flow(said, at, self.found(at));
+            self.compare_landing(said, None, at);
+            for turn in 0..before {
+                self.compare_landing(said, Some(turn.saturating_mul(apart)), at);
             }
         }
-        Ok(stands)
+        before.saturating_add(1).saturating_mul(len)
     }
 
-    /// A place with a spot that stands for it, and with the one that the tree finds, which goes by the index of content.
-    fn stand(&self, parts: &[Part], spot: Spot) -> Result<Stand, Stop> {
-        let found = self.tree.spot(parts).unwrap_or(spot);
-        Ok(Stand {
-            place: Place::from_parts(self.alloc, parts)?,
-            spots: [spot, found],
-        })
-    }
-
-    fn compare_flow(&self, stand: &Stand) -> Result<(), Stop> {
-        let (alloc, tree, plain) = (self.alloc, self.tree, self.plain);
-        let at = stand.place.parts();
-        let asked = |call| Asked { call, at };
-        let here = twin::content_at(plain, at).map(|_| at);
-        let landed = twin::landed(alloc, plain, at)?;
-        let next = twin::after(alloc, plain, at)?;
-        for spot in stand.spots {
-            self.alike_spots(asked("place"), Some(spot), Some(at))?;
-            self.alike_nodes(asked("node"), tree.node(spot), here)?;
-            let content = shown_content(alloc, tree.content(spot));
-            self.alike(
-                asked("content"),
-                content,
-                shown_content(alloc, twin::content_at(plain, at)),
-            )?;
-            self.alike_spots(asked("land"), Some(tree.land(spot)), Some(landed.parts()))?;
-            self.alike_spots(asked("next"), tree.next(spot), parts_of(&next))?;
-            let leaf = shown_leaf(alloc, tree.leaf_at(spot));
-            self.alike(
-                asked("leaf_at"),
-                leaf,
-                shown_leaf(alloc, twin::leaf_at(plain, at)),
-            )?;
-            self.compare_first(at, spot)?;
+    /// The spot of a stand: that of its content, or else that of the end.
+    fn spot(&self, at: usize) -> Spot {
+        if at < self.twin.contents() {
+            return on(at);
         }
-        Ok(())
+        let holder = self.twin.holder(at).unwrap_or(0);
+        Spot {
+            holder: NodeId { number: holder },
+            index: Some(self.twin.width(holder)),
+        }
     }
 
-    /// Where a step performs, and the content there, whole or as a leaf.
-    fn compare_first(&self, at: &[Part], spot: Spot) -> Result<(), Stop> {
-        let (alloc, tree, plain) = (self.alloc, self.tree, self.plain);
-        let asked = |call| Asked { call, at };
-        let performed = twin::performed(alloc, plain, at)?;
-        let there = performed.parts();
+    /// The one that the tree finds, which goes by the index of content.
+    fn found(&self, at: usize) -> Spot {
+        let found = self.tree.spot(self.twin.parts(at));
+        found.unwrap_or(self.spot(at))
+    }
+
+    fn compare_flow(&self, said: &mut Report, at: usize, spot: Spot) {
+        let (tree, twin) = (self.tree, self.twin);
+        let (here, number) = (twin.content(at), twin.node(at));
+        let there = twin.performed(at);
         let (first, content) = tree.first_content(spot);
-        self.alike_spots(asked("first_content"), Some(first), Some(there))?;
-        let content = shown_content(alloc, content);
-        self.alike(
-            asked("first_content"),
-            content,
-            shown_content(alloc, twin::content_at(plain, there)),
-        )?;
-        let (first, leaf) = tree.first_leaf(spot);
-        self.alike_spots(asked("first_leaf"), Some(first), Some(there))?;
-        let leaf = shown_leaf(alloc, leaf);
-        self.alike(
-            asked("first_leaf"),
-            leaf,
-            shown_leaf(alloc, twin::leaf_at(plain, there)),
-        )
+        let (first_of_leaf, leaf) = tree.first_leaf(spot);
+        self.alike_places(said, at, spot);
+        self.alike_nodes(said, "node", at, tree.node(spot), number);
+        self.alike_contents(said, "content", at, tree.content(spot), here);
+        self.alike_spots(
+            said,
+            "land",
+            at,
+            Some(tree.land(spot)),
+            Some(twin.landed(at)),
+        );
+        self.alike_spots(said, "next", at, tree.next(spot), twin.after(at));
+        self.alike_leaves(said, "leaf_at", at, tree.leaf_at(spot), twin.leaf(at));
+        self.alike_spots(said, "first_content", at, Some(first), Some(there));
+        self.alike_contents(said, "first_content", at, content, twin.content(there));
+        self.alike_spots(said, "first_leaf", at, Some(first_of_leaf), Some(there));
+        self.alike_leaves(said, "first_leaf", at, leaf, twin.leaf(there));
     }
 
-    fn compare_landing(&self, previous: Option<&Stand>, at: &Stand) -> Result<(), Stop> {
-        let before = previous.map(|stand| stand.place.parts());
-        let slow = twin::entered(self.alloc, self.plain, before, at.place.parts())?;
-        for (from, to) in [(0usize, 1usize), (1, 0)] {
-            let from = previous.map(|stand| stand.spots[from]);
-            let fast = self.tree.entered(from, at.spots[to])?;
-            if !self.are_places(fast.as_slice(), slow.as_slice()) {
-                return Err(self.differs_entered(before, at, fast.as_slice(), slow.as_slice()));
+    /// Between spots of which one goes by the index of content.
+    fn compare_landing(&self, said: &mut Report, previous: Option<usize>, at: usize) {
+        let (spot, found) = match previous {
+            Some(previous) => (Some(self.spot(previous)), Some(self.found(previous))),
+            None => (None, None),
+        };
+        self.compare_entered(said, previous, at, spot, self.found(at));
+        self.compare_entered(said, previous, at, found, self.spot(at));
+    }
+
+    fn compare_entered(
+        &self,
+        said: &mut Report,
+        previous: Option<usize>,
+        at: usize,
+        from: Option<Spot>,
+        to: Spot,
+    ) {
+        match self.tree.entered(from, to) {
+            Ok(entered) => {
+                let is_alike = self.twin.enters(previous, at, entered.as_slice());
+                self.hold(said, "entered", at, is_alike);
             }
+            Err(_) => said.refuse(),
         }
-        Ok(())
     }
 
     // ---- paths
 
     /// From each content by every path that the story has written, or by some, and by those that are spelled from its place and
     /// another. Says how many there are.
-    fn compare_paths(&self) -> Result<usize, Stop> {
-        let mut paths = 0usize;
-        let written = self.written()?;
-        let written = some_of(self.alloc, written.as_slice(), self.places.len())?;
-        for (number, from) in self.places.iter().enumerate() {
-            let node = NodeId { number };
-            for path in &written {
-                self.compare_path(node, from.parts(), path)?;
+    fn compare_paths(&self, said: &mut Report) -> usize {
+        let len = self.twin.contents();
+        let written = self.written(said);
+        let apart = apart(written.len(), len);
+        let count = taken(written.len(), apart);
+        for from in 0..len {
+            for turn in 0..count {
+                if let Some(path) = written.get(turn.saturating_mul(apart)) {
+                    self.compare_path(said, from, path);
+                }
             }
-            let spelled = spelled(self.alloc, self.plain, from.parts(), self.other(number))?;
-            for path in &spelled {
-                self.compare_path(node, from.parts(), path.as_str())?;
-            }
-            paths = paths
-                .saturating_add(written.len())
-                .saturating_add(spelled.len());
+            self.compare_spelled(
+                said,
+                from,
+                from.saturating_mul(7).saturating_add(3) % len.max(1),
+            );
         }
-        Ok(paths)
+        count.saturating_add(SPELLED).saturating_mul(len)
     }
 
     /// The paths that the story has written.
-    fn written(&self) -> Result<Vec<&str>, AllocError> {
-        let mut written = Vec::new(self.alloc);
-        for place in self.places {
-            if let Some(path) = twin::leaf_at(self.plain, place.parts()).and_then(twin::written) {
-                written.push(path)?;
+    fn written(&self, said: &mut Report) -> Vec<&str> {
+        let mut paths = Vec::new(self.alloc);
+        for at in 0..self.twin.contents() {
+            if let Some(path) = self.twin.written(at) {
+                if paths.push(path).is_err() {
+                    said.refuse();
+                }
             }
         }
-        Ok(written)
+        paths
     }
 
-    /// The place of some other content.
-    fn other(&self, number: usize) -> &[Part] {
-        let number = number.saturating_mul(7).saturating_add(3);
-        match self.places.get(number % self.places.len().max(1)) {
-            Some(place) => place.parts(),
-            None => &[],
-        }
-    }
-
-    fn compare_path(&self, node: NodeId, at: &[Part], path: &str) -> Result<(), Stop> {
-        let asked = format!(in self.alloc; "resolve {path}")?;
-        let asked = Asked {
-            call: asked.as_str(),
-            at,
-        };
-        let slow = twin::path_of(self.alloc, path)?;
-        let read = match read_path(self.alloc, path) {
-            Ok(path) => Some(path),
+    pub(crate) fn compare_path(&self, said: &mut Report, from: usize, path: &str) {
+        match read_path(self.alloc, path) {
+            Ok(read) => {
+                self.hold(said, path, from, is_path(path) && is_spelled(&read, path));
+                let fast = self.tree.resolve(NodeId { number: from }, &read);
+                self.alike_spots(said, path, from, fast, self.twin.leads(from, path));
+            }
             Err(refusal) => match NoAnswer::from(refusal) {
-                NoAnswer::OutOfMemory => return Err(Stop::from(AllocError)),
-                _ => None,
+                NoAnswer::OutOfMemory => said.refuse(),
+                _ => self.hold(said, path, from, !is_path(path)),
             },
-        };
-        self.alike_paths(asked, read.as_ref(), slow.as_ref())?;
-        let (Some(read), Some(path)) = (read, slow) else {
-            return Ok(());
-        };
-        let slow = twin::resolved(self.alloc, self.plain, at, &path)?;
-        self.alike_spots(asked, self.tree.resolve(node, &read), parts_of(&slow))
-    }
-
-    // ---- whether answers are alike
-
-    fn alike(&self, asked: Asked<'_>, fast: Answer, slow: Answer) -> Result<(), Stop> {
-        let (fast, slow) = (fast?, slow?);
-        if fast.as_str() == slow.as_str() {
-            return Ok(());
-        }
-        Err(self.differs(asked, Ok(fast), Ok(slow)))
-    }
-
-    fn alike_spots(
-        &self,
-        asked: Asked<'_>,
-        fast: Option<Spot>,
-        slow: Option<&[Part]>,
-    ) -> Result<(), Stop> {
-        let fast = match fast {
-            Some(spot) => Some(self.tree.place(spot)?),
-            None => None,
-        };
-        self.alike_places(asked, parts_of(&fast), slow)
-    }
-
-    fn alike_nodes(
-        &self,
-        asked: Asked<'_>,
-        fast: Option<NodeId>,
-        slow: Option<&[Part]>,
-    ) -> Result<(), Stop> {
-        let fast = fast.and_then(|node| self.places.get(node.number));
-        self.alike_places(asked, fast.map(Place::parts), slow)
-    }
-
-    fn alike_places(
-        &self,
-        asked: Asked<'_>,
-        fast: Option<&[Part]>,
-        slow: Option<&[Part]>,
-    ) -> Result<(), Stop> {
-        let are_same = match (fast, slow) {
-            (Some(fast), Some(slow)) => twin::are_same(fast, slow),
-            (None, None) => true,
-            _ => false,
-        };
-        if are_same {
-            return Ok(());
-        }
-        Err(self.differs(asked, self.shown_place(fast), self.shown_place(slow)))
-    }
-
-    fn alike_paths(
-        &self,
-        asked: Asked<'_>,
-        fast: Option<&Path>,
-        slow: Option<&Path>,
-    ) -> Result<(), Stop> {
-        let are_same = match (fast, slow) {
-            (Some(fast), Some(slow)) => twin::are_same_paths(fast, slow),
-            (None, None) => true,
-            _ => false,
-        };
-        if are_same {
-            return Ok(());
-        }
-        Err(self.differs(asked, self.shown_path(fast), self.shown_path(slow)))
-    }
-
-    fn alike_numbers(
-        &self,
-        asked: Asked<'_>,
-        fast: Option<usize>,
-        slow: Option<usize>,
-    ) -> Result<(), Stop> {
-        if fast == slow {
-            return Ok(());
-        }
-        Err(self.differs(asked, self.shown_number(fast), self.shown_number(slow)))
-    }
-
-    fn are_places(&self, nodes: &[NodeId], places: &[&[Part]]) -> bool {
-        nodes.len() == places.len()
-            && nodes
-                .iter()
-                .zip(places.iter())
-                .all(|(node, place)| self.is_place(*node, place))
-    }
-
-    fn is_place(&self, node: NodeId, parts: &[Part]) -> bool {
-        match self.places.get(node.number) {
-            Some(place) => twin::are_same(place.parts(), parts),
-            None => false,
         }
     }
-
-    // ---- answers that differ
-
-    fn differs(&self, asked: Asked<'_>, fast: Answer, slow: Answer) -> Stop {
-        match self.difference(asked, fast, slow) {
-            Ok(difference) => Stop::Differs(difference),
-            Err(why) => Stop::NoAnswer(why),
-        }
-    }
-
-    fn difference(&self, asked: Asked<'_>, fast: Answer, slow: Answer) -> Answer {
-        let (at, fast, slow) = (shown_parts(self.alloc, asked.at)?, fast?, slow?);
-        Ok(format!(in self.alloc; "{} at {at}: {fast}, and its twin {slow}", asked.call)?)
-    }
-
-    fn differs_entered(
-        &self,
-        before: Option<&[Part]>,
-        at: &Stand,
-        fast: &[NodeId],
-        slow: &[&[Part]],
-    ) -> Stop {
-        let call = match self.entered_from(before) {
-            Ok(call) => call,
-            Err(why) => return Stop::NoAnswer(why),
-        };
-        let asked = Asked {
-            call: call.as_str(),
-            at: at.place.parts(),
-        };
-        self.differs(asked, self.shown_nodes(fast), self.shown_places(slow))
-    }
-
-    fn entered_from(&self, before: Option<&[Part]>) -> Answer {
-        let before = self.shown_place(before)?;
-        Ok(format!(in self.alloc; "entered from {before}")?)
-    }
-
-    fn shown_place(&self, place: Option<&[Part]>) -> Answer {
-        match place {
-            Some(place) => shown_parts(self.alloc, place),
-            None => text(self.alloc, "nowhere"),
-        }
-    }
-
-    fn shown_number(&self, number: Option<usize>) -> Answer {
-        match number {
-            Some(number) => counted(self.alloc, number),
-            None => text(self.alloc, "no number"),
-        }
-    }
-
-    fn shown_path(&self, path: Option<&Path>) -> Answer {
-        let Some(path) = path else {
-            return text(self.alloc, "no path");
-        };
-        let mut shown = String::new(self.alloc);
-        if path.relative {
-            shown.push('.')?;
-        }
-        show_parts(&mut shown, path.parts.as_slice())?;
-        Ok(shown)
-    }
-
-    fn shown_nodes(&self, nodes: &[NodeId]) -> Answer {
-        let mut shown = text(self.alloc, "containers")?;
-        for node in nodes {
-            let place = self.shown_place(self.places.get(node.number).map(Place::parts))?;
-            append(&mut shown, place.as_str())?;
-        }
-        Ok(shown)
-    }
-
-    fn shown_places(&self, places: &[&[Part]]) -> Answer {
-        let mut shown = text(self.alloc, "containers")?;
-        for place in places {
-            append(&mut shown, shown_parts(self.alloc, place)?.as_str())?;
-        }
-        Ok(shown)
-    }
-}
-
-/// The parts of a place, where there is one.
-fn parts_of(place: &Option<Place>) -> Option<&[Part]> {
-    place.as_ref().map(Place::parts)
 }

@@ -12,7 +12,9 @@ mod plays;
 mod sessions;
 mod shown;
 
-use inkcases::{Answer, Answers, Table, Tables, Tally, run_lines, run_stories, run_tables};
+use inkcases::{
+    NoAnswer, Questions, Report, Table, Tables, Tally, ask_lines, ask_stories, run_tables,
+};
 use std::alloc::Global;
 use std::process::ExitCode;
 
@@ -38,18 +40,19 @@ impl Tables for Kind {
     }
 
     fn run(&self, rt: &impl Print, alloc: Global, table: Table<'_>, tally: &mut Tally) {
+        let mut kind = *self;
         match self {
-            Kind::Marks => run_stories(rt, alloc, self, table, tally),
-            Kind::Parts => run_lines(rt, alloc, self, table, tally),
+            Kind::Marks => ask_stories(rt, alloc, &mut kind, table, tally),
+            Kind::Parts => ask_lines(rt, alloc, &mut kind, table, tally),
         }
     }
 }
 
-impl Answers for Kind {
-    fn answer(&self, alloc: Global, story: &str, question: &str) -> Answer {
+impl Questions for Kind {
+    fn answer(&mut self, said: &mut Report, story: &str, question: &str) -> Result<(), NoAnswer> {
         match self {
-            Kind::Marks => marks::answer(alloc, story, question),
-            Kind::Parts => parts::answer(alloc, question),
+            Kind::Marks => marks::answer(said, story, question),
+            Kind::Parts => parts::answer(said, question),
         }
     }
 }

@@ -9,9 +9,8 @@
 
 use crate::plays::{Play, Way};
 use crate::sessions::Session;
-use crate::shown::first_other;
-use inkcases::{Answer, NoAnswer};
-use std::alloc::{AllocError, Global};
+use crate::shown::compare;
+use inkcases::{NoAnswer, Report};
 
 /// How many moves are made at the most while a mark stands.
 const MOST: usize = 50;
@@ -19,158 +18,151 @@ const MOST: usize = 50;
 /// The most moves of a session.
 const LONGEST: usize = 1_000;
 
-/// Why a case does not hold: what differs, or why there is no answer.
-#[derive(Drop)]
-enum Failure {
-    Differs(String),
-    NoAnswer(NoAnswer),
-}
-
-impl From<NoAnswer> for Failure {
-    fn from(why: NoAnswer) -> Failure {
-        Failure::NoAnswer(why)
-    }
-}
-
-impl From<AllocError> for Failure {
-    fn from(_refused: AllocError) -> Failure {
-        Failure::NoAnswer(NoAnswer::OutOfMemory)
-    }
-}
-
 /// The answer to a question about a story.
-pub(crate) fn answer(alloc: Global, story: &str, question: &str) -> Answer {
-    let session = Session::read(alloc, story, question)?;
-    let moves = Play::count_moves(alloc, &session, LONGEST)?;
+pub(crate) fn answer(said: &mut Report, story: &str, question: &str) -> Result<(), NoAnswer> {
+    let session = Session::read(said.alloc(), story, question)?;
+    let mut play = Play::open(said.alloc(), &session)?;
+    compare_moments(said, &session, &mut play)
+}
+
+fn compare_moments(
+    said: &mut Report,
+    session: &Session<'_>,
+    play: &mut Play,
+) -> Result<(), NoAnswer> {
+    let moves = play.count_moves(session, LONGEST)?;
     for moment in 0..=moves {
-        match compare_at(alloc, &session, moment) {
-            Ok(()) => {}
-            Err(Failure::Differs(what)) => {
-                return Ok(format!(in alloc; "after {moment} moves: {what}")?);
-            }
-            Err(Failure::NoAnswer(why)) => return Err(why),
+        let mut found = Report::new(said.alloc());
+        compare_at(&mut found, session, play, moment)?;
+        if !found.is_empty() || found.is_refused() {
+            said.number("after ", moment as u64);
+            said.put(" moves: ");
+            said.add(&found);
+            return Ok(());
         }
     }
-    let marks = moves.saturating_add(1);
-    Ok(format!(in alloc; "{marks} marks: alike")?)
+    said.show(moves.saturating_add(1));
+    said.put(" marks: alike");
+    Ok(())
 }
 
 /// A twin as it is at a moment, and once it has gone on with objects made anew.
 #[derive(Drop)]
 struct Twin {
-    here: String,
-    beyond: String,
+    here: Report,
+    beyond: Report,
     given: usize,
 }
 
 /// Compares what a machine has after so many moves with that of its twin: once it has gone back there, and once it has gone on from
 /// there and forgotten its mark.
-fn compare_at(alloc: Global, session: &Session, moment: usize) -> Result<(), Failure> {
-    let twin = twin_at(alloc, session, moment)?;
-    compare_back(alloc, session, moment, &twin)?;
-    compare_forgotten(alloc, session, moment, &twin)
+fn compare_at(
+    found: &mut Report,
+    session: &Session<'_>,
+    play: &mut Play,
+    moment: usize,
+) -> Result<(), NoAnswer> {
+    let mut twin = Twin {
+        here: Report::new(found.alloc()),
+        beyond: Report::new(found.alloc()),
+        given: 0,
+    };
+    read_twin(found, session, play, moment, &mut twin)?;
+    compare_back(found, session, play, moment, &twin)?;
+    compare_forgotten(found, session, play, moment, &twin)
 }
 
 /// The twin. To go back without a mark changes nothing in it, and neither does making room.
-fn twin_at(alloc: Global, session: &Session, moment: usize) -> Result<Twin, Failure> {
-    let mut play = Play::at(alloc, session, moment)?;
-    let here = play.shown(alloc)?;
-    compare_unmarked(alloc, &mut play, here.as_str())?;
-    let given = play.given();
-    let (_way, beyond) = shown_beyond(alloc, session, &mut play, given)?;
-    Ok(Twin {
-        here,
-        beyond,
-        given,
-    })
-}
-
-fn compare_unmarked(alloc: Global, play: &mut Play, here: &str) -> Result<(), Failure> {
-    let count = play.machine.back();
-    compare_count(alloc, "back without a mark", count, 0)?;
-    compare_here(alloc, "back without a mark", play, here)?;
-    play.machine.make_room(MOST)?;
-    if play.machine.room() < MOST {
-        return Err(Failure::Differs(String::from_str(alloc, "no room")?));
-    }
-    compare_here(alloc, "room", play, here)
-}
-
-/// How a play goes on with objects made anew, and what it has then.
-fn shown_beyond(
-    alloc: Global,
-    session: &Session,
+fn read_twin(
+    found: &mut Report,
+    session: &Session<'_>,
     play: &mut Play,
-    given: usize,
-) -> Result<(Way, String), NoAnswer> {
-    play.renew(alloc, session, given)?;
+    moment: usize,
+    twin: &mut Twin,
+) -> Result<(), NoAnswer> {
+    play.play_to(session, moment)?;
+    play.show(&mut twin.here);
+    twin.given = play.given;
+    compare_number(found, "back without a mark", play.machine.back(), 0);
+    compare_here(found, "back without a mark", play, &twin.here);
+    play.machine.make_room(MOST)?;
+    let room = play.machine.room().min(MOST);
+    compare_number(found, "room", room as u64, MOST as u64);
+    compare_here(found, "room", play, &twin.here);
+    play.renew(session, twin.given)?;
     let way = play.go_far(session, MOST);
-    let shown = play.shown_after(alloc, way)?;
-    Ok((way, shown))
+    play.show_after(&mut twin.beyond, way);
+    Ok(())
 }
 
 /// A machine that goes back to its mark is as the twin, and goes on as the twin does. What happens before it goes back, want of
-/// memory too, is no matter.
+/// memory too, is no matter. Where there was a move, an older mark stood before the last one.
 fn compare_back(
-    alloc: Global,
-    session: &Session,
+    found: &mut Report,
+    session: &Session<'_>,
+    play: &mut Play,
     moment: usize,
     twin: &Twin,
-) -> Result<(), Failure> {
-    let mut play = Play::marked_at(alloc, session, moment)?;
-    compare_here(alloc, "mark", &play, twin.here.as_str())?;
+) -> Result<(), NoAnswer> {
+    play.play_to(session, moment.saturating_sub(1))?;
+    if moment > 0 {
+        play.machine.mark();
+        let _is_sent = play.play_on(session)?;
+    }
+    play.machine.mark();
+    compare_here(found, "mark", play, &twin.here);
     let _way = play.go_far(session, MOST);
-    go_back(alloc, &mut play, twin.here.as_str())?;
-    let (_way, beyond) = shown_beyond(alloc, session, &mut play, twin.given)?;
-    compare(alloc, "beyond", beyond.as_str(), twin.beyond.as_str())
-}
-
-/// Goes back, which leaves a machine as it is shown here, and no mark.
-fn go_back(alloc: Global, play: &mut Play, here: &str) -> Result<(), Failure> {
     let writes = play.machine.writes();
     let count = play.machine.back();
-    compare_here(alloc, "back", play, here)?;
-    if count > writes {
-        return Err(Failure::Differs(format!(in alloc; "back: {count} of {writes} writes")?));
-    }
-    compare_count(alloc, "writes without a mark", play.machine.writes(), 0)
+    compare_here(found, "back", play, &twin.here);
+    compare_number(
+        found,
+        "back of more than the writes",
+        count.max(writes),
+        writes,
+    );
+    compare_number(found, "writes without a mark", play.machine.writes(), 0);
+    play.renew(session, twin.given)?;
+    let way = play.go_far(session, MOST);
+    compare_beyond(found, "beyond", play, way, &twin.beyond);
+    Ok(())
 }
 
 /// A machine that goes on from its mark and forgets it is as the twin that has gone on.
 fn compare_forgotten(
-    alloc: Global,
-    session: &Session,
+    found: &mut Report,
+    session: &Session<'_>,
+    play: &mut Play,
     moment: usize,
     twin: &Twin,
-) -> Result<(), Failure> {
-    let mut play = Play::at(alloc, session, moment)?;
+) -> Result<(), NoAnswer> {
+    play.play_to(session, moment)?;
     play.machine.mark();
-    let (way, marked) = shown_beyond(alloc, session, &mut play, twin.given)?;
-    compare(alloc, "marked", marked.as_str(), twin.beyond.as_str())?;
+    play.renew(session, twin.given)?;
+    let way = play.go_far(session, MOST);
+    compare_beyond(found, "marked", play, way, &twin.beyond);
     play.machine.forget();
-    let forgotten = play.shown_after(alloc, way)?;
-    compare(alloc, "forget", forgotten.as_str(), twin.beyond.as_str())?;
-    compare_count(alloc, "writes without a mark", play.machine.writes(), 0)
+    compare_beyond(found, "forget", play, way, &twin.beyond);
+    compare_number(found, "writes without a mark", play.machine.writes(), 0);
+    Ok(())
 }
 
-// ---- differences
+fn compare_here(found: &mut Report, what: &str, play: &Play, wanted: &Report) {
+    let mut came = Report::new(found.alloc());
+    play.show(&mut came);
+    compare(found, what, &came, wanted);
+}
 
-fn compare_count(alloc: Global, what: &str, came: u64, wanted: u64) -> Result<(), Failure> {
-    if came == wanted {
-        return Ok(());
+fn compare_beyond(found: &mut Report, what: &str, play: &Play, way: Way, wanted: &Report) {
+    let mut came = Report::new(found.alloc());
+    play.show_after(&mut came, way);
+    compare(found, what, &came, wanted);
+}
+
+fn compare_number(found: &mut Report, what: &str, came: u64, wanted: u64) {
+    if came != wanted && found.is_empty() {
+        found.put(what);
+        found.number(": ", came);
+        found.number(" for ", wanted);
     }
-    Err(Failure::Differs(format!(in alloc; "{what}: {came} for {wanted}")?))
-}
-
-fn compare_here(alloc: Global, what: &str, play: &Play, here: &str) -> Result<(), Failure> {
-    let came = play.shown(alloc)?;
-    compare(alloc, what, came.as_str(), here)
-}
-
-fn compare(alloc: Global, what: &str, came: &str, wanted: &str) -> Result<(), Failure> {
-    if came == wanted {
-        return Ok(());
-    }
-    let (came, wanted) = first_other(came, wanted);
-    Err(Failure::Differs(format!(in alloc; "{what}: {came} for {wanted}")?))
 }

@@ -10,83 +10,54 @@
 //! - `counts`: `visit:CONTAINER:FLAGS` at its start, and `again:CONTAINER`, which puts back what is known of it
 //! - `choices`: `add:TEXT`, `take:NUMBER` and `clear`
 
-use crate::shown::{first_other, show_choices, show_counts, show_globals, show_threads};
+use crate::shown::{compare, show_choices, show_counts, show_globals, show_threads};
 use ink_choice::{Choice, Choices};
 use ink_model::{Fault, FrameKind, Seq, Text};
 use ink_stack::{CallKind, Threads};
 use ink_tree::{NodeId, Spot};
 use ink_vars::{Counts, Globals, Turn};
-use inkcases::{Answer, NoAnswer, decoded, first_word, number, value_of};
+use inkcases::{NoAnswer, Report, decoded, first_word, number, value_of};
 use std::alloc::{AllocError, Global};
 
-/// A part of a machine.
-trait Part: Drop {
-    /// Makes a call by its word and what stands behind `:`.
-    fn call(&mut self, alloc: Global, word: &str, rest: &str) -> Result<(), NoAnswer>;
-
-    /// Writes all that the part has behind a text.
-    fn show(&self, alloc: Global, said: &mut String) -> Result<(), AllocError>;
-
-    fn mark(&mut self);
-
-    fn writes(&self) -> u64;
-
-    fn back(&mut self) -> u64;
+/// One of each part.
+#[derive(Drop)]
+struct Parts {
+    threads: Threads<Spot>,
+    globals: Globals,
+    counts: Counts,
+    choices: Choices<Spot>,
 }
 
 /// The answer to a question.
-pub(crate) fn answer(alloc: Global, question: &str) -> Answer {
+pub(crate) fn answer(said: &mut Report, question: &str) -> Result<(), NoAnswer> {
+    let mut parts = Parts::new(said.alloc());
+    let mut twin = Parts::new(said.alloc());
+    answer_with(said, &mut parts, &mut twin, question)
+}
+
+fn answer_with(
+    said: &mut Report,
+    parts: &mut Parts,
+    twin: &mut Parts,
+    question: &str,
+) -> Result<(), NoAnswer> {
+    let alloc = said.alloc();
     let (part, calls) = first_word(question);
-    match part {
-        "threads" => answer_of(alloc, new_threads(alloc), new_threads(alloc), calls),
-        "globals" => answer_of(alloc, Globals::new(alloc), Globals::new(alloc), calls),
-        "counts" => answer_of(alloc, Counts::new(alloc), Counts::new(alloc), calls),
-        "choices" => answer_of(alloc, new_choices(alloc), new_choices(alloc), calls),
-        _ => Err(NoAnswer::NoQuestion),
-    }
-}
-
-fn new_threads(alloc: Global) -> Threads<Spot> {
-    Threads::new(alloc, Some(place(0)))
-}
-
-fn new_choices(alloc: Global) -> Choices<Spot> {
-    Choices::new(alloc)
-}
-
-/// The answer of a new part, with a new twin.
-fn answer_of<P: Part>(alloc: Global, part: P, twin: P, calls: &str) -> Answer {
-    let mut part = part;
-    let mut twin = twin;
     let (before, behind) = calls.split_once('|').unwrap_or((calls, ""));
-    make_calls(alloc, &mut part, before)?;
-    make_calls(alloc, &mut twin, before)?;
-    part.mark();
-    let made = make_calls(alloc, &mut part, behind);
-    let writes = part.writes();
-    let count = part.back();
-    let came = shown(alloc, &part)?;
-    let wanted = shown(alloc, &twin)?;
-    if came.as_str() != wanted.as_str() {
-        let (came, wanted) = first_other(came.as_str(), wanted.as_str());
-        return Ok(format!(in alloc; "{came} for {wanted}")?);
-    }
-    made?;
-    Ok(format!(in alloc; "{count} of {writes}: alike")?)
-}
-
-fn make_calls<P: Part>(alloc: Global, part: &mut P, calls: &str) -> Result<(), NoAnswer> {
-    for call in calls.split_whitespace() {
-        let (word, rest) = call.split_once(':').unwrap_or((call, ""));
-        part.call(alloc, word, rest)?;
+    parts.make_calls(alloc, part, before)?;
+    twin.make_calls(alloc, part, before)?;
+    parts.mark();
+    let made = parts.make_calls(alloc, part, behind);
+    let writes = parts.writes();
+    let count = parts.back();
+    compare(said, "back", &parts.shown(alloc), &twin.shown(alloc));
+    if said.is_empty() {
+        made?;
+        said.show(count);
+        said.number(" of ", writes);
+        said.put(": alike");
     }
     Ok(())
-}
-
-fn shown<P: Part>(alloc: Global, part: &P) -> Result<String, AllocError> {
-    let mut said = String::new(alloc);
-    part.show(alloc, &mut said)?;
-    Ok(said)
 }
 
 /// The place of a container.
@@ -97,53 +68,121 @@ fn place(number: usize) -> Spot {
     }
 }
 
-// ---- threads
-
-impl Part for Threads<Spot> {
-    fn call(&mut self, alloc: Global, word: &str, rest: &str) -> Result<(), NoAnswer> {
-        match word {
-            "temp" => set_temp(alloc, self, rest),
-            "fork" => Ok(self.push_thread()?),
-            "alone" => stay_alone(self),
-            "reset" => reset(self),
-            "drop" => drop_thread(self),
-            "mode" => set_mode(self, rest == "true"),
-            _ => call_at(self, word, number(rest)?),
+impl Parts {
+    fn new(alloc: Global) -> Parts {
+        Parts {
+            threads: Threads::new(alloc, Some(place(0))),
+            globals: Globals::new(alloc),
+            counts: Counts::new(alloc),
+            choices: Choices::new(alloc),
         }
     }
 
-    fn show(&self, alloc: Global, said: &mut String) -> Result<(), AllocError> {
-        show_threads(alloc, said, self)
+    /// Makes calls of a part, each by its word and what stands behind `:`.
+    fn make_calls(&mut self, alloc: Global, part: &str, calls: &str) -> Result<(), NoAnswer> {
+        for call in calls.split_whitespace() {
+            let (word, rest) = call.split_once(':').unwrap_or((call, ""));
+            match part {
+                "threads" => call_threads(alloc, &mut self.threads, word, rest)?,
+                "globals" => put_global(alloc, &mut self.globals, call)?,
+                "counts" => call_counts(&mut self.counts, word, rest)?,
+                "choices" => call_choices(alloc, &mut self.choices, word, rest)?,
+                _ => return Err(NoAnswer::NoQuestion),
+            }
+        }
+        Ok(())
     }
 
     fn mark(&mut self) {
-        self.mark()
+        self.threads.mark();
+        self.globals.mark();
+        self.counts.mark();
+        self.choices.mark();
     }
 
+    /// How many changes were counted.
     fn writes(&self) -> u64 {
-        self.writes()
+        let globals = self.threads.writes().saturating_add(self.globals.writes());
+        let counts = globals.saturating_add(self.counts.writes());
+        counts.saturating_add(self.choices.writes())
     }
 
+    /// Goes back, and says how many changes were noted.
     fn back(&mut self) -> u64 {
-        self.back()
+        let globals = self.threads.back().saturating_add(self.globals.back());
+        let counts = globals.saturating_add(self.counts.back());
+        counts.saturating_add(self.choices.back())
     }
+
+    fn shown(&self, alloc: Global) -> Report {
+        let mut said = Report::new(alloc);
+        show_threads(&mut said, &self.threads);
+        show_globals(&mut said, &self.globals);
+        show_counts(&mut said, &self.counts);
+        show_choices(&mut said, &self.choices);
+        said
+    }
+}
+
+// ---- threads
+
+fn call_threads(
+    alloc: Global,
+    threads: &mut Threads<Spot>,
+    word: &str,
+    rest: &str,
+) -> Result<(), NoAnswer> {
+    match word {
+        "temp" => set_temp(alloc, threads, rest),
+        "mode" => set_mode(threads, rest == "true"),
+        "fork" | "drop" | "alone" | "reset" => call_thread(threads, word),
+        _ => call_at(threads, word, number(rest)?),
+    }
+}
+
+/// Calls of whole threads.
+fn call_thread(threads: &mut Threads<Spot>, word: &str) -> Result<(), NoAnswer> {
+    threads.ready(1)?;
+    match word {
+        "fork" => threads.push_thread()?,
+        "alone" => {
+            let copy = threads.fork()?;
+            threads.replace(copy);
+        }
+        "reset" => threads.reset(),
+        _ => {
+            let _is_dropped = threads.pop_thread();
+        }
+    }
+    Ok(())
 }
 
 /// Calls with a number.
 fn call_at(threads: &mut Threads<Spot>, word: &str, number: usize) -> Result<(), NoAnswer> {
+    match word {
+        "go" | "put" | "number" => move_to(threads, word, number),
+        "call" => Ok(threads.push_frame(CallKind::Function, number)?),
+        "tunnel" => Ok(threads.push_frame(CallKind::Tunnel, number)?),
+        "return" => pop_frame(threads, FrameKind::Function, number),
+        "leave" => pop_frame(threads, FrameKind::Tunnel, number),
+        "text" => Ok(end_freshness(threads, number)?),
+        _ => Err(NoAnswer::NoQuestion),
+    }
+}
+
+fn move_to(threads: &mut Threads<Spot>, word: &str, number: usize) -> Result<(), NoAnswer> {
     threads.ready(2)?;
     match word {
         "go" => threads.go(Some(place(number))),
         "put" => threads.put(Some(place(number))),
-        "number" => threads.set_number(number as u64),
-        "text" => end_freshness(threads, number)?,
-        "call" => threads.push_frame(CallKind::Function, number)?,
-        "tunnel" => threads.push_frame(CallKind::Tunnel, number)?,
-        "return" => threads.pop_frame(FrameKind::Function, number)?,
-        "leave" => threads.pop_frame(FrameKind::Tunnel, number)?,
-        _ => return Err(NoAnswer::NoQuestion),
+        _ => threads.set_number(number as u64),
     }
     Ok(())
+}
+
+fn pop_frame(threads: &mut Threads<Spot>, kind: FrameKind, depth: usize) -> Result<(), NoAnswer> {
+    threads.ready(2)?;
+    Ok(threads.pop_frame(kind, depth)?)
 }
 
 fn end_freshness(threads: &mut Threads<Spot>, depth: usize) -> Result<(), AllocError> {
@@ -159,88 +198,33 @@ fn set_mode(threads: &mut Threads<Spot>, evaluating: bool) -> Result<(), NoAnswe
     Ok(())
 }
 
-fn drop_thread(threads: &mut Threads<Spot>) -> Result<(), NoAnswer> {
-    threads.ready(1)?;
-    let _is_dropped = threads.pop_thread();
-    Ok(())
-}
-
-fn stay_alone(threads: &mut Threads<Spot>) -> Result<(), NoAnswer> {
-    let copy = threads.fork()?;
-    threads.ready(1)?;
-    threads.replace(copy);
-    Ok(())
-}
-
-fn reset(threads: &mut Threads<Spot>) -> Result<(), NoAnswer> {
-    threads.ready(1)?;
-    threads.reset();
-    Ok(())
-}
-
 /// Sets a temporary of a frame that is there: `FRAME:NAME=VALUE`.
 fn set_temp(alloc: Global, threads: &mut Threads<Spot>, rest: &str) -> Result<(), NoAnswer> {
     let (frame, row) = rest.split_once(':').unwrap_or((rest, ""));
     let (name, value) = row.split_once('=').unwrap_or((row, ""));
     let frame = number::<usize>(frame)?;
-    let value = value_of(alloc, value)?;
     if frame == 0 || frame > threads.top().frames() {
         return Err(NoAnswer::NoQuestion);
     }
+    let value = value_of(alloc, value)?;
     Ok(threads.set_temp(frame, name, value)?)
 }
 
 // ---- globals and counts
 
-impl Part for Globals {
-    fn call(&mut self, alloc: Global, word: &str, _rest: &str) -> Result<(), NoAnswer> {
-        let (name, value) = word.split_once('=').unwrap_or((word, ""));
-        let value = value_of(alloc, value)?;
-        Ok(self.put(name, None, value)?)
-    }
-
-    fn show(&self, alloc: Global, said: &mut String) -> Result<(), AllocError> {
-        show_globals(alloc, said, self)
-    }
-
-    fn mark(&mut self) {
-        self.mark()
-    }
-
-    fn writes(&self) -> u64 {
-        self.writes()
-    }
-
-    fn back(&mut self) -> u64 {
-        self.back()
-    }
+fn put_global(alloc: Global, globals: &mut Globals, call: &str) -> Result<(), NoAnswer> {
+    let (name, value) = call.split_once('=').unwrap_or((call, ""));
+    let value = value_of(alloc, value)?;
+    Ok(globals.put(name, None, value)?)
 }
 
-impl Part for Counts {
-    fn call(&mut self, _alloc: Global, word: &str, rest: &str) -> Result<(), NoAnswer> {
-        let (node, flags) = rest.split_once(':').unwrap_or((rest, "0"));
-        let node = number::<usize>(node)?;
-        match word {
-            "visit" => Ok(self.visit(node, number(flags)?, true, Turn::first().next())?),
-            "again" => restore(self, node),
-            _ => Err(NoAnswer::NoQuestion),
-        }
-    }
-
-    fn show(&self, _alloc: Global, said: &mut String) -> Result<(), AllocError> {
-        show_counts(said, self)
-    }
-
-    fn mark(&mut self) {
-        self.mark()
-    }
-
-    fn writes(&self) -> u64 {
-        self.writes()
-    }
-
-    fn back(&mut self) -> u64 {
-        self.back()
+fn call_counts(counts: &mut Counts, word: &str, rest: &str) -> Result<(), NoAnswer> {
+    let (node, flags) = rest.split_once(':').unwrap_or((rest, "0"));
+    let node = number::<usize>(node)?;
+    match word {
+        "visit" => Ok(counts.visit(node, number(flags)?, true, Turn::first().next())?),
+        "again" => restore(counts, node),
+        _ => Err(NoAnswer::NoQuestion),
     }
 }
 
@@ -253,31 +237,23 @@ fn restore(counts: &mut Counts, node: usize) -> Result<(), NoAnswer> {
 
 // ---- choices
 
-impl Part for Choices<Spot> {
-    fn call(&mut self, alloc: Global, word: &str, rest: &str) -> Result<(), NoAnswer> {
-        match word {
-            "add" => Ok(self.add(choice_of(alloc, rest)?)?),
-            "take" => take(self, number(rest)?),
-            "clear" => clear(self),
-            _ => Err(NoAnswer::NoQuestion),
-        }
+fn call_choices(
+    alloc: Global,
+    choices: &mut Choices<Spot>,
+    word: &str,
+    rest: &str,
+) -> Result<(), NoAnswer> {
+    match word {
+        "add" => add(alloc, choices, rest),
+        "take" => take(choices, number(rest)?),
+        "clear" => clear(choices),
+        _ => Err(NoAnswer::NoQuestion),
     }
+}
 
-    fn show(&self, alloc: Global, said: &mut String) -> Result<(), AllocError> {
-        show_choices(alloc, said, self)
-    }
-
-    fn mark(&mut self) {
-        self.mark()
-    }
-
-    fn writes(&self) -> u64 {
-        self.writes()
-    }
-
-    fn back(&mut self) -> u64 {
-        self.back()
-    }
+fn add(alloc: Global, choices: &mut Choices<Spot>, text: &str) -> Result<(), NoAnswer> {
+    let choice = choice_of(alloc, text)?;
+    Ok(choices.add(choice)?)
 }
 
 fn choice_of(alloc: Global, text: &str) -> Result<Choice<Spot>, Fault> {
@@ -286,7 +262,7 @@ fn choice_of(alloc: Global, text: &str) -> Result<Choice<Spot>, Fault> {
         tags: Seq::new(alloc),
         target: place(1),
         hidden: text.is_empty(),
-        thread: new_threads(alloc).fork()?,
+        thread: Threads::new(alloc, Some(place(0))).fork()?,
     })
 }
 

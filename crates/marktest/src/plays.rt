@@ -1,17 +1,19 @@
 //! Plays: machines that are run through sessions, each with objects of its own.
 
 use crate::sessions::{Command, Session, TestDesk};
-use crate::shown::{shown_globals, shown_machine};
+use crate::shown::{show_globals, show_machine};
+use ink_host::Desk;
 use ink_step::Machine;
-use inkcases::{NoAnswer, told};
+use inkcases::{NoAnswer, Report};
 use std::alloc::Global;
 
 /// A machine, its objects, and how many commands it was given.
 #[derive(Drop)]
 pub(crate) struct Play {
+    alloc: Global,
     pub machine: Machine,
     desk: TestDesk,
-    given: usize,
+    pub given: usize,
 }
 
 /// How far a play has gone, and why it went no further, where that is a fault or a refusal.
@@ -22,63 +24,61 @@ pub(crate) struct Way {
 }
 
 impl Play {
-    // At the story's start, as its first command begins.
-    fn open(alloc: Global, session: &Session) -> Result<Play, NoAnswer> {
-        let desk = session.desk(alloc)?;
-        let mut machine = match Machine::open(alloc, &session.story) {
-            Ok(machine) => machine,
-            Err(unopened) => return Err(NoAnswer::from(unopened.fault)),
-        };
-        machine.begin();
+    /// At a story's start, with no objects.
+    pub(crate) fn open(alloc: Global, session: &Session<'_>) -> Result<Play, NoAnswer> {
+        let machine = opened(alloc, session)?;
         Ok(Play {
+            alloc,
             machine,
-            desk,
+            desk: Desk::new(alloc),
             given: 0,
         })
     }
 
-    /// After so many moves of a session: its steps, and its commands.
-    pub(crate) fn at(alloc: Global, session: &Session, moves: usize) -> Result<Play, NoAnswer> {
-        let mut play = Play::open(alloc, session)?;
+    /// Begins anew, and makes so many moves of a session: its steps, and its commands.
+    pub(crate) fn play_to(&mut self, session: &Session<'_>, moves: usize) -> Result<(), NoAnswer> {
+        self.machine = opened(self.alloc, session)?;
+        self.machine.begin();
+        self.renew(session, 0)?;
         for _move in 0..moves {
-            play.play_on(session)?;
+            let _is_sent = self.play_on(session)?;
         }
-        Ok(play)
+        Ok(())
     }
 
-    /// The same with a mark. Where there was a move, an older mark stood before the last one.
-    pub(crate) fn marked_at(
-        alloc: Global,
-        session: &Session,
-        moves: usize,
-    ) -> Result<Play, NoAnswer> {
-        let mut play = Play::at(alloc, session, moves.saturating_sub(1))?;
-        if moves > 0 {
-            play.machine.mark();
-            play.play_on(session)?;
-        }
-        play.machine.mark();
-        Ok(play)
+    /// Puts objects in the place of its own that nobody has called yet; the next command is the one of a number.
+    pub(crate) fn renew(&mut self, session: &Session<'_>, given: usize) -> Result<(), NoAnswer> {
+        self.given = given;
+        self.desk = Desk::new(self.alloc);
+        session.bind(self.alloc, &mut self.desk)
     }
 
-    // The next move of a session, where between two commands the text is taken; false at the session's end.
-    fn play_on(&mut self, session: &Session) -> Result<bool, NoAnswer> {
+    /// The next move of a session, where between two commands the text is taken; false at the session's end.
+    pub(crate) fn play_on(&mut self, session: &Session<'_>) -> Result<bool, NoAnswer> {
         if self.machine.can_go_on() {
-            return self.go_on(session);
+            return self.step(session);
         }
         self.machine.forget();
         self.machine.settle();
-        let is_sent = self.go_on(session)?;
+        let is_sent = self.send(session)?;
         self.machine.begin();
         Ok(is_sent)
     }
 
     // A step; where flow has stopped the next command alone, as a mark allows; false where there is none.
-    fn go_on(&mut self, session: &Session) -> Result<bool, NoAnswer> {
+    fn go_on(&mut self, session: &Session<'_>) -> Result<bool, NoAnswer> {
         if self.machine.can_go_on() {
-            let _end = self.machine.step(&session.story, &mut self.desk, false)?;
-            return Ok(true);
+            return self.step(session);
         }
+        self.send(session)
+    }
+
+    fn step(&mut self, session: &Session<'_>) -> Result<bool, NoAnswer> {
+        let _end = self.machine.step(&session.story, &mut self.desk, false)?;
+        Ok(true)
+    }
+
+    fn send(&mut self, session: &Session<'_>) -> Result<bool, NoAnswer> {
         match session.command(self.given) {
             Some(Command::Choose(number)) => self.machine.choose(&session.story, number)?,
             Some(Command::Jump(spot)) => self.machine.jump(&session.story, spot)?,
@@ -90,13 +90,13 @@ impl Play {
 
     /// How many moves a session has up to its end or its fault, of which the last begins none; so many at the most.
     pub(crate) fn count_moves(
-        alloc: Global,
-        session: &Session,
+        &mut self,
+        session: &Session<'_>,
         most: usize,
     ) -> Result<usize, NoAnswer> {
-        let mut play = Play::open(alloc, session)?;
+        self.play_to(session, 0)?;
         for moves in 0..most {
-            match play.play_on(session) {
+            match self.play_on(session) {
                 Ok(true) => {}
                 Ok(false) | Err(NoAnswer::Fault(_)) => return Ok(moves),
                 Err(why) => return Err(why),
@@ -106,7 +106,7 @@ impl Play {
     }
 
     /// Goes on for so many moves at the most, with nothing done between a stop and the next command, as a mark asks for.
-    pub(crate) fn go_far(&mut self, session: &Session, most: usize) -> Way {
+    pub(crate) fn go_far(&mut self, session: &Session<'_>, most: usize) -> Way {
         for moves in 0..most {
             match self.go_on(session) {
                 Ok(true) => {}
@@ -125,37 +125,34 @@ impl Play {
         }
     }
 
-    /// All that the machine has.
-    pub(crate) fn shown(&self, alloc: Global) -> Result<String, NoAnswer> {
-        Ok(shown_machine(alloc, &self.machine)?)
+    /// Writes all that the machine has.
+    pub(crate) fn show(&self, said: &mut Report) {
+        show_machine(said, &self.machine);
     }
 
-    /// How a play went on, and all that the machine has then: after a fault its globals, since it has no other use. There is no
-    /// answer where memory was refused on the way.
-    pub(crate) fn shown_after(&self, alloc: Global, way: Way) -> Result<String, NoAnswer> {
-        let Some(why) = way.halt else {
-            let machine = self.shown(alloc)?;
-            return Ok(format!(in alloc; "moves {}\n{machine}", way.moves)?);
-        };
-        let why = told(alloc, Err(why))?;
-        let globals = shown_globals(alloc, &self.machine)?;
-        Ok(format!(in alloc; "moves {}, then {why}\n{globals}", way.moves)?)
+    /// Writes how a play went on, and all that the machine has then: after a fault its globals, since it has no other use. There is
+    /// no answer where memory was refused on the way.
+    pub(crate) fn show_after(&self, said: &mut Report, way: Way) {
+        said.number("moves ", way.moves as u64);
+        match way.halt {
+            Some(why) => {
+                said.put(", then ");
+                said.halt(why);
+                said.put("\n");
+                show_globals(said, self.machine.globals());
+            }
+            None => {
+                said.put("\n");
+                self.show(said);
+            }
+        }
     }
+}
 
-    /// Puts objects in the place of its own that nobody has called yet; the next command is the one of a number.
-    pub(crate) fn renew(
-        &mut self,
-        alloc: Global,
-        session: &Session,
-        given: usize,
-    ) -> Result<(), NoAnswer> {
-        self.desk = session.desk(alloc)?;
-        self.given = given;
-        Ok(())
-    }
-
-    /// How many commands it was given.
-    pub(crate) fn given(&self) -> usize {
-        self.given
+/// A machine at a story's start.
+fn opened(alloc: Global, session: &Session<'_>) -> Result<Machine, NoAnswer> {
+    match Machine::open(alloc, &session.story) {
+        Ok(machine) => Ok(machine),
+        Err(unopened) => Err(NoAnswer::from(unopened.fault)),
     }
 }

@@ -4,7 +4,6 @@ use crate::objects::{Constant, Script};
 use ink_check::{Story, check, ends_in_index};
 use ink_host::{Desk, Nobody};
 use ink_json::read_story;
-use ink_model::Given;
 use ink_tree::{NodeId, Spot, Tree, read_path};
 use inkcases::{NoAnswer, expanded, first_word, given_of, number, value_of};
 use std::alloc::Global;
@@ -19,50 +18,52 @@ pub(crate) enum Command {
     Jump(Spot),
 }
 
-/// A story, the words that bind its functions, and what is done at its stops, one after another.
+/// A story, the question about it, and what is done at its stops, one after another.
 #[derive(Drop)]
-pub(crate) struct Session {
+pub(crate) struct Session<'q> {
     pub story: Story,
-    bindings: Vec<String>,
+    question: &'q str,
     commands: Vec<Command>,
 }
 
-impl Session {
+impl<'q> Session<'q> {
     /// Reads a story and a question.
-    pub(crate) fn read(alloc: Global, story: &str, question: &str) -> Result<Session, NoAnswer> {
+    pub(crate) fn read(
+        alloc: Global,
+        story: &str,
+        question: &'q str,
+    ) -> Result<Session<'q>, NoAnswer> {
         let mut session = Session {
             story: accepted(alloc, story)?,
-            bindings: Vec::new(alloc),
+            question,
             commands: Vec::new(alloc),
         };
-        for words in question.split("; ") {
-            session.take(alloc, words)?;
-        }
+        session.read_commands(alloc)?;
         Ok(session)
     }
 
-    fn take(&mut self, alloc: Global, words: &str) -> Result<(), NoAnswer> {
-        let (word, rest) = first_word(words);
-        match word {
-            "run" => {}
-            "turn" | "pure" => self.bindings.push(String::from_str(alloc, words)?)?,
-            "choose" => self.commands.push(Command::Choose(number(rest)?))?,
-            "jump" => {
-                let spot = landing(alloc, self.story.tree(), rest)?;
-                self.commands.push(Command::Jump(spot))?;
+    fn read_commands(&mut self, alloc: Global) -> Result<(), NoAnswer> {
+        let question = self.question;
+        for words in question.split("; ") {
+            if let Some(command) = command_of(alloc, self.story.tree(), words)? {
+                self.commands.push(command)?;
             }
-            _ => return Err(NoAnswer::NoQuestion),
         }
         Ok(())
     }
 
-    /// A desk with functions that nobody has called yet.
-    pub(crate) fn desk(&self, alloc: Global) -> Result<TestDesk, NoAnswer> {
-        let mut desk = Desk::new(alloc);
-        for words in &self.bindings {
-            bind(alloc, &mut desk, words.as_str())?;
+    /// Binds functions that nobody has called yet.
+    pub(crate) fn bind(&self, alloc: Global, desk: &mut TestDesk) -> Result<(), NoAnswer> {
+        for words in self.question.split("; ") {
+            let (word, rest) = first_word(words);
+            let (name, gifts) = first_word(rest);
+            match word {
+                "turn" => bind_turn(alloc, desk, name, gifts)?,
+                "pure" => bind_pure(alloc, desk, name, gifts)?,
+                _ => {}
+            }
         }
-        Ok(desk)
+        Ok(())
     }
 
     /// What is done at the stop of a number.
@@ -77,6 +78,17 @@ fn accepted(alloc: Global, story: &str) -> Result<Story, NoAnswer> {
     Ok(check(alloc, raw)?)
 }
 
+/// What words say to do at a stop, none where they bind a function or begin the run.
+fn command_of(alloc: Global, tree: &Tree, words: &str) -> Result<Option<Command>, NoAnswer> {
+    let (word, rest) = first_word(words);
+    match word {
+        "run" | "turn" | "pure" => Ok(None),
+        "choose" => Ok(Some(Command::Choose(number(rest)?))),
+        "jump" => Ok(Some(Command::Jump(landing(alloc, tree, rest)?))),
+        _ => Err(NoAnswer::NoQuestion),
+    }
+}
+
 /// Where a jump lands.
 fn landing(alloc: Global, tree: &Tree, path: &str) -> Result<Spot, NoAnswer> {
     let path = read_path(alloc, path)?;
@@ -87,33 +99,21 @@ fn landing(alloc: Global, tree: &Tree, path: &str) -> Result<Spot, NoAnswer> {
     }
 }
 
-/// Binds a function: `turn NAME GIFT..` or `pure NAME GIFT`.
-fn bind(alloc: Global, desk: &mut TestDesk, words: &str) -> Result<(), NoAnswer> {
-    let (word, rest) = first_word(words);
-    let (name, gifts) = first_word(rest);
-    let is_bound = match word {
-        "turn" => desk
-            .bind_turn(name, Script::new(alloc, gifts_of(alloc, gifts)?))
-            .is_ok(),
-        _ => desk
-            .bind_pure(name, Constant::new(alloc, gift_of(alloc, gifts)?))
-            .is_ok(),
-    };
-    if is_bound {
-        Ok(())
-    } else {
-        Err(NoAnswer::OutOfMemory)
-    }
-}
-
-fn gifts_of(alloc: Global, words: &str) -> Result<Vec<Given>, NoAnswer> {
+fn bind_turn(alloc: Global, desk: &mut TestDesk, name: &str, words: &str) -> Result<(), NoAnswer> {
     let mut gifts = Vec::new(alloc);
     for word in words.split_whitespace() {
-        gifts.push(gift_of(alloc, word)?)?;
+        gifts.push(given_of(value_of(alloc, word)?)?)?;
     }
-    Ok(gifts)
+    match desk.bind_turn(name, Script::new(alloc, gifts)) {
+        Ok(_) => Ok(()),
+        Err(_) => Err(NoAnswer::OutOfMemory),
+    }
 }
 
-fn gift_of(alloc: Global, word: &str) -> Result<Given, NoAnswer> {
-    given_of(value_of(alloc, word)?)
+fn bind_pure(alloc: Global, desk: &mut TestDesk, name: &str, word: &str) -> Result<(), NoAnswer> {
+    let gift = given_of(value_of(alloc, word)?)?;
+    match desk.bind_pure(name, Constant::new(alloc, gift)) {
+        Ok(_) => Ok(()),
+        Err(_) => Err(NoAnswer::OutOfMemory),
+    }
 }

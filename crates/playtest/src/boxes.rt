@@ -1,4 +1,4 @@
-//! Objects in boxes, of any types, and how often each is let go.
+//! Objects in boxes, of any types, and how many of them are let go.
 //!
 //! A question is words, done in turn on one player. A turn function, a pure function and a watcher are bound before them, and
 //! three others at the word `again`. The story calls `act`, asks `ask` and sets `gold`.
@@ -15,11 +15,11 @@
 //! player is closed.
 
 use crate::objects::{Constant, Deed, Script, Witness};
-use crate::players::{done, passage, passage_shortly, why_not};
-use ink_host::{Bound, HostDesk, Observer, PureBox, PureFn, TurnBox, TurnFn, Watcher, WatcherBox};
-use ink_model::{Given, HostFault, Value};
-use ink_player::{Player, open_story};
-use inkcases::{Answer, NoAnswer, append, told};
+use crate::players::{opened, run};
+use ink_host::{Bound, HostDesk, Observer, PureBox, TurnBox, Watcher, WatcherBox};
+use ink_model::{Given, Value};
+use ink_player::Player;
+use inkcases::{NoAnswer, Report};
 use std::alloc::{AllocError, Global};
 use std::cell::Cell;
 use std::rc::Rc;
@@ -31,134 +31,38 @@ const STORY: &str =
 /// A player of objects in boxes.
 type BoxPlayer = Player<PureBox, TurnBox, WatcherBox>;
 
-/// An object, and how many of its kind were let go.
-struct Counted<X> {
-    object: X,
-    gone: Rc<Cell<u32>>,
-}
-
-impl<X: Drop> Drop for Counted<X> {
-    fn drop(self) {
-        self.gone.set(self.gone.get().saturating_add(1));
-        let Counted { object: _, gone: _ } = self;
-    }
-}
-
-impl<X: PureFn> PureFn for Counted<X> {
-    ghost meaning = { λ c. X.meaning c.object };
-
-    fn ask(&self, arguments: &[Value]) -> Result<Given, HostFault> {
-        self.object.ask(arguments)
-    }
-}
-
-impl<X: TurnFn> TurnFn for Counted<X> {
-    ghost log = { λ c. X.log c.object };
-
-    ghost refusals = { λ c. X.refusals c.object };
-
-    fn call(&mut self, stamp: u64, arguments: &[Value]) -> Result<Given, HostFault> {
-        self.object.call(stamp, arguments)
-    }
-}
-
-impl<X: Watcher> Watcher for Counted<X> {
-    ghost state = { λ c. X.state c.object };
-
-    fn begin(&mut self) {
-        self.object.begin()
-    }
-
-    fn changed(&mut self, stamp: u64, name: &str, value: &Value) -> Result<(), AllocError> {
-        self.object.changed(stamp, name, value)
-    }
-
-    fn end(&mut self) {
-        self.object.end()
-    }
-}
-
-/// How many objects of a kind were bound, and how many of them were let go.
+/// How many objects of each kind were bound, and what those of a kind hold as long as they are there.
 #[derive(Drop)]
-struct Count {
-    bound: u32,
-    gone: Rc<Cell<u32>>,
+struct Tokens {
+    bound: usize,
+    turn: Rc<()>,
+    pure: Rc<()>,
+    watcher: Rc<()>,
 }
 
-impl Count {
-    fn new(alloc: Global) -> Result<Count, AllocError> {
-        Ok(Count {
+impl Tokens {
+    fn new(alloc: Global) -> Result<Tokens, AllocError> {
+        Ok(Tokens {
             bound: 0,
-            gone: Rc::new(alloc, Cell::new(0))?,
+            turn: Rc::new(alloc, ())?,
+            pure: Rc::new(alloc, ())?,
+            watcher: Rc::new(alloc, ())?,
         })
     }
 
-    /// One object more of the kind.
-    fn one<X: Drop>(&mut self, alloc: Global, object: X) -> Result<Box<Counted<X>>, NoAnswer> {
-        let gone = self.gone.clone()?;
-        let counted = Box::new(alloc, Counted { object, gone })?;
-        self.bound = self.bound.saturating_add(1);
-        Ok(counted)
-    }
-}
-
-/// An object of each kind.
-#[derive(Drop)]
-struct Objects {
-    turn: Box<Counted<Script>>,
-    pure: Box<Counted<Constant>>,
-    watcher: Box<Counted<Witness>>,
-}
-
-/// How many there are of each kind.
-#[derive(Drop)]
-struct Counts {
-    turns: Count,
-    pures: Count,
-    watchers: Count,
-}
-
-impl Counts {
-    fn new(alloc: Global) -> Result<Counts, AllocError> {
-        Ok(Counts {
-            turns: Count::new(alloc)?,
-            pures: Count::new(alloc)?,
-            watchers: Count::new(alloc)?,
-        })
+    /// Writes how many turn functions, pure functions and watchers were let go, of how many that were bound.
+    fn show(&self, said: &mut Report) {
+        self.show_kind(said, &self.turn);
+        self.show_kind(said, &self.pure);
+        self.show_kind(said, &self.watcher);
     }
 
-    /// One object more of each kind.
-    fn objects(&mut self, alloc: Global, finds_memory: bool) -> Result<Objects, NoAnswer> {
-        let mut deeds = Vec::new(alloc);
-        deeds.push(Deed::Gives(Given::Void))?;
-        let turn = self.turns.one(alloc, Script::new(alloc, deeds))?;
-        let pure = self
-            .pures
-            .one(alloc, Constant::new(alloc, Deed::Gives(Given::Void)))?;
-        let watcher = self.watchers.one(alloc, Witness::new(alloc, finds_memory))?;
-        Ok(Objects {
-            turn,
-            pure,
-            watcher,
-        })
-    }
-
-    /// How many were let go, of how many that were bound.
-    fn shown(&self, alloc: Global) -> Result<String, AllocError> {
-        let Counts {
-            turns,
-            pures,
-            watchers,
-        } = self;
-        format!(in alloc;
-            "{}/{} {}/{} {}/{}",
-            turns.gone.get(),
-            turns.bound,
-            pures.gone.get(),
-            pures.bound,
-            watchers.gone.get(),
-            watchers.bound
-        )
+    fn show_kind(&self, said: &mut Report, token: &Rc<()>) {
+        let kept = Rc::strong_count(token);
+        said.append("");
+        said.show(self.bound.saturating_add(1).saturating_sub(kept));
+        said.put("/");
+        said.show(self.bound);
     }
 }
 
@@ -169,199 +73,141 @@ struct Kept {
     watchers: Vec<WatcherBox>,
 }
 
-impl Kept {
-    fn new(alloc: Global) -> Kept {
-        Kept {
-            functions: Vec::new(alloc),
-            watchers: Vec::new(alloc),
-        }
-    }
-
-    fn keep_function(&mut self, function: Option<Bound<PureBox, TurnBox>>) -> Result<(), NoAnswer> {
-        if let Some(function) = function {
-            self.functions.push(function)?;
-        }
-        Ok(())
-    }
-
-    fn keep_watcher(&mut self, watcher: Option<WatcherBox>) -> Result<(), NoAnswer> {
-        if let Some(watcher) = watcher {
-            self.watchers.push(watcher)?;
-        }
-        Ok(())
-    }
-
-    fn forget(&mut self) {
-        self.functions.clear();
-        self.watchers.clear();
-    }
-}
-
 /// Does the words of a question, and tells what was let go.
-pub(crate) fn answer(alloc: Global, question: &str) -> Answer {
+pub(crate) fn answer(said: &mut Report, question: &str) -> Result<(), NoAnswer> {
     if question == "order" {
-        return told_in_order(alloc);
+        return tell_order(said);
     }
-    let mut counts = Counts::new(alloc)?;
-    let mut said = String::new(alloc);
-    play_question(alloc, &mut counts, &mut said, question)?;
-    append(&mut said, "|")?;
-    append(&mut said, &counts.shown(alloc)?)?;
-    Ok(said)
+    let mut tokens = Tokens::new(said.alloc())?;
+    play_question(said, &mut tokens, question)?;
+    said.append("|");
+    tokens.show(said);
+    Ok(())
 }
 
 /// Does the words of a question on a player, which is closed at the end.
-fn play_question(
-    alloc: Global,
-    counts: &mut Counts,
-    said: &mut String,
+fn play_question(said: &mut Report, tokens: &mut Tokens, question: &str) -> Result<(), NoAnswer> {
+    let alloc = said.alloc();
+    let mut kept = Kept {
+        functions: Vec::new(alloc),
+        watchers: Vec::new(alloc),
+    };
+    let mut player = opened(alloc, STORY.as_bytes(), HostDesk::new(alloc))?;
+    let played = play_halves(said, &mut player, &mut kept, tokens, question);
+    let _objects = player.close();
+    played
+}
+
+/// Does the words before and behind `again`, and tells what was let go until then.
+fn play_halves(
+    said: &mut Report,
+    player: &mut BoxPlayer,
+    kept: &mut Kept,
+    tokens: &mut Tokens,
     question: &str,
 ) -> Result<(), NoAnswer> {
     let (words, more) = question.split_once("again").unwrap_or((question, ""));
     let finds_memory = !words.starts_with("short");
-    let first = counts.objects(alloc, finds_memory)?;
-    let second = counts.objects(alloc, finds_memory)?;
-    let mut player = opened(alloc, STORY, HostDesk::new(alloc))?;
-    let mut kept = Kept::new(alloc);
-    let Objects {
-        turn,
-        pure,
-        watcher,
-    } = first;
-    let mut played = play_with(
-        alloc,
-        &mut player,
-        &mut kept,
-        said,
-        turn,
-        pure,
-        watcher,
-        words,
-    );
-    let Objects {
-        turn,
-        pure,
-        watcher,
-    } = second;
-    if played.is_ok() {
-        played = play_with(
-            alloc,
-            &mut player,
-            &mut kept,
-            said,
-            turn,
-            pure,
-            watcher,
-            more,
-        );
+    for words in [words, more] {
+        bind(said.alloc(), player, kept, tokens, finds_memory)?;
+        for word in words.split_whitespace() {
+            play(said, player, kept, word)?;
+        }
     }
-    let counted = counts.shown(alloc);
-    drop(player);
-    drop(kept);
-    played?;
-    append(said, &counted?)?;
+    tokens.show(said);
     Ok(())
-}
-
-/// A player of a story.
-fn opened(alloc: Global, story: &str, desk: HostDesk) -> Result<BoxPlayer, NoAnswer> {
-    match open_story(alloc, story.as_bytes(), desk) {
-        Ok(player) => Ok(player),
-        Err(end) => Err(why_not(&end.fault)),
-    }
-}
-
-/// Binds an object of each kind, and does words.
-fn play_with(
-    alloc: Global,
-    player: &mut BoxPlayer,
-    kept: &mut Kept,
-    said: &mut String,
-    turn: TurnBox,
-    pure: PureBox,
-    watcher: WatcherBox,
-    words: &str,
-) -> Result<(), NoAnswer> {
-    bind(player, kept, turn, pure, watcher)?;
-    play(alloc, player, kept, said, words)
 }
 
 /// Binds an object of each kind, and keeps what was bound.
 fn bind(
-    player: &mut BoxPlayer,
-    kept: &mut Kept,
-    turn: TurnBox,
-    pure: PureBox,
-    watcher: WatcherBox,
-) -> Result<(), NoAnswer> {
-    bind_turn(player, kept, turn)?;
-    bind_pure(player, kept, pure)?;
-    watch(player, kept, watcher)
-}
-
-fn bind_turn(player: &mut BoxPlayer, kept: &mut Kept, function: TurnBox) -> Result<(), NoAnswer> {
-    match player.bind_turn("act", function) {
-        Ok(was) => kept.keep_function(was),
-        Err(_) => Err(NoAnswer::OutOfMemory),
-    }
-}
-
-fn bind_pure(player: &mut BoxPlayer, kept: &mut Kept, function: PureBox) -> Result<(), NoAnswer> {
-    match player.bind_pure("ask", function) {
-        Ok(was) => kept.keep_function(was),
-        Err(_) => Err(NoAnswer::OutOfMemory),
-    }
-}
-
-fn watch(player: &mut BoxPlayer, kept: &mut Kept, watcher: WatcherBox) -> Result<(), NoAnswer> {
-    match player.watch("gold", watcher) {
-        Ok(was) => kept.keep_watcher(was),
-        Err(_) => Err(NoAnswer::OutOfMemory),
-    }
-}
-
-/// Does words that bind nothing.
-fn play(
     alloc: Global,
     player: &mut BoxPlayer,
     kept: &mut Kept,
-    said: &mut String,
-    words: &str,
+    tokens: &mut Tokens,
+    finds_memory: bool,
 ) -> Result<(), NoAnswer> {
-    for word in words.split_whitespace() {
-        call(alloc, player, kept, said, word)?;
+    tokens.bound = tokens.bound.saturating_add(1);
+    bind_turn(alloc, player, kept, tokens.turn.clone()?)?;
+    bind_pure(alloc, player, kept, tokens.pure.clone()?)?;
+    watch(alloc, player, kept, tokens.watcher.clone()?, finds_memory)
+}
+
+fn bind_turn(
+    alloc: Global,
+    player: &mut BoxPlayer,
+    kept: &mut Kept,
+    token: Rc<()>,
+) -> Result<(), NoAnswer> {
+    let mut deeds = Vec::new(alloc);
+    deeds.push(Deed::Gives(Given::Void))?;
+    let function: TurnBox = Box::new(alloc, Script::new(alloc, deeds, Some(token)))?;
+    match player.bind_turn("act", function) {
+        Ok(was) => keep(&mut kept.functions, was),
+        Err(_) => Err(NoAnswer::OutOfMemory),
+    }
+}
+
+fn bind_pure(
+    alloc: Global,
+    player: &mut BoxPlayer,
+    kept: &mut Kept,
+    token: Rc<()>,
+) -> Result<(), NoAnswer> {
+    let constant = Constant::new(alloc, Deed::Gives(Given::Void), Some(token));
+    let function: PureBox = Box::new(alloc, constant)?;
+    match player.bind_pure("ask", function) {
+        Ok(was) => keep(&mut kept.functions, was),
+        Err(_) => Err(NoAnswer::OutOfMemory),
+    }
+}
+
+fn watch(
+    alloc: Global,
+    player: &mut BoxPlayer,
+    kept: &mut Kept,
+    token: Rc<()>,
+    finds_memory: bool,
+) -> Result<(), NoAnswer> {
+    let watcher: WatcherBox = Box::new(alloc, Witness::new(alloc, finds_memory, Some(token)))?;
+    match player.watch("gold", watcher) {
+        Ok(was) => keep(&mut kept.watchers, was),
+        Err(_) => Err(NoAnswer::OutOfMemory),
+    }
+}
+
+fn keep<X: Drop>(kept: &mut Vec<X>, object: Option<X>) -> Result<(), NoAnswer> {
+    if let Some(object) = object {
+        kept.push(object)?;
     }
     Ok(())
 }
 
 /// Does a word that binds nothing.
-fn call(
-    alloc: Global,
+fn play(
+    said: &mut Report,
     player: &mut BoxPlayer,
     kept: &mut Kept,
-    said: &mut String,
     word: &str,
 ) -> Result<(), NoAnswer> {
     match word {
-        "continue" => say(alloc, said, passage(alloc, player.continue_line())),
-        "through" => say(alloc, said, passage(alloc, player.through())),
-        "short" => say(alloc, said, passage_shortly(alloc, player.through())),
-        "restart" => say(alloc, said, done(alloc, player.restart())),
-        "take_turn" => kept.keep_function(player.unbind("act")),
-        "take_pure" => kept.keep_function(player.unbind("ask")),
-        "take_watcher" => kept.keep_watcher(player.unwatch("gold")),
+        "take_turn" => keep(&mut kept.functions, player.unbind("act")),
+        "take_pure" => keep(&mut kept.functions, player.unbind("ask")),
+        "take_watcher" => keep(&mut kept.watchers, player.unwatch("gold")),
         "forget" => {
-            kept.forget();
+            kept.functions.clear();
+            kept.watchers.clear();
             Ok(())
         }
-        _ => Err(NoAnswer::NoQuestion),
+        _ => run_word(said, player, word),
     }
 }
 
-fn say(alloc: Global, said: &mut String, answer: Answer) -> Result<(), NoAnswer> {
-    let answer = told(alloc, answer)?;
-    append(said, &answer)?;
-    Ok(())
+fn run_word(said: &mut Report, player: &mut BoxPlayer, word: &str) -> Result<(), NoAnswer> {
+    said.append("");
+    match word {
+        "short" => run(said, player, "through", true),
+        _ => run(said, player, word, false),
+    }
 }
 
 // ---- the order of a round
@@ -417,26 +263,41 @@ impl Watcher for Chronicler {
 }
 
 /// What two watchers do, in order.
-fn told_in_order(alloc: Global) -> Answer {
-    let deeds: Deeds = Rc::new(alloc, Cell::new(0))?;
-    let gold: WatcherBox = Box::new(alloc, Chronicler::new(alloc, 1, &deeds)?)?;
-    let silver: WatcherBox = Box::new(alloc, Chronicler::new(alloc, 4, &deeds)?)?;
-    let mut desk = HostDesk::new(alloc);
-    watch_on(&mut desk, "silver", silver)?;
-    watch_on(&mut desk, "gold", gold)?;
-    play_through(alloc, desk)?;
-    let mut said = String::new(alloc);
-    for digit in format!(in alloc; "{}", deeds.get())?.chars() {
-        append(&mut said, deed_of(digit))?;
+fn tell_order(said: &mut Report) -> Result<(), NoAnswer> {
+    let deeds: Deeds = Rc::new(said.alloc(), Cell::new(0))?;
+    play_watched(said.alloc(), &deeds)?;
+    for digit in format!(in said.alloc(); "{}", deeds.get())?.chars() {
+        said.append(deed_of(digit));
     }
-    Ok(said)
+    Ok(())
 }
 
-/// Plays the story of two globals to its stop.
-fn play_through(alloc: Global, desk: HostDesk) -> Result<(), NoAnswer> {
-    let mut player = opened(alloc, TWO_GLOBALS, desk)?;
-    let _passage = player.through()?;
-    Ok(())
+/// Plays the story of two globals to its stop, watched by both.
+fn play_watched(alloc: Global, deeds: &Deeds) -> Result<(), NoAnswer> {
+    let mut desk = HostDesk::new(alloc);
+    watch_on(alloc, &mut desk, "silver", 4, deeds)?;
+    watch_on(alloc, &mut desk, "gold", 1, deeds)?;
+    let mut player = opened(alloc, TWO_GLOBALS.as_bytes(), desk)?;
+    let passage = player.through();
+    let _objects = player.close();
+    match passage {
+        Ok(_) => Ok(()),
+        Err(halt) => Err(NoAnswer::from(halt)),
+    }
+}
+
+fn watch_on(
+    alloc: Global,
+    desk: &mut HostDesk,
+    name: &str,
+    digit: u64,
+    deeds: &Deeds,
+) -> Result<(), NoAnswer> {
+    let watcher: WatcherBox = Box::new(alloc, Chronicler::new(alloc, digit, deeds)?)?;
+    match desk.watch(name, watcher) {
+        Ok(_) => Ok(()),
+        Err(_) => Err(NoAnswer::OutOfMemory),
+    }
 }
 
 /// The deed of a digit.
@@ -449,12 +310,5 @@ fn deed_of(digit: char) -> &'static str {
         '5' => "told silver",
         '6' => "end silver",
         _ => "nothing",
-    }
-}
-
-fn watch_on(desk: &mut HostDesk, name: &str, watcher: WatcherBox) -> Result<(), NoAnswer> {
-    match desk.watch(name, watcher) {
-        Ok(_) => Ok(()),
-        Err(_) => Err(NoAnswer::OutOfMemory),
     }
 }

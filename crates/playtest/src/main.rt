@@ -5,13 +5,16 @@
 //! are any. The status is 0 where none failed.
 #![tactic(auto)]
 
+mod bindings;
 mod boxes;
 mod objects;
 mod players;
+mod plays;
 mod sessions;
+mod shown;
 mod streams;
 
-use inkcases::{Answer, Answers, Table, Tables, Tally, run_lines, run_tables};
+use inkcases::{NoAnswer, Questions, Report, Table, Tables, Tally, ask_lines, run_tables};
 use players::run_players;
 use sessions::run_sessions;
 use std::alloc::Global;
@@ -65,9 +68,9 @@ const KINDS: [(&str, Kind); 3] = [
 
 impl Tables for Kind {
     fn of_name(name: &str) -> Option<Kind> {
-        for (beginning, kind) in KINDS {
-            if name.starts_with(beginning) {
-                return Some(kind);
+        for (beginning, kind) in &KINDS {
+            if name.starts_with(*beginning) {
+                return Some(*kind);
             }
         }
         None
@@ -75,7 +78,7 @@ impl Tables for Kind {
 
     fn run(&self, rt: &impl Print, alloc: Global, table: Table<'_>, tally: &mut Tally) {
         match self {
-            Kind::Boxes => run_lines(rt, alloc, &InBoxes, table, tally),
+            Kind::Boxes => ask_lines(rt, alloc, &mut InBoxes, table, tally),
             Kind::Players => run_players(rt, alloc, table, tally),
             Kind::Sessions => run_sessions(rt, alloc, table, tally),
         }
@@ -83,11 +86,12 @@ impl Tables for Kind {
 }
 
 /// Answers questions about objects in boxes.
+#[derive(Drop)]
 struct InBoxes;
 
-impl Answers for InBoxes {
-    fn answer(&self, alloc: Global, _story: &str, question: &str) -> Answer {
-        boxes::answer(alloc, question)
+impl Questions for InBoxes {
+    fn answer(&mut self, said: &mut Report, _story: &str, question: &str) -> Result<(), NoAnswer> {
+        boxes::answer(said, question)
     }
 }
 

@@ -5,6 +5,10 @@ ghost use Rattle.playtest.specs.Deeds.{given_by};
 use ink_host::{Observer, PureFn, Recorder, TurnFn, Watcher};
 use ink_model::{Given, HostFault, Value};
 use std::alloc::{AllocError, Global};
+use std::rc::Rc;
+
+/// What an object holds as long as it is there, where somebody counts.
+pub(crate) type Token = Option<Rc<()>>;
 
 /// What a function does when it is called.
 #[derive(Drop)]
@@ -19,11 +23,16 @@ pub(crate) enum Deed {
 pub(crate) struct Constant {
     deed: Deed,
     alloc: Global,
+    _token: Token,
 }
 
 impl Constant {
-    pub(crate) fn new(alloc: Global, deed: Deed) -> Constant {
-        Constant { deed, alloc }
+    pub(crate) fn new(alloc: Global, deed: Deed, token: Token) -> Constant {
+        Constant {
+            deed,
+            alloc,
+            _token: token,
+        }
     }
 }
 
@@ -49,15 +58,17 @@ pub(crate) struct Script {
     deeds: Vec<Deed>,
     next: usize,
     alloc: Global,
+    _token: Token,
 }
 
 impl Script {
-    pub(crate) fn new(alloc: Global, deeds: Vec<Deed>) -> Script {
+    pub(crate) fn new(alloc: Global, deeds: Vec<Deed>, token: Token) -> Script {
         Script {
             noted: Recorder::new(alloc),
             deeds,
             next: 0,
             alloc,
+            _token: token,
         }
     }
 }
@@ -87,13 +98,15 @@ impl TurnFn for Script {
 pub(crate) struct Witness {
     pub noted: Observer,
     finds_memory: bool,
+    _token: Token,
 }
 
 impl Witness {
-    pub(crate) fn new(alloc: Global, finds_memory: bool) -> Witness {
+    pub(crate) fn new(alloc: Global, finds_memory: bool, token: Token) -> Witness {
         Witness {
             noted: Observer::new(alloc),
             finds_memory,
+            _token: token,
         }
     }
 }

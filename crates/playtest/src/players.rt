@@ -16,116 +16,142 @@
 //! one that was refused, and `gold:7@1` a new value that was told. What is handed back is told with what it noted. Where memory is
 //! refused, the calls up to the next story are not made.
 
-use crate::objects::{Constant, Deed, Script, Witness};
+use crate::bindings::{bind_pure, bind_turn, unbind, unwatch, watch};
+use crate::objects::{Constant, Script, Witness};
+use crate::shown::{show_done, show_passage, show_text};
 use ink_check::{Story, check};
-use ink_host::{Called, Seen};
+use ink_host::{PureFn, TurnFn, Watcher};
 use ink_json::read_story;
-use ink_model::{Cause, Event, Fault, Given, Halt, Passage, Refusal, Seq, Shared, Text, Value};
-use ink_player::{Bound, Desk, PlayFault, Player, open_story};
+use ink_model::Refusal;
+use ink_player::{Desk, PlayFault, Player, open_story};
 use inkcases::{
-    Answer, NoAnswer, Table, Tally, Verdict, append, compared, encode, expanded, first_line,
-    first_word, given_of, is_comment, question_and_answer, show_given, show_value, shown_value,
-    text, value_of,
+    NoAnswer, Questions, Report, Table, Tally, ask_below, expanded, first_line, first_word,
+    given_of, number, value_of,
 };
 use serde_json::Value as Json;
-use std::alloc::{AllocError, Global};
+use std::alloc::Global;
+use std::fmt::Display;
 
 /// A player with the objects of tables.
-type TestPlayer = Player<Constant, Script, Witness>;
+pub(crate) type TestPlayer = Player<Constant, Script, Witness>;
 
-/// What a call gives that tells watchers.
-pub(crate) type Outcome = Result<Seq<Event>, Halt>;
+/// A player that is called. After want of memory it answers nothing.
+#[derive(Drop)]
+struct Called<'p> {
+    player: &'p mut TestPlayer,
+    is_refused: bool,
+}
 
-/// A story, and the calls of its player.
-#[derive(Clone, Copy)]
-struct Case<'t> {
-    story: &'t str,
-    calls: &'t str,
+/// Why there is no player.
+#[derive(Drop)]
+struct Unopened {
+    why: NoAnswer,
 }
 
 /// Makes the calls of a table.
 pub(crate) fn run_players(rt: &impl Print, alloc: Global, table: Table<'_>, tally: &mut Tally) {
     for part in table.text.split("\n= ").skip(1) {
-        let (story, calls) = first_line(part);
-        run_player(rt, alloc, table, Case { story, calls }, tally);
+        run_player(rt, alloc, table, first_line(part), tally);
     }
 }
 
-/// Opens a player, and makes the calls of it.
-fn run_player(rt: &impl Print, alloc: Global, table: Table<'_>, case: Case<'_>, tally: &mut Tally) {
-    match player_of(alloc, case.story) {
+/// Opens a player, makes the calls of it, and closes it.
+fn run_player(
+    rt: &impl Print,
+    alloc: Global,
+    table: Table<'_>,
+    (story, calls): (&str, &str),
+    tally: &mut Tally,
+) {
+    match player_of(alloc, story) {
         Ok(mut player) => {
-            call_player(rt, alloc, table, case, &mut player, tally);
+            let mut called = Called {
+                player: &mut player,
+                is_refused: false,
+            };
+            ask_below(rt, alloc, &mut called, table, (story, calls), tally);
+            let _desk = player.close();
         }
-        Err(why) => call_none(rt, alloc, table, case, why, tally),
+        Err(why) => ask_below(
+            rt,
+            alloc,
+            &mut Unopened { why },
+            table,
+            (story, calls),
+            tally,
+        ),
     }
 }
 
-/// Makes the calls of a player.
-fn call_player(
-    rt: &impl Print,
+fn player_of(alloc: Global, story: &str) -> Result<TestPlayer, NoAnswer> {
+    let story = expanded(alloc, story)?;
+    opened(alloc, story.as_slice(), Desk::new(alloc))
+}
+
+/// A player of a story.
+pub(crate) fn opened<P: PureFn + Drop, T: TurnFn + Drop, W: Watcher + Drop>(
     alloc: Global,
-    table: Table<'_>,
-    case: Case<'_>,
-    player: &mut TestPlayer,
-    tally: &mut Tally,
-) {
-    let mut is_out_of_memory = false;
-    for line in case.calls.lines() {
-        if is_out_of_memory && !is_comment(line) {
-            tally.refuse();
-        } else if !is_comment(line) {
-            let verdict = verdict(alloc, case.story, player, line);
-            is_out_of_memory = verdict.is_err();
-            tally.count(rt, table.file, line, &verdict);
+    story: &[u8],
+    desk: Desk<P, T, W>,
+) -> Result<Player<P, T, W>, NoAnswer> {
+    match open_story(alloc, story, desk) {
+        Ok(player) => Ok(player),
+        Err(end) => Err(why_not(&end.fault)),
+    }
+}
+
+/// Why there is no player.
+fn why_not(fault: &PlayFault) -> NoAnswer {
+    match fault {
+        PlayFault::Story(refusal) => NoAnswer::from_cause(refusal.cause),
+        PlayFault::Start(fault) => NoAnswer::from(*fault),
+        PlayFault::Run(_) => NoAnswer::NoQuestion,
+    }
+}
+
+impl Questions for Unopened {
+    fn answer(&mut self, said: &mut Report, story: &str, call: &str) -> Result<(), NoAnswer> {
+        match call {
+            "opened" => open(said, story),
+            _ => Err(self.why),
         }
     }
 }
 
-/// Answers the calls of a story that has no player.
-fn call_none(
-    rt: &impl Print,
-    alloc: Global,
-    table: Table<'_>,
-    case: Case<'_>,
-    why: NoAnswer,
-    tally: &mut Tally,
-) {
-    for line in case.calls.lines() {
-        if !is_comment(line) {
-            let verdict = unopened(alloc, case.story, why, line);
-            tally.count(rt, table.file, line, &verdict);
+impl Questions for Called<'_> {
+    fn answer(&mut self, said: &mut Report, story: &str, call: &str) -> Result<(), NoAnswer> {
+        if self.is_refused {
+            return Err(NoAnswer::OutOfMemory);
         }
+        let outcome = match call.strip_prefix("short ") {
+            Some(call) => make_call(said, self.player, call, true),
+            None if call == "opened" => open(said, story),
+            None => make_call(said, self.player, call, false),
+        };
+        self.is_refused = said.is_refused() || matches!(outcome, Err(NoAnswer::OutOfMemory));
+        outcome
     }
-}
 
-fn unopened(alloc: Global, story: &str, why: NoAnswer, line: &str) -> Result<Verdict, AllocError> {
-    let line = expanded(alloc, line)?;
-    let (call, wanted) = question_and_answer(&line);
-    match call {
-        "opened" => compared(alloc, opened(alloc, story), wanted),
-        _ => compared(alloc, Err(why), wanted),
-    }
-}
-
-fn verdict(
-    alloc: Global,
-    story: &str,
-    player: &mut TestPlayer,
-    line: &str,
-) -> Result<Verdict, AllocError> {
-    let line = expanded(alloc, line)?;
-    let (call, wanted) = question_and_answer(&line);
-    if call == "opened" {
-        return compared(alloc, opened(alloc, story), wanted);
-    }
-    match call.strip_prefix("short ") {
-        Some(call) => compared(alloc, said_shortly(alloc, player, call), wanted),
-        None => compared(alloc, said(alloc, player, call), wanted),
+    fn miss(&mut self) {
+        self.is_refused = true;
     }
 }
 
 // ---- calls of a story
+
+/// Opens a story. Where its declarations fault the story is handed back.
+fn open(said: &mut Report, story: &str) -> Result<(), NoAnswer> {
+    let story = accepted(said.alloc(), story)?;
+    let desk: Desk<Constant, Script, Witness> = Desk::new(said.alloc());
+    match Player::open(said.alloc(), story, desk) {
+        Ok(player) => {
+            let _desk = player.close();
+            said.put("opened");
+        }
+        Err(end) => said.halt(NoAnswer::from(end.fault)),
+    }
+    Ok(())
+}
 
 fn accepted(alloc: Global, story: &str) -> Result<Story, NoAnswer> {
     let story = expanded(alloc, story)?;
@@ -133,377 +159,150 @@ fn accepted(alloc: Global, story: &str) -> Result<Story, NoAnswer> {
     Ok(check(alloc, raw)?)
 }
 
-/// Opens a story. Where its declarations fault the story is handed back.
-fn opened(alloc: Global, story: &str) -> Answer {
-    let story = accepted(alloc, story)?;
-    let desk: Desk<Constant, Script, Witness> = Desk::new(alloc);
-    match Player::open(alloc, story, desk) {
-        Ok(_player) => text(alloc, "opened"),
-        Err(end) => Err(NoAnswer::from(end.fault)),
-    }
-}
-
-fn player_of(alloc: Global, story: &str) -> Result<TestPlayer, NoAnswer> {
-    let story = expanded(alloc, story)?;
-    match open_story(alloc, story.as_slice(), Desk::new(alloc)) {
-        Ok(player) => Ok(player),
-        Err(end) => Err(why_not(&end.fault)),
-    }
-}
-
-/// Why there is no player.
-pub(crate) fn why_not(fault: &PlayFault) -> NoAnswer {
-    match fault {
-        PlayFault::Story(refusal) if refusal.cause == Cause::OutOfMemory => NoAnswer::OutOfMemory,
-        PlayFault::Story(refusal) => NoAnswer::Unread(refusal.cause),
-        PlayFault::Start(fault) => NoAnswer::from(*fault),
-        PlayFault::Run(_) => NoAnswer::NoQuestion,
-    }
-}
-
 // ---- calls of a player
 
-fn said(alloc: Global, player: &mut TestPlayer, call: &str) -> Answer {
+fn make_call(
+    said: &mut Report,
+    player: &mut TestPlayer,
+    call: &str,
+    shortly: bool,
+) -> Result<(), NoAnswer> {
     let (word, rest) = first_word(call);
     match word {
-        "continue" => passage(alloc, player.continue_line()),
-        "through" => passage(alloc, player.through()),
-        "restart" => done(alloc, player.restart()),
-        "can_continue" => text(
-            alloc,
-            if player.can_continue() {
-                "true"
-            } else {
-                "false"
-            },
-        ),
-        "get" => got(alloc, player, rest),
-        "set" => done(alloc, set(alloc, player, rest)?),
-        "visits" => visits(alloc, player, rest),
-        "choices" => choices(alloc, player),
-        "choose" => choose(alloc, player, rest),
-        "jump" => landed(alloc, player.jump(rest)),
-        "save" => saved(alloc, player),
-        "load" => done(alloc, load(alloc, player, rest)?),
-        "flow" => landed(alloc, player.flow(rest)),
-        "drop" => landed(alloc, player.drop_flow(rest)),
-        "flow_name" => text(alloc, player.flow_name()),
-        "flows" => flows(alloc, player),
-        "turn" => bind_turn(alloc, player, rest),
-        "pure" => bind_pure(alloc, player, rest),
-        "watch" => watch(alloc, player, rest),
-        "unbind" => shown_function(alloc, player.unbind(rest)),
-        "unwatch" => shown_watcher(alloc, player.unwatch(rest)),
+        "set" => set(said, player, rest, shortly),
+        "load" => load(said, player, rest, shortly),
+        "choose" => land(said, player.choose(number(rest)?)),
+        "jump" => land(said, player.jump(rest)),
+        "flow" => land(said, player.flow(rest)),
+        "drop" => land(said, player.drop_flow(rest)),
+        "turn" => bind_turn(said, player, rest),
+        "pure" => bind_pure(said, player, rest),
+        "watch" => watch(said, player, rest),
+        "unbind" => unbind(said, player, rest),
+        "unwatch" => unwatch(said, player, rest),
+        "continue" | "through" | "restart" => run(said, player, word, shortly),
+        _ => ask(said, player, word, rest),
+    }
+}
+
+/// A call that runs a player on.
+pub(crate) fn run<P: PureFn, T: TurnFn, W: Watcher>(
+    said: &mut Report,
+    player: &mut Player<P, T, W>,
+    word: &str,
+    shortly: bool,
+) -> Result<(), NoAnswer> {
+    match word {
+        "continue" => continue_line(said, player, shortly),
+        "through" => through(said, player, shortly),
+        "restart" => restart(said, player, shortly),
         _ => Err(NoAnswer::NoQuestion),
     }
 }
 
-pub(crate) fn passage(alloc: Global, outcome: Result<Passage, Halt>) -> Answer {
-    match outcome {
-        Ok(passage) => {
-            let mut said = String::new(alloc);
-            show_passage(&mut said, &passage)?;
-            show_events(alloc, &mut said, passage.events.as_slice())?;
-            Ok(said)
-        }
-        Err(halt) => halted(alloc, halt),
+fn continue_line<P: PureFn, T: TurnFn, W: Watcher>(
+    said: &mut Report,
+    player: &mut Player<P, T, W>,
+    shortly: bool,
+) -> Result<(), NoAnswer> {
+    let passage = player.continue_line();
+    show_passage(said, &passage, shortly)
+}
+
+fn through<P: PureFn, T: TurnFn, W: Watcher>(
+    said: &mut Report,
+    player: &mut Player<P, T, W>,
+    shortly: bool,
+) -> Result<(), NoAnswer> {
+    let passage = player.through();
+    show_passage(said, &passage, shortly)
+}
+
+fn restart<P: PureFn, T: TurnFn, W: Watcher>(
+    said: &mut Report,
+    player: &mut Player<P, T, W>,
+    shortly: bool,
+) -> Result<(), NoAnswer> {
+    let outcome = player.restart();
+    show_done(said, &outcome, shortly)
+}
+
+/// A call that changes nothing.
+fn ask(said: &mut Report, player: &TestPlayer, word: &str, rest: &str) -> Result<(), NoAnswer> {
+    match word {
+        "can_continue" => tell(said, player.can_continue()),
+        "flow_name" => tell(said, player.flow_name()),
+        "visits" => tell(said, player.visits(rest)?),
+        "get" => get(said, player, rest),
+        "choices" => show_choices(said, player),
+        "flows" => show_flows(said, player),
+        "save" => save(said, player),
+        _ => Err(NoAnswer::NoQuestion),
     }
 }
 
-fn show_passage(said: &mut String, passage: &Passage) -> Result<(), AllocError> {
-    show_text(said, &passage.text, passage.tags.as_slice())?;
-    if passage.more {
-        said.push_str(" more")?;
-    }
-    if passage.loose {
-        said.push_str(" loose")?;
-    }
+fn tell<D: Display + Drop>(said: &mut Report, answer: D) -> Result<(), NoAnswer> {
+    said.show(answer);
     Ok(())
 }
 
-/// A text, with its tags behind it.
-fn show_text(said: &mut String, text: &Text, tags: &[Shared<Text>]) -> Result<(), AllocError> {
-    said.push('^')?;
-    encode(said, text.as_str())?;
-    for tag in tags {
-        said.push_str(" #")?;
-        encode(said, tag.get().as_str())?;
-    }
-    Ok(())
-}
-
-fn got(alloc: Global, player: &TestPlayer, name: &str) -> Answer {
+fn get(said: &mut Report, player: &TestPlayer, name: &str) -> Result<(), NoAnswer> {
     let value = player.get(name)?;
-    shown_value(alloc, &value)
+    said.value(&value);
+    Ok(())
 }
 
-fn visits(alloc: Global, player: &TestPlayer, path: &str) -> Answer {
-    let visits = player.visits(path)?;
-    Ok(format!(in alloc; "{visits}")?)
-}
-
-fn choices(alloc: Global, player: &TestPlayer) -> Answer {
-    let choices = player.choices()?;
-    let mut said = String::new(alloc);
-    for choice in choices.as_slice() {
-        if !said.is_empty() {
-            said.push_str(" | ")?;
-        }
-        show_text(&mut said, &choice.text, choice.tags.as_slice())?;
-    }
-    if said.is_empty() {
-        said.push_str("none")?;
-    }
-    Ok(said)
-}
-
-fn choose(alloc: Global, player: &mut TestPlayer, number: &str) -> Answer {
-    match number.parse::<u32>() {
-        Ok(number) => landed(alloc, player.choose(number)),
-        Err(_) => Err(NoAnswer::NoQuestion),
-    }
-}
-
-fn landed(alloc: Global, outcome: Result<(), Refusal>) -> Answer {
-    match outcome {
-        Ok(()) => text(alloc, "done"),
-        Err(refusal) => Err(NoAnswer::from(refusal)),
-    }
-}
-
-fn set(alloc: Global, player: &mut TestPlayer, rest: &str) -> Result<Outcome, NoAnswer> {
-    let (name, value) = first_word(rest);
-    let value = given_of(value_of(alloc, value)?)?;
-    Ok(player.set(name, value))
-}
-
-fn saved(alloc: Global, player: &TestPlayer) -> Answer {
+fn save(said: &mut Report, player: &TestPlayer) -> Result<(), NoAnswer> {
     let save = player.save()?;
-    Ok(save.to_string(alloc)?)
+    let text = save.to_string(said.alloc())?;
+    tell(said, text.as_str())
 }
 
-fn load(alloc: Global, player: &mut TestPlayer, save: &str) -> Result<Outcome, NoAnswer> {
-    match Json::from_str(alloc, save) {
-        Ok(save) => Ok(player.load(&save)),
+fn show_choices(said: &mut Report, player: &TestPlayer) -> Result<(), NoAnswer> {
+    let choices = player.choices()?;
+    for choice in choices.as_slice() {
+        said.flag(" | ", !said.is_empty());
+        show_text(said, &choice.text, choice.tags.as_slice());
+    }
+    said.flag("none", said.is_empty());
+    Ok(())
+}
+
+fn show_flows(said: &mut Report, player: &TestPlayer) -> Result<(), NoAnswer> {
+    let names = player.flows()?;
+    for name in names.as_slice() {
+        said.append(name.as_str());
+    }
+    Ok(())
+}
+
+fn land(said: &mut Report, outcome: Result<(), Refusal>) -> Result<(), NoAnswer> {
+    outcome?;
+    said.put("done");
+    Ok(())
+}
+
+fn set(
+    said: &mut Report,
+    player: &mut TestPlayer,
+    rest: &str,
+    shortly: bool,
+) -> Result<(), NoAnswer> {
+    let (name, value) = first_word(rest);
+    let value = given_of(value_of(said.alloc(), value)?)?;
+    let outcome = player.set(name, value);
+    show_done(said, &outcome, shortly)
+}
+
+fn load(
+    said: &mut Report,
+    player: &mut TestPlayer,
+    save: &str,
+    shortly: bool,
+) -> Result<(), NoAnswer> {
+    match Json::from_str(said.alloc(), save) {
+        Ok(save) => show_done(said, &player.load(&save), shortly),
         Err(why) if why.is_memory() => Err(NoAnswer::OutOfMemory),
         Err(_) => Err(NoAnswer::NoQuestion),
     }
-}
-
-fn flows(alloc: Global, player: &TestPlayer) -> Answer {
-    let names = player.flows()?;
-    let mut said = String::new(alloc);
-    for name in names.as_slice() {
-        append(&mut said, name.as_str())?;
-    }
-    Ok(said)
-}
-
-/// What a call says that may find no memory, which is an answer here.
-fn said_shortly(alloc: Global, player: &mut TestPlayer, call: &str) -> Answer {
-    let (word, rest) = first_word(call);
-    match word {
-        "continue" => passage_shortly(alloc, player.continue_line()),
-        "through" => passage_shortly(alloc, player.through()),
-        "restart" => done_shortly(alloc, player.restart()),
-        "set" => done_shortly(alloc, set(alloc, player, rest)?),
-        "load" => done_shortly(alloc, load(alloc, player, rest)?),
-        _ => Err(NoAnswer::NoQuestion),
-    }
-}
-
-pub(crate) fn passage_shortly(alloc: Global, outcome: Result<Passage, Halt>) -> Answer {
-    match outcome {
-        Err(halt) => fell_short(alloc, halt),
-        outcome => passage(alloc, outcome),
-    }
-}
-
-fn done_shortly(alloc: Global, outcome: Outcome) -> Answer {
-    match outcome {
-        Err(halt) => fell_short(alloc, halt),
-        outcome => done(alloc, outcome),
-    }
-}
-
-/// Want of memory, with the events until then.
-fn fell_short(alloc: Global, halt: Halt) -> Answer {
-    match halt {
-        Halt::Fault { fault, events } => faulted(alloc, fault, events.as_slice()),
-        Halt::Refused(refusal) => match NoAnswer::from(refusal) {
-            NoAnswer::OutOfMemory => text(alloc, Fault::OutOfMemory.name()),
-            why => Err(why),
-        },
-    }
-}
-
-// ---- objects
-
-fn bind_turn(alloc: Global, player: &mut TestPlayer, rest: &str) -> Answer {
-    let (name, words) = first_word(rest);
-    let mut deeds = Vec::new(alloc);
-    for word in words.split_whitespace() {
-        deeds.push(deed_of(alloc, word)?)?;
-    }
-    match player.bind_turn(name, Script::new(alloc, deeds)) {
-        Ok(was) => shown_function(alloc, was),
-        Err(_) => Err(NoAnswer::OutOfMemory),
-    }
-}
-
-fn bind_pure(alloc: Global, player: &mut TestPlayer, rest: &str) -> Answer {
-    let (name, word) = first_word(rest);
-    let deed = deed_of(alloc, word)?;
-    match player.bind_pure(name, Constant::new(alloc, deed)) {
-        Ok(was) => shown_function(alloc, was),
-        Err(_) => Err(NoAnswer::OutOfMemory),
-    }
-}
-
-fn watch(alloc: Global, player: &mut TestPlayer, rest: &str) -> Answer {
-    let (name, word) = first_word(rest);
-    match player.watch(name, Witness::new(alloc, word != "short")) {
-        Ok(was) => shown_watcher(alloc, was),
-        Err(_) => Err(NoAnswer::OutOfMemory),
-    }
-}
-
-fn deed_of(alloc: Global, word: &str) -> Result<Deed, NoAnswer> {
-    match word {
-        "refuses" => Ok(Deed::Refuses),
-        "short" => Ok(Deed::FindsNoMemory),
-        word => Ok(Deed::Gives(given_of(value_of(alloc, word)?)?)),
-    }
-}
-
-fn shown_function(alloc: Global, function: Option<Bound<Constant, Script>>) -> Answer {
-    match function {
-        None => text(alloc, "nothing"),
-        Some(Bound::Pure(_)) => text(alloc, "pure"),
-        Some(Bound::Turn(script)) => {
-            let mut said = String::from_str(alloc, "turn")?;
-            for called in script.noted.calls() {
-                show_called(alloc, &mut said, called)?;
-            }
-            Ok(said)
-        }
-    }
-}
-
-fn show_called(alloc: Global, said: &mut String, called: &Called) -> Result<(), AllocError> {
-    said.push(' ')?;
-    show_call(
-        alloc,
-        said,
-        called.arguments.as_slice(),
-        called.gave.as_ref(),
-    )?;
-    write!(said, "@{}", called.stamp)
-}
-
-fn shown_watcher(alloc: Global, watcher: Option<Witness>) -> Answer {
-    match watcher {
-        None => text(alloc, "nothing"),
-        Some(witness) => {
-            let mut said = String::from_str(alloc, "watcher")?;
-            for seen in witness.noted.seen() {
-                said.push(' ')?;
-                show_sight(
-                    alloc,
-                    &mut said,
-                    seen.name.as_str(),
-                    &seen.value,
-                    seen.stamp,
-                )?;
-            }
-            Ok(said)
-        }
-    }
-}
-
-// ---- events
-
-pub(crate) fn done(alloc: Global, outcome: Outcome) -> Answer {
-    match outcome {
-        Ok(events) => {
-            let mut said = String::from_str(alloc, "done")?;
-            show_events(alloc, &mut said, events.as_slice())?;
-            Ok(said)
-        }
-        Err(halt) => halted(alloc, halt),
-    }
-}
-
-/// A fault, with its events. After want of memory there is no answer.
-fn halted(alloc: Global, halt: Halt) -> Answer {
-    match halt {
-        Halt::Fault { fault, events } if fault != Fault::OutOfMemory => {
-            faulted(alloc, fault, events.as_slice())
-        }
-        halt => Err(NoAnswer::from(halt)),
-    }
-}
-
-fn faulted(alloc: Global, fault: Fault, events: &[Event]) -> Answer {
-    let mut said = String::from_str(alloc, fault.name())?;
-    show_events(alloc, &mut said, events)?;
-    Ok(said)
-}
-
-fn show_events(alloc: Global, said: &mut String, events: &[Event]) -> Result<(), AllocError> {
-    for event in events {
-        said.push(' ')?;
-        match event {
-            Event::Call {
-                name,
-                arguments,
-                gave,
-                stamp,
-            } => {
-                encode(said, name.as_str())?;
-                show_call(alloc, said, arguments.as_slice(), gave.as_ref())?;
-                write!(said, "@{stamp}")?;
-            }
-            Event::Saw { name, stamp, value } => {
-                show_sight(alloc, said, name.as_str(), value, *stamp)?;
-            }
-        }
-    }
-    Ok(())
-}
-
-/// The arguments of a call, and what it gave, or that it was refused.
-fn show_call(
-    alloc: Global,
-    said: &mut String,
-    arguments: &[Value],
-    gave: Option<&Given>,
-) -> Result<(), AllocError> {
-    said.push('(')?;
-    for (index, argument) in arguments.iter().enumerate() {
-        if index > 0 {
-            said.push(',')?;
-        }
-        show_value(alloc, said, argument)?;
-    }
-    match gave {
-        Some(given) => {
-            said.push_str(")=")?;
-            show_given(said, given)
-        }
-        None => said.push_str(")!"),
-    }
-}
-
-fn show_sight(
-    alloc: Global,
-    said: &mut String,
-    name: &str,
-    value: &Value,
-    stamp: u64,
-) -> Result<(), AllocError> {
-    encode(said, name)?;
-    said.push(':')?;
-    show_value(alloc, said, value)?;
-    write!(said, "@{stamp}")
 }
