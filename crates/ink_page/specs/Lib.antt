@@ -1,0 +1,6 @@
+pub mod Typed
+pub mod Sheet
+pub mod Sentences
+pub mod Page
+pub mod Given
+pub mod Turns

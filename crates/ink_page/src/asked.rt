@@ -1,0 +1,140 @@
+//! Functions of a story that are asked of its reader.
+
+ghost use Rattle.ink_page.specs.Turns.{log_of, refusals_of};
+
+use crate::given::read_given;
+use crate::page::{Look, line_page};
+use ink_check::Story;
+use ink_host::{Desk, Recorder, TurnFn};
+use ink_model::{Given, HostFault, Leaf, Text, Value};
+use ink_protocol::print_values;
+use ink_tree::{NodeId, Tree};
+use std::alloc::{AllocError, Global};
+use std::io;
+
+/// A function that asks the reader: it shows its name and its arguments, and what is typed in one line is its answer. At the end of
+/// the input it refuses.
+#[derive(Drop)]
+pub struct Asked<R> {
+    name: Text,
+    look: Look,
+    rt: R,
+    noted: Recorder,
+    alloc: Global,
+}
+
+impl<R: Input + Print + Drop> Asked<R> {
+    /// The function of a name, which was not called yet.
+    pub fn new(alloc: Global, rt: R, look: Look, name: &str) -> Result<Asked<R>, AllocError> {
+        Ok(Asked {
+            name: Text::from_str(alloc, name)?,
+            look,
+            rt,
+            noted: Recorder::new(alloc),
+            alloc,
+        })
+    }
+
+    // Asks, and gives the line that is typed; none at the end of the input, or where it fails.
+    fn ask(&self, arguments: &[Value]) -> Result<Option<String>, AllocError> {
+        let question = question(self.alloc, self.look, self.name.as_str(), arguments)?;
+        let mut line = String::new(self.alloc);
+        match ask_line(&self.rt, question.as_str(), &mut line) {
+            Ok(count) if count > 0 => Ok(Some(line)),
+            _ => Ok(None),
+        }
+    }
+}
+
+impl<R: Input + Print + Drop> TurnFn for Asked<R> {
+    ghost log = { λ a. a.noted.log };
+
+    ghost refusals = { λ a. a.noted.refusals };
+
+    fn call(&mut self, stamp: u64, arguments: &[Value]) -> Result<Given, HostFault> {
+        let call = self.noted.open(stamp, arguments)?;
+        let Ok(line) = self.ask(arguments) else {
+            return Err(self.noted.lack());
+        };
+        let Some(line) = line else {
+            return Err(self.noted.refuse(call));
+        };
+        let Ok(given) = read_given(self.alloc, line.as_str()) else {
+            return Err(self.noted.lack());
+        };
+        self.noted.answer(call, given)
+    }
+}
+
+// Shows a question, and reads a line.
+fn ask_line(rt: &(impl Input + Print), question: &str, line: &mut String) -> io::Result<usize> {
+    print!(rt; "{question} = ")?;
+    rt.read_line(line)
+}
+
+// A call as it is asked: the function's name, and its arguments in parentheses.
+fn question(
+    alloc: Global,
+    look: Look,
+    name: &str,
+    arguments: &[Value],
+) -> Result<String, AllocError> {
+    let mut text = String::from_str(alloc, name)?;
+    text.push('(')?;
+    let values = print_values(alloc, arguments)?;
+    if let Ok(values) = str::from_utf8(&values) {
+        text.push_str(values.trim_start_matches('[').trim_end_matches(']'))?;
+    }
+    text.push(')')?;
+    line_page(alloc, look, text.as_str(), &[])
+}
+
+/// A turn function that was bound, or one that asks.
+#[derive(Drop)]
+pub enum Turn<F, G> {
+    Bound(F),
+    Asked(G),
+}
+
+impl<F: TurnFn, G: TurnFn> TurnFn for Turn<F, G> {
+    ghost log = { λ t. log_of F.log G.log t };
+
+    ghost refusals = { λ t. refusals_of F.refusals G.refusals t };
+
+    fn call(&mut self, stamp: u64, arguments: &[Value]) -> Result<Given, HostFault> {
+        match self {
+            Turn::Bound(function) => function.call(stamp, arguments),
+            Turn::Asked(function) => function.call(stamp, arguments),
+        }
+    }
+}
+
+/// Binds each function that a story calls, that nothing is bound to yet and that has no knot of its own, to an object that asks.
+pub fn ask_for_the_rest<R: Input + Print + Copy + Drop, P: Drop, F: Drop, O>(
+    alloc: Global,
+    rt: R,
+    look: Look,
+    story: &Story,
+    desk: &mut Desk<P, Turn<F, Asked<R>>, O>,
+) -> Result<(), AllocError> {
+    let tree = story.tree();
+    for number in 0..tree.len() {
+        if let Some(name) = called(tree, NodeId { number }) {
+            if desk.kind(name).is_none() && tree.knot(name).is_none() {
+                let asked = Turn::Asked(Asked::new(alloc, rt, look, name)?);
+                if desk.bind_turn(name, asked).is_err() {
+                    return Err(AllocError);
+                }
+            }
+        }
+    }
+    Ok(())
+}
+
+// The function of the host that a content calls.
+fn called(tree: &Tree, node: NodeId) -> Option<&str> {
+    match tree.leaf(node) {
+        Some(Leaf::External { name, .. }) => Some(name.as_str()),
+        _ => None,
+    }
+}

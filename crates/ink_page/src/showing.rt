@@ -1,0 +1,101 @@
+//! What is shown of a player's answers.
+
+use crate::page::{Look, choice_page, line_page};
+use ink_model::{Event, Passage, Shown, Value};
+use ink_protocol::{RunFault, Sink, write_answer};
+use std::alloc::{AllocError, Global};
+
+/// Shows words in lines of their own.
+pub fn say<T: Sink>(alloc: Global, look: Look, sink: &mut T, words: &str) -> Result<(), RunFault> {
+    match line_page(alloc, look, words, &[]) {
+        Ok(page) => write_page(sink, page),
+        Err(AllocError) => Err(RunFault::OutOfMemory),
+    }
+}
+
+/// Shows a line of the story, with what was told to watchers on the way to it. A line with nothing to show is left out.
+pub fn show_passage<T: Sink>(
+    alloc: Global,
+    look: Look,
+    sink: &mut T,
+    passage: &Passage,
+) -> Result<(), RunFault> {
+    let Ok(page) = line_page(alloc, look, passage.text.as_str(), passage.tags.as_slice()) else {
+        return Err(RunFault::OutOfMemory);
+    };
+    if !page.is_empty() {
+        write_page(sink, page)?;
+    }
+    show_events(alloc, look, sink, passage.events.as_slice())
+}
+
+/// Shows the globals that watchers were told, each in a line of its own.
+pub fn show_events<T: Sink>(
+    alloc: Global,
+    look: Look,
+    sink: &mut T,
+    events: &[Event],
+) -> Result<(), RunFault> {
+    for event in events {
+        match event {
+            Event::Call { .. } => {}
+            Event::Saw { name, value, .. } => show_value(alloc, look, sink, name.as_str(), value)?,
+        }
+    }
+    Ok(())
+}
+
+/// Shows what a variable is.
+pub fn show_value<T: Sink>(
+    alloc: Global,
+    look: Look,
+    sink: &mut T,
+    name: &str,
+    value: &Value,
+) -> Result<(), RunFault> {
+    match value_line(alloc, name, value) {
+        Ok(line) => say(alloc, look, sink, line.as_str()),
+        Err(AllocError) => Err(RunFault::OutOfMemory),
+    }
+}
+
+// A variable and its value.
+fn value_line(alloc: Global, name: &str, value: &Value) -> Result<String, AllocError> {
+    match value {
+        Value::Int(number) => format!(in alloc; "[{name} = {number}]"),
+        Value::Bool(truth) => format!(in alloc; "[{name} = {truth}]"),
+        Value::Text(text) | Value::Tag(text) => format!(in alloc; "[{name} = {}]", text.as_str()),
+        Value::Target(_) | Value::Pointer(..) => format!(in alloc;
+            "[{name} = a place in the story]"
+        ),
+        Value::Void => format!(in alloc; "[{name} = nothing]"),
+    }
+}
+
+/// Shows choices by their numbers, from 1, behind an empty line.
+pub fn show_choices<T: Sink>(
+    alloc: Global,
+    look: Look,
+    sink: &mut T,
+    choices: &[Shown],
+) -> Result<(), RunFault> {
+    write_answer(sink, b"\n")?;
+    let mut number = 1u32;
+    for choice in choices {
+        let Ok(page) = choice_page(alloc, look, number, choice) else {
+            return Err(RunFault::OutOfMemory);
+        };
+        write_page(sink, page)?;
+        number = number.saturating_add(1);
+    }
+    Ok(())
+}
+
+// Writes a page and its newline.
+fn write_page<T: Sink>(sink: &mut T, page: String) -> Result<(), RunFault> {
+    let mut page = page;
+    let Ok(()) = page.push('\n') else {
+        return Err(RunFault::OutOfMemory);
+    };
+    write_answer(sink, page.as_bytes())
+}

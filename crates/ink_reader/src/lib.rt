@@ -1,0 +1,12 @@
+//! A reading of a story: what a reader types goes to a player, and what the player answers is shown (docs/READER.md). Nothing here
+//! knows of files.
+#![tactic(auto)]
+
+mod moves;
+mod past;
+mod reader;
+mod shelf;
+mod telling;
+
+pub use reader::Reader;
+pub use shelf::{NotKept, Shelf};

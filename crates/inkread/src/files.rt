@@ -1,0 +1,63 @@
+//! The story's file, and the save's.
+
+use ink_model::MAX_STORY;
+use ink_reader::{NotKept, Shelf};
+use std::alloc::Global;
+use std::fs::{File, Files, OpenFile};
+use std::io::{self, ErrorKind, Read, Write};
+use std::{fs, str};
+
+/// Bytes that are read of a story: as many as it may have, and one more, which tells that there are more.
+const MOST: u64 = MAX_STORY as u64 + 1;
+
+/// The bytes of a story's file, of which no more are read than tell that it is over a story's limit.
+pub(crate) fn read_story_file(
+    files: &impl Files,
+    alloc: Global,
+    path: &str,
+) -> io::Result<Vec<u8>> {
+    let file = File::open(files, path)?;
+    let mut bytes = Vec::new(alloc);
+    file.take(MOST).read_to_end(&mut bytes)?;
+    Ok(bytes)
+}
+
+/// The file of a save. It is written beside and then renamed, so that it is there whole or as it was.
+#[derive(Drop)]
+pub(crate) struct SaveFile<'a, R> {
+    pub(crate) rt: R,
+    pub(crate) path: &'a str,
+    pub(crate) beside: &'a str,
+}
+
+impl<R: Files> SaveFile<'_, R> {
+    // Writes a file beside the save's, to the disk.
+    fn write_beside(&self, save: &str) -> io::Result<()> {
+        let mut file = File::create(&self.rt, self.beside)?;
+        file.write_all(save.as_bytes())?;
+        file.sync_all()
+    }
+}
+
+impl<R: Files> Shelf for SaveFile<'_, R> {
+    fn keep(&mut self, save: &str) -> Result<(), NotKept> {
+        if self.write_beside(save).is_ok() && fs::rename(&self.rt, self.beside, self.path).is_ok() {
+            return Ok(());
+        }
+        let _ = fs::remove_file(&self.rt, self.beside);
+        Err(NotKept)
+    }
+
+    fn fetch(&self, alloc: Global) -> Result<Option<String>, NotKept> {
+        let mut file = match File::open(&self.rt, self.path) {
+            Ok(file) => file,
+            Err(error) if error.kind() == ErrorKind::NotFound => return Ok(None),
+            Err(_) => return Err(NotKept),
+        };
+        let mut save = String::new(alloc);
+        match file.read_to_string(&mut save) {
+            Ok(_) => Ok(Some(save)),
+            Err(_) => Err(NotKept),
+        }
+    }
+}

@@ -1,0 +1,142 @@
+//! Reads a compiled story to a person in a terminal (docs/READER.md).
+#![tactic(auto)]
+
+mod desk;
+mod files;
+mod looks;
+mod report;
+mod session;
+mod settings;
+
+use desk::reader_desk;
+use files::{SaveFile, read_story_file};
+use ink_check::{Story, check};
+use ink_host::{Desk, PureFn, TurnFn, Watcher};
+use ink_json::read_story;
+use ink_page::{Look, ask_for_the_rest};
+use ink_player::{Player, Watched};
+use ink_protocol::RunFault;
+use ink_reader::Reader;
+use ink_words::{PlayDesk, bind_words};
+use looks::look;
+use report::{refuse_file, refuse_memory, refuse_start, refuse_story, refuse_words, tell_run};
+use session::read_to_end;
+use settings::{Settings, read_settings, reader_command};
+use std::alloc::Global;
+use std::process::ExitCode;
+use std::rt::Env;
+use std::{env, io};
+
+fn main(rt: HostRuntime) -> ExitCode {
+    let alloc = rt.alloc();
+    let Ok(words) = words(&rt) else {
+        return ExitCode::from(refuse_words(&rt));
+    };
+    let Ok(command) = reader_command(alloc) else {
+        return ExitCode::from(refuse_words(&rt));
+    };
+    let Ok(matches) = command.try_get_matches_from(words.as_slice()) else {
+        return ExitCode::from(refuse_words(&rt));
+    };
+    let mut desk = PlayDesk::new(alloc);
+    if bind_words(alloc, &mut desk, &matches).is_err() {
+        return ExitCode::from(refuse_words(&rt));
+    }
+    let Some(settings) = read_settings(alloc, &matches) else {
+        return ExitCode::from(refuse_words(&rt));
+    };
+    let look = look(&rt, settings.tags);
+    ExitCode::from(read_file(rt, alloc, look, &settings, desk))
+}
+
+/// The words that the program was started with.
+fn words<R: Env + Alloc>(rt: &R) -> io::Result<Vec<String<R::A>, R::A>> {
+    let words = env::args(rt)?.collect(rt.alloc())?;
+    Ok(words)
+}
+
+/// Reads the story of a file.
+fn read_file(
+    rt: HostRuntime,
+    alloc: Global,
+    look: Look,
+    settings: &Settings<'_>,
+    desk: PlayDesk,
+) -> u8 {
+    match read_story_file(&rt, alloc, settings.story) {
+        Ok(bytes) => read_bytes(rt, alloc, look, settings, bytes.as_slice(), desk),
+        Err(_) => refuse_file(&rt, settings.story),
+    }
+}
+
+/// Reads the story that these bytes are, if it is accepted.
+fn read_bytes(
+    rt: HostRuntime,
+    alloc: Global,
+    look: Look,
+    settings: &Settings<'_>,
+    bytes: &[u8],
+    desk: PlayDesk,
+) -> u8 {
+    let raw = match read_story(alloc, bytes) {
+        Ok(raw) => raw,
+        Err(refusal) => return refuse_story(&rt, alloc, look, bytes, &refusal),
+    };
+    match check(alloc, raw) {
+        Ok(story) => bind_story(rt, alloc, look, settings, story, desk),
+        Err(refusal) => refuse_story(&rt, alloc, look, bytes, &refusal),
+    }
+}
+
+/// Binds what the words say, and questions to the reader for the other functions that the story calls.
+fn bind_story(
+    rt: HostRuntime,
+    alloc: Global,
+    look: Look,
+    settings: &Settings<'_>,
+    story: Story,
+    desk: PlayDesk,
+) -> u8 {
+    let Ok(mut desk) = reader_desk(alloc, desk) else {
+        return refuse_memory(&rt);
+    };
+    let Ok(()) = ask_for_the_rest(alloc, rt, look, &story, &mut desk) else {
+        return refuse_memory(&rt);
+    };
+    open_story(rt, alloc, look, settings, story, desk)
+}
+
+/// Opens the story, and reads it.
+fn open_story<P: PureFn + Drop, F: TurnFn + Drop, O: Watcher + Drop>(
+    rt: HostRuntime,
+    alloc: Global,
+    look: Look,
+    settings: &Settings<'_>,
+    story: Story,
+    desk: Desk<P, F, O>,
+) -> u8 {
+    match Player::open(alloc, story, desk) {
+        Ok(player) => tell_run(&rt, read_player(rt, alloc, look, settings, player)),
+        Err(end) => refuse_start(&rt, end.fault),
+    }
+}
+
+/// Reads an opened story to the end of the input.
+fn read_player<P: PureFn + Drop, F: TurnFn + Drop, O: Watcher + Drop>(
+    rt: HostRuntime,
+    alloc: Global,
+    look: Look,
+    settings: &Settings<'_>,
+    player: Player<P, F, O>,
+) -> Result<(), RunFault> {
+    let mut reader = Reader::new(alloc, player, look, settings.saves);
+    let mut shelf = SaveFile {
+        rt,
+        path: settings.save.as_str(),
+        beside: settings.beside.as_str(),
+    };
+    let mut sink = Watched::new(io::writer(&rt));
+    let outcome = read_to_end(&rt, alloc, look, &mut reader, &mut sink, &mut shelf);
+    let _desk = reader.close();
+    outcome
+}
