@@ -21,8 +21,11 @@ use Rattle.ink_player.specs.Words.{condition_by}
 none_lack : (p q r t n : ℕ) (st : Stood) → st ≡ unmarked → lacks st.threads p 2 || (lacks st.choices q 2 || (lacks st.own r 2 || lacks st.counts t (4 * n))) ≡ false
 none_lack p q r t n st e = ap (λ (x : Stood). lacks x.threads p 2 || (lacks x.choices q 2 || (lacks x.own r 2 || lacks x.counts t (4 * n)))) e
 
+pub turn_free : (n : ℕ) (m : Machine) → stood_of m ≡ unmarked → turn_lacks n m ≡ false
+turn_free n m free = none_lack _ _ _ _ n (stood_of m) free
+
 pub lacks_none : (n : ℕ) (m : Machine) (b : Bool) → stood_of m ≡ unmarked → (turn_lacks n m || b) ≡ true → b ≡ true
-lacks_none n m b free h = sym (ap (λ x. x || b) (none_lack _ _ _ _ n (stood_of m) free)) ∙ h
+lacks_none n m b free h = sym (ap (λ x. x || b) (turn_free n m free)) ∙ h
 
 module _ (s : StoryTree) (path : List ℕ) (c d : Configuration) (a : Aside) (n : ℕ) (b : Option Fault) (free : b ≡ None) (q : List Part) (leads : jump_place s path ≡ Some q) where
   abbrev old : State

@@ -1,5 +1,5 @@
 -- A player stands sound and at rest after each command: by the law of ink_sound that says so of commands, and of opening.
-use Rattle.std.proofs.Common.{◌≡◌, ◌∙◌, ap, refl, subst, sym, inl, inr, ℕ, List, [], ◌∷◌, ◌++◌, Bool, true, false, bytes_eq, Option, None, Some, is_some, Result, Ok, Err, OnOk, OnErr}
+use Rattle.std.proofs.Common.{◌≡◌, ◌∙◌, ◌||◌, ap, refl, subst, sym, inl, inr, ℕ, List, [], ◌∷◌, ◌++◌, Bool, true, false, bytes_eq, Option, None, Some, is_some, Result, Ok, Err, OnOk, OnErr}
 use Rattle.ink_model.specs.Answer.{Reply, Acts, Refuses, reply_of_landing}
 use Rattle.ink_model.specs.Choosing.{jump_place, jumped, open_choice}
 use Rattle.ink_model.specs.Command as command
@@ -29,7 +29,7 @@ use Rattle.ink_model.specs.declared.place.Part.{Part}
 use Rattle.ink_sound.specs.Kept.{ConditionFits, StateFits, StoryFits}
 use Rattle.ink_sound.proofs.Going.{one_fits}
 use Rattle.ink_sound.proofs.Sessions.{does_fit}
-use Rattle.ink_step.specs.Marks.{marked_in, stood_of, unmarked}
+use Rattle.ink_step.specs.Marks.{Stood, choosing_lacks, entered_by, stood_of, turn_lacks, unmarked}
 use Rattle.ink_step.specs.Steps.{Chooses}
 use Rattle.ink_step.specs.Words.{aside_in, aside_of, config_of, game_of}
 use Rattle.ink_step.specs.declared.machine.Machine.{Machine}
@@ -38,6 +38,7 @@ use Rattle.ink_player.specs.declared.passages.Extent.{Extent}
 use Rattle.ink_player.specs.declared.passages.Extent.TheVariants as extent
 use Rattle.ink_player.specs.Words.{Stands, condition_by, fault_told, is_empty}
 use Rattle.ink_player.proofs.Flows.{drops-some, goes-by}
+use Rattle.ink_player.proofs.Jumps.{turn_free}
 use Rattle.ink_player.proofs.Tellings.{at_stamp, goes-where, nobody-told, sets}
 
 -- names bound as they are, and nobody watches
@@ -57,9 +58,11 @@ choice_taken s (Some choice) c d (Ok u) h = inl (refl, ap (λ x. at_stamp (Ready
 choice_taken s (Some choice) c d (Err r) h = inr (h.1, (ap Refuses h.0, ap (λ x. at_stamp (Ready x) one_flow 0) h.2))
 
 -- no mark stands where it is taken
-pub chooses-free : (s : StoryTree) (m : Machine) → stood_of m ≡ unmarked → (choice : Option (ChoiceOf (List Part))) (d : Configuration) (r : Result (Unit {0}) Refusal)
-    → Chooses s (marked_in (stood_of m)) choice (config_of s m) d r → Chooses s false choice (config_of s m) d r
-chooses-free s m free choice d r h = subst (λ stood. Chooses s (marked_in stood) choice (config_of s m) d r) free h
+pub chooses-free : (s : StoryTree) (m n : Machine) → stood_of m ≡ unmarked → stood_of n ≡ unmarked → (choice : Option (ChoiceOf (List Part))) (d : Configuration) (r : Result (Unit {0}) Refusal)
+    → Chooses s (choosing_lacks s choice m n) choice (config_of s m) d r → Chooses s false choice (config_of s m) d r
+chooses-free s m n free left choice d r h =
+    let copies : is_some (stood_of m).choices ≡ false = ap (λ (x : Stood). is_some x.choices) free in
+    subst (λ lacks. Chooses s lacks choice (config_of s m) d r) (ap (λ b. b || turn_lacks (entered_by s choice) n) copies ∙ turn_free (entered_by s choice) n left) h
 
 -- what goes so far, as a command
 abbrev going : Extent → Command

@@ -1,5 +1,5 @@
 -- Choices over spots and over places; where they lead.
-use Rattle.std.proofs.Common.{◌≡◌, ◌∙◌, ◌⊎◌, inl, inr, ap, sym, refl, subst, is_some, ℕ, zero, suc, List, [], ◌∷◌, map, Bool, true, false, ◌&&◌, ◌||◌, if◌then◌else◌, slice_get, Option, Some, None, option_map, Ok, Err}
+use Rattle.std.proofs.Common.{◌≡◌, ◌∙◌, ◌⊎◌, inl, inr, ap, sym, refl, subst, ℕ, zero, suc, List, [], ◌∷◌, map, Bool, true, false, ◌&&◌, ◌||◌, if◌then◌else◌, slice_get, Option, Some, None, option_map, Ok, Err}
 use Rattle.ink_choice.proofs.Nth.{taken_visible}
 use Rattle.ink_choice.specs.Words.{Takes}
 use Rattle.ink_model.specs.Choices.{none_visible, only_invisible, taken, visible}
@@ -13,9 +13,8 @@ use Rattle.ink_model.specs.declared.fault.Fault.{Fault}
 use Rattle.ink_model.specs.declared.fault.Fault.TheVariants.{OutOfMemory}
 use Rattle.ink_model.specs.declared.fault.Refusal.TheVariants as refusal
 use Rattle.ink_model.specs.declared.place.Part.{Part}
-use Rattle.ink_step.specs.Marks.{Stood, marked_in}
 use Rattle.ink_step.specs.Steps.{Chooses, StepEnds}
-use Rattle.ink_step.proofs.Follows.{ends_short, or_first, or_more}
+use Rattle.ink_step.proofs.Follows.{ends_short, or_first, or_more, or_wider}
 use Rattle.ink_step.specs.declared.flow.StepEnd.TheVariants as ends
 
 -- ---- what is taken
@@ -115,19 +114,20 @@ module _ (s : StoryTree) (pressed : Bool) (old new : Configuration) (d : Option 
 
 -- ---- where a host chooses
 
-module _ (s : StoryTree) (marked : Bool) (n : ℕ) (old new : Configuration) (stopped : can_go_on old ≡ false) where
+-- what is lacked is told by the choice
+module _ (s : StoryTree) (lacking : Option (ChoiceOf (List Part)) → Bool) (n : ℕ) (old new : Configuration) (stopped : can_go_on old ≡ false) where
   pub open_is : open_choice n old ≡ slice_get (visible old.flow.choices) n
   open_is = ap (λ b. if b then None else slice_get (visible old.flow.choices) n) stopped
 
-  pub chooses_none : slice_get (visible old.flow.choices) n ≡ None → new ≡ old → Chooses s marked (open_choice n old) old new (Err refusal.NotAChoice)
-  chooses_none none is = subst (λ o. Chooses s marked o old new (Err refusal.NotAChoice)) (sym (open_is ∙ none)) (refl, is)
+  pub chooses_none : slice_get (visible old.flow.choices) n ≡ None → new ≡ old → Chooses s (lacking (open_choice n old)) (open_choice n old) old new (Err refusal.NotAChoice)
+  chooses_none none is = subst (λ o. Chooses s (lacking o) o old new (Err refusal.NotAChoice)) (sym (open_is ∙ none)) (refl, is)
 
   module _ (x : ChoiceOf (List Part)) (some : slice_get (visible old.flow.choices) n ≡ Some x) where
-    pub chooses_one : new ≡ entering_around s (chosen x old) → Chooses s marked (open_choice n old) old new (Ok (tt {0}))
-    chooses_one is = subst (λ o. Chooses s marked o old new (Ok (tt {0}))) (sym (open_is ∙ some)) is
+    pub chooses_one : new ≡ entering_around s (chosen x old) → Chooses s (lacking (open_choice n old)) (open_choice n old) old new (Ok (tt {0}))
+    chooses_one is = subst (λ o. Chooses s (lacking o) o old new (Ok (tt {0}))) (sym (open_is ∙ some)) is
 
-    pub chooses_short : (marked || entering_asks s (chosen x old)) ≡ true → new ≡ old → Chooses s marked (open_choice n old) old new (Err refusal.OutOfMemory)
-    chooses_short adds is = subst (λ o. Chooses s marked o old new (Err refusal.OutOfMemory)) (sym (open_is ∙ some)) (refl, adds, is)
+    pub chooses_short : (lacking (Some x) || entering_asks s (chosen x old)) ≡ true → new ≡ old → Chooses s (lacking (open_choice n old)) (open_choice n old) old new (Err refusal.OutOfMemory)
+    chooses_short adds is = subst (λ o. Chooses s (lacking o) o old new (Err refusal.OutOfMemory)) (sym (open_is ∙ some)) (refl, adds, is)
 
 -- the configuration that a choice took up, after the containers around had been entered in the next turn
 module _ (s : StoryTree) (x : ChoiceOf (List Part)) (old mid : Configuration) (same : mid ≡ old) (counts : CountsOf (List Part)) (turn : ℕ) where
@@ -143,17 +143,14 @@ module _ (s : StoryTree) (x : ChoiceOf (List Part)) (old mid : Configuration) (s
       is ∙ ap (up_in mid turn) entering ∙ ap (λ t. up_in mid t (all_visited s t entered_by mid.shared.counts)) next
       ∙ ap (λ c. up_in c (one_more c.shared.turn) (all_visited s (one_more c.shared.turn) entered_by c.shared.counts)) same
 
--- ---- a mark that stands
+-- ---- memory that is refused
 
-sixth : (a b c d e f g : Bool) → f ≡ true → a || (b || (c || (d || (e || (f || g))))) ≡ true
-sixth a b c d e f g h =
-    or_more a (b || (c || (d || (e || (f || g))))) (or_more b (c || (d || (e || (f || g)))) (or_more c (d || (e || (f || g))) (or_more d (e || (f || g)) (or_more e (f || g) (or_first f g h)))))
+-- for a turn, before what it enters is known
+pub turn_short : (a b c d : Bool) → a || (b || c) ≡ true → a || (b || (c || d)) ≡ true
+turn_short true b c d h = refl
+turn_short false b c d h = or_wider b c d h
 
--- in the counts
-pub marked_by_counts : (m : Stood) → is_some m.counts ≡ true → marked_in m ≡ true
-marked_by_counts m h = sixth (is_some m.own) (is_some m.threads) (is_some m.stack) (is_some m.choices) (is_some m.globals) (is_some m.counts) (is_some m.page) h
-
--- memory was refused for a row, or while a mark stands
-pub asks_or_marked : (old mid : Stood) (asking : Bool) → mid ≡ old → (asking ≡ true) ⊎ (is_some mid.counts ≡ true) → marked_in old || asking ≡ true
-asks_or_marked old mid asking same (inl h) = or_more (marked_in old) asking h
-asks_or_marked old mid asking same (inr h) = or_first (marked_in old) asking (subst (λ m. marked_in m ≡ true) same (marked_by_counts mid h))
+-- for a row, or for notes of what is entered
+pub asks_or_lacks : (a b c d e asking : Bool) → (asking ≡ true) ⊎ (e ≡ true) → (a || (b || (c || (d || e)))) || asking ≡ true
+asks_or_lacks a b c d e asking (inl h) = or_more (a || (b || (c || (d || e)))) asking h
+asks_or_lacks a b c d e asking (inr h) = or_first (a || (b || (c || (d || e)))) asking (or_more a (b || (c || (d || e))) (or_more b (c || (d || e)) (or_more c (d || e) (or_more d e h))))

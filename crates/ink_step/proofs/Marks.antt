@@ -1,5 +1,5 @@
 -- What memory is asked for while a mark stands.
-use Rattle.std.proofs.Common.{◌≡◌, ◌∙◌, ◌⊎◌, ◌≤◌, ◌<◌, ◌+◌, ◌*◌, ◌&&◌, ◌||◌, ℕ, nat_lt, List, length, ap, arith, inl, inr, refl, sym, Bool, true, false, Option, None, Some, is_some, option_and_then, option_map}
+use Rattle.std.proofs.Common.{◌≡◌, ◌∙◌, ◌⊎◌, ◌≤◌, ◌<◌, ◌+◌, ◌*◌, ◌&&◌, ◌||◌, ℕ, nat_lt, List, length, ap, arith, inl, inr, refl, Bool, true, false, Option, None, Some, is_some, option_and_then, option_map}
 use Rattle.std.proofs.lemmas.Bool.{lt-ltb, ltb-true}
 use Rattle.ink_choice.specs.Undo.{choices_spare, choices_stood}
 use Rattle.ink_model.specs.Choices.{only_invisible}
@@ -17,7 +17,7 @@ use Rattle.ink_model.specs.declared.content.Leaf.TheVariants as leaves
 use Rattle.ink_model.specs.declared.value.Value.{Value}
 use Rattle.ink_model.specs.declared.place.Part.{Part}
 use Rattle.ink_stack.specs.Undo.{threads_spare, threads_stood}
-use Rattle.ink_step.specs.Marks.{Stood, choices_lack, counts_lack, lacks, landing_lacks, marked_in, own_lacks, own_spare, own_stood, pressed, presses, stack_lacks, stood_of, takes_first, takes_there, threads_lack, unmarked}
+use Rattle.ink_step.specs.Marks.{Stood, choices_lack, counts_lack, lacks, landing_lacks, own_lacks, own_spare, pressed, presses, stack_lacks, stood_of, takes_first, takes_there, threads_lack, unmarked}
 use Rattle.ink_step.specs.Words.{config_of}
 use Rattle.ink_step.specs.declared.flow.TheConstants.{MOVING}
 use Rattle.ink_step.specs.declared.machine.Machine.{Machine}
@@ -59,11 +59,6 @@ module _ {A : Type 0} (stood : Option A) (spare n : ℕ) where
   lacks_more k most h =
       let few : spare < n = ltb-true spare n (and_second (is_some stood) (nat_lt spare n) h) in
       and_both (is_some stood) (nat_lt spare k) (lacks_mark h) (lt-ltb spare k (omega arith))
-
--- what was refused for a part that lacks room, while a mark stood in it before
-pub marked_or : {A : Type 0} → (left before : Option A) (spare n : ℕ) (X : Type 0) → left ≡ before → X ⊎ (lacks left spare n ≡ true) → X ⊎ (is_some before ≡ true)
-marked_or left before spare n X same (inl x) = inl x
-marked_or left before spare n X same (inr h) = inr (ap is_some (sym same) ∙ lacks_mark left spare n h)
 
 -- ---- a machine that is pressed
 
@@ -175,25 +170,3 @@ takes_calls s b c name arguments f d takes is = by (current_place c) takes is
     by : (o : Option (List Part)) → takes_there (option_and_then (λ p. at s (entered s p)) o) ≡ true → step_at s b o c ≡ Wants name arguments f d → ⊥
     by None h wants = absurd (cc)
     by (Some p) h wants = calls_none s b p (gone_in s p c) (call_at (at s (entered s p))) (takes_no_call (at s (entered s p)) h) name arguments f d wants
-
--- ---- a turn
-
--- what lacks room for a turn is marked
-module _ (m : Machine) where
-  marked_threads : is_some (threads_stood m.flow.threads) ≡ true → marked_in (stood_of m) ≡ true
-  marked_threads h = or_more (is_some (stood_of m).own) _ (or_first _ _ h)
-
-  pub marked_choices : is_some (choices_stood m.flow.choices) ≡ true → marked_in (stood_of m) ≡ true
-  marked_choices h = or_more (is_some (stood_of m).own) _ (or_more (is_some (stood_of m).threads) _ (or_more (is_some (stood_of m).stack) _ (or_first _ _ h)))
-
-  marked_own : is_some (stood_of m).own ≡ true → marked_in (stood_of m) ≡ true
-  marked_own h = or_first _ _ h
-
-  pub turn_marked : threads_lack 2 m || (choices_lack 2 m || own_lacks 2 m) ≡ true → marked_in (stood_of m) ≡ true
-  turn_marked h = elim (or_split (threads_lack 2 m) _ h) [
-    | inl t ↦ marked_threads (lacks_mark (threads_stood m.flow.threads) _ 2 t)
-    | inr k ↦ elim (or_split (choices_lack 2 m) (own_lacks 2 m) k) [
-      | inl c ↦ marked_choices (lacks_mark (choices_stood m.flow.choices) _ 2 c)
-      | inr o ↦ marked_own (lacks_mark (own_stood m.trail m.shared.turn m.flow.safe) _ 2 o)
-    ]
-  ]

@@ -6,12 +6,14 @@ use Rattle.ink_model.specs.Configuration.{ChoiceOf, Configuration, current_place
 use Rattle.ink_model.specs.Counts.{CountsOf}
 use Rattle.ink_model.specs.Frames.{ThreadsOf, map_threads}
 use Rattle.ink_model.specs.Page.{Page}
+use Rattle.ink_model.specs.Entered.{entered_places}
 use Rattle.ink_model.specs.Place.{entered}
 use Rattle.ink_model.specs.Store.{Values}
 use Rattle.ink_model.specs.Threads.{frame_count}
 use Rattle.ink_model.specs.Visits.{around}
 use Rattle.ink_model.specs.declared.content.Leaf.{Leaf}
 use Rattle.ink_model.specs.declared.content.Leaf.TheVariants as leaves
+use Rattle.ink_model.specs.declared.place.Part.{Part}
 use Rattle.ink_model.specs.declared.value.Value.{Value}
 use Rattle.ink_out.specs.Undo.{output_stood}
 use Rattle.ink_stack.specs.Undo.{threads_spare, threads_stood}
@@ -75,10 +77,6 @@ stood_of m = record {
 abbrev pub unmarked : Stood
 unmarked = record { own = None; threads = None; stack = None; choices = None; globals = None; counts = None; page = None }
 
--- a mark stands in some part
-abbrev pub marked_in : Stood → Bool
-marked_in s = is_some s.own || (is_some s.threads || (is_some s.stack || (is_some s.choices || (is_some s.globals || (is_some s.counts || is_some s.page)))))
-
 -- a content takes a value off the stack and keeps it, so that while a mark stands it takes a copy
 abbrev pub takes_value : Leaf → Bool
 takes_value (leaves.Declare name) = true
@@ -141,6 +139,15 @@ presses s old new = (takes_first s (config_of s old) && is_some (stack_stood old
 -- a turn begins, from a machine, for which so many containers are entered
 abbrev pub turn_lacks : ℕ → Machine → Bool
 turn_lacks n m = threads_lack 2 m || (choices_lack 2 m || (own_lacks 2 m || counts_lack (4 * n) m))
+
+-- so many containers are entered where a choice leads
+abbrev pub entered_by : StoryTree → Option (ChoiceOf (List Part)) → ℕ
+entered_by s (Some choice) = length (entered_places s choice.thread.previous choice.target)
+entered_by s None = 0
+
+-- a choice is taken, which is copied where the choices keep a mark, and a turn begins
+abbrev pub choosing_lacks : StoryTree → Option (ChoiceOf (List Part)) → Machine → Machine → Bool
+choosing_lacks s choice old new = is_some (choices_stood old.flow.choices) || turn_lacks (entered_by s choice) new
 
 -- ---- going back
 

@@ -79,9 +79,9 @@ abbrev pub FailsToOpen : StoryTree → Fault → Values → Type 0
 FailsToOpen s f globals = (opening s ≡ Err (record { fault = f; globals = globals })) ⊎ ((f ≡ OutOfMemory) × OpensShort s)
 
 -- A choice is taken, with the containers that its landing enters; or there is none, or memory is refused for a first visit, and
--- nothing has changed. While a mark stands a copy of the choice is taken, for which memory may be refused too.
+-- nothing has changed; where a mark stands, also for the copy of the choice and for notes (Marks.antt).
 abbrev pub Chooses : StoryTree → Bool → Option (ChoiceOf (List Part)) → Configuration → Configuration → Result (Unit {0}) Refusal → Type 0
-Chooses s marked None old new (Ok u) = ⊥
-Chooses s marked None old new (Err r) = (r ≡ refusal.NotAChoice) × (new ≡ old)
-Chooses s marked (Some choice) old new (Ok u) = new ≡ entering_around s (chosen choice old)
-Chooses s marked (Some choice) old new (Err r) = (r ≡ refusal.OutOfMemory) × ((marked || entering_asks s (chosen choice old)) ≡ true) × (new ≡ old)
+Chooses s lacks None old new (Ok u) = ⊥
+Chooses s lacks None old new (Err r) = (r ≡ refusal.NotAChoice) × (new ≡ old)
+Chooses s lacks (Some choice) old new (Ok u) = new ≡ entering_around s (chosen choice old)
+Chooses s lacks (Some choice) old new (Err r) = (r ≡ refusal.OutOfMemory) × ((lacks || entering_asks s (chosen choice old)) ≡ true) × (new ≡ old)

@@ -8,7 +8,7 @@ ghost use Rattle.ink_model.specs.Choosing.{default_asks, default_choice, jumped,
 ghost use Rattle.ink_model.specs.Configuration.{map_choice};
 ghost use Rattle.ink_model.specs.Tree.{StoryTree};
 ghost use Rattle.ink_model.specs.Visits.{around, entering_around, entering_asks};
-ghost use Rattle.ink_step.specs.Marks.{choices_lack, marked_in, own_lacks, own_spare, pressed, stood_of, threads_lack, turn_lacks};
+ghost use Rattle.ink_step.specs.Marks.{choices_lack, choosing_lacks, own_lacks, own_spare, pressed, stood_of, threads_lack, turn_lacks};
 ghost use Rattle.ink_step.specs.Steps.{Chooses, StepEnds};
 ghost use Rattle.ink_step.specs.Words.{aside_in, config_of, start_of};
 ghost use Rattle.ink_tree.specs.Nodes.{place_of};
@@ -71,10 +71,11 @@ impl Machine {
 
     /// Takes the n-th of the choices that are shown, counted from 0: the threads are the choice's copy alone, no choice is left,
     /// and flow lands where it leads, in the next turn. `NotAChoice` where flow has not stopped or there is no such choice;
-    /// `OutOfMemory` for a refused request for memory, which is made only for a container that is entered for the first time.
-    /// On an error nothing has changed (docs/RUNNING.md, "Choosing and jumping").
+    /// `OutOfMemory` for a refused request for memory, which is made only for a container that is entered for the first time, and
+    /// while a mark stands for a copy of the choice and for notes. On an error nothing has changed (docs/RUNNING.md, "Choosing and jumping").
     pub fn choose(&mut self, story: &Story, number: usize) -> Result<(), Refusal>
-        ensures chooses { let s = story_tree story.now in let c = config_of s self.old in Chooses s (marked_in (stood_of self.old)) (open_choice number c) c (config_of s self.new) result }
+        ensures chooses { let s = story_tree story.now in let c = config_of s self.old in let choice = open_choice number c in
+            Chooses s (choosing_lacks s choice self.old self.new) choice c (config_of s self.new) result }
         ensures aside { aside_in self.new ≡ aside_in self.old }
         ensures mark { stood_of self.new ≡ stood_of self.old }
     {

@@ -1,20 +1,20 @@
-use Rattle.std.proofs.Common.{◌≡◌, ◌∙◌, ◌⊎◌, ◌*◌, ◌||◌, List, length, ap, refl, rules, subst, sym, true, false, is_some, slice_get, option_map, MatchOption, Some, None, Ok, Err, unwrap_or}
+use Rattle.std.proofs.Common.{◌≡◌, ◌∙◌, ◌⊎◌, ◌*◌, ◌||◌, Bool, List, Option, length, ap, refl, rules, subst, sym, true, false, is_some, slice_get, option_map, MatchOption, Some, None, Ok, Err, unwrap_or}
 use Rattle.ink_check.specs.Words.{story_tree}
 use Rattle.ink_choice.specs.Undo.{choices_stood}
 use Rattle.ink_choice.specs.Words.{Takes}
 use Rattle.ink_model.specs.Choices.{taken, visible}
 use Rattle.ink_model.specs.Choosing.{open_choice, taken_up}
-use Rattle.ink_model.specs.Configuration.{can_go_on, map_choice}
+use Rattle.ink_model.specs.Configuration.{ChoiceOf, can_go_on, map_choice}
 use Rattle.ink_model.specs.Entered.{entered_places}
 use Rattle.ink_model.specs.Tree.{StoryTree}
 use Rattle.ink_model.specs.Visits.{adds_rows, all_visited}
 use Rattle.ink_model.specs.declared.place.Part.{Part}
-use Rattle.ink_step.specs.Marks.{lacks, marked_in, stood_of}
+use Rattle.ink_step.specs.Marks.{choices_lack, choosing_lacks, counts_lack, entered_by, lacks, own_lacks, threads_lack, turn_lacks}
 use Rattle.ink_step.specs.Steps.{Chooses}
 use Rattle.ink_step.specs.Words.{config_of, counts_in}
-use Rattle.ink_step.proofs.Chosen.{asks_or_marked, chooses_none, chooses_one, chooses_short, chosen_lands, open_alike, takes_any, takes_visible}
-use Rattle.ink_step.proofs.Follows.{or_first}
-use Rattle.ink_step.proofs.Marks.{marked_choices, marked_or, turn_marked}
+use Rattle.ink_step.specs.declared.machine.Machine.{Machine}
+use Rattle.ink_step.proofs.Chosen.{asks_or_lacks, chooses_none, chooses_one, chooses_short, chosen_lands, open_alike, takes_any, takes_visible, turn_short}
+use Rattle.ink_step.proofs.Follows.{or_first, or_more}
 use Rattle.ink_step.proofs.machine.Machine.choose.Goals as goal
 use Rattle.ink_step.proofs.machine.Machine.choose.Goals.{After-enter_landed, Else-can_go_on}
 use Rattle.ink_tree.specs.Nodes as Nodes
@@ -39,38 +39,46 @@ entered_as c A h =
 still_there : (c : After-enter_landed) → Some c.in-Some.choice.now ≡ slice_get (visible c.make_choosing_room.new.self.flow.choices.items) c.args.number
 still_there c = c.in-Some.ensures ∙ ap (λ cs. slice_get (visible cs) c.args.number) (sym c.make_choosing_room.ensures.items)
 
+-- what is lacked where one is taken
+abbrev lacking : StoryTree → Machine → Machine → Option (ChoiceOf (List Part)) → Bool
+lacking s old new choice = choosing_lacks s choice old new
+
 pub returns-in_default-clause-chooses : goal.returns-in_default-clause-chooses
 returns-in_default-clause-chooses c =
     let s = story_tree c.args.story.now in
     let machine = c.args.self.now in
     let old = config_of s machine in
-    chooses_none s (marked_in (stood_of machine)) c.args.number old old (stopped (goal.at.returns-in_default-clause-chooses c).Else-can_go_on) (open_alike (place_of s) machine.flow.choices.items c.args.number None c.in_default.ensures) refl
+    chooses_none s (lacking s machine machine) c.args.number old old (stopped (goal.at.returns-in_default-clause-chooses c).Else-can_go_on) (open_alike (place_of s) machine.flow.choices.items c.args.number None c.in_default.ensures) refl
 
 pub returns-in_err-copied-clause-chooses : goal.returns-in_err-copied-clause-chooses
 returns-in_err-copied-clause-chooses c =
     let s = story_tree c.args.story.now in
     let machine = c.args.self.now in
     let old = config_of s machine in
-    let marked = marked_in (stood_of machine) in
+    let short = lacking s machine machine in
     let x = c.in-Some.choice.now in
     let some = open_alike (place_of s) machine.flow.choices.items c.args.number (Some x) c.in-Some.ensures in
     let is : c.from_residual.result ≡ Err c.in_err-copied.field-0.0 = search rules in
-    subst (λ r. Chooses s marked (open_choice c.args.number old) old old r) (sym (is ∙ ap Err c.in_err-copied.ensures.fault))
-    (chooses_short s marked c.args.number old old (stopped (goal.at.returns-in_err-copied-clause-chooses c).Else-can_go_on) (map_choice (place_of s) x) some (or_first marked _ (marked_choices machine c.in_err-copied.ensures.memory)) refl)
+    subst (λ r. Chooses s (short (open_choice c.args.number old)) (open_choice c.args.number old) old old r) (sym (is ∙ ap Err c.in_err-copied.ensures.fault))
+    (chooses_short s short c.args.number old old (stopped (goal.at.returns-in_err-copied-clause-chooses c).Else-can_go_on) (map_choice (place_of s) x) some
+    (or_first (short (Some (map_choice (place_of s) x))) _ (or_first _ _ c.in_err-copied.ensures.memory)) refl)
 
 pub returns-in_err-make_choosing_room-clause-chooses : goal.returns-in_err-make_choosing_room-clause-chooses
 returns-in_err-make_choosing_room-clause-chooses c =
     let s = story_tree c.args.story.now in
     let machine = c.args.self.now in
     let old = config_of s machine in
-    let new = config_of s c.make_choosing_room.new.self in
-    let marked = marked_in (stood_of machine) in
+    let left = c.make_choosing_room.new.self in
+    let new = config_of s left in
+    let short = lacking s machine left in
     let x = c.in-Some.choice.now in
+    let there = Some (map_choice (place_of s) x) in
     let some = open_alike (place_of s) machine.flow.choices.items c.args.number (Some x) c.in-Some.ensures in
     let is : c.from_residual-in_err-make_choosing_room.result ≡ Err c.in_err-make_choosing_room.field-0.0 = search rules in
-    subst (λ r. Chooses s marked (open_choice c.args.number old) old new r) (sym (is ∙ ap Err c.in_err-make_choosing_room.ensures.fault))
-    (chooses_short s marked c.args.number old new (stopped (goal.at.returns-in_err-make_choosing_room-clause-chooses c).Else-can_go_on) (map_choice (place_of s) x) some
-    (or_first marked _ (subst (λ t. marked_in t ≡ true) c.make_choosing_room.ensures.mark (turn_marked c.make_choosing_room.new.self c.in_err-make_choosing_room.ensures.memory))) (c.make_choosing_room.ensures.config s))
+    subst (λ r. Chooses s (short (open_choice c.args.number old)) (open_choice c.args.number old) old new r) (sym (is ∙ ap Err c.in_err-make_choosing_room.ensures.fault))
+    (chooses_short s short c.args.number old new (stopped (goal.at.returns-in_err-make_choosing_room-clause-chooses c).Else-can_go_on) (map_choice (place_of s) x) some
+    (or_first (short there) _ (or_more (is_some (choices_stood machine.flow.choices)) (turn_lacks (entered_by s there) left)
+    (turn_short (threads_lack 2 left) (choices_lack 2 left) (own_lacks 2 left) (counts_lack (4 * entered_by s there) left) c.in_err-make_choosing_room.ensures.memory))) (c.make_choosing_room.ensures.config s))
 
 pub returns-in-Err-clause-chooses : goal.returns-in-Err-clause-chooses
 returns-in-Err-clause-chooses c =
@@ -81,11 +89,13 @@ returns-in-Err-clause-chooses c =
     let x = c.in-Some.choice.now in
     let some = open_alike (place_of s) machine.flow.choices.items c.args.number (Some x) c.in-Some.ensures in
     let left = c.enter_landed.new.counts in
-    let short = entered_as at.After-enter_landed (λ t ps. (adds_rows t ps (counts_in t mid.shared.counts.rows) ≡ true) ⊎ (lacks (counts_stood left) (counts_spare left) (4 * length ps) ≡ true)) c.in-Err.ensures.memory in
-    let adds = marked_or (counts_stood left) (counts_stood mid.shared.counts) (counts_spare left) _ _ c.in-Err.ensures.mark short in
-    let there = asks_or_marked (stood_of machine) (stood_of mid) _ c.make_choosing_room.ensures.mark adds in
-    let asks = subst (λ d. (marked_in (stood_of machine) || adds_rows s (entered_places s (option_map (place_of s) x.thread.previous) (place_of s x.target)) d.shared.counts) ≡ true) (c.make_choosing_room.ensures.config s) there in
-    chooses_short s (marked_in (stood_of machine)) c.args.number (config_of s machine) _ (stopped at.Else-can_go_on) (map_choice (place_of s) x) some asks
+    let new = record mid { shared = record mid.shared { counts = left } } in
+    let there = Some (map_choice (place_of s) x) in
+    let refused = entered_as at.After-enter_landed (λ t ps. (adds_rows t ps (counts_in t mid.shared.counts.rows) ≡ true) ⊎ (lacks (counts_stood left) (counts_spare left) (4 * length ps) ≡ true)) c.in-Err.ensures.memory in
+    let short = asks_or_lacks (is_some (choices_stood machine.flow.choices)) (threads_lack 2 new) (choices_lack 2 new) (own_lacks 2 new) (counts_lack (4 * entered_by s there) new)
+    (adds_rows s (entered_places s (option_map (place_of s) x.thread.previous) (place_of s x.target)) (config_of s mid).shared.counts) refused in
+    let asks = subst (λ d. (lacking s machine new there || adds_rows s (entered_places s (option_map (place_of s) x.thread.previous) (place_of s x.target)) d.shared.counts) ≡ true) (c.make_choosing_room.ensures.config s) short in
+    chooses_short s (lacking s machine new) c.args.number (config_of s machine) _ (stopped at.Else-can_go_on) (map_choice (place_of s) x) some asks
     (ap (λ rows. config_of s (record mid { shared = record mid.shared { counts = record c.enter_landed.new.counts { rows = rows } } })) c.in-Err.ensures.kept ∙ c.make_choosing_room.ensures.config s)
 
 pub returns-in-Some-copied-clause-chooses : goal.returns-in-Some-copied-clause-chooses
@@ -101,7 +111,7 @@ returns-in-Some-copied-clause-chooses c =
     let new = config_of s c.take_up_next.new.self in
     let entering = entered_as at.After-enter_landed (λ t ps. counts_in t c.enter_landed.new.counts.rows ≡ all_visited t c.next-turn.result ps (counts_in t c.make_choosing_room.new.self.shared.counts.rows)) c.in-Ok.ensures.ok in
     let taken_up_there = subst (λ v. new ≡ taken_up (map_choice (place_of s) v) (record mid { shared = record mid.shared { counts = counts; turn = c.next-turn.result } })) same (c.take_up_next.ensures.taken s) in
-    chooses_one s (marked_in (stood_of machine)) c.args.number (config_of s machine) new (stopped at.Else-can_go_on) (map_choice (place_of s) x) some
+    chooses_one s (lacking s machine c.take_up_next.new.self) c.args.number (config_of s machine) new (stopped at.Else-can_go_on) (map_choice (place_of s) x) some
     (chosen_lands s (map_choice (place_of s) x) (config_of s machine) mid (c.make_choosing_room.ensures.config s) counts c.next-turn.result new taken_up_there c.next-turn.ensures entering)
 
 pub returns-in-Ok-Some-clause-chooses : goal.returns-in-Ok-Some-clause-chooses
@@ -121,7 +131,7 @@ returns-in-Ok-Some-clause-chooses c =
     let new = config_of s c.take_up_next-in-Ok-Some.new.self in
     let entering = entered_as at.After-enter_landed (λ t ps. counts_in t c.enter_landed.new.counts.rows ≡ all_visited t c.next-turn.result ps (counts_in t c.make_choosing_room.new.self.shared.counts.rows)) c.in-Ok.ensures.ok in
     let taken_up_there = subst (λ v. new ≡ taken_up (map_choice (place_of s) v) (record mid { shared = record mid.shared { counts = counts; turn = c.next-turn.result } })) same (c.take_up_next-in-Ok-Some.ensures.taken s) in
-    chooses_one s (marked_in (stood_of machine)) c.args.number (config_of s machine) new (stopped at.Else-can_go_on) (map_choice (place_of s) x) some
+    chooses_one s (lacking s machine c.take_up_next-in-Ok-Some.new.self) c.args.number (config_of s machine) new (stopped at.Else-can_go_on) (map_choice (place_of s) x) some
     (chosen_lands s (map_choice (place_of s) x) (config_of s machine) mid (c.make_choosing_room.ensures.config s) counts c.next-turn.result new taken_up_there c.next-turn.ensures entering)
 
 pub returns-in-Ok-None-clause-chooses : goal.returns-in-Ok-None-clause-chooses
