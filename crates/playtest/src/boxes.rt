@@ -50,6 +50,23 @@ impl Tokens {
         })
     }
 
+    /// One object more of each kind.
+    fn objects(&mut self, alloc: Global, finds_memory: bool) -> Result<Objects, NoAnswer> {
+        let mut deeds = Vec::new(alloc);
+        deeds.push(Deed::Gives(Given::Void))?;
+        let turn = Box::new(alloc, Script::new(alloc, deeds, Some(self.turn.clone()?)))?;
+        let deed = Deed::Gives(Given::Void);
+        let pure = Box::new(alloc, Constant::new(alloc, deed, Some(self.pure.clone()?)))?;
+        let token = Some(self.watcher.clone()?);
+        let watcher = Box::new(alloc, Witness::new(alloc, finds_memory, token))?;
+        self.bound = self.bound.saturating_add(1);
+        Ok(Objects {
+            turn,
+            pure,
+            watcher,
+        })
+    }
+
     /// Writes how many turn functions, pure functions and watchers were let go, of how many that were bound.
     fn show(&self, said: &mut Report) {
         self.show_kind(said, &self.turn);
@@ -64,6 +81,14 @@ impl Tokens {
         said.put("/");
         said.show(self.bound);
     }
+}
+
+/// An object of each kind.
+#[derive(Drop)]
+struct Objects {
+    turn: Box<Script>,
+    pure: Box<Constant>,
+    watcher: Box<Witness>,
 }
 
 /// What was handed back.
@@ -85,90 +110,73 @@ pub(crate) fn answer(said: &mut Report, question: &str) -> Result<(), NoAnswer> 
     Ok(())
 }
 
-/// Does the words of a question on a player, which is closed at the end.
+/// Does the words before and behind `again` on a player, which is closed at the end, and tells what was let go until then.
 fn play_question(said: &mut Report, tokens: &mut Tokens, question: &str) -> Result<(), NoAnswer> {
     let alloc = said.alloc();
+    let (words, more) = question.split_once("again").unwrap_or((question, ""));
+    let finds_memory = !words.starts_with("short");
+    let first = tokens.objects(alloc, finds_memory)?;
+    let second = tokens.objects(alloc, finds_memory)?;
     let mut kept = Kept {
         functions: Vec::new(alloc),
         watchers: Vec::new(alloc),
     };
     let mut player = opened(alloc, STORY.as_bytes(), HostDesk::new(alloc))?;
-    let played = play_halves(said, &mut player, &mut kept, tokens, question);
+    let Objects {
+        turn,
+        pure,
+        watcher,
+    } = first;
+    let mut played = play_half(said, &mut player, &mut kept, turn, pure, watcher, words);
+    let Objects {
+        turn,
+        pure,
+        watcher,
+    } = second;
+    if played.is_ok() {
+        played = play_half(said, &mut player, &mut kept, turn, pure, watcher, more);
+    }
+    if played.is_ok() {
+        tokens.show(said);
+    }
     let _objects = player.close();
     played
 }
 
-/// Does the words before and behind `again`, and tells what was let go until then.
-fn play_halves(
+/// Binds an object of each kind, and does words.
+fn play_half(
     said: &mut Report,
     player: &mut BoxPlayer,
     kept: &mut Kept,
-    tokens: &mut Tokens,
-    question: &str,
+    turn: TurnBox,
+    pure: PureBox,
+    watcher: WatcherBox,
+    words: &str,
 ) -> Result<(), NoAnswer> {
-    let (words, more) = question.split_once("again").unwrap_or((question, ""));
-    let finds_memory = !words.starts_with("short");
-    for words in [words, more] {
-        bind(said.alloc(), player, kept, tokens, finds_memory)?;
-        for word in words.split_whitespace() {
-            play(said, player, kept, word)?;
-        }
+    bind_turn(player, kept, turn)?;
+    bind_pure(player, kept, pure)?;
+    watch(player, kept, watcher)?;
+    for word in words.split_whitespace() {
+        play(said, player, kept, word)?;
     }
-    tokens.show(said);
     Ok(())
 }
 
-/// Binds an object of each kind, and keeps what was bound.
-fn bind(
-    alloc: Global,
-    player: &mut BoxPlayer,
-    kept: &mut Kept,
-    tokens: &mut Tokens,
-    finds_memory: bool,
-) -> Result<(), NoAnswer> {
-    tokens.bound = tokens.bound.saturating_add(1);
-    bind_turn(alloc, player, kept, tokens.turn.clone()?)?;
-    bind_pure(alloc, player, kept, tokens.pure.clone()?)?;
-    watch(alloc, player, kept, tokens.watcher.clone()?, finds_memory)
-}
-
-fn bind_turn(
-    alloc: Global,
-    player: &mut BoxPlayer,
-    kept: &mut Kept,
-    token: Rc<()>,
-) -> Result<(), NoAnswer> {
-    let mut deeds = Vec::new(alloc);
-    deeds.push(Deed::Gives(Given::Void))?;
-    let function: TurnBox = Box::new(alloc, Script::new(alloc, deeds, Some(token)))?;
+fn bind_turn(player: &mut BoxPlayer, kept: &mut Kept, function: TurnBox) -> Result<(), NoAnswer> {
     match player.bind_turn("act", function) {
         Ok(was) => keep(&mut kept.functions, was),
         Err(_) => Err(NoAnswer::OutOfMemory),
     }
 }
 
-fn bind_pure(
-    alloc: Global,
-    player: &mut BoxPlayer,
-    kept: &mut Kept,
-    token: Rc<()>,
-) -> Result<(), NoAnswer> {
-    let constant = Constant::new(alloc, Deed::Gives(Given::Void), Some(token));
-    let function: PureBox = Box::new(alloc, constant)?;
+fn bind_pure(player: &mut BoxPlayer, kept: &mut Kept, function: PureBox) -> Result<(), NoAnswer> {
     match player.bind_pure("ask", function) {
         Ok(was) => keep(&mut kept.functions, was),
         Err(_) => Err(NoAnswer::OutOfMemory),
     }
 }
 
-fn watch(
-    alloc: Global,
-    player: &mut BoxPlayer,
-    kept: &mut Kept,
-    token: Rc<()>,
-    finds_memory: bool,
-) -> Result<(), NoAnswer> {
-    let watcher: WatcherBox = Box::new(alloc, Witness::new(alloc, finds_memory, Some(token)))?;
+fn watch(player: &mut BoxPlayer, kept: &mut Kept, watcher: WatcherBox) -> Result<(), NoAnswer> {
     match player.watch("gold", watcher) {
         Ok(was) => keep(&mut kept.watchers, was),
         Err(_) => Err(NoAnswer::OutOfMemory),
@@ -274,9 +282,11 @@ fn tell_order(said: &mut Report) -> Result<(), NoAnswer> {
 
 /// Plays the story of two globals to its stop, watched by both.
 fn play_watched(alloc: Global, deeds: &Deeds) -> Result<(), NoAnswer> {
+    let silver = Box::new(alloc, Chronicler::new(alloc, 4, deeds)?)?;
+    let gold = Box::new(alloc, Chronicler::new(alloc, 1, deeds)?)?;
     let mut desk = HostDesk::new(alloc);
-    watch_on(alloc, &mut desk, "silver", 4, deeds)?;
-    watch_on(alloc, &mut desk, "gold", 1, deeds)?;
+    watch_on(&mut desk, "silver", silver)?;
+    watch_on(&mut desk, "gold", gold)?;
     let mut player = opened(alloc, TWO_GLOBALS.as_bytes(), desk)?;
     let passage = player.through();
     let _objects = player.close();
@@ -286,14 +296,7 @@ fn play_watched(alloc: Global, deeds: &Deeds) -> Result<(), NoAnswer> {
     }
 }
 
-fn watch_on(
-    alloc: Global,
-    desk: &mut HostDesk,
-    name: &str,
-    digit: u64,
-    deeds: &Deeds,
-) -> Result<(), NoAnswer> {
-    let watcher: WatcherBox = Box::new(alloc, Chronicler::new(alloc, digit, deeds)?)?;
+fn watch_on(desk: &mut HostDesk, name: &str, watcher: WatcherBox) -> Result<(), NoAnswer> {
     match desk.watch(name, watcher) {
         Ok(_) => Ok(()),
         Err(_) => Err(NoAnswer::OutOfMemory),
