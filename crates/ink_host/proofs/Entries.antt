@@ -60,6 +60,19 @@ module _ {X : Type 0} where
       by true more k = refl
       by false more k = ap (λ rows. (string_bytes e.0, e.1) ∷ rows) (more k)
 
+  -- what stands at other names is as it was
+  pub others-written : (name : List ℕ) (y : X) (es : List (String Global × X)) → without name (rows_of (set_value (λ k. bytes_eq name (string_bytes k)) es y)) ≡ without name (rows_of es)
+  others-written name y [] = refl
+  others-written name y (e ∷ es) = by (bytes_eq name (string_bytes e.0)) refl (others-written name y es)
+    where
+      by : (b : Bool) → bytes_eq name (string_bytes e.0) ≡ b → without name (rows_of (set_value (λ k. bytes_eq name (string_bytes k)) es y)) ≡ without name (rows_of es)
+          → without name (rows_of (cond b ((e.0, y) ∷ es) (e ∷ set_value (λ k. bytes_eq name (string_bytes k)) es y)))
+          ≡ (if b then rows_of es else (string_bytes e.0, e.1) ∷ without name (rows_of es))
+      by true is more = ap (λ b. if b then rows_of es else (string_bytes e.0, y) ∷ without name (rows_of es)) is
+      by false is more =
+          ap (λ b. if b then rows_of (set_value (λ k. bytes_eq name (string_bytes k)) es y) else (string_bytes e.0, e.1) ∷ without name (rows_of (set_value (λ k. bytes_eq name (string_bytes k)) es y))) is
+          ∙ ap (λ rows. (string_bytes e.0, e.1) ∷ rows) more
+
   pub kept : (key : String Global) (x : X) (es : List (String Global × X)) → rows_of (insert_entry string_eq es key x) ≡ put (string_bytes key) x (rows_of es)
   kept key x [] = refl
   kept key x (e ∷ es) = by (bytes_eq (string_bytes key) (string_bytes e.0)) (kept key x es)

@@ -164,7 +164,7 @@ impl<P, T: TurnFn, W: Watcher> Desk<P, T, W> {
     /// Calls the turn function that a name is bound to, once, and keeps the call as an event with the next stamp.
     /// `HostRefused` where it refused, which is an event too. `OutOfMemory` where memory was refused before it was called or to
     /// itself, and then it was not called or has not acted; or where a text that it gave can have no further owner, and then
-    /// the event is kept.
+    /// the event is kept. No other function is touched.
     pub fn call(&mut self, name: &str, arguments: &[Value]) -> Result<Given, Fault>
         requires { (t : T) × (at name.now self.old.functions ≡ Some (bound.Turn t)) }
         ensures answer { (g : Answer) → result ≡ Ok g → Grew T.log (log_of W.state) self.old (event.Call name.now arguments.now (Some g) self.old.next ∷ []) self.new }
@@ -173,6 +173,9 @@ impl<P, T: TurnFn, W: Watcher> Desk<P, T, W> {
             ⊎ ((Grew T.log (log_of W.state) self.old [] self.new × (refusals_at T.refusals (at name.now self.new.functions) ≡ counted (refusals_at T.refusals (at name.now self.old.functions))))
             ⊎ ((g : Answer) × shares g × Grew T.log (log_of W.state) self.old (event.Call name.now arguments.now (Some g) self.old.next ∷ []) self.new)) }
         ensures faults { IfErr result (λ f. (f ≡ fault.HostRefused) ⊎ (f ≡ fault.OutOfMemory)) }
+        ensures refusals { (refusals_at T.refusals (at name.now self.new.functions) ≡ refusals_at T.refusals (at name.now self.old.functions))
+            ⊎ ((result ≡ Err fault.OutOfMemory) × (self.new.events ≡ self.old.events) × (refusals_at T.refusals (at name.now self.new.functions) ≡ counted (refusals_at T.refusals (at name.now self.old.functions)))) }
+        ensures others { without name.now self.new.functions ≡ without name.now self.old.functions }
         ensures watchers { self.new.watchers ≡ self.old.watchers }
     {
         let noted = Text::from_str(self.alloc, name)?;

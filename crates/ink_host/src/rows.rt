@@ -5,7 +5,7 @@ ghost use Rattle.ink_model.specs.Events.{after};
 ghost use Rattle.ink_model.specs.declared.host.Event.TheVariants as event;
 ghost use Rattle.ink_model.specs.declared.host.Given.{Given as Answer};
 ghost use Rattle.ink_model.specs.declared.host.HostFault.TheVariants as fault;
-ghost use Rattle.ink_host.specs.Desk.{answer_of, at, by_log, called, each, logs, noting, put, refusals_after, refusals_at, refusals_of, shown};
+ghost use Rattle.ink_host.specs.Desk.{answer_of, at, by_log, called, each, logs, noting, put, refusals_after, refusals_at, refusals_of, shown, without};
 ghost use Rattle.ink_host.specs.declared.objects.Bound.TheVariants as bound;
 
 use crate::objects::{Bound, PureFn, TurnFn};
@@ -84,6 +84,7 @@ pub(crate) fn call_at<P, T: TurnFn>(
     ensures refused { result ≡ Err fault.Refused → logs T.log (shown string_bytes (λ b. b) functions.new.entries) ≡ each (called (event.Call name.now arguments.now None stamp ∷ [])) (logs T.log (shown string_bytes (λ b. b) functions.old.entries)) }
     ensures memory { result ≡ Err fault.OutOfMemory → logs T.log (shown string_bytes (λ b. b) functions.new.entries) ≡ logs T.log (shown string_bytes (λ b. b) functions.old.entries) }
     ensures refusals { refusals_at T.refusals (at name.now (shown string_bytes (λ b. b) functions.new.entries)) ≡ refusals_after result (refusals_at T.refusals (at name.now (shown string_bytes (λ b. b) functions.old.entries))) }
+    ensures others { without name.now (shown string_bytes (λ b. b) functions.new.entries) ≡ without name.now (shown string_bytes (λ b. b) functions.old.entries) }
 {
     match functions.get_mut(name) {
         Some(object) => call_bound(object, stamp, arguments),

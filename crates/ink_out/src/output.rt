@@ -89,6 +89,7 @@ impl Output {
         ensures memory { result ≡ Err Fault.OutOfMemory → prints_bytes value.now ≡ true }
         ensures trail { TrailsOrKeeps output_back (marks_of fresh (printed value.now)) self.old.page self.old.trail self.new.page self.new.trail result }
         ensures stood { output_stood self.new ≡ output_stood self.old }
+        ensures spare { output_spare self.old ≤ output_spare self.new + marks_of fresh (printed value.now) }
     {
         let alloc = self.alloc;
         match value {
@@ -110,6 +111,7 @@ impl Output {
         ensures nothing { text.now ≡ [] → IsOk result }
         ensures trail { TrailsOrKeeps output_back (length (let_through fresh (cut text.now))) self.old.page self.old.trail self.new.page self.new.trail result }
         ensures stood { output_stood self.new ≡ output_stood self.old }
+        ensures spare { output_spare self.old ≤ output_spare self.new + length (let_through fresh (cut text.now)) }
     {
         let line = &mut self.line;
         let written = text.get().as_str();
@@ -569,6 +571,7 @@ impl Output {
     #[inline(always)]
     pub fn ready(&mut self, count: usize) -> Result<(), AllocError>
         ensures page { self.new.page ≡ self.old.page }
+        ensures trail { KeepsTrail self.old.trail self.new.trail }
         ensures stood { output_stood self.new ≡ output_stood self.old }
         ensures more { output_spare self.old ≤ output_spare self.new }
         ensures ok { OnOk result (count ≤ output_spare self.new) }

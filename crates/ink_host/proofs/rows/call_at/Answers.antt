@@ -1,6 +1,6 @@
 use Rattle.std.proofs.Common.{◌∙◌, ap, sym, Some, None}
-use Rattle.ink_host.specs.Desk.{at, logs, refusals_after, refusals_at}
-use Rattle.ink_host.proofs.Entries.{called-write, found, found-written, none-not-some, quiet-write, rows_of}
+use Rattle.ink_host.specs.Desk.{at, logs, refusals_after, refusals_at, without}
+use Rattle.ink_host.proofs.Entries.{called-write, found, found-written, none-not-some, others-written, quiet-write, rows_of}
 use Rattle.ink_host.specs.declared.objects.Bound.TheVariants as bound
 use Rattle.ink_host.proofs.rows.call_at.Goals as goal
 
@@ -40,3 +40,8 @@ returns-clause-refusals g c =
     ∙ ap (refusals_at refusals) (found-written n c.in-Some.object.now c.call_bound.new.object es (sym c.in-Some.ensures.value))
     ∙ c.call_bound.ensures.refusals
     ∙ ap (λ o. refusals_after c.call_bound.result (refusals_at refusals o)) (c.in-Some.ensures.value ∙ found n es)
+
+pub returns-clause-others : goal.returns-clause-others
+returns-clause-others g c =
+    let n = c.args.name.now in
+    ap (λ es. without n (rows_of es)) (c.get_mut.follows.holds c.call_bound.new.object).0 ∙ others-written n c.call_bound.new.object c.args.functions.now.entries

@@ -5,11 +5,11 @@ use Rattle.ink_model.specs.Bytes.{is_blank}
 use Rattle.ink_model.specs.Mark.{cut, piece}
 use Rattle.ink_model.specs.declared.mark.Mark.TheVariants.{Blank, Text}
 use Rattle.ink_model.specs.Configuration.{Section}
-use Rattle.ink_out.specs.Undo.{output_back, output_stood}
+use Rattle.ink_out.specs.Undo.{output_back, output_spare, output_stood}
 use Rattle.ink_out.proofs.Closing.{refilled}
 use Rattle.ink_out.proofs.Noting.{empty_text, whole_cut, let_through-piece}
 use Rattle.ink_out.proofs.output.Output.write_text.Goals as goal
-use Rattle.ink_trail.proofs.Undoing.{stood-or-kept}
+use Rattle.ink_trail.proofs.Undoing.{spare-or-kept, stood-or-kept}
 
 pub returns-then-is_empty-clause-page : goal.returns-then-is_empty-clause-page
 returns-then-is_empty-clause-page c =
@@ -45,6 +45,10 @@ pub returns-then-is_cut-clause-stood : goal.returns-then-is_cut-clause-stood
 unfolding output_stood
 returns-then-is_cut-clause-stood c = stood-or-kept output_back c.note_cut.result _ _ _ _ _ (returns-then-is_cut-clause-trail c)
 
+pub returns-then-is_cut-clause-spare : goal.returns-then-is_cut-clause-spare
+unfolding output_spare
+returns-then-is_cut-clause-spare c = spare-or-kept output_back c.note_cut.result _ _ _ _ _ (returns-then-is_cut-clause-trail c)
+
 one_piece : (cs : List ℕ) → cs ≢ [] → 1 ≡ length (piece cs)
 one_piece [] some = absurd (some refl)
 one_piece (c ∷ cs) some =
@@ -61,3 +65,7 @@ returns-else-is_cut-clause-trail c =
 pub returns-else-is_cut-clause-stood : goal.returns-else-is_cut-clause-stood
 unfolding output_stood
 returns-else-is_cut-clause-stood c = stood-or-kept output_back c.note_piece.result _ _ _ _ _ (returns-else-is_cut-clause-trail c)
+
+pub returns-else-is_cut-clause-spare : goal.returns-else-is_cut-clause-spare
+unfolding output_spare
+returns-else-is_cut-clause-spare c = spare-or-kept output_back c.note_piece.result _ _ _ _ _ (returns-else-is_cut-clause-trail c)

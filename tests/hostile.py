@@ -1,26 +1,14 @@
-#!/usr/bin/env python3
-"""Stories, saves and command lines that are made to take long or much, beside plain ones of their size or number of steps.
+"""Shapes of stories, saves and command lines that are made to take long or much, which tests/shapes.py runs.
 
-    bench/hostile.py [--prog PROGRAM] [--size MIB] [--seconds N] [--space GIB] [NAME..]
-        ./inkplay, stories of 16 MiB, 60 seconds, 3 GiB and all shapes, unless others are named; names may be parts of names
-
-Each shape is one run of the program. Its row has the bytes that are read, the processor time, how often that is what plain ones
-take (a plain story of as many bytes, a plain loop of as many steps, plain text of as many bytes written), the peak of memory, how
-often that is the bytes, and how the run ended. A row that takes more than 3 times a plain one, or more than 26 times its bytes where
-it has a MiB or more, is marked. A run is ended at the limits of time and of address space.
+READING has stories of a size that are only read. The others are played: each has a story, the lines behind it, about how many steps
+they take, and the program's words where it has some.
 """
-import argparse
+import itertools
 import json
-import os
-import sys
-
-TOP = os.path.dirname(os.path.dirname(os.path.abspath(__file__)))
-sys.path.insert(0, os.path.join(TOP, "tests"))
-import launch
+import random
 
 MIB = 1 << 20
 MOST_STEPS = 1000000
-MOST_TIMES, MOST_BYTES = 3, 26
 HEAD, TAIL = '{"inkVersion":21,"root":[', "null]}"
 
 
@@ -90,6 +78,12 @@ READING = {
     "calls of functions of a host": lambda size: flat(size, '{"x()":"f№","exArgs":1},'),
     "choice points": lambda size: flat(size, '{"*":"0","flg":4},'),
     "pushed targets": lambda size: flat(size, '{"^->":"0"},'),
+    "texts, each another": lambda size: flat(size, '"^№",'),
+    "counts of a knot": lambda size: filled(size, HEAD, '"done",{"k":["^",{"#f":1}]}]}', '{"CNT?":"k"},'),
+    "choices of a knot, once only": lambda size: filled(size, HEAD, '"done",{"k":["^",{"#f":1}]}]}', '{"*":"k"},'),
+    "calls of a knot": lambda size: filled(size, HEAD, '"done",{"k":[null]}]}', '{"f()":"k"},'),
+    "tags given whole, version 20": lambda size: flat(size, '{"#":"t№"},').replace("21", "20", 1),
+    "names with one beginning of 1 KiB": lambda size: flat(size, '{"VAR=":"' + "v" * 1024 + '№"},'),
     "ignored integers": lambda size: ignored(size, ",1"),
     "ignored brackets": lambda size: ignored(size, "," + "[" * 125 + "]" * 125),
     "ignored keys": lambda size: filled(size, '{"inkVersion":21,"root":["done",null],"x":{"":0', "}}", ',"№":0'),
@@ -148,6 +142,52 @@ def tower(size, divert):
 
 
 NAME = "v" * (4 * MIB)
+
+
+# ---- names that are hashed alike: the hasher of `IndexMap` has a fixed seed and multiplies 16 bytes at a time
+
+MULTIPLIER, SEED, WORD = 0x9e3779b97f4a7c15, 0x243f6a8885a308d3, (1 << 64) - 1
+
+
+def hashed(state, first, second):
+    """The hasher's state after 16 bytes, as two numbers."""
+    product = (first ^ state) * (second ^ MULTIPLIER)
+    return product & WORD ^ product >> 64
+
+
+def is_name(word):
+    return all(0x20 <= byte < 0x7f and byte not in b'"\\' for byte in word.to_bytes(8, "little"))
+
+
+def some_word(chance, difference):
+    """Eight letters that are letters too where they differ so."""
+    letters = [[letter for letter in range(0x30, 0x7b) if letter != 0x5c and 0x20 <= letter ^ byte < 0x7f and letter ^ byte not in b'"\\'] for byte in difference.to_bytes(8, "little")]
+    return int.from_bytes(bytes(map(chance.choice, letters)), "little")
+
+
+def colliding(count):
+    """So many names of one length and one hash, a power of two: the two factors of a multiplication can be exchanged."""
+    chance, pairs = random.Random(1), count.bit_length() - 1
+    blocks, state = [], SEED + 16 * (pairs + 1) & WORD
+    while len(blocks) <= pairs:
+        difference = state ^ MULTIPLIER
+        if blocks and difference & 0x8080808080808080:
+            raise ValueError("no letters")
+        while True:
+            first, second = [some_word(chance, difference if blocks else 0) for _ in range(2)]
+            after = hashed(state, first, second)
+            if first != second ^ difference and (len(blocks) == pairs or not (after ^ MULTIPLIER) & 0x8080808080808080):
+                break
+        both = [(first, second), (second ^ difference, first ^ difference)][:2 if blocks else 1]
+        blocks.append([b"".join(word.to_bytes(8, "little") for word in words).decode() for words in both])
+        state = after
+    return ["".join(words) for words in itertools.product(*blocks)]
+
+
+def declaring(names):
+    return HEAD + '"done",{"global decl":["ev",' + "".join('1,{"VAR=":"%s"},' % name for name in names) + '"/ev","end",null]}]}'
+
+
 UP_AND_DOWN = "0" + ".^.0" * (MIB // 4)
 
 
@@ -156,7 +196,7 @@ def many_temporaries(count):
     return HEAD + '"ev",' + "".join('1,{"temp=":"t%06d"},' % n for n in range(count, 0, -1)) + '"/ev","done",' + TAIL
 
 
-# name: story, lines, steps
+# name: story, lines, steps, and the program's words where it has some
 RUNNING = {
     "a loop of arithmetic (plain)": (named('"ev",{"VAR?":"x"},3,"+",{"VAR=":"x","re":true},"/ev",{"->":"0"}', global_decl='"ev",1,{"VAR=":"x"},"/ev","end"'), THROUGH, MOST_STEPS),
     "a divert to itself": (named('{"->":"0"}'), THROUGH, MOST_STEPS),
@@ -197,7 +237,8 @@ RUNNING = {
     "100,000 falling temporaries": (many_temporaries(100000), THROUGH, 200000),
     "499,000 falling temporaries": (many_temporaries(499000), THROUGH, 998000),
     "a fork beside 100,000 temporaries": (many_temporaries(100000).replace('"done",null]}', '"thread",{"->":"k"},{"->":"l"},{"k":["done",null],"l":["thread",{"->":"k"},{"->":"l"},null]}]}'), THROUGH, MOST_STEPS),
-    "499,000 globals": (HEAD + '"done",{"global decl":["ev",' + "".join('1,{"VAR=":"v%06d"},' % n for n in range(499000)) + '"/ev","end",null]}]}', THROUGH, 998000),
+    "499,000 globals": (declaring("v%06d" % n for n in range(499000)), THROUGH, 998000),
+    "16,384 globals with names of one hash": (declaring(colliding(16384)), THROUGH, 32768),
     "visits of 400,000 containers": (flat(6 * MIB, '["^",{"#f":7}],'), THROUGH, 400000),
     "texts in strings, 900 functions": (deep('"ev","str","^x","/str","pop","/ev"', 900), THROUGH, MOST_STEPS),
     "texts, 900 functions": (deep('"^x"', 900), THROUGH, 200000),
@@ -210,6 +251,20 @@ RUNNING = {
     "the same through a pointer": (named('"ev",{"VAR?":"p"},"pop","/ev",{"->":"0"}', global_decl='"ev",1,{"VAR=":"%s"},{"^var":"%s","ci":0},{"VAR=":"p"},"/ev","end"' % (NAME, NAME)), THROUGH, MOST_STEPS),
     "a temporary with a name of 4 MiB": (named('"ev",1,{"temp=":"%s"},"/ev","ev",{"VAR?":"%s"},"pop","/ev",{"->":"4"}' % (NAME, NAME)), THROUGH, MOST_STEPS),
     "a host's function with a name of 4 MiB": (named('"ev",{"x()":"%s"},"pop","/ev",{"->":"0"}' % NAME, **{NAME: '"ev",1,"/ev","~ret"'}), THROUGH, MOST_STEPS),
+    "texts of 1 MiB in 1,000 choices": (counted('"ev","str",%s,"/str","/ev",{"*":"loop","flg":4}' % NEARLY, 999), THROUGH, 16000),
+    "1,000 strings open, a text of 1 MiB in each": (named('{"->":"f"}', f='"ev","str",%s,{"->":"f"}' % LONG), THROUGH, 5000),
+    "lines of 1 MiB": (counted('%s,"\\n"' % NEARLY, 60), "continue\n" * 60, 700),
+    "49,999 lines, one at a time": (counted('"^x","\\n"', 49999), "continue\n" * 49999, 2 * 550000),
+    "lines in 900 functions, one at a time": (deep('"^x","\\n"', 900), "continue\n" * 10000, 2 * 30000),
+    "lines with a look of 1,000 steps": (counted('"^x","\\n",{"->":"on"}', 100, on='"ev",{"VAR?":"m"},1,"-",{"VAR=":"m","re":true},{"VAR?":"m"},0,">","/ev",{"->":"on","c":true},"ev",100,{"VAR=":"m","re":true},"/ev",{"->":"loop"}',
+                                         extra=',100,{"VAR=":"m"}'), "continue\n" * 99, 2 * 100 * 1000),
+    "visits of 400,000 containers, saved": (flat(6 * MIB, '["^",{"#f":7}],'), THROUGH + "save\n", 400000),
+    "threads of 900 frames to their limit": (deep('"thread",{"->":"a"}', 900, a='{"->":"loop"}'), THROUGH, 10000),
+    "choices in 99 flows, 900 frames, saved": (deep('{"*":"loop","flg":0},"ev","choiceCnt",99,"<","!","/ev",{"->":"out","c":true}', 900, out='"done"'),
+                                              "".join("flow f%d\nset n 900\nthrough\n" % n for n in range(99)) + "save\n", 99 * 9000),
+    "lines beside 1,000 choices of 900 frames": (deep('{"*":"loop","flg":0},"ev","choiceCnt",999,"<","!","/ev",{"->":"out","c":true}', 900, out='"^x","\\n",{"->":"out"}'),
+                                                 "continue\n" * 5000, 20000 + 2 * 20000),
+    "1,000 restarts beside 400,000 counted containers": (flat(6 * MIB, '["^",{"#f":7}],'), "restart\n" * 1000, 0),
     "pops of an empty stack in choices": (named('{"*":"0","flg":1}'), THROUGH + "restart\n" * 1000, 1000),
 }
 
@@ -221,6 +276,20 @@ def frame(kind, place, **temps):
 def save(frames, choices=(), stack=(), **other):
     flow = {"choices": list(choices), "name": "DEFAULT_FLOW", "safe": False, "stack": list(stack), "threads": [{"frames": frames, "previous": None}]}
     made = dict({"current": "DEFAULT_FLOW", "flows": [flow], "format": 2, "globals": [], "turn": 0, "turns": [], "visits": []}, **other)
+    return "load " + json.dumps(made, separators=(",", ":"), sort_keys=True) + "\n"
+
+
+def threads_saved(lengths):
+    """A save of threads with so many frames each."""
+    made = json.loads(save([frame("base", [0])])[len("load "):])
+    made["flows"][0]["threads"] = [{"frames": [frame("base", [0])] + [frame("function", [0])] * (length - 1), "previous": None} for length in lengths]
+    return "load " + json.dumps(made, separators=(",", ":"), sort_keys=True) + "\n"
+
+
+def flows_saved(count):
+    """A save of so many flows."""
+    made = json.loads(save([frame("base", [0])])[len("load "):])
+    made["flows"] += [dict(made["flows"][0], name="f%d" % n) for n in range(1, count)]
     return "load " + json.dumps(made, separators=(",", ":"), sort_keys=True) + "\n"
 
 
@@ -238,6 +307,11 @@ LOADED = {
     "a save of 1 MiB, loaded 16 times": (named('"done"'), save([frame("base", [0])], globals=[["v%05d" % n, n] for n in range(60000)]) * 16, 0),
     "the same in falling order of keys": (named('"done"'), save([frame("base", [0], **{"v%05d" % n: n for n in range(60000)})]) * 16, 0),
     "a save with a long path": (named('"done"'), save([frame("base", [0])], stack=[{"->": ".".join(["0"] * 500000)}]) * 16, 0),
+    "a save of 11 threads of 900 frames": (named('"done"'), threads_saved([900] * 11) * 16, 0),
+    "a save of 100 flows": (named('"done"'), flows_saved(100) * 16, 0),
+    "a save of 4,096 globals with names of one hash": (named('"done"'), save([frame("base", [0])], globals=[[name, 1] for name in colliding(4096)]) * 16, 0),
+    "a save of temporaries with names of one hash": (named('"done"'), save([frame("base", [0], **{name: 1 for name in colliding(4096)})]) * 16, 0),
+    "a save with a text of 1 MiB": (named('"done"'), save([frame("base", [0])], stack=["x" * (MIB - 1000)]) * 16, 0),
     "a save with a bad last member": (named('"done"'), save([frame("base", [0])], globals=[["v%05d" % n, n] for n in range(60000)], visits=0) * 16, 0),
 }
 LINES = {
@@ -246,79 +320,19 @@ LINES = {
     "jumps by long paths": (named('"done"'), ("jump " + "0." * 500000 + "0\n") * 16, 0),
     "jumps by zeros": (named('"done"'), ("jump " + "0" * 1000000 + "\n") * 16, 0),
     "jumps up and down": (named('[["^",null],null],"done"'), ("jump " + "0.^." * 250000 + "0\n") * 16, 0),
+    "visits by long paths": (named('[["^",null],null],"done"'), ("visits " + "0.^." * 250000 + "0\n") * 16, 0),
+    "gets of long names": (named('"done"'), ("get " + "x" * 1000000 + "\n") * 16, 0),
+    "flows of long names": (named('"done"'), "".join("flow " + "%02d" % n * 500000 + "\n" for n in range(16)) + "save\n", 0),
+    "to a flow and back, 200,000 times": (named('"done"'), "flow a\nflow DEFAULT_FLOW\n" * 200000, 0),
+    "a flow made and dropped, 200,000 times": (named('"done"'), "flow a\ndrop a\n" * 200000, 0),
+    "choosing, 100,000 times": (named('"ev","/ev",{"*":"0","flg":0},"done"'), "through\nchoose 0\n" * 100000, 400000),
+    "saves of 10,000 globals, 100 times": (declaring("v%d" % n for n in range(10000)), "save\n" * 100, 20000),
     "sets of escapes": (named('"done"'), ('set x "' + "\\u0061" * 170000 + '"\n') * 16, 0),
     "sets of brackets": (named('"done"'), ("set x " + "[" * 1000000 + "\n") * 16, 0),
     "loads of brackets": (named('"done"'), ("load " + "[" * 1000000 + "\n") * 16, 0),
+    "a watched global among 100,000, set": (declaring("v%06d" % n for n in range(100000)), "set v050000 1\nset v050000 2\n" * 100000, 200000, ("--watch", "v050000")),
+    "calls of a host's function with 9,000 arguments": (named('"ev",' + "1," * 9000 + '{"x()":"f","exArgs":9000},"pop","/ev",{"->":"0"}'), THROUGH, MOST_STEPS, ("--answer", "f=[%s]" % ",".join("1" * 2000))),
+    "calls of a host's function": (named('"ev",{"x()":"f"},"pop","/ev",{"->":"0"}'), THROUGH, MOST_STEPS, ("--table", 'f={"[]":1}')),
     "a text of 1 MiB, got 200 times": (named('"done"', global_decl='"ev"' + texts(LONG, '"^"') + ',"/ev","end"'), "get a\n" * 200, 0),
     "1,000 restarts of 10,000 globals": (named('"done"', global_decl='"ev",' + ",".join('1,{"VAR=":"v%d"}' % n for n in range(10000)) + ',"/ev","end"'), "restart\n" * 1000, 20000000),
 }
-
-
-# ---- rows
-
-class Plain:
-    """What plain runs take."""
-
-    def __init__(self, run):
-        def least(text):
-            return min(run(text).seconds for _ in range(3))
-
-        empty = run(named('"done"') + "\n")
-        self.start, self.peak = min(least(named('"done"') + "\n"), empty.seconds), empty.peak
-        self.byte = (least(knots(16 * MIB) + "\n") - self.start) / (16 * MIB)
-        self.step = (least(RUNNING["a loop of arithmetic (plain)"][0] + "\n" + THROUGH) - self.start) / MOST_STEPS
-        story = flat(4 * MIB, '"^' + "word " * 40 + '",')
-        self.written = max(0, least(story + "\n" + THROUGH) - least(story + "\n")) / (4 * MIB)
-
-    def takes(self, read, steps, written):
-        return self.start + read * self.byte + steps * self.step + written * self.written
-
-
-def ending(ran):
-    if ran.status < 0:
-        return "ended: signal %d" % -ran.status
-    said = ran.error.decode(errors="replace").strip() or ran.output[-80:].decode(errors="replace").strip()
-    for name in ("OutOfMemory", "TooDeep", "OutOfSteps", "NotJson", "BadPath", "Unsupported", "BadSave", "BadPointer", "StackEmpty", "Limit", "Shape", "NoSuchPath", "BadValue"):
-        if name in said:
-            return name
-    return said[:30] if ran.status else "served"
-
-
-def row(name, text, steps, ran, plain):
-    times = ran.seconds / plain.takes(len(text), steps, len(ran.output))
-    bytes_times = max(0, ran.peak - plain.peak) / len(text)
-    marks = "time " * (times > MOST_TIMES) + "memory" * (bytes_times > MOST_BYTES and len(text) >= MIB)
-    print("%-40s %10d %8.2f %7.1f %8.0f %7.1f  %-20s %s" % (name, len(text), ran.seconds, times, ran.peak / MIB, bytes_times, ending(ran), marks), flush=True)
-
-
-def main():
-    parser = argparse.ArgumentParser()
-    parser.add_argument("--prog", default=os.path.join(TOP, "out/inkplay/inkplay/crates/inkplay/out/inkplay"))
-    parser.add_argument("--size", type=float, default=16)
-    parser.add_argument("--seconds", type=int, default=60)
-    parser.add_argument("--space", type=float, default=3)
-    parser.add_argument("names", nargs="*")
-    words = parser.parse_args()
-    with launch.Launcher() as launcher:
-        def run(text):
-            return launcher.run([os.path.realpath(words.prog)], text.encode(errors="surrogateescape"), words.seconds, int(words.space * 1024) * MIB)
-
-        plain = Plain(run)
-        print("plain: start %.1f ms, %.1f ns a byte read, %.1f ns a step, %.1f ns a byte written" % (plain.start * 1e3, plain.byte * 1e9, plain.step * 1e9, plain.written * 1e9))
-        print("%-40s %10s %8s %7s %8s %7s  %s" % ("", "bytes", "s", "/ plain", "MiB", "/ bytes", "ends"))
-        for name, make in READING.items():
-            if is_asked(words.names, name):
-                text = make(int(words.size * MIB)) + "\n"
-                row(name, text, 0, run(text), plain)
-        for name, (story, lines, steps) in {**RUNNING, **LOADED, **LINES}.items():
-            if is_asked(words.names, name):
-                text = story + "\n" + lines
-                row(name, text, steps, run(text), plain)
-
-
-def is_asked(names, name):
-    return not names or any(part in name for part in names)
-
-
-if __name__ == "__main__":
-    main()
