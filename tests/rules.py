@@ -1,7 +1,7 @@
 #!/usr/bin/env python3
 """Where each rule of docs/ stands: its sentence, its definition, the contract that carries it, cases, and wrong bodies.
 
-    tests/rules.py [NAME..]      all rules, or those named
+    tests/rules.py [NAME..]      all rules, or those named, and of these what wrong bodies change
 
 A rule is a sentence, or a row of a table, of a page of docs/, with its name behind it in brackets: 'Empty lines do not pile
 up. [empty-line]'. tests/rules/PAGE.txt has a paragraph for each rule of a page, in the order of the page: the name, and then
@@ -112,14 +112,19 @@ def case(name):
     return only(paths[0], [at for at, line in enumerate(lines_of(paths[0]), 1) if line in ("= " + text, "// " + text) or line.startswith(text + " => ")], "the case")
 
 
-def edit(name):
-    """Where the code stands that a wrong body changes first."""
+def lines_of_edit(name):
+    """The lines of a wrong body."""
     crate, _, file = name.partition("/")
     paths = ["crates/%s/%s/%s.edit" % (crate, folder, file) for folder in ("must-fail", "more-edits")]
     found = [path for path in paths if os.path.isfile(os.path.join(TOP, path))]
     if len(found) != 1:
         raise Wrong("there is no wrong body of this name")
-    lines = lines_of(found[0])
+    return lines_of(found[0])
+
+
+def edit(name):
+    """Where the code stands that a wrong body changes first."""
+    crate, lines = name.partition("/")[0], lines_of_edit(name)
     source = next(line[len("file: "):] for line in lines if line.startswith("file: "))
     old = next(line[len("old: "):] for line in lines if line.startswith("old: "))
     path = "crates/%s/%s" % (crate, source)
@@ -154,8 +159,9 @@ def rules_of_table(path):
     return rules
 
 
-def show(rule, names):
-    """Prints where the names of a rule lead. What it lacks, and what is wrong with its names."""
+def show(rule, names, whole):
+    """Prints where the names of a rule lead, and the whole of its wrong bodies. What it lacks, and what is wrong with its
+    names."""
     name, where, text = rule
     wrong = []
     print("%s: %s\n    %-10s %s" % (name, text, "page", where))
@@ -164,6 +170,10 @@ def show(rule, names):
             if kind not in PLACES:
                 raise Wrong("a line begins with none of %s" % ", ".join(PLACES))
             print("    %-10s %s  %s" % (kind, PLACES[kind](of), of))
+            for line in lines_of_edit(of) if whole and kind == "edit" else []:
+                sign, _, text = line.partition(":")
+                if sign in ("old", "new"):
+                    print("        %s %s" % ("-" if sign == "old" else "+", text.strip()))
         except Wrong as why:
             wrong.append("%s: %s %s: %s" % (name, kind, of, why))
     return ["%s has no %s" % (name, kind) for kind in PLACES if kind not in [it for it, _ in names]], wrong
@@ -187,7 +197,7 @@ def main():
                 wrong.append("%s: [%s] stands at %s too" % (rule[1], rule[0], rules[rule[0]]))
             rules[rule[0]] = rule[1]
             if not wanted or rule[0] in wanted:
-                lacking, false = show(rule, names_of.get(rule[0], []))
+                lacking, false = show(rule, names_of.get(rule[0], []), bool(wanted))
                 gaps, wrong = gaps + lacking, wrong + false
     wrong += ["there is no rule %s" % name for name in wanted if name not in rules]
     for it in gaps + wrong:
