@@ -28,7 +28,7 @@ import sys
 
 TOP = os.path.dirname(os.path.dirname(os.path.abspath(__file__)))
 # a name in brackets behind a sentence or in a row; a link's text has a parenthesis behind it
-MARK = re.compile(r"(?<=[\w.)\]\"`|:;,?!] )\[([a-z0-9]+(?:-[a-z0-9]+)*)\](?![(:])")
+MARK = re.compile(r"(?<=[\w.)\]\"`:;,?!] )\[([a-z0-9]+(?:-[a-z0-9]+)*)\](?![(:])")
 FUNCTION = re.compile(r" *(?:pub(?:\([a-z]+\))? )?(?:const )?fn (\w+)")
 OWNER = re.compile(r"(?:pub )?(?:impl|trait)(?:<.*?>+)? (?:.* for )?(\w+)")
 
