@@ -1,5 +1,6 @@
 pub mod Typed
 pub mod Sheet
+pub mod Lines
 pub mod Sentences
 pub mod Page
 pub mod Given
