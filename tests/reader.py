@@ -69,7 +69,6 @@ class Terminal:
         self.environment = dict(os.environ, LC_ALL="C.UTF-8", LANG="C.UTF-8")
         self.environment.pop("TMUX", None)
         self.tmux("-u", "new-session", "-d", "-x", str(columns), "-y", "60", "-s", "reader", "cat")
-        self.tmux("set-option", "-g", "remain-on-exit", "on")
         self.tmux("set-option", "-g", "status", "off")
         self.tmux("set-option", "-g", "window-size", "manual")
         self.resize(columns)
@@ -86,7 +85,7 @@ class Terminal:
 
     def start(self, words, columns):
         quoted = " ".join("'%s'" % word for word in words)
-        line = "env -u NO_COLOR COLUMNS=%d TERM=screen-256color %s; echo \"status $?\"" % (columns, quoted)
+        line = "env -u NO_COLOR COLUMNS=%d TERM=screen-256color %s; echo \"status $?\"; exec sleep %d" % (columns, quoted, 60 * SECONDS)
         self.tmux("respawn-pane", "-k", "-t", "reader", "sh", "-c", line)
         self.tmux("clear-history", "-t", "reader")
 
@@ -106,7 +105,6 @@ class Terminal:
             # (-e keeps the codes that dim; those of colours are tmux's own)
             text = re.sub("\x1b\\[[34]9m", "", self.tmux("capture-pane", "-p", "-e", "-t", "reader"))
             lines = [line.rstrip() for line in text.split("\n")]
-            lines = [line for line in lines if not line.startswith("Pane is dead")]
             while lines and not lines[-1]:
                 lines.pop()
             waits = lines and re.search("^(\x1b\\[0m)?>$|=$|^status ", lines[-1])
