@@ -1,1 +1,4 @@
 pub mod Laying
+pub mod Lines
+pub mod Pages
+pub mod PageLines

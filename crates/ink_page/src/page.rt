@@ -1,7 +1,8 @@
 //! The pages of a reading: lines of a story with their tags, and choices by their numbers (docs/READER.md, "What is shown").
 
-ghost use Rattle.std.specs.Prelude.{◌≡◌, OnOk, IfOk, string_bytes};
-ghost use Rattle.ink_page.specs.Page.{choice_page, line_page, tag_laid, tagged, tags_laid};
+ghost use Rattle.std.specs.Prelude.{◌≡◌, OnOk, IfOk, IsUtf8, length, string_bytes};
+ghost use Rattle.ink_page.specs.Lines.{AreTexts, IsPage};
+ghost use Rattle.ink_page.specs.Page.{choice_page, lead_of, line_page, tag_laid, tagged, tags_laid};
 
 use crate::sheet::Sheet;
 use ink_model::{Shared, Shown, Text};
@@ -22,7 +23,8 @@ pub fn line_page(
     text: &str,
     tags: &[Shared<Text>],
 ) -> Result<String, AllocError>
-    ensures { IfOk result (λ page. string_bytes page ≡ line_page look text.now tags.now) }
+    ensures page { IfOk result (λ page. string_bytes page ≡ line_page look text.now tags.now) }
+    ensures lines { IfOk result (λ page. IsPage look.dims look.columns 0 (string_bytes page)) }
 {
     let mut sheet = Sheet::new(alloc, look.columns, "", 0)?;
     sheet.show(text)?;
@@ -39,7 +41,8 @@ pub fn choice_page(
     number: u32,
     choice: &Shown,
 ) -> Result<String, AllocError>
-    ensures { IfOk result (λ page. string_bytes page ≡ choice_page look number choice.now) }
+    ensures page { IfOk result (λ page. string_bytes page ≡ choice_page look number choice.now) }
+    ensures lines { IfOk result (λ page. IsPage look.dims look.columns (length (lead_of number)) (string_bytes page)) }
 {
     let lead = format!(in alloc; "{number}. ")?;
     let margin = lead.as_str().len() as u16;
@@ -51,7 +54,8 @@ pub fn choice_page(
 
 // Shows tags, dimmed, behind what was shown.
 fn show_tags(sheet: &mut Sheet, look: Look, tags: &[Shared<Text>]) -> Result<(), AllocError>
-    ensures { OnOk result (sheet.new ≡ tagged look tags.now sheet.old) }
+    ensures shows { OnOk result (sheet.new ≡ tagged look tags.now sheet.old) }
+    ensures texts { OnOk result (AreTexts tags.now) }
 {
     if tags.is_empty() {
         return Ok(());
@@ -68,7 +72,8 @@ fn show_tags(sheet: &mut Sheet, look: Look, tags: &[Shared<Text>]) -> Result<(),
 
 // Shows tags, each behind a mark.
 fn put_tags(sheet: &mut Sheet, tags: &[Shared<Text>]) -> Result<(), AllocError>
-    ensures { OnOk result (sheet.new ≡ tags_laid tags.now sheet.old) }
+    ensures shows { OnOk result (sheet.new ≡ tags_laid tags.now sheet.old) }
+    ensures texts { OnOk result (AreTexts tags.now) }
 {
     for tag in tags {
         put_tag(sheet, tag.as_str())?;
@@ -77,7 +82,8 @@ fn put_tags(sheet: &mut Sheet, tags: &[Shared<Text>]) -> Result<(), AllocError>
 }
 
 fn put_tag(sheet: &mut Sheet, tag: &str) -> Result<(), AllocError>
-    ensures { OnOk result (sheet.new ≡ tag_laid tag.now sheet.old) }
+    ensures shows { OnOk result (sheet.new ≡ tag_laid tag.now sheet.old) }
+    ensures text { IsUtf8 tag.now }
 {
     sheet.show(" # ")?;
     sheet.show(tag)

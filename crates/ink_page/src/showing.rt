@@ -1,12 +1,19 @@
 //! What is shown of a player's answers.
 
+ghost use Rattle.std.specs.Prelude.{◌≡◌, ◌++◌, [], ◌∷◌, IfOk, OnOk, string_bytes};
+ghost use Rattle.std.specs.Io.KnownBytes.{Appends};
+ghost use Rattle.ink_page.specs.Page.{choice_page};
+ghost use Rattle.ink_page.specs.Showing.{choices_shown, event_shown, events_shown, passage_shown, said, value_shown, value_words};
+
 use crate::page::{Look, choice_page, line_page};
 use ink_model::{Event, Passage, Shown, Value};
 use ink_protocol::{RunFault, Sink, write_answer};
 use std::alloc::{AllocError, Global};
 
 /// Shows words in lines of their own.
-pub fn say<T: Sink>(alloc: Global, look: Look, sink: &mut T, words: &str) -> Result<(), RunFault> {
+pub fn say<T: Sink>(alloc: Global, look: Look, sink: &mut T, words: &str) -> Result<(), RunFault>
+    ensures { OnOk result (Appends (T.contents sink.old) (T.contents sink.new) (said look words.now)) }
+{
     match line_page(alloc, look, words, &[]) {
         Ok(page) => write_page(sink, page),
         Err(AllocError) => Err(RunFault::OutOfMemory),
@@ -19,7 +26,9 @@ pub fn show_passage<T: Sink>(
     look: Look,
     sink: &mut T,
     passage: &Passage,
-) -> Result<(), RunFault> {
+) -> Result<(), RunFault>
+    ensures { OnOk result (Appends (T.contents sink.old) (T.contents sink.new) (passage_shown look passage.now)) }
+{
     let Ok(page) = line_page(alloc, look, passage.text.as_str(), passage.tags.as_slice()) else {
         return Err(RunFault::OutOfMemory);
     };
@@ -35,14 +44,28 @@ pub fn show_events<T: Sink>(
     look: Look,
     sink: &mut T,
     events: &[Event],
-) -> Result<(), RunFault> {
+) -> Result<(), RunFault>
+    ensures { OnOk result (Appends (T.contents sink.old) (T.contents sink.new) (events_shown look events.now)) }
+{
     for event in events {
-        match event {
-            Event::Call { .. } => {}
-            Event::Saw { name, value, .. } => show_value(alloc, look, sink, name.as_str(), value)?,
-        }
+        show_event(alloc, look, sink, event)?;
     }
     Ok(())
+}
+
+// Shows what a watcher was told.
+fn show_event<T: Sink>(
+    alloc: Global,
+    look: Look,
+    sink: &mut T,
+    event: &Event,
+) -> Result<(), RunFault>
+    ensures { OnOk result (Appends (T.contents sink.old) (T.contents sink.new) (event_shown look event.now)) }
+{
+    match event {
+        Event::Call { .. } => Ok(()),
+        Event::Saw { name, value, .. } => show_value(alloc, look, sink, name.as_str(), value),
+    }
 }
 
 /// Shows what a variable is.
@@ -52,7 +75,9 @@ pub fn show_value<T: Sink>(
     sink: &mut T,
     name: &str,
     value: &Value,
-) -> Result<(), RunFault> {
+) -> Result<(), RunFault>
+    ensures { OnOk result (Appends (T.contents sink.old) (T.contents sink.new) (value_shown look name.now value.now)) }
+{
     match value_line(alloc, name, value) {
         Ok(line) => say(alloc, look, sink, line.as_str()),
         Err(AllocError) => Err(RunFault::OutOfMemory),
@@ -60,7 +85,9 @@ pub fn show_value<T: Sink>(
 }
 
 // A variable and its value.
-fn value_line(alloc: Global, name: &str, value: &Value) -> Result<String, AllocError> {
+fn value_line(alloc: Global, name: &str, value: &Value) -> Result<String, AllocError>
+    ensures { IfOk result (λ line. string_bytes line ≡ value_words name.now value.now) }
+{
     match value {
         Value::Int(number) => format!(in alloc; "[{name} = {number}]"),
         Value::Bool(truth) => format!(in alloc; "[{name} = {truth}]"),
@@ -78,21 +105,38 @@ pub fn show_choices<T: Sink>(
     look: Look,
     sink: &mut T,
     choices: &[Shown],
-) -> Result<(), RunFault> {
+) -> Result<(), RunFault>
+    ensures { OnOk result (Appends (T.contents sink.old) (T.contents sink.new) (choices_shown look choices.now)) }
+{
     write_answer(sink, b"\n")?;
     let mut number = 1u32;
     for choice in choices {
-        let Ok(page) = choice_page(alloc, look, number, choice) else {
-            return Err(RunFault::OutOfMemory);
-        };
-        write_page(sink, page)?;
+        show_choice(alloc, look, sink, number, choice)?;
         number = number.saturating_add(1);
     }
     Ok(())
 }
 
+// Shows a choice by its number.
+fn show_choice<T: Sink>(
+    alloc: Global,
+    look: Look,
+    sink: &mut T,
+    number: u32,
+    choice: &Shown,
+) -> Result<(), RunFault>
+    ensures { OnOk result (Appends (T.contents sink.old) (T.contents sink.new) (choice_page look number choice.now ++ 10 ∷ [])) }
+{
+    match choice_page(alloc, look, number, choice) {
+        Ok(page) => write_page(sink, page),
+        Err(AllocError) => Err(RunFault::OutOfMemory),
+    }
+}
+
 // Writes a page and its newline.
-fn write_page<T: Sink>(sink: &mut T, page: String) -> Result<(), RunFault> {
+fn write_page<T: Sink>(sink: &mut T, page: String) -> Result<(), RunFault>
+    ensures { OnOk result (Appends (T.contents sink.old) (T.contents sink.new) (string_bytes page ++ 10 ∷ [])) }
+{
     let mut page = page;
     let Ok(()) = page.push('\n') else {
         return Err(RunFault::OutOfMemory);

@@ -22,6 +22,11 @@ impl Past {
         }
     }
 
+    /// Where it stands, if that is a choice that was noted.
+    pub(crate) fn here(&self) -> Option<&Text> {
+        self.here.as_ref()
+    }
+
     /// The story stands here now.
     pub(crate) fn stand(&mut self, here: Option<Text>)
         ensures here { self.new.here ≡ here }

@@ -10,7 +10,7 @@ ghost use Rattle.ink_reader.specs.Course.{IsCourse, IsLoading, IsTelling, Played
 
 use crate::moves::{begin_anew, load_save, save_of, take_choice, value_of};
 use crate::past::Past;
-use crate::shelf::{NotKept, Shelf};
+use crate::shelf::Shelf;
 use crate::telling::{Told, tell, tell_halt, tell_stop};
 use ink_host::{Desk, PureFn, TurnFn, Watcher};
 use ink_model::{Event, Halt, Refusal, Seq, Text};
@@ -107,6 +107,14 @@ impl<P: PureFn, F: TurnFn, O: Watcher> Reader<P, F, O> {
         Ok(loaded)
     }
 
+    /// Saves where the story stands at a choice, unless it is not to save by itself: the reading ends.
+    pub fn quit<T: Sink, S: Shelf>(&self, sink: &mut T, shelf: &mut S) -> Result<(), RunFault> {
+        match self.past.here() {
+            Some(save) => self.save_here(save, sink, shelf),
+            None => Ok(()),
+        }
+    }
+
     fn say<T: Sink>(&self, sink: &mut T, words: &str) -> Result<(), RunFault> {
         say(self.alloc, self.look, sink, words)
     }
@@ -155,13 +163,13 @@ impl<P: PureFn, F: TurnFn, O: Watcher> Reader<P, F, O> {
         sink: &mut T,
         shelf: &mut S,
     ) -> Result<(), RunFault> {
-        if !self.saves || shelf.keep(save.as_str()).is_ok() {
+        if !self.saves {
             return Ok(());
         }
-        self.say(
-            sink,
-            "The save could not be written; the one before stands.",
-        )
+        match shelf.keep(save.as_str()) {
+            Ok(()) => Ok(()),
+            Err(cause) => self.say(sink, cause.unwritten()),
+        }
     }
 
     // Takes the choice of a number, from 1.
@@ -286,10 +294,7 @@ impl<P: PureFn, F: TurnFn, O: Watcher> Reader<P, F, O> {
     ) -> Result<(), RunFault> {
         match shelf.keep(save.as_str()) {
             Ok(()) => self.say(sink, "Saved."),
-            Err(NotKept) => self.say(
-                sink,
-                "The save could not be written; the one before stands.",
-            ),
+            Err(cause) => self.say(sink, cause.unwritten()),
         }
     }
 
@@ -315,7 +320,7 @@ impl<P: PureFn, F: TurnFn, O: Watcher> Reader<P, F, O> {
                 Err(_) => self.say(sink, "The save is cut, or is no save; it stays as it is.")?,
             },
             Ok(None) => self.say(sink, "There is no save.")?,
-            Err(NotKept) => self.say(sink, "The save could not be read; it stays as it is.")?,
+            Err(cause) => self.say(sink, cause.unread())?,
         }
         Ok(None)
     }

@@ -2,9 +2,38 @@
 
 use std::alloc::Global;
 
-/// A save could not be kept, or what is kept could not be read.
+/// Why a save could not be kept, or what is kept could not be read.
 #[derive(Clone, Copy)]
-pub struct NotKept;
+pub enum NotKept {
+    /// Writing or reading failed.
+    Failed,
+    /// It is longer than a save may be.
+    TooLong,
+    /// It is no text.
+    NoText,
+}
+
+impl NotKept {
+    /// Why a save was not written, in words.
+    pub(crate) fn unwritten(self) -> &'static str {
+        match self {
+            NotKept::TooLong =>
+                "The save would be longer than 64 MiB; what was saved before stays.",
+            NotKept::Failed | NotKept::NoText =>
+                "The save could not be written; what was saved before stays.",
+        }
+    }
+
+    /// Why a save was not read, in words.
+    pub(crate) fn unread(self) -> &'static str {
+        match self {
+            NotKept::TooLong =>
+                "The save is longer than 64 MiB, so it is not read; it stays as it is.",
+            NotKept::NoText => "The save is cut, or is no save; it stays as it is.",
+            NotKept::Failed => "The save could not be read; it stays as it is.",
+        }
+    }
+}
 
 /// Keeps one save.
 pub trait Shelf {

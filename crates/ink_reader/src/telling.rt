@@ -87,7 +87,7 @@ pub(crate) fn tell_halt<T: Sink>(
                 alloc,
                 look,
                 sink,
-                "The story breaks off behind the last line. The save stands; b goes back to before the last choice.",
+                "The story breaks off behind the last line. What was saved stays; b goes back to before the last choice, if there was one, and r restarts.",
             )?;
         }
     }

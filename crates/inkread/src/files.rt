@@ -1,14 +1,16 @@
 //! The story's file, and the save's.
 
-use ink_model::MAX_STORY;
+use ink_model::{MAX_INPUT, MAX_STORY};
 use ink_reader::{NotKept, Shelf};
 use std::alloc::Global;
-use std::fs::{File, Files, OpenFile};
+use std::fs::{self, File, Files, OpenFile};
 use std::io::{self, ErrorKind, Read, Write};
-use std::{fs, str};
 
 /// Bytes that are read of a story: as many as it may have, and one more, which tells that there are more.
 const MOST: u64 = MAX_STORY as u64 + 1;
+
+/// Bytes that are read of a save: as many as an input may have in which it is loaded, and one more.
+const MOST_OF_SAVE: u64 = MAX_INPUT as u64 + 1;
 
 /// The bytes of a story's file, of which no more are read than tell that it is over a story's limit.
 pub(crate) fn read_story_file(
@@ -41,23 +43,37 @@ impl<R: Files> SaveFile<'_, R> {
 
 impl<R: Files> Shelf for SaveFile<'_, R> {
     fn keep(&mut self, save: &str) -> Result<(), NotKept> {
+        if save.len() > MAX_INPUT {
+            return Err(NotKept::TooLong);
+        }
         if self.write_beside(save).is_ok() && fs::rename(&self.rt, self.beside, self.path).is_ok() {
             return Ok(());
         }
         let _ = fs::remove_file(&self.rt, self.beside);
-        Err(NotKept)
+        Err(NotKept::Failed)
     }
 
     fn fetch(&self, alloc: Global) -> Result<Option<String>, NotKept> {
-        let mut file = match File::open(&self.rt, self.path) {
+        let file = match File::open(&self.rt, self.path) {
             Ok(file) => file,
             Err(error) if error.kind() == ErrorKind::NotFound => return Ok(None),
-            Err(_) => return Err(NotKept),
+            Err(_) => return Err(NotKept::Failed),
         };
-        let mut save = String::new(alloc);
-        match file.read_to_string(&mut save) {
-            Ok(_) => Ok(Some(save)),
-            Err(_) => Err(NotKept),
-        }
+        let mut save = Vec::new(alloc);
+        let Ok(_) = file.take(MOST_OF_SAVE).read_to_end(&mut save) else {
+            return Err(NotKept::Failed);
+        };
+        text_of(save)
+    }
+}
+
+// The text that a save's bytes are.
+fn text_of(save: Vec<u8>) -> Result<Option<String>, NotKept> {
+    if save.len() > MAX_INPUT {
+        return Err(NotKept::TooLong);
+    }
+    match String::from_utf8(save) {
+        Ok(text) => Ok(Some(text)),
+        Err(_) => Err(NotKept::NoText),
     }
 }

@@ -1,13 +1,13 @@
 //! How pages look in the terminal that the program runs in.
 
 use ink_page::Look;
-use std::env;
+use std::env::{self, VarError};
 use std::rt::Env;
 
 /// Columns where nothing says how many there are.
 const COLUMNS: u16 = 80;
 
-/// How pages look: as wide as COLUMNS says, and dimmed tags where the terminal knows them and NO_COLOR is not set.
+/// How pages look: as wide as COLUMNS says, and dimmed tags where the terminal knows them and NO_COLOR does not forbid them.
 pub(crate) fn look<R: Env + Alloc>(rt: &R, tags: bool) -> Look {
     Look {
         columns: columns(rt),
@@ -31,9 +31,19 @@ fn width(columns: &str) -> u16 {
 }
 
 fn dims<R: Env + Alloc>(rt: &R) -> bool {
-    if env::var(rt, "NO_COLOR").is_ok() {
-        return false;
+    !forbids_colour(rt) && knows_codes(rt)
+}
+
+// Whether NO_COLOR is set, and not to the empty text.
+fn forbids_colour<R: Env + Alloc>(rt: &R) -> bool {
+    match env::var(rt, "NO_COLOR") {
+        Ok(value) => !value.is_empty(),
+        Err(VarError::NotPresent) => false,
+        Err(VarError::NotUnicode | VarError::OutOfMemory) => true,
     }
+}
+
+fn knows_codes<R: Env + Alloc>(rt: &R) -> bool {
     match env::var(rt, "TERM") {
         Ok(term) => !term.is_empty() && term.as_str() != "dumb",
         Err(_) => false,

@@ -116,12 +116,12 @@ pub(crate) fn tell_run(rt: &impl Eprint, outcome: Result<(), RunFault>) -> u8 {
         Ok(()) => SERVED,
         Err(RunFault::OutOfMemory) => {
             let _ = eprintln!(rt;
-                "inkread: there was not enough memory to go on; the last save stands"
+                "inkread: there was not enough memory to go on; what was saved stays"
             );
             RUN_FAULT
         }
         Err(_) => {
-            let _ = eprintln!(rt; "inkread: reading or writing failed; the last save stands");
+            let _ = eprintln!(rt; "inkread: reading or writing failed; what was saved stays");
             RUN_FAULT
         }
     }

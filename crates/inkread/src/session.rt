@@ -22,10 +22,10 @@ pub(crate) fn read_to_end<T: Sink, S: Shelf, P: PureFn, F: TurnFn, O: Watcher>(
     for _line in 0..u64::MAX {
         write_answer(sink, b"> ")?;
         let Some(line) = typed_line(rt, alloc)? else {
-            return Ok(());
+            return reader.quit(sink, shelf);
         };
         match read_typed(line.as_str()) {
-            Typed::Quit => return Ok(()),
+            Typed::Quit => return reader.quit(sink, shelf),
             typed => reader.answer(typed, sink, shelf)?,
         }
     }
@@ -41,7 +41,7 @@ fn begin<T: Sink, S: Shelf, P: PureFn, F: TurnFn, O: Watcher>(
     sink: &mut T,
     shelf: &mut S,
 ) -> Result<bool, RunFault> {
-    if let Ok(None) = shelf.fetch(alloc) {
+    if has_none(alloc, shelf) {
         reader.begin(sink, shelf)?;
         return Ok(true);
     }
@@ -49,16 +49,33 @@ fn begin<T: Sink, S: Shelf, P: PureFn, F: TurnFn, O: Watcher>(
         alloc,
         look,
         sink,
-        "There is a save. Go on with it? (n begins anew, and saves over it)",
+        "There is a save. Go on with it? (n begins anew; the next save takes its place)",
     )?;
     write_answer(sink, b"> ")?;
-    let Some(line) = typed_line(rt, alloc)? else {
-        return Ok(false);
-    };
-    if line.trim() == "n" || !reader.resume(sink, shelf)? {
-        reader.begin(sink, shelf)?;
+    match goes_on(rt, alloc)? {
+        None => return Ok(false),
+        Some(true) => {
+            if reader.resume(sink, shelf)? {
+                return Ok(true);
+            }
+        }
+        Some(false) => {}
     }
+    reader.begin(sink, shelf)?;
     Ok(true)
+}
+
+// Whether nothing is kept.
+fn has_none(alloc: Global, shelf: &impl Shelf) -> bool {
+    matches!(shelf.fetch(alloc), Ok(None))
+}
+
+// Whether the reader wants to go on with a save; none at the end of the input.
+fn goes_on(rt: &impl Input, alloc: Global) -> Result<Option<bool>, RunFault> {
+    match typed_line(rt, alloc)? {
+        Some(line) => Ok(Some(line.trim() != "n")),
+        None => Ok(None),
+    }
 }
 
 // The next line that is typed; none at the end of the input. One that is no text is as one that is not understood.

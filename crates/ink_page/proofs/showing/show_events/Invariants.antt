@@ -1,0 +1,8 @@
+use Rattle.std.proofs.Common.{◌≡◌, ℕ, List, ◌++◌, drop}
+use Rattle.std.specs.Io.KnownBytes.{Appends}
+use Rattle.ink_page.specs.Showing.{events_shown}
+use Rattle.ink_page.proofs.showing.show_events.Given as goal
+
+-- this was shown, and behind it there is still to be shown what is left
+abbrev pub invariant-loop-event : goal.invariant-loop-event
+invariant-loop-event g l = (w : List ℕ) × Appends (g.T.Sink.contents l.initial.sink) (g.T.Sink.contents l.sink) w × (w ++ events_shown l.look (drop l.event-index l.events) ≡ events_shown l.look l.events)

@@ -1,0 +1,102 @@
+#!/usr/bin/env python3
+"""What only the reader shows beside the run that is stored in crates/inkread: its save's file, tags, and its errors.
+
+    tests/reader.py [PROGRAM]      the program is ./inkread unless another is named
+
+Prints each run that goes wrong, and last how many hold; the status is 0 only where all do.
+"""
+import json
+import os
+import subprocess
+import sys
+import tempfile
+
+import toolchain
+
+STORY = {"inkVersion": 21, "root": [
+    ["^You wake.", "#", "^dawn", "/#", "\n", "ev", "str", "^Rise.", "/str", "/ev", {"*": "up", "flg": 4},
+     "ev", "str", "^Sleep.", "/str", "/ev", {"*": "down", "flg": 4}, "done", None],
+    "done", {"up": ["^You rise.", "\n", "end", None], "down": ["^You sleep.", "\n", "end", None]}], "listDefs": {}}
+CHOICES = "\n1. Rise.\n2. Sleep.\n> "
+BEGUN = "You wake.\n" + CHOICES
+ROSE = "You rise.\nThe story ends here.\n> "
+THERE_IS_ONE = "There is a save. Go on with it? (n begins anew; the next save takes its place)\n> "
+HELP = ("A number takes the choice of that number. s saves, l loads the save, b goes back\n"
+        "to before the last choice, r restarts, v NAME shows a variable, q quits, ? shows\nthis.\n> ")
+CUT = "The save is cut, or is no save; it stays as it is.\n"
+BAD = ("inkread: The story has something that is not played here: a list, a number with a point, a shuffle or a random number.\n"
+       "It is at k.1.\nThere stands: 1.5\n")
+WORDS = ("inkread: inkread STORY [--save FILE] [--no-autosave] [--tags] [--answer NAME=JSON].. [--table NAME=JSON].. [--watch NAME]..\n")
+
+# name, what the save's file has before ('kept' where it is that of the run before), words, what is typed, what is printed, and
+# whether there is a save afterwards: 'new', 'old' or none
+RUNS = (
+    ("saves at choices", None, [], "1\n", BEGUN + ROSE, "new"),
+    ("goes on with a save", "kept", [], "\n1\n", THERE_IS_ONE + CHOICES + ROSE, "new"),
+    ("begins anew", "kept", ["--no-autosave"], "n\n", THERE_IS_ONE + BEGUN, "old"),
+    ("no save unasked", None, ["--no-autosave"], "1\n", BEGUN + ROSE, None),
+    ("a save by hand", None, ["--no-autosave"], "s\nq\n", BEGUN + "Saved.\n> ", "new"),
+    ("a load", None, ["--no-autosave"], "l\ns\n1\nl\n2\n",
+     BEGUN + "There is no save.\n> Saved.\n> " + ROSE + CHOICES + "You sleep.\nThe story ends here.\n> ", "new"),
+    ("back over a load", None, ["--no-autosave"], "s\n1\nl\nb\nb\n", BEGUN + "Saved.\n> " + ROSE + CHOICES + CHOICES + "There is no choice to take back.\n> ", "new"),
+    ("help", None, ["--no-autosave"], "?\n", BEGUN + HELP, None),
+    ("a save that is cut stays", '{"current"', [], "\n1\n", THERE_IS_ONE + CUT + BEGUN + ROSE, "old"),
+    ("tags of lines", None, ["--no-autosave", "--tags"], "", "You wake. # dawn\n" + CHOICES, None),
+)
+
+
+def run(program, folder, words, typed, **env):
+    """What a reading prints, its standard error and its status."""
+    env = dict({name: value for name, value in os.environ.items() if name not in ("COLUMNS", "NO_COLOR", "TERM")}, **env)
+    done = subprocess.run([program] + words, input=typed.encode(), cwd=folder, env=env, stdout=subprocess.PIPE, stderr=subprocess.PIPE)
+    return done.stdout.decode(), done.stderr.decode(), done.returncode
+
+
+def text_of(path):
+    """The text of a file; none where there is no such file."""
+    if not os.path.exists(path):
+        return None
+    with open(path, encoding="utf-8") as it:
+        return it.read()
+
+
+def runs(program, folder):
+    """The name of each run, what came of it, and what is wanted."""
+    save = os.path.join(folder, "story.json.save")
+    with open(os.path.join(folder, "story.json"), "w", encoding="utf-8") as out:
+        json.dump(STORY, out)
+    for name, before, words, typed, printed, left in RUNS:
+        if before != "kept" and os.path.exists(save):
+            os.remove(save)
+        if before not in (None, "kept"):
+            with open(save, "w", encoding="utf-8") as out:
+                out.write(before)
+        was = text_of(save)
+        came = run(program, folder, ["story.json"] + words, typed)
+        now = text_of(save)
+        yield name, came + (None if now is None else "old" if now == was and left == "old" else "new",), (printed, "", 0, left)
+    dim = "You wake.\x1b[2m # dawn\x1b[0m\n" + CHOICES
+    yield "dimmed tags", run(program, folder, ["story.json", "--no-autosave", "--tags", "--save", "none"], "", TERM="xterm"), (dim, "", 0)
+    plain = dim.replace("\x1b[2m", "").replace("\x1b[0m", "")
+    for env in ({"TERM": "dumb"}, {"TERM": "xterm", "NO_COLOR": "1"}):
+        yield "tags that are not dimmed %s" % env, run(program, folder, ["story.json", "--no-autosave", "--tags", "--save", "none"], "", **env), (plain, "", 0)
+    yield "no words", run(program, folder, [], ""), ("", WORDS, 2)
+    with open(os.path.join(folder, "bad.json"), "w", encoding="utf-8") as out:
+        json.dump(dict(STORY, root=["done", {"k": ["^a", 1.5, None]}]), out)
+    yield "a story that is refused", run(program, folder, ["bad.json"], ""), ("", BAD, 2)
+
+
+def main():
+    program = os.path.abspath(sys.argv[1]) if len(sys.argv) > 1 else os.path.join(toolchain.TOP, "inkread")
+    with tempfile.TemporaryDirectory() as folder:
+        run(program, folder, [], "")  # built
+        came = list(runs(program, folder))
+    wrong = [it for it in came if it[1] != it[2]]
+    for name, got, wanted in wrong:
+        print("%s: came %r, wanted %r" % (name, got, wanted))
+    print("%d of %d hold" % (len(came) - len(wrong), len(came)))
+    return 1 if wrong else 0
+
+
+if __name__ == "__main__":
+    sys.exit(main())
