@@ -12,6 +12,40 @@ MOST_STEPS = 1000000
 HEAD, TAIL = '{"inkVersion":21,"root":[', "null]}"
 
 
+# ---- names that are hashed alike: the hasher of `IndexMap` has a fixed seed and multiplies 16 bytes at a time
+
+MULTIPLIER, SEED, WORD = 0x9e3779b97f4a7c15, 0x243f6a8885a308d3, (1 << 64) - 1
+
+
+def hashed(state, first, second):
+    """The hasher's state after 16 bytes, as two numbers."""
+    product = (first ^ state) * (second ^ MULTIPLIER)
+    return product & WORD ^ product >> 64
+
+
+def some_word(chance, difference):
+    """Eight letters that are letters too where they differ so."""
+    letters = [[letter for letter in range(0x30, 0x7b) if letter != 0x5c and 0x20 <= letter ^ byte < 0x7f and letter ^ byte not in b'"\\'] for byte in difference.to_bytes(8, "little")]
+    return int.from_bytes(bytes(map(chance.choice, letters)), "little")
+
+
+def colliding(count):
+    """So many names of one length and one hash, a power of two: the two factors of a multiplication can be exchanged."""
+    chance, pairs = random.Random(1), count.bit_length() - 1
+    blocks, state = [], SEED + 16 * (pairs + 1) & WORD
+    while len(blocks) <= pairs:
+        difference = state ^ MULTIPLIER
+        while True:
+            first, second = [some_word(chance, difference if blocks else 0) for _ in range(2)]
+            after = hashed(state, first, second)
+            if first != second ^ difference and (len(blocks) == pairs or not (after ^ MULTIPLIER) & 0x8080808080808080):
+                break
+        both = [(first, second), (second ^ difference, first ^ difference)][:2 if blocks else 1]
+        blocks.append([b"".join(word.to_bytes(8, "little") for word in words).decode() for words in both])
+        state = after
+    return ["".join(words) for words in itertools.product(*blocks)]
+
+
 # ---- stories that are read
 
 def flat(size, element):
@@ -39,6 +73,11 @@ def leading(size, content, head, tail, divert):
     """Containers, between two ends, and as many diverts that lead to them, each to one."""
     count = (size - len(head) - len(tail)) // len((content + divert).replace("№", "%07d" % 0))
     return head.join(("", "".join(divert.replace("№", "%07d" % n) for n in range(count)))) + "".join(content.replace("№", "%07d" % n) for n in range(count)) + tail
+
+
+def of_one_hash(size):
+    """Assignments to variables with names of one hash."""
+    return HEAD + "".join('{"VAR=":"%s"},' % name for name in colliding(1 << (size // 300).bit_length() - 1)) + TAIL
 
 
 def falling_keys(size):
@@ -74,6 +113,7 @@ READING = {
     "names of variables": lambda size: flat(size, '{"VAR=":"v№"},'),
     "one name of a variable": lambda size: flat(size, '{"VAR=":"v"},'),
     "a name of 8 MiB twice": lambda size: HEAD + ('{"VAR=":"' + "v" * (size // 2 - 40) + '"},') * 2 + TAIL,
+    "names of one hash": of_one_hash,
     "names of temporaries": lambda size: flat(size, '{"temp=":"v№"},'),
     "calls of functions of a host": lambda size: flat(size, '{"x()":"f№","exArgs":1},'),
     "choice points": lambda size: flat(size, '{"*":"0","flg":4},'),
@@ -144,46 +184,6 @@ def tower(size, divert):
 NAME = "v" * (4 * MIB)
 
 
-# ---- names that are hashed alike: the hasher of `IndexMap` has a fixed seed and multiplies 16 bytes at a time
-
-MULTIPLIER, SEED, WORD = 0x9e3779b97f4a7c15, 0x243f6a8885a308d3, (1 << 64) - 1
-
-
-def hashed(state, first, second):
-    """The hasher's state after 16 bytes, as two numbers."""
-    product = (first ^ state) * (second ^ MULTIPLIER)
-    return product & WORD ^ product >> 64
-
-
-def is_name(word):
-    return all(0x20 <= byte < 0x7f and byte not in b'"\\' for byte in word.to_bytes(8, "little"))
-
-
-def some_word(chance, difference):
-    """Eight letters that are letters too where they differ so."""
-    letters = [[letter for letter in range(0x30, 0x7b) if letter != 0x5c and 0x20 <= letter ^ byte < 0x7f and letter ^ byte not in b'"\\'] for byte in difference.to_bytes(8, "little")]
-    return int.from_bytes(bytes(map(chance.choice, letters)), "little")
-
-
-def colliding(count):
-    """So many names of one length and one hash, a power of two: the two factors of a multiplication can be exchanged."""
-    chance, pairs = random.Random(1), count.bit_length() - 1
-    blocks, state = [], SEED + 16 * (pairs + 1) & WORD
-    while len(blocks) <= pairs:
-        difference = state ^ MULTIPLIER
-        if blocks and difference & 0x8080808080808080:
-            raise ValueError("no letters")
-        while True:
-            first, second = [some_word(chance, difference if blocks else 0) for _ in range(2)]
-            after = hashed(state, first, second)
-            if first != second ^ difference and (len(blocks) == pairs or not (after ^ MULTIPLIER) & 0x8080808080808080):
-                break
-        both = [(first, second), (second ^ difference, first ^ difference)][:2 if blocks else 1]
-        blocks.append([b"".join(word.to_bytes(8, "little") for word in words).decode() for words in both])
-        state = after
-    return ["".join(words) for words in itertools.product(*blocks)]
-
-
 def declaring(names):
     return HEAD + '"done",{"global decl":["ev",' + "".join('1,{"VAR=":"%s"},' % name for name in names) + '"/ev","end",null]}]}'
 
@@ -206,7 +206,7 @@ RUNNING = {
     "1,000 choices of 900 frames, saved": (deep('{"*":"loop","flg":0},"ev","choiceCnt",999,"<","!","/ev",{"->":"out","c":true}', 900, out='"done"'), THROUGH + "save\n", 20000),
     "a function in a loop, 900 frames": (deep('{"f()":"f"}', 900, f='"nop"'), THROUGH, MOST_STEPS),
     "a tunnel in a loop, 900 frames": (deep('{"->t->":"t"}', 900, t='"ev","void","/ev","->->"'), THROUGH, MOST_STEPS),
-    "calls down and up": (named('"ev",998,{"VAR=":"n","re":true},"/ev",{"f()":"f"},{"->":"0"}', f='"ev",{"VAR?":"n"},1,"-",{"VAR=":"n","re":true},{"VAR?":"n"},0,">","/ev",{"f()":"f","c":true}',
+    "calls down and up": (named('"ev",900,{"VAR=":"n","re":true},"/ev",{"f()":"f"},{"->":"0"}', f='"ev",{"VAR?":"n"},1,"-",{"VAR=":"n","re":true},{"VAR?":"n"},0,">","/ev",{"f()":"f","c":true}',
                                 global_decl='"ev",1,{"VAR=":"n"},"/ev","end"'), THROUGH, MOST_STEPS),
     "strings open, a function in each": (named('{"->":"f"}', f='"ev","str",{"f()":"f"}'), THROUGH, 5000),
     "equal texts of 1 MiB compared": (comparing("=="), THROUGH, MOST_STEPS),

@@ -57,7 +57,7 @@ def tell(name, text, steps, ran, plain):
     times = ran.seconds / plain.takes(text, steps, len(ran.output))
     more = max(0, ran.peak - plain.peak)
     marks = ["time"] * (times > MOST_TIMES) + ["memory"] * (more > MOST_BYTES * len(text) + KEPT)
-    print("%-46s %10d %8.2f %7.1f %8.0f %7.1f  %-18s %s" % (name, len(text), ran.seconds, times, ran.peak / MIB, more / len(text), ending(ran), " ".join(marks)), flush=True)
+    print("%-50s %10d %8.2f %7.1f %8.0f %7.1f  %-18s %s" % (name, len(text), ran.seconds, times, ran.peak / MIB, more / len(text), ending(ran), " ".join(marks)), flush=True)
     return bool(marks)
 
 
@@ -93,7 +93,7 @@ def main():
         plain = Plain(run)
         print("plain: start %.1f ms, %.1f ns a byte read, %.1f ns a step, %.0f ns a line, %.1f ns a byte written"
               % (plain.start * 1e3, plain.byte * 1e9, plain.step * 1e9, plain.line * 1e9, plain.written * 1e9))
-        print("%-46s %10s %8s %7s %8s %7s  %s" % ("", "bytes", "s", "/ plain", "MiB", "/ bytes", "ends"))
+        print("%-50s %10s %8s %7s %8s %7s  %s" % ("", "bytes", "s", "/ plain", "MiB", "/ bytes", "ends"))
         for name, text, steps, program_words in shapes(words.names, int(words.size * MIB)):
             tried += 1
             marked += tell(name, text, steps, run(text, program_words), plain)
