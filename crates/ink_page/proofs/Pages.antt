@@ -123,19 +123,19 @@ module _ (dims : Bool) (columns margin : ℕ) where
           (λ t. Holds dims columns margin (record (behind t) { word = []; wide = 0 }))
           (λ e. by s h.columns_are h.margin_is (join s.done s.column s.word s.wide h.laid h.word (subst (λ n. Fits columns margin h.word.marks (n + s.wide)) (sym (same e)) anew)))
           (λ e. cond_both (nat_le (s.column + 1 + s.wide) s.columns) (record s { done = s.done ++ 32 ∷ []; column = s.column + 1 }) (record s { done = (s.done ++ 10 ∷ []) ++ replicate s.margin 32; column = s.margin })
-              (λ t. Holds dims columns margin (record (behind t) { word = []; wide = 0 })) beside below)
+          (λ t. Holds dims columns margin (record (behind t) { word = []; wide = 0 })) beside below)
         where
           beside : nat_le (s.column + 1 + s.wide) s.columns ≡ true → Holds dims columns margin (record (behind (record s { done = s.done ++ 32 ∷ []; column = s.column + 1 })) { word = []; wide = 0 })
           beside e =
               let room : s.column + 1 + s.wide ≤ columns = subst (λ n. s.column + 1 + s.wide ≤ n) h.columns_are (leb-true (s.column + 1 + s.wide) s.columns e) in
               by (record s { done = s.done ++ 32 ∷ []; column = s.column + 1 }) h.columns_are h.margin_is
-                  (join (s.done ++ 32 ∷ []) (s.column + 1) s.word s.wide (part s.done s.column s.wide room h.laid) h.word (inl room))
+              (join (s.done ++ 32 ∷ []) (s.column + 1) s.word s.wide (part s.done s.column s.wide room h.laid) h.word (inl room))
 
           below : nat_le (s.column + 1 + s.wide) s.columns ≡ false → Holds dims columns margin (record (behind (record s { done = (s.done ++ 10 ∷ []) ++ replicate s.margin 32; column = s.margin })) { word = []; wide = 0 })
           below e =
               by (record s { done = (s.done ++ 10 ∷ []) ++ replicate s.margin 32; column = s.margin }) h.columns_are h.margin_is
-                  (subst (λ m. IsLaid dims columns margin (((s.done ++ 10 ∷ []) ++ replicate m 32) ++ s.word) (m + s.wide)) (sym h.margin_is)
-                  (join ((s.done ++ 10 ∷ []) ++ replicate margin 32) margin s.word s.wide (break s.done s.column h.laid) h.word anew))
+              (subst (λ m. IsLaid dims columns margin (((s.done ++ 10 ∷ []) ++ replicate m 32) ++ s.word) (m + s.wide)) (sym h.margin_is)
+              (join ((s.done ++ 10 ∷ []) ++ replicate margin 32) margin s.word s.wide (break s.done s.column h.laid) h.word anew))
 
   -- a character is added where it has room
   added-holds : (c : ℕ) (s : SheetView) → all_scalars (c ∷ []) ≡ true → is_control c ≡ false → Holds dims columns margin s

@@ -12,10 +12,10 @@ returns-clause-lines c =
     let begun = laid (chars c.args.text.now) (opened look.columns [] 0) in
     let told = c.in_ok-show.ensures ∙ ap (laid (chars c.args.text.now)) c.in_ok-sheet.ensures in
     elim c.if-look.branch [
-      then-look+in_ok-show_tags w ↦
+      | then-look+in_ok-show_tags w ↦
           let shown = w.sheet-is ∙ w.in_ok-show_tags.ensures.shows ∙ ap (tagged look c.args.tags.now) told in
           page-lines look 0 c.if-look.sheet c.end.result c.end.ensures (subst (Holds look.dims look.columns 0) (sym shown)
           (tagged-holds look 0 c.args.tags.now begun w.in_ok-show_tags.ensures.texts (line-holds look c.args.text.now c.utf8.text)))
-    | else-look w ↦
+      | else-look w ↦
           page-lines look 0 c.if-look.sheet c.end.result c.end.ensures (subst (Holds look.dims look.columns 0) (sym (w.sheet-is ∙ told)) (line-holds look c.args.text.now c.utf8.text))
     ]

@@ -13,6 +13,6 @@ loop-tag-preserved c =
     let text = c.as_str.ensures ∙ c.tag-item.is in
     let all = ap (λ t. before ++ t ∷ []) text ∙ sym more in (
       c.in_ok-put_tag.ensures.shows ∙ (ap (tag_laid c.as_str.result.now) c.loop-tag.invariant.0
-      ∙ (sym (tags_laid-push before c.as_str.result.now c.args.sheet.now) ∙ ap (λ ts. tags_laid ts c.args.sheet.now) all)),
+          ∙ (sym (tags_laid-push before c.as_str.result.now c.args.sheet.now) ∙ ap (λ ts. tags_laid ts c.args.sheet.now) all)),
       subst AreTexts all (texts-push before c.as_str.result.now c.loop-tag.invariant.1 c.in_ok-put_tag.ensures.text),
     )

@@ -19,6 +19,6 @@ loop-choice-preserved g c =
       w ++ page,
       Appends-trans (g.T.Sink.contents c.write_answer.new.sink) (g.T.Sink.contents c.loop-choice.sink) (g.T.Sink.contents c.show_choice.new.sink) w page c.loop-choice.invariant.1 c.in_ok-show_choice.ensures,
       append_assoc w page rest ∙ ap (λ m. w ++ (page ++ numbered look m (drop (i + 1) cs))) c.saturating_add-number.ensures
-      ∙ ap (λ x. w ++ ((choice_page look n x ++ 10 ∷ []) ++ numbered look (min (n + 1) (2 ^ 32 - 1)) (drop (i + 1) cs))) c.choice-item.is
-      ∙ ap (λ l. w ++ numbered look n l) (sym more) ∙ c.loop-choice.invariant.2,
+          ∙ ap (λ x. w ++ ((choice_page look n x ++ 10 ∷ []) ++ numbered look (min (n + 1) (2 ^ 32 - 1)) (drop (i + 1) cs))) c.choice-item.is
+          ∙ ap (λ l. w ++ numbered look n l) (sym more) ∙ c.loop-choice.invariant.2,
     )
