@@ -13,10 +13,13 @@ use std::alloc::{AllocError, Global};
 pub(crate) fn cleaned(alloc: Global, text: &str) -> Result<Text, AllocError>
     ensures { IfOk result (λ cleaned. cleaned ≡ clean text.now) }
 {
-    let mut shown = Shown::new(alloc, true);
+    let mut shown = Shown::new(alloc, true, text.len())?;
     shown.push_str(text)?;
     Ok(shown.into_text())
 }
+
+/// A text of so many bytes at the most asks for memory once. A longer one grows by doubling, since cleaning may leave little of it.
+const MOST_ROOM: usize = 4_096;
 
 /// What stands on a line before a character.
 #[derive(Clone, Copy)]
@@ -34,18 +37,18 @@ pub(crate) struct Shown {
 }
 
 impl Shown {
-    /// No text yet, which takes no memory.
-    pub(crate) fn new(alloc: Global, cleans: bool) -> Shown
-        ensures { Holds cleans result [] }
+    /// No text yet, for one of so many bytes at the most. The one error is a refused request for memory.
+    pub(crate) fn new(alloc: Global, cleans: bool, most: usize) -> Result<Shown, AllocError>
+        ensures { IfOk result (λ shown. Holds cleans shown []) }
     {
-        let text = String::new(alloc);
+        let text = String::with_capacity(alloc, most.min(MOST_ROOM))?;
         if cleans {
-            return Shown {
+            return Ok(Shown {
                 text,
                 before: Some(Before::Nothing),
-            };
+            });
         }
-        Shown { text, before: None }
+        Ok(Shown { text, before: None })
     }
 
     /// Adds a piece. The one error is a refused request for memory.

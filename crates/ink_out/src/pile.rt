@@ -7,6 +7,7 @@ ghost use Rattle.ink_out.specs.Walks.{held_at, is_at, left_pile, now_text, pile_
 use crate::cleaning::Shown;
 use crate::tracker::{Waiting, is_reached};
 use ink_model::Text;
+use smallvec::SmallVec;
 use std::alloc::{AllocError, Global};
 use std::marker::Model;
 
@@ -21,6 +22,13 @@ pub(crate) enum Held<'m> {
     Newline {
         at: usize,
     },
+}
+
+/// What an empty place of a pile holds.
+impl Default for Held<'_> {
+    fn default() -> Self {
+        Held::Newline { at: 0 }
+    }
 }
 
 impl Held<'_> {
@@ -50,10 +58,11 @@ impl<'m> Held<'m> {
     }
 }
 
-/// The blanks and newlines since the last text. A contract sees them the last first.
+/// The blanks and newlines since the last text. A contract sees them the last first. Most lines have a blank and a newline
+/// there at the most, which take no memory.
 #[derive(Drop)]
 pub(crate) struct Pile<'m> {
-    items: Vec<Held<'m>>,
+    items: SmallVec<Held<'m>, 2>,
 }
 
 impl<'m> Model for Pile<'m> {
@@ -71,7 +80,7 @@ impl<'m> Pile<'m> {
         ensures { result ≡ [] }
     {
         Pile {
-            items: Vec::new(alloc),
+            items: SmallVec::new(alloc),
         }
     }
 
@@ -111,15 +120,15 @@ impl<'m> Pile<'m> {
     ) -> Result<(), AllocError>
         ensures { OnOk result ((cleans : Bool) (written : List ℕ) → Holds cleans shown.old written → Holds cleans shown.new (written ++ pile_now newline glue self.now)) }
     {
-        write_all(shown, &self.items, newline, glue)
+        write_all(shown, self.items.as_slice(), newline, glue)
     }
 }
 
 // Takes from the end what is reached.
-fn drop_reached(items: &mut Vec<Held<'_>>, reach: Option<usize>)
+fn drop_reached(items: &mut SmallVec<Held<'_>, 2>, reach: Option<usize>)
     ensures { reverse items.new.items ≡ left_pile reach (reverse items.old.items) }
 {
-    while let Some(held) = items.last().copied() {
+    while let Some(held) = items.as_slice().last().copied() {
         if !is_reached(held.at(), reach) {
             return;
         }

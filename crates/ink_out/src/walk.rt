@@ -18,11 +18,27 @@ use std::alloc::{AllocError, Global};
 pub(crate) fn shown_text(alloc: Global, marks: &[Mark], cleans: bool) -> Result<Text, AllocError>
     ensures { IfOk result (λ text. text ≡ shown_as cleans (shown_text marks.now)) }
 {
-    let mut walk = Walk::new(alloc, cleans);
+    let mut walk = Walk::new(alloc, cleans, most_shown(marks))?;
     for (at, mark) in marks.iter().enumerate() {
         walk.add(mark, at)?;
     }
     walk.finish()
+}
+
+// How many bytes these marks show at the most.
+fn most_shown(marks: &[Mark]) -> usize {
+    marks
+        .iter()
+        .fold(0, |sum: usize, mark| sum.saturating_add(shown_by(mark)))
+}
+
+fn shown_by(mark: &Mark) -> usize {
+    match mark {
+        Mark::Text(text) => text.as_str().len(),
+        Mark::Blank(text) => text.as_str().len(),
+        Mark::Newline => 1,
+        _ => 0,
+    }
 }
 
 /// A walk over marks: what decides which are shown, the index of the last glue behind the last text, what waits, and what
@@ -37,17 +53,18 @@ struct Walk<'m> {
 }
 
 impl<'m> Walk<'m> {
-    /// At the start.
-    fn new(alloc: Global, cleans: bool) -> Walk<'m>
-        ensures { Walks cleans [] result }
+    /// At the start, for a text of so many bytes at the most. The one error is a refused request for memory.
+    fn new(alloc: Global, cleans: bool, most: usize) -> Result<Walk<'m>, AllocError>
+        ensures { IfOk result (λ walk. Walks cleans [] walk) }
     {
-        Walk {
+        let shown = Shown::new(alloc, cleans, most)?;
+        Ok(Walk {
             tracker: Tracker::new(),
             enters: Enters::new(alloc),
             glue: 0,
             held: Pile::new(alloc),
-            shown: Shown::new(alloc, cleans),
-        }
+            shown,
+        })
     }
 
     /// Goes past the mark at an index. The one error is a refused request for memory.
