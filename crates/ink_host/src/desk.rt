@@ -21,13 +21,24 @@ use std::mem;
 
 /// Functions and watchers by name, in the order in which they came, and what happened since the events were last taken. It is
 /// generic in the objects and asks nothing of them but their traits: each that is given is kept or handed back.
-#[derive(Drop)]
 pub struct Desk<P, T, W> {
     pub(crate) functions: IndexMap<String, Bound<P, T>>,
     pub(crate) watchers: IndexMap<String, W>,
     pub(crate) events: Vec<Event>,
     pub(crate) next: u64,
     pub(crate) alloc: Global,
+}
+
+impl<P: Drop, T: Drop, W: Drop> Drop for Desk<P, T, W> {
+    fn drop(self) {
+        let Desk {
+            functions: _,
+            watchers: _,
+            events: _,
+            next: _,
+            alloc: _,
+        } = self;
+    }
 }
 
 impl<P, T, W> Model for Desk<P, T, W> {
