@@ -48,13 +48,24 @@ use std::marker::Model;
 
 /// A story that runs: where it stands, and the desk of the host's objects. Between calls every event was taken, and where it stands
 /// is sound and at rest (docs/SAVES.md), unless a fault broke it.
-#[derive(Drop)]
 pub struct Player<P, F, O> {
     story: Story,
     desk: Desk<P, F, O>,
     machine: Machine,
     broken: Option<Fault>,
     alloc: Global,
+}
+
+impl<P: Drop, F: Drop, O: Drop> Drop for Player<P, F, O> {
+    fn drop(self) {
+        let Player {
+            story: _,
+            desk: _,
+            machine: _,
+            broken: _,
+            alloc: _,
+        } = self;
+    }
 }
 
 impl<P, F, O> Model for Player<P, F, O> {
