@@ -8,3 +8,4 @@ pub mod Steps
 pub mod Runs
 pub mod Asked
 pub mod Parts
+pub mod Telling
