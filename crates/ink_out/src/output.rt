@@ -33,7 +33,6 @@ use std::mem;
 
 /// The text being written: the marks of the line, and the string and tag sections that are open on it. A contract sees the
 /// page and the trail of what it was while a mark stands.
-#[derive(Drop)]
 pub struct Output {
     line: Section,
     sections: Vec<Opened>,
@@ -42,6 +41,20 @@ pub struct Output {
     spare: Option<Opened>,
     trail: Trail<OutputPair>,
     alloc: Global,
+}
+
+/// Written out, so that wherever an output is let go that is one call, and a proof there does not go through its fields.
+impl Drop for Output {
+    fn drop(self) {
+        let Output {
+            line: _,
+            sections: _,
+            next_enter: _,
+            spare: _,
+            trail: _,
+            alloc: _,
+        } = self;
+    }
 }
 
 impl Model for Output {

@@ -18,11 +18,21 @@ use std::marker::Model;
 
 /// How often each container was visited, and in which turn last, by the container's number, and found at once by it; and while a
 /// mark stands the trail of what that was. A contract sees two lists of rows, which rise by number, and the trail.
-#[derive(Drop)]
 pub struct Counts {
     pub(crate) visits: Vec<Option<u32>>,
     pub(crate) turns: Vec<Option<u32>>,
     pub(crate) trail: Trail<CountPair>,
+}
+
+/// Written out, so that wherever counts are let go that is one call, and a proof there does not go through their fields.
+impl Drop for Counts {
+    fn drop(self) {
+        let Counts {
+            visits: _,
+            turns: _,
+            trail: _,
+        } = self;
+    }
 }
 
 impl Model for Counts {
