@@ -1,5 +1,5 @@
 -- What is to be told of globals, one after another.
-use Rattle.std.proofs.Common.{◌≡◌, ◌≢◌, ◌∙◌, OnErr, Result, Ok, Err, ◌++◌, ◌∷◌, ◌+◌, ◌&&◌, ◌<◌, ◌≤◌, ℕ, zero, suc, List, [], Bool, true, false, Option, Some, None, ap, append_assoc, arith, cond, drop, get_or, if◌then◌else◌, length, map, refl, slice_get, sym, take}
+use Rattle.std.proofs.Common.{◌≡◌, ◌≢◌, ◌∙◌, ◌++◌, ◌∷◌, ◌+◌, ◌&&◌, ◌<◌, ◌≤◌, ℕ, zero, suc, List, [], Bool, true, false, Option, Some, None, ap, append_assoc, arith, cond, drop, get_or, if◌then◌else◌, length, map, refl, slice_get, sym, take}
 use Rattle.std.proofs.lemmas.List.{append-nil, take-append-drop, take_all, take_more}
 use Rattle.std.proofs.lemmas.Option.{get_or_from_slice_get, slice_get_within}
 use Rattle.std.specs.List.{filter}
@@ -8,20 +8,27 @@ use Rattle.ink_model.specs.Told.{change_of, is_other, is_told, told}
 use Rattle.ink_model.specs.declared.host.Change.{Change}
 use Rattle.ink_model.specs.declared.value.Value.{Value}
 use Rattle.ink_host.specs.Desk.{Rows, has_rows, watches}
-use Rattle.ink_step.specs.Telling.{told_at, told_one}
 use Rattle.ink_vars.specs.Changes.{changed_from, changed_numbers}
 
 -- ---- by numbers
 
 module _ (now : Values) where
-  pub told_more : (is : List ℕ) (i : ℕ) → told_at now (is ++ i ∷ []) ≡ told_at now is ++ told_one (slice_get now i)
+  abbrev pub told_one : Option (List ℕ × Value) → List Change
+  told_one None = []
+  told_one (Some e) = change_of e ∷ []
+
+  abbrev pub told_at : List ℕ → List Change
+  told_at [] = []
+  told_at (i ∷ is) = told_one (slice_get now i) ++ told_at is
+
+  pub told_more : (is : List ℕ) (i : ℕ) → told_at (is ++ i ∷ []) ≡ told_at is ++ told_one (slice_get now i)
   told_more [] i = append-nil (told_one (slice_get now i))
-  told_more (j ∷ is) i = ap (λ rest. told_one (slice_get now j) ++ rest) (told_more is i) ∙ sym (append_assoc (told_one (slice_get now j)) (told_at now is) (told_one (slice_get now i)))
+  told_more (j ∷ is) i = ap (λ rest. told_one (slice_get now j) ++ rest) (told_more is i) ∙ sym (append_assoc (told_one (slice_get now j)) (told_at is) (told_one (slice_get now i)))
 
   -- ---- those that changed, and are watched
 
   module _ (watches : List ℕ → Bool) (start : Values) where
-    told_from : (n : ℕ) (es : Values) → ((i : ℕ) → slice_get now (n + i) ≡ slice_get es i) → told_at now (changed_from watches start n es) ≡ told watches start es
+    told_from : (n : ℕ) (es : Values) → ((i : ℕ) → slice_get now (n + i) ≡ slice_get es i) → told_at (changed_from watches start n es) ≡ told watches start es
     told_from n [] at = refl
     told_from n (e ∷ es) at =
         let here : n + 0 ≡ n = omega arith in
@@ -30,12 +37,12 @@ module _ (now : Values) where
         λ i. (let next : suc n + i ≡ n + suc i = omega arith in ap (slice_get now) next ∙ at (suc i)) in
         by (is_told watches start e) first (told_from (suc n) es further)
       where
-        by : (b : Bool) → slice_get now n ≡ Some e → told_at now (changed_from watches start (suc n) es) ≡ told watches start es
-            → told_at now (if b then n ∷ changed_from watches start (suc n) es else changed_from watches start (suc n) es) ≡ map change_of (cond b (e ∷ filter (is_told watches start) es) (filter (is_told watches start) es))
-        by true first so = ap (λ o. told_one o ++ told_at now (changed_from watches start (suc n) es)) first ∙ ap (λ cs. change_of e ∷ cs) so
+        by : (b : Bool) → slice_get now n ≡ Some e → told_at (changed_from watches start (suc n) es) ≡ told watches start es
+            → told_at (if b then n ∷ changed_from watches start (suc n) es else changed_from watches start (suc n) es) ≡ map change_of (cond b (e ∷ filter (is_told watches start) es) (filter (is_told watches start) es))
+        by true first so = ap (λ o. told_one o ++ told_at (changed_from watches start (suc n) es)) first ∙ ap (λ cs. change_of e ∷ cs) so
         by false first so = so
 
-    pub told_changed : told_at now (changed_numbers watches start now) ≡ told watches start now
+    pub told_changed : told_at (changed_numbers watches start now) ≡ told watches start now
     told_changed = told_from 0 now (λ i. (let same : 0 + i ≡ i = omega arith in ap (slice_get now) same))
 
     -- where nothing is told of, none is among these
@@ -51,19 +58,17 @@ module _ (now : Values) where
     pub told_some_of : changed_numbers watches start now ≢ [] → told watches start now ≢ []
     told_some_of some none = some (none_changed 0 now none)
 
+    pub told_some_at : (ns : List ℕ) (i : ℕ) → ns ≡ changed_numbers watches start now → i < length ns → told watches start now ≢ []
+    told_some_at ns i is within = told_some_of (λ none. absurd (omega (arith, within, ap length is, ap length none)))
+
   -- ---- a loop's step
 
   -- one number more
-  pub told_next : (ns : List ℕ) (i : ℕ) (so_far more : List Change) (o : Option (List ℕ × Value)) → i < length ns → slice_get now (get_or ns i 0) ≡ o → so_far ≡ told_at now (take i ns)
-      → more ≡ so_far ++ told_one o → more ≡ told_at now (take (i + 1) ns)
+  pub told_next : (ns : List ℕ) (i : ℕ) (so_far more : List Change) (o : Option (List ℕ × Value)) → i < length ns → slice_get now (get_or ns i 0) ≡ o → so_far ≡ told_at (take i ns)
+      → more ≡ so_far ++ told_one o → more ≡ told_at (take (i + 1) ns)
   told_next ns i so_far more o within at h added =
-      added ∙ ap (λ cs. cs ++ told_one o) h ∙ ap (λ x. told_at now (take i ns) ++ told_one x) (sym at) ∙ sym (told_more (take i ns) (get_or ns i 0))
-      ∙ ap (told_at now) (sym (take_more ns i 0 within))
-
--- an error says what follows from what it says
-pub where_some : {A E P Q : Type 0} (r : Result A E) → (P → Q) → OnErr r P → OnErr r Q
-where_some (Ok a) so h = tt
-where_some (Err e) so h = so h
+      added ∙ ap (λ cs. cs ++ told_one o) h ∙ ap (λ x. told_at (take i ns) ++ told_one x) (sym at) ∙ sym (told_more (take i ns) (get_or ns i 0))
+      ∙ ap told_at (sym (take_more ns i 0 within))
 
 -- where nobody watches nothing is told
 pub told_nobody : {W : Type 0} (rows : Rows W) (start now : Values) → has_rows rows ≡ false → [] ≡ told (watches rows) start now

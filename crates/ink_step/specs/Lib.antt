@@ -8,4 +8,3 @@ pub mod Steps
 pub mod Runs
 pub mod Asked
 pub mod Parts
-pub mod Telling

@@ -9,7 +9,6 @@ ghost use Rattle.ink_model.specs.Place.{landed};
 ghost use Rattle.ink_model.specs.Tree.{StoryTree};
 ghost use Rattle.ink_check.specs.Words.{story_tree};
 ghost use Rattle.ink_step.specs.Runs.{RunsToStop};
-ghost use Rattle.ink_step.specs.Steps.{FailsToOpen};
 ghost use Rattle.ink_tree.specs.Nodes.{place_of};
 
 use crate::machine::{Machine, Shared};
@@ -32,6 +31,7 @@ pub struct Unopened {
 
 impl Machine {
     ghost use Rattle.ink_step.specs.Marks.{stood_of, unmarked};
+    ghost use Rattle.ink_step.specs.Steps.{FailsToOpen};
     ghost use Rattle.ink_step.specs.Words.{aside_in, config_of, globals_of};
 
     /// A machine at the story's start, with the globals that the story declares, and one flow. The fault is that of the declarations, or
@@ -42,9 +42,15 @@ impl Machine {
         ensures mark { IfOk result (λ m. stood_of m ≡ unmarked) }
         ensures err { IfErr result (λ e. FailsToOpen (story_tree story.now) e.fault e.globals.rows) }
     {
-        match declared(alloc, story) {
-            Ok(globals) => Ok(Machine::at_start(alloc, story, globals)),
-            Err(unopened) => Err(unopened),
+        let Some(place) = first_declaration(story) else {
+            return Ok(Machine::at_start(alloc, story, Globals::new(alloc)));
+        };
+        let mut machine = Machine::fresh(alloc, place, Globals::new(alloc));
+        let outcome = machine.run_alone(alloc, story);
+        let globals = machine.into_globals();
+        match outcome {
+            Ok(()) => Ok(Machine::at_start(alloc, story, globals)),
+            Err(fault) => Err(Unopened { fault, globals }),
         }
     }
 
@@ -92,25 +98,6 @@ impl Machine {
             trail: Trail::new(alloc),
             alloc,
         }
-    }
-}
-
-/// The globals that a story declares. The fault is that of the declarations, or `OutOfMemory`. A story without declarations needs no
-/// memory.
-fn declared(alloc: Global, story: &Story) -> Result<Globals, Unopened>
-    ensures ok { let s = story_tree story.now in IfOk result (λ globals. opening s ≡ Ok (start s globals.rows)) }
-    ensures err { IfErr result (λ e. FailsToOpen (story_tree story.now) e.fault e.globals.rows) }
-{
-    let Some(place) = first_declaration(story) else {
-        return Ok(Globals::new(alloc));
-    };
-    let mut machine = Machine::fresh(alloc, place, Globals::new(alloc));
-    match machine.run_alone(alloc, story) {
-        Ok(()) => Ok(machine.into_globals()),
-        Err(fault) => Err(Unopened {
-            fault,
-            globals: machine.into_globals(),
-        }),
     }
 }
 

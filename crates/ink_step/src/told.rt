@@ -12,7 +12,6 @@ use ink_vars::Globals;
 use std::alloc::{AllocError, Global};
 
 impl Machine {
-    ghost use Rattle.ink_step.specs.Telling.{told_at};
     ghost use Rattle.ink_step.specs.Words.{globals_of, start_of};
 
     /// The watched globals that have another value than when the last running command began or the last global was set, whichever
@@ -32,17 +31,8 @@ impl Machine {
             .shared
             .globals
             .changed(self.alloc, |name| desk.watches(name))?;
-        self.changes_at(&numbers)
-    }
-
-    /// What is told of the globals of these numbers, one after another. The one error is a refused request for memory, which is made
-    /// only where there are such numbers.
-    fn changes_at(&self, numbers: &[usize]) -> Result<Seq<Change>, AllocError>
-        ensures told { IfOk result (λ changes. changes ≡ told_at (globals_of self.now) numbers.now) }
-        ensures memory { OnErr result (numbers.now ≢ []) }
-    {
         let mut told = Vec::new(self.alloc);
-        for number in numbers {
+        for number in &numbers {
             if let Some((name, value)) = self.shared.globals.pair(*number) {
                 add_change(self.alloc, &mut told, name, value)?;
             }

@@ -1,11 +1,15 @@
-use Rattle.std.proofs.Common.{◌≡◌, ◌∙◌, IfOk, ap, rules, subst, sym}
+use Rattle.std.proofs.Common.{◌≡◌, ◌≢◌, ◌<◌, ◌≤◌, ◌∙◌, ℕ, List, [], Some, None, ap, arith, length, rules, sym}
+use Rattle.std.proofs.lemmas.List.{append-nil, take_all}
 use Rattle.ink_host.specs.Desk.{watches}
+use Rattle.ink_model.specs.Told.{told}
+use Rattle.ink_model.specs.declared.value.Value.{Value}
 use Rattle.ink_vars.proofs.Noting.{on_error}
-use Rattle.ink_step.specs.Telling.{told_at}
 use Rattle.ink_step.specs.Words.{globals_of, start_of}
-use Rattle.ink_step.proofs.Telling.{told_changed, told_nobody, told_some_of, where_some}
+use Rattle.ink_step.proofs.Telling.{told_at, told_changed, told_next, told_nobody, told_some_at, told_some_of}
+use Rattle.ink_step.proofs.machine.Machine.told.Goals.{in-Some+in_ok-add_change, in_default}
 use Rattle.ink_step.proofs.machine.Machine.told.Given as given
 use Rattle.ink_step.proofs.machine.Machine.told.Goals as goal
+use Rattle.ink_step.proofs.machine.Machine.told.Goals.{After-from_vec, In-Some}
 
 pub returns-then-not-has_watchers-clause-told : goal.returns-then-not-has_watchers-clause-told
 returns-then-not-has_watchers-clause-told g c =
@@ -17,16 +21,46 @@ returns-in_err-numbers-clause-memory g c =
     on_error c.from_residual.result
     (told_some_of (globals_of c.args.self.now) watched (start_of c.args.self.now) (c.in_err-numbers.ensures.memory watched (λ name answer k. search rules)))
 
+-- something is told where a number was found
+is_there : (g : given.Over) (c : In-Some g) → told (watches c.args.desk.now.watchers) (start_of c.args.self.now) (globals_of c.args.self.now) ≢ []
+is_there g c =
+    let watched = watches c.args.desk.now.watchers in
+    let ns = c.deref-number-items.result.now in
+    let within : c.loop-number.number-index < length ns = omega (arith, c.loop-number-test.true) in
+    told_some_at (globals_of c.args.self.now) watched (start_of c.args.self.now) ns c.loop-number.number-index
+    (c.deref-number-items.ensures.value ∙ c.in_ok-numbers.ensures.numbers watched (λ name answer k. search rules)) within
+
+pub returns-in_err-add_change-clause-memory : goal.returns-in_err-add_change-clause-memory
+returns-in_err-add_change-clause-memory g c =
+    on_error c.from_residual-in_err-add_change.result (is_there g (goal.at.returns-in_err-add_change-clause-memory g c).In-Some)
+
+pub loop-number-preserved : goal.loop-number-preserved
+loop-number-preserved g c =
+    let now = c.args.self.now.shared.globals.rows in
+    let ns = c.deref-number-items.result.now in
+    let i = c.loop-number.number-index in
+    let so_far = c.loop-number.told.items in
+    let within : i < length ns = omega (arith, c.loop-number-test.true) in
+    elim c.match-pair.branch [
+      | in-Some+in_ok-add_change w ↦
+          let e : List ℕ × Value = (w.in-Some.name.now, w.in-Some.value.now) in
+          told_next now ns i so_far c.match-pair.told.items (Some e) within (sym w.in-Some.ensures) c.loop-number.invariant
+          (ap (λ v. v.items) w.told-is ∙ w.in_ok-add_change.ensures)
+      | in_default w ↦
+          told_next now ns i so_far c.match-pair.told.items None within (sym w.in_default.ensures) c.loop-number.invariant
+          (ap (λ v. v.items) w.told-is ∙ sym (append-nil so_far))
+    ]
+
+-- all that was picked was told
+all_at : (g : given.Over) (c : After-from_vec g) → c.from_vec.result ≡ told_at c.args.self.now.shared.globals.rows c.deref-number-items.result.now
+all_at g c =
+    let ns = c.deref-number-items.result.now in
+    let past : length ns ≤ c.loop-number.number-index = omega (arith, c.loop-number-test.false) in
+    c.from_vec.ensures ∙ c.loop-number.invariant ∙ ap (told_at c.args.self.now.shared.globals.rows) (take_all c.loop-number.number-index ns past)
+
 pub returns-clause-told : goal.returns-clause-told
 returns-clause-told g c =
     let watched = watches c.args.desk.now.watchers in
     let now = globals_of c.args.self.now in
-    let is = c.deref.ensures.value ∙ c.in_ok-numbers.ensures.numbers watched (λ name answer k. search rules) in
-    subst (λ cs. IfOk c.changes_at.result (λ changes. changes ≡ cs)) (ap (told_at now) is ∙ told_changed now watched (start_of c.args.self.now)) c.changes_at.ensures.told
-
-pub returns-clause-memory : goal.returns-clause-memory
-returns-clause-memory g c =
-    let watched = watches c.args.desk.now.watchers in
-    let now = globals_of c.args.self.now in
-    let is = c.deref.ensures.value ∙ c.in_ok-numbers.ensures.numbers watched (λ name answer k. search rules) in
-    where_some c.changes_at.result (λ some. told_some_of now watched (start_of c.args.self.now) (λ none. some (is ∙ none))) c.changes_at.ensures.memory
+    all_at g (goal.at.returns-clause-told g c).After-from_vec
+    ∙ ap (told_at now) (c.deref-number-items.ensures.value ∙ c.in_ok-numbers.ensures.numbers watched (λ name answer k. search rules)) ∙ told_changed now watched (start_of c.args.self.now)
