@@ -2,7 +2,7 @@
 use Rattle.std.specs.Prelude.{◌≡◌, ◌⊎◌, ℕ, List, length, map, Bool, true, false, Option, Some, None, option_map, Result, Ok, Err}
 use Rattle.ink_model.specs.Configuration.{ChoiceOf, map_choice, with_globals}
 use Rattle.ink_model.specs.Effect.{Fields, Effect, Landing as Goal, Moves, Stores, Offers, Lands, Calls, Returns, Forks, Done, Ends, Fails}
-use Rattle.ink_model.specs.Frames.{ThreadOf, ThreadsOf, map_threads, mode_in, on_top}
+use Rattle.ink_model.specs.Frames.{FrameOf, ThreadOf, ThreadsOf, fresh_depth, map_threads, mode_in, on_top}
 use Rattle.ink_model.specs.Move.{Outcome, Next, Stop}
 use Rattle.ink_model.specs.Page.{Page}
 use Rattle.ink_model.specs.Store.{Values, store}
@@ -23,6 +23,10 @@ use Rattle.ink_vars.specs.Words.{name_of}
 abbrev pub fields : Bool → Option ℕ → List Value → Page → Values → Fields
 fields evaluating fresh stack page globals =
     record { evaluating = evaluating; fresh = fresh; wrote = None; stack = stack; page = page; globals = globals }
+
+-- the same of the top frame
+abbrev pub fields_in : {P : Type 0} → FrameOf P → List Value → Page → Values → Fields
+fields_in frame stack page globals = fields frame.evaluating (fresh_depth frame) stack page globals
 
 -- a text was written in the open section
 abbrev pub with_text : Fields → Fields

@@ -2,6 +2,7 @@
 #![tactic(auto)]
 
 mod choosing;
+mod control;
 mod counting;
 mod diverting;
 mod evaluating;
@@ -9,6 +10,7 @@ mod external;
 mod flow;
 mod flows;
 mod frames;
+mod leaf;
 mod machine;
 mod marking;
 mod noting;

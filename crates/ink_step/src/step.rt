@@ -10,20 +10,20 @@ ghost use Rattle.ink_model.specs.Asks.{acting_asks, calling_asks, external_asks}
 ghost use Rattle.ink_model.specs.Choosing.{following, following_asks};
 ghost use Rattle.ink_model.specs.Effect.{Effect, Fields, context_of, fields_of};
 ghost use Rattle.ink_model.specs.Flow.{called, moved_on, reach, returned};
-ghost use Rattle.ink_model.specs.Frames.{map_threads, mode_in, on_top, place_in};
+ghost use Rattle.ink_model.specs.Frames.{map_threads, on_top, place_in};
 ghost use Rattle.ink_model.specs.Host.{Bound};
-ghost use Rattle.ink_model.specs.Memory.{asks, content_asks, control_asks, leaf_asks};
+ghost use Rattle.ink_model.specs.Memory.{asks, content_asks};
 ghost use Rattle.ink_model.specs.Move.{Outcome, going, landing, may_enter, move as moved, place_to, written_in};
 ghost use Rattle.ink_model.specs.MoveMemory.{landed_asks, move_asks, moved_asks, returned_asks};
 ghost use Rattle.ink_model.specs.Place.{next_place};
-ghost use Rattle.ink_model.specs.Step.{acted, call_made, control_effect, effect, leaf_effect, step};
+ghost use Rattle.ink_model.specs.Step.{acted, call_made, effect, step};
 ghost use Rattle.ink_model.specs.Step.Host.{call_external};
 ghost use Rattle.ink_model.specs.Threads.{frame_count, staled};
 ghost use Rattle.ink_model.specs.Tree.{StoryTree, at, leaf};
 ghost use Rattle.ink_model.specs.declared.host.Event.{Event as Happening};
 ghost use Rattle.ink_model.specs.declared.limits.TheConstants.{MAX_FRAMES};
 ghost use Rattle.ink_stack.specs.Calls.{frame_kind};
-ghost use Rattle.ink_step.specs.Marks.{pressed, presses, stack_lacks, stood_of, takes_there, takes_value, threads_lack};
+ghost use Rattle.ink_step.specs.Marks.{pressed, presses, stack_lacks, stood_of, takes_there, threads_lack};
 ghost use Rattle.ink_step.specs.Performs.{Keeps, KeepsChoices, Performs, landing_of, leading, storing_in, unstored};
 ghost use Rattle.ink_step.specs.External.{call_of};
 ghost use Rattle.ink_step.specs.Steps.{Passes, StepEnds, StepMakes, Steps, ended, wants};
@@ -33,23 +33,16 @@ ghost use Rattle.ink_step.specs.declared.machine.Machine.{Machine as Before};
 ghost use Rattle.ink_tree.specs.Kept.{leaf_in};
 ghost use Rattle.ink_tree.specs.Nodes.{place_of};
 
-use crate::diverting::{divert, number_of};
-use crate::evaluating::{begin_eval, duplicate, end_eval, operate, pop, push_target, push_value};
 use crate::external::{External, external_in, is_external, would_call};
 use crate::flow::{MOVING, StepEnd, done, end, fork, give_back, land, move_on, move_to, next_of};
-use crate::frames::{call, return_tunnel};
+use crate::leaf::perform_leaf;
 use crate::machine::Machine;
 use crate::noting::{ready_choices, ready_stack, ready_threads};
-use crate::offering::{offer, push_choice_count};
-use crate::questions::{push_count, push_read_count, push_turn, push_turns, push_visit};
-use crate::sections::{begin_string, begin_tag, end_string, end_tag, write_tag};
-use crate::storing::{assign, declare, push_pointer, push_variable};
-use crate::transfer::{Landing, Transfer, after_text};
-use crate::writing::{output_top, write_glue, write_newline, write_text};
+use crate::transfer::{Landing, Transfer};
 use crate::{external, flow};
 use ink_check::Story;
 use ink_host::{Desk, PureFn, TurnFn, Watcher};
-use ink_model::{Control, Fault, FrameKind, Leaf, Scope, Value};
+use ink_model::{Fault, FrameKind, Leaf, Value};
 use ink_stack::CallKind;
 use ink_tree::Spot;
 use std::mem;
@@ -367,237 +360,19 @@ impl Machine {
     {
         match found {
             None => Ok(()),
-            Some(content) => self.perform_leaf(story, here, content, transfer),
-        }
-    }
-
-    // A call of an external function is performed apart.
-    #[inline(always)]
-    fn perform_leaf<'a>(
-        &mut self,
-        story: &Story,
-        here: Spot,
-        content: &'a Leaf,
-        transfer: &mut Transfer<'a>,
-    ) -> Result<(), Fault>
-        requires on { transfer.old ≡ Transfer.Next }
-        requires stands { let s = story_tree story.now in at s (place_of s here) ≡ Some (leaf content.now) }
-        requires stack_room { length self.old.flow.stack.items + 2 ≤ stack_spare self.old.flow.stack }
-        requires room { 1 ≤ threads_spare self.old.flow.threads }
-        ensures effect { let s = story_tree story.now in let p = place_of s here in let c = config_of s self.old in
-            Performs s ((takes_value content.now && is_some (stack_stood self.old.flow.stack)) || leaf_asks s p (context_of c) content.now (fields_of c)) (leaf_effect s p (context_of c) content.now (fields_of c)) (fields_of (config_of s self.new)) (leading result transfer.new) }
-        ensures threads { let s = story_tree story.now in let c = config_of s self.old in
-            OnOk result (Keeps s (leaf_effect s (place_of s here) (context_of c) content.now (fields_of c)) self.old.flow.threads.threads self.new.flow.threads.threads) }
-        ensures choices { let s = story_tree story.now in let c = config_of s self.old in
-            OnOk result (KeepsChoices s (leaf_effect s (place_of s here) (context_of c) content.now (fields_of c)) self.old.flow.choices.items self.new.flow.choices.items) }
-        ensures counts { self.new.shared.counts.rows ≡ self.old.shared.counts.rows }
-        ensures turn { self.new.shared.turn ≡ self.old.shared.turn }
-        ensures safe { self.new.flow.safe ≡ self.old.flow.safe }
-        ensures globals { self.new.shared.globals.rows ≡ self.old.shared.globals.rows }
-        ensures start { start_of self.new ≡ start_of self.old }
-        ensures aside { aside_in self.new ≡ aside_in self.old }
-        ensures mark { stood_of self.new ≡ stood_of self.old }
-        ensures spare { threads_spare self.old.flow.threads ≤ threads_spare self.new.flow.threads + 1 }
-    {
-        let evaluating = self.flow.threads.is_evaluating();
-        match content {
-            Leaf::Text(text) => after_text(
-                transfer,
-                write_text(
-                    &mut self.flow.stack,
-                    &mut self.output,
-                    evaluating,
-                    self.flow.threads.fresh_depth(),
-                    text,
-                ),
-            ),
-            Leaf::Newline => write_newline(
+            Some(content) => perform_leaf(
                 self.alloc,
+                story,
+                here,
+                content,
                 &mut self.flow.stack,
                 &mut self.output,
-                evaluating,
-                self.flow.threads.fresh_depth(),
-            ),
-            Leaf::Glue => write_glue(&mut self.output, evaluating),
-            Leaf::Tag(text) => write_tag(&mut self.flow.stack, &mut self.output, text.as_str()),
-            Leaf::Int(number) => push_value(&mut self.flow.stack, evaluating, Value::Int(*number)),
-            Leaf::Bool(truth) => push_value(&mut self.flow.stack, evaluating, Value::Bool(*truth)),
-            Leaf::Void => push_value(&mut self.flow.stack, evaluating, Value::Void),
-            Leaf::Target(text) => push_target(story, here, &mut self.flow.stack, evaluating, text),
-            Leaf::Control(control) => self.perform_control(story, here, *control, transfer),
-            Leaf::Op(operator) => operate(self.alloc, &mut self.flow.stack, *operator),
-            Leaf::Divert { to, conditional } => divert(
-                story,
-                here,
-                to,
-                *conditional,
-                &mut self.flow.stack,
-                &self.shared.globals,
-                &self.flow.threads,
-                transfer,
-            ),
-            Leaf::Declare(name) => declare(
-                &mut self.flow.stack,
-                &self.shared.globals,
                 &mut self.flow.threads,
-                Scope::Global,
-                name,
-                number_of(story, here),
-                transfer,
-            ),
-            Leaf::DeclareTemp(name) => declare(
-                &mut self.flow.stack,
-                &self.shared.globals,
-                &mut self.flow.threads,
-                Scope::Temporary,
-                name,
-                None,
-                transfer,
-            ),
-            Leaf::Assign(name) | Leaf::AssignTemp(name) => assign(
-                &mut self.flow.stack,
-                &self.shared.globals,
-                &mut self.flow.threads,
-                name,
-                number_of(story, here),
-                transfer,
-            ),
-            Leaf::Variable(name) => push_variable(
-                self.alloc,
-                &mut self.flow.stack,
-                &self.shared.globals,
-                &self.flow.threads,
-                name,
-                number_of(story, here),
-            ),
-            Leaf::Pointer(name, frame) => push_pointer(
-                &mut self.flow.stack,
-                &self.flow.threads,
-                evaluating,
-                name,
-                *frame,
-            ),
-            Leaf::Count(path) => push_count(
-                story,
-                here,
-                &self.shared.counts,
-                &mut self.flow.stack,
-                path,
-            ),
-            Leaf::Call { to, conditional } => call(
-                story,
-                here,
-                CallKind::Function,
-                to,
-                *conditional,
-                &mut self.flow.stack,
-                &self.shared.globals,
-                &self.flow.threads,
-                transfer,
-            ),
-            Leaf::Tunnel { to, conditional } => call(
-                story,
-                here,
-                CallKind::Tunnel,
-                to,
-                *conditional,
-                &mut self.flow.stack,
-                &self.shared.globals,
-                &self.flow.threads,
-                transfer,
-            ),
-            Leaf::Choice { target, flags } => offer(
-                self.alloc,
-                story,
-                here,
-                *flags,
-                &mut self.flow.stack,
-                &self.shared.counts,
-                &self.flow.threads,
                 &mut self.flow.choices,
-                target,
-            ),
-            Leaf::External { .. } => Ok(()),
-        }
-    }
-
-    #[inline(always)]
-    fn perform_control(
-        &mut self,
-        story: &Story,
-        here: Spot,
-        control: Control,
-        transfer: &mut Transfer<'_>,
-    ) -> Result<(), Fault>
-        requires on { transfer.old ≡ Transfer.Next }
-        requires stack_room { 1 ≤ stack_spare self.old.flow.stack }
-        requires room { 1 ≤ threads_spare self.old.flow.threads }
-        ensures effect { let s = story_tree story.now in let p = place_of s here in let c = config_of s self.old in
-            Performs s (control_asks s p (context_of c) control (fields_of c)) (control_effect s p (context_of c) control (fields_of c)) (fields_of (config_of s self.new)) (leading result transfer.new) }
-        ensures choices { self.new.flow.choices.items ≡ self.old.flow.choices.items }
-        ensures turn { self.new.shared.turn ≡ self.old.shared.turn }
-        ensures counts { self.new.shared.counts.rows ≡ self.old.shared.counts.rows }
-        ensures threads { self.new.flow.threads.threads ≡ on_top (mode_in self.new.flow.threads.threads.thread.frame.evaluating) self.old.flow.threads.threads }
-        ensures safe { self.new.flow.safe ≡ self.old.flow.safe }
-        ensures globals { self.new.shared.globals.rows ≡ self.old.shared.globals.rows }
-        ensures start { start_of self.new ≡ start_of self.old }
-        ensures aside { aside_in self.new ≡ aside_in self.old }
-        ensures mark { stood_of self.new ≡ stood_of self.old }
-        ensures spare { threads_spare self.old.flow.threads ≤ threads_spare self.new.flow.threads + 1 }
-    {
-        let mut evaluating = self.flow.threads.is_evaluating();
-        let outcome = match control {
-            Control::BeginEval => begin_eval(&mut evaluating),
-            Control::EndEval => end_eval(&mut evaluating),
-            Control::Out => after_text(
+                &self.shared,
                 transfer,
-                output_top(
-                    &mut self.flow.stack,
-                    &mut self.output,
-                    self.flow.threads.fresh_depth(),
-                ),
             ),
-            Control::Pop => pop(&mut self.flow.stack),
-            Control::Duplicate => duplicate(self.alloc, &mut self.flow.stack),
-            Control::Nop => Ok(()),
-            Control::BeginString => begin_string(&mut self.output, &mut evaluating),
-            Control::EndString => end_string(
-                &mut self.flow.stack,
-                &mut self.output,
-                &mut evaluating,
-            ),
-            Control::BeginTag => begin_tag(&mut self.flow.stack, &mut self.output),
-            Control::EndTag => end_tag(&mut self.flow.stack, &mut self.output),
-            Control::Done => {
-                *transfer = Transfer::Done;
-                Ok(())
-            }
-            Control::End => {
-                *transfer = Transfer::End;
-                Ok(())
-            }
-            Control::Return => {
-                *transfer = Transfer::Return(FrameKind::Function, None);
-                Ok(())
-            }
-            Control::ReturnTunnel => return_tunnel(story, &mut self.flow.stack, transfer),
-            Control::Thread => {
-                *transfer = Transfer::Fork;
-                Ok(())
-            }
-            Control::Turn => push_turn(&mut self.flow.stack, self.shared.turn),
-            Control::Turns => push_turns(
-                story,
-                &self.shared.counts,
-                &mut self.flow.stack,
-                self.shared.turn,
-            ),
-            Control::ReadCount => push_read_count(story, &self.shared.counts, &mut self.flow.stack),
-            Control::Visit => push_visit(story, here, &self.shared.counts, &mut self.flow.stack),
-            Control::ChoiceCount => push_choice_count(&mut self.flow.stack, &self.flow.choices),
-        };
-        self.flow.threads.set_mode(evaluating);
-        outcome
+        }
     }
 
     /// Flow goes where a content sends it. Temporaries that the content stores are set already, and what it offers is offered; a

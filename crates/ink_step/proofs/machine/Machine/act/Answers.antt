@@ -1,4 +1,4 @@
-use Rattle.std.proofs.Common.{◌≡◌, ◌&&◌, ◌||◌, is_some, option_map, rules, sym, subst, Err, Ok}
+use Rattle.std.proofs.Common.{◌&&◌, ◌||◌, ◌∙◌, ◌≡◌, Err, Ok, is_some, option_map, rules, subst, sym}
 use Rattle.ink_check.specs.Words.{story_tree}
 use Rattle.ink_model.specs.Asks.{acting_asks}
 use Rattle.ink_model.specs.Effect.{context_of, fields_of}
@@ -71,3 +71,23 @@ returns-in_default-clause-ends c =
     let e = effect s p found (context_of before) (fields_of before) in
     let ends = c.finish.ensures.ends old (takes || asking) e performs.effect performs.threads performs.choices performs.safe performs.counts performs.turn performs.globals in
     subst (λ b. StepEnds b (acted s e before) before.shared.globals new c.finish.result) (or_apart takes (pressed s c.finish.new.self) asking (move_asks s e before) (following_asks s (move s e before))) ends
+
+-- ---- what stays
+
+pub returns-clause-start : goal.returns-clause-start
+returns-clause-start c = c.go_to_next.ensures.start ∙ c.perform.ensures.start
+
+pub returns-in_default-clause-start : goal.returns-in_default-clause-start
+returns-in_default-clause-start c = c.finish.ensures.start ∙ c.perform.ensures.start
+
+pub returns-clause-aside : goal.returns-clause-aside
+returns-clause-aside c = c.go_to_next.ensures.aside ∙ c.perform.ensures.aside
+
+pub returns-in_default-clause-aside : goal.returns-in_default-clause-aside
+returns-in_default-clause-aside c = c.finish.ensures.aside ∙ c.perform.ensures.aside
+
+pub returns-clause-mark : goal.returns-clause-mark
+returns-clause-mark c = c.go_to_next.ensures.mark ∙ c.perform.ensures.mark
+
+pub returns-in_default-clause-mark : goal.returns-in_default-clause-mark
+returns-in_default-clause-mark c = c.finish.ensures.mark ∙ c.perform.ensures.mark

@@ -9,7 +9,7 @@ use Rattle.ink_model.specs.Entered.{entered_places}
 use Rattle.ink_model.specs.Tree.{StoryTree}
 use Rattle.ink_model.specs.Visits.{adds_rows, all_visited}
 use Rattle.ink_model.specs.declared.place.Part.{Part}
-use Rattle.ink_step.specs.Marks.{choices_lack, choosing_lacks, counts_lack, entered_by, lacks, own_lacks, threads_lack, turn_lacks}
+use Rattle.ink_step.specs.Marks.{choices_lack, choosing_lacks, counts_lack, entered_by, lacks, own_lacks, stood_of, threads_lack, turn_lacks}
 use Rattle.ink_step.specs.Steps.{Chooses}
 use Rattle.ink_step.specs.Words.{config_of, counts_in}
 use Rattle.ink_step.specs.declared.machine.Machine.{Machine}
@@ -139,3 +139,20 @@ returns-in-Ok-None-clause-chooses c =
     let cs = c.make_choosing_room.new.self.flow.choices.items in
     let takes = subst (λ o. Takes (taken c.args.number cs) cs c.take.new.self.items (Ok o)) c.in-Ok-None.field-0-is c.in-Ok-None.ensures.items in
     absurd (takes_any c.args.number cs c.take.new.self.items c.in-Some.choice.now (still_there (goal.at.returns-in-Ok-None-clause-chooses c).After-enter_landed) takes)
+
+-- ---- what stays
+
+pub returns-in-Some-copied-clause-aside : goal.returns-in-Some-copied-clause-aside
+returns-in-Some-copied-clause-aside c = c.take_up_next.ensures.aside ∙ c.make_choosing_room.ensures.aside
+
+pub returns-in-Some-copied-clause-mark : goal.returns-in-Some-copied-clause-mark
+returns-in-Some-copied-clause-mark c = c.take_up_next.ensures.mark ∙ ap (λ o. record (stood_of c.make_choosing_room.new.self) { counts = o }) c.in-Ok.ensures.mark ∙ c.make_choosing_room.ensures.mark
+
+pub returns-in-Ok-Some-clause-aside : goal.returns-in-Ok-Some-clause-aside
+returns-in-Ok-Some-clause-aside c = c.take_up_next-in-Ok-Some.ensures.aside ∙ c.make_choosing_room.ensures.aside
+
+pub returns-in-Ok-Some-clause-mark : goal.returns-in-Ok-Some-clause-mark
+returns-in-Ok-Some-clause-mark c =
+    let counted = ap (λ o. record (stood_of c.make_choosing_room.new.self) { counts = o }) c.in-Ok.ensures.mark in
+    let taken = ap (λ o. record (stood_of c.make_choosing_room.new.self) { choices = o; counts = counts_stood c.enter_landed.new.counts }) c.in-Ok-Some.ensures.stood in
+    c.take_up_next-in-Ok-Some.ensures.mark ∙ taken ∙ counted ∙ c.make_choosing_room.ensures.mark

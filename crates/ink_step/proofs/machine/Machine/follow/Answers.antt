@@ -1,4 +1,4 @@
-use Rattle.std.proofs.Common.{◌≡◌, ◌∙◌, ◌||◌, [], ap, Bool, false, true, None, Result, Err, Ok, rules, subst, sym}
+use Rattle.std.proofs.Common.{[], ◌||◌, ◌∙◌, ◌≡◌, Bool, Err, None, Ok, Result, ap, false, refl, rules, subst, sym, true}
 use Rattle.ink_check.specs.Words.{story_tree}
 use Rattle.ink_model.specs.Configuration.{ended, with_safe, with_threads}
 use Rattle.ink_model.specs.Effect.{Effect, fields_of}
@@ -11,11 +11,11 @@ use Rattle.ink_model.specs.Threads.{dropped}
 use Rattle.ink_model.specs.Tree.{StoryTree}
 use Rattle.ink_model.specs.declared.fault.Fault.{Fault}
 use Rattle.ink_model.specs.declared.fault.Fault.TheVariants.{OutOfMemory}
-use Rattle.ink_step.specs.Marks.{pressed}
+use Rattle.ink_step.specs.Marks.{pressed, stood_of}
 use Rattle.ink_step.specs.Performs.{Performs, unstored}
 use Rattle.ink_step.specs.Reaches.{ReachesAs, written}
 use Rattle.ink_step.specs.Steps.{StepEnds}
-use Rattle.ink_step.specs.Words.{config_of}
+use Rattle.ink_step.specs.Words.{aside_in, config_of, start_of}
 use Rattle.ink_step.specs.declared.flow.StepEnd.{StepEnd}
 use Rattle.ink_step.specs.declared.machine.Machine.{Machine}
 use Rattle.ink_step.proofs.Follows.{ends_more, ends_pressed, ends_reached, goes_after_text, goes_done, goes_forking, goes_nowhere, last_alike}
@@ -174,3 +174,42 @@ returns-in_ok-ready_choices-in-End-clause-ends c asks e h has offers =
     (sym c.clear.ensures.items) safely in
     goes_nowhere s (pressed s (record mid { flow = record mid.flow { threads = threads; choices = left } })) asks old _ r e (subst (λ t. Performs s asks e (fields_of old) (Ok t)) c.in-End.is h)
     (subst (λ (m : Machine). StepEnds false halted old.shared.globals (config_of s (record m { flow = record m.flow { threads = threads; choices = left } })) r) (sym same) cleared)
+
+-- ---- what stays
+
+pub returns-in_ok-end_freshness-in-Wrote-clause-globals : goal.returns-in_ok-end_freshness-in-Wrote-clause-globals
+returns-in_ok-end_freshness-in-Wrote-clause-globals c = c.go_on-in-Wrote.ensures.globals ∙ ap (λ (m : Machine). m.shared.globals.rows) c.end_freshness.ensures.same
+
+pub returns-in_ok-end_freshness-in-Wrote-clause-start : goal.returns-in_ok-end_freshness-in-Wrote-clause-start
+returns-in_ok-end_freshness-in-Wrote-clause-start c = c.go_on-in-Wrote.ensures.start ∙ ap start_of c.end_freshness.ensures.same
+
+pub returns-in_ok-end_freshness-in-Wrote-clause-aside : goal.returns-in_ok-end_freshness-in-Wrote-clause-aside
+returns-in_ok-end_freshness-in-Wrote-clause-aside c = c.go_on-in-Wrote.ensures.aside ∙ ap aside_in c.end_freshness.ensures.same
+
+pub returns-in_ok-end_freshness-in-Wrote-clause-mark : goal.returns-in_ok-end_freshness-in-Wrote-clause-mark
+returns-in_ok-end_freshness-in-Wrote-clause-mark c = c.go_on-in-Wrote.ensures.mark ∙ c.end_freshness.ensures.mark
+
+pub returns-in_ok-change_safe-in-Done-clause-globals : goal.returns-in_ok-change_safe-in-Done-clause-globals
+returns-in_ok-change_safe-in-Done-clause-globals c = ap (λ (m : Machine). m.shared.globals.rows) c.change_safe.ensures.same
+
+pub returns-in_ok-change_safe-in-Done-clause-start : goal.returns-in_ok-change_safe-in-Done-clause-start
+returns-in_ok-change_safe-in-Done-clause-start c = ap start_of c.change_safe.ensures.same
+
+pub returns-in_ok-change_safe-in-Done-clause-aside : goal.returns-in_ok-change_safe-in-Done-clause-aside
+returns-in_ok-change_safe-in-Done-clause-aside c = ap aside_in c.change_safe.ensures.same
+
+pub returns-in_ok-ready_choices-in-End-clause-globals : goal.returns-in_ok-ready_choices-in-End-clause-globals
+returns-in_ok-ready_choices-in-End-clause-globals c = ap (λ (m : Machine). m.shared.globals.rows) c.change_safe-in-End.ensures.same
+
+pub returns-in_ok-ready_choices-in-End-clause-start : goal.returns-in_ok-ready_choices-in-End-clause-start
+returns-in_ok-ready_choices-in-End-clause-start c = ap start_of c.change_safe-in-End.ensures.same
+
+pub returns-in_ok-ready_choices-in-End-clause-aside : goal.returns-in_ok-ready_choices-in-End-clause-aside
+returns-in_ok-ready_choices-in-End-clause-aside c = ap aside_in c.change_safe-in-End.ensures.same
+
+pub returns-in_ok-change_safe-in-Done-clause-mark : goal.returns-in_ok-change_safe-in-Done-clause-mark
+returns-in_ok-change_safe-in-Done-clause-mark c =
+    let mid = c.change_safe.new.self in
+    let here : stood_of (record mid { flow = record mid.flow { threads = c.done.new.threads; stack = c.done.new.stack }; output = c.done.new.output }) ≡ stood_of mid =
+    rw (c.done.ensures.threads_mark, c.done.ensures.stack_mark, c.done.ensures.output_mark) refl in
+    here ∙ c.change_safe.ensures.mark

@@ -5,7 +5,7 @@ use Rattle.ink_model.specs.Choices.{only_invisible, taken}
 use Rattle.ink_model.specs.Choosing.{default_asks, default_choice, stopped_by}
 use Rattle.ink_model.specs.Configuration.{map_choice}
 use Rattle.ink_model.specs.Visits.{entering_around, entering_asks}
-use Rattle.ink_step.specs.Marks.{landing_lacks, pressed}
+use Rattle.ink_step.specs.Marks.{landing_lacks, pressed, stood_of}
 use Rattle.ink_step.specs.Steps.{StepEnds}
 use Rattle.ink_step.specs.Words.{config_of}
 use Rattle.ink_step.proofs.Marks.{pressed_choices, pressed_default, pressed_landing}
@@ -76,3 +76,31 @@ returns-in-Err-clause-ends c =
     short_of_default s (pressed s left) (config_of s machine) (config_of s left) _ x (is_first (goal.at.returns-in-Err-clause-ends c).In-Some) c.in-Err.fault c.in-Err.ensures.fault
     (subst (λ d. (pressed s left || entering_asks s d) ≡ true) (c.take_up.ensures.taken s) adds)
     (c.in-Err.ensures.globals ∙ ap (λ d. d.shared.globals) (c.take_up.ensures.taken s))
+
+-- ---- what stays
+
+pub returns-in-Ok-clause-globals : goal.returns-in-Ok-clause-globals
+returns-in-Ok-clause-globals c = c.in-Ok.ensures.globals ∙ c.take_up.ensures.globals
+
+pub returns-in-Ok-clause-start : goal.returns-in-Ok-clause-start
+returns-in-Ok-clause-start c = c.in-Ok.ensures.start ∙ c.take_up.ensures.start
+
+pub returns-in-Ok-clause-aside : goal.returns-in-Ok-clause-aside
+returns-in-Ok-clause-aside c = c.in-Ok.ensures.aside ∙ c.take_up.ensures.aside
+
+pub returns-in-Ok-clause-mark : goal.returns-in-Ok-clause-mark
+returns-in-Ok-clause-mark c =
+    c.in-Ok.ensures.mark ∙ c.take_up.ensures.mark ∙ ap (λ o. record (stood_of c.args.self.now) { choices = o }) (c.ready_choices.ensures.stood ∙ c.in_ok-choice.ensures.stood)
+
+pub returns-in-Err-clause-globals : goal.returns-in-Err-clause-globals
+returns-in-Err-clause-globals c = c.in-Err.ensures.globals ∙ c.take_up.ensures.globals
+
+pub returns-in-Err-clause-start : goal.returns-in-Err-clause-start
+returns-in-Err-clause-start c = c.in-Err.ensures.start ∙ c.take_up.ensures.start
+
+pub returns-in-Err-clause-aside : goal.returns-in-Err-clause-aside
+returns-in-Err-clause-aside c = c.in-Err.ensures.aside ∙ c.take_up.ensures.aside
+
+pub returns-in-Err-clause-mark : goal.returns-in-Err-clause-mark
+returns-in-Err-clause-mark c =
+    c.in-Err.ensures.mark ∙ c.take_up.ensures.mark ∙ ap (λ o. record (stood_of c.args.self.now) { choices = o }) (c.ready_choices.ensures.stood ∙ c.in_ok-choice.ensures.stood)

@@ -1,11 +1,11 @@
-use Rattle.std.proofs.Common.{◌≡◌, ◌&&◌, ◌||◌, option_map, refl, rules, subst, sym, true, Err, Ok}
+use Rattle.std.proofs.Common.{◌&&◌, ◌||◌, ◌∙◌, ◌≡◌, Err, Ok, option_map, refl, rules, subst, sym, true}
 use Rattle.ink_check.specs.Words.{story_tree}
 use Rattle.ink_model.specs.Flow.{returned}
 use Rattle.ink_model.specs.Frames.{map_threads}
 use Rattle.ink_model.specs.Move.{landing, may_enter, place_to, written_in}
 use Rattle.ink_model.specs.MoveMemory.{landed_asks, returned_asks}
 use Rattle.ink_model.specs.Place.{next_place}
-use Rattle.ink_step.specs.Marks.{landing_lacks, pressed}
+use Rattle.ink_step.specs.Marks.{landing_lacks, pressed, stood_of}
 use Rattle.ink_step.specs.Performs.{landing_of}
 use Rattle.ink_step.specs.Reaches.{ReachesAs, written}
 use Rattle.ink_step.specs.Steps.{StepEnds}
@@ -71,3 +71,39 @@ returns-in_err-enter_around-clause-ends c =
     (landing s enters (returned (next_place s) kind (place_to goal)) old) machine.shared.globals.rows new r) (sym is)
     (lands_short s (pressed s left) _ old new machine.shared.globals.rows ts w f short.globals enters _ end
     (returned_lands (next_place s) kind goal old.flow.threads (written_in old)) reached short.fault adds)
+
+-- ---- what stays
+
+pub returns-in_err-enter_around-clause-globals : goal.returns-in_err-enter_around-clause-globals
+returns-in_err-enter_around-clause-globals c = c.enter_around.ensures.globals
+
+pub returns-in_err-enter_around-clause-start : goal.returns-in_err-enter_around-clause-start
+returns-in_err-enter_around-clause-start c = c.enter_around.ensures.start
+
+pub returns-in_err-enter_around-clause-aside : goal.returns-in_err-enter_around-clause-aside
+returns-in_err-enter_around-clause-aside c = c.enter_around.ensures.aside
+
+pub returns-in_err-enter_around-clause-mark : goal.returns-in_err-enter_around-clause-mark
+returns-in_err-enter_around-clause-mark c =
+    let machine = c.args.self.now in
+    let back = c.give_back.new in
+    let here : stood_of (record machine { flow = record machine.flow { threads = back.threads; stack = back.stack }; output = back.output }) ≡ stood_of machine =
+    rw (c.give_back.ensures.threads_mark, c.give_back.ensures.stack_mark, c.give_back.ensures.output_mark) refl in
+    c.enter_around.ensures.mark ∙ here
+
+pub returns-clause-globals : goal.returns-clause-globals
+returns-clause-globals c = c.enter_around.ensures.globals
+
+pub returns-clause-start : goal.returns-clause-start
+returns-clause-start c = c.enter_around.ensures.start
+
+pub returns-clause-aside : goal.returns-clause-aside
+returns-clause-aside c = c.enter_around.ensures.aside
+
+pub returns-clause-mark : goal.returns-clause-mark
+returns-clause-mark c =
+    let machine = c.args.self.now in
+    let back = c.give_back.new in
+    let here : stood_of (record machine { flow = record machine.flow { threads = back.threads; stack = back.stack }; output = back.output }) ≡ stood_of machine =
+    rw (c.give_back.ensures.threads_mark, c.give_back.ensures.stack_mark, c.give_back.ensures.output_mark) refl in
+    c.enter_around.ensures.mark ∙ here

@@ -1,4 +1,4 @@
-use Rattle.std.proofs.Common.{◌≡◌, ◌&&◌, ◌||◌, cond, nat_lt, refl, rules, subst, sym, true, Err}
+use Rattle.std.proofs.Common.{◌&&◌, ◌||◌, ◌∙◌, ◌≡◌, Err, cond, nat_lt, refl, rules, subst, sym, true}
 use Rattle.ink_check.specs.Words.{story_tree}
 use Rattle.ink_model.specs.Flow.{Written, called}
 use Rattle.ink_model.specs.Frames.{map_threads}
@@ -8,7 +8,7 @@ use Rattle.ink_model.specs.Threads.{frame_count}
 use Rattle.ink_model.specs.Visits.{adds_rows, around, entering_around}
 use Rattle.ink_model.specs.declared.limits.TheConstants.{MAX_FRAMES}
 use Rattle.ink_stack.specs.Calls.{frame_kind}
-use Rattle.ink_step.specs.Marks.{landing_lacks, pressed}
+use Rattle.ink_step.specs.Marks.{landing_lacks, pressed, stood_of}
 use Rattle.ink_step.specs.Steps.{StepEnds}
 use Rattle.ink_step.specs.Words.{config_of, counts_in}
 use Rattle.ink_step.proofs.Marks.{pressed_landing}
@@ -64,3 +64,35 @@ returns-clause-ends c =
     let entered = subst (λ t. config_of t after ≡ cond to.enters (entering_around t (config_of t mid)) (config_of t mid)) c.tree.ensures.tree c.in_ok-enter_around.ensures.ok in
     lands s (pressed s after) _ old (config_of s after) machine.shared.globals.rows (map_threads (place_of s) c.call.new.threads.threads) w to.enters _ c.in_ok-end.end
     (λ e. called_goes (frame_kind c.args.kind) (place_of s to.place) old.flow.threads (written_in old)) (c.in_ok-end.ensures.flow s machine.flow.stack.items) entered
+
+-- ---- what stays
+
+pub returns-in_err-enter_around-clause-globals : goal.returns-in_err-enter_around-clause-globals
+returns-in_err-enter_around-clause-globals c = c.enter_around.ensures.globals
+
+pub returns-in_err-enter_around-clause-start : goal.returns-in_err-enter_around-clause-start
+returns-in_err-enter_around-clause-start c = c.enter_around.ensures.start
+
+pub returns-in_err-enter_around-clause-aside : goal.returns-in_err-enter_around-clause-aside
+returns-in_err-enter_around-clause-aside c = c.enter_around.ensures.aside
+
+pub returns-in_err-enter_around-clause-mark : goal.returns-in_err-enter_around-clause-mark
+returns-in_err-enter_around-clause-mark c =
+    let machine = c.args.self.now in
+    let here : stood_of (record machine { flow = record machine.flow { threads = c.call.new.threads }; output = c.call.new.output }) ≡ stood_of machine = rw (c.call.ensures.threads_mark, c.call.ensures.output_mark) refl in
+    c.enter_around.ensures.mark ∙ here
+
+pub returns-clause-globals : goal.returns-clause-globals
+returns-clause-globals c = c.enter_around.ensures.globals
+
+pub returns-clause-start : goal.returns-clause-start
+returns-clause-start c = c.enter_around.ensures.start
+
+pub returns-clause-aside : goal.returns-clause-aside
+returns-clause-aside c = c.enter_around.ensures.aside
+
+pub returns-clause-mark : goal.returns-clause-mark
+returns-clause-mark c =
+    let machine = c.args.self.now in
+    let here : stood_of (record machine { flow = record machine.flow { threads = c.call.new.threads }; output = c.call.new.output }) ≡ stood_of machine = rw (c.call.ensures.threads_mark, c.call.ensures.output_mark) refl in
+    c.enter_around.ensures.mark ∙ here

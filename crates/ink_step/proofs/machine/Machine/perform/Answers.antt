@@ -5,7 +5,7 @@ use Rattle.ink_model.specs.Memory.{content_asks}
 use Rattle.ink_model.specs.Step.{effect}
 use Rattle.ink_model.specs.Tree.{leaf}
 use Rattle.ink_step.specs.Marks.{takes_there}
-use Rattle.ink_step.specs.Performs.{Keeps, KeepsChoices, Performs, leading}
+use Rattle.ink_step.specs.Performs.{Keeps, KeepsChoices, Performs, fields_in, leading}
 use Rattle.ink_step.specs.Words.{config_of}
 use Rattle.ink_step.proofs.machine.Machine.perform.Goals as goal
 use Rattle.ink_step.proofs.machine.Machine.perform.Goals.{In-Some}
@@ -24,7 +24,7 @@ returns-in-Some-clause-effect c =
     let seen = context_of (config_of s machine) in
     let old = fields_of (config_of s machine) in
     let marked = is_some (stack_stood machine.flow.stack) in
-    subst (λ o. Performs s ((takes_there o && marked) || content_asks s p o seen old) (effect s p o seen old) (fields_of (config_of s c.perform_leaf.new.self)) (leading c.perform_leaf.result c.perform_leaf.new.transfer)) (sym (leaf_found (goal.at.returns-in-Some-clause-effect c).In-Some)) c.perform_leaf.ensures.effect
+    subst (λ o. Performs s ((takes_there o && marked) || content_asks s p o seen old) (effect s p o seen old) (fields_in c.perform_leaf.new.threads.threads.thread.frame c.perform_leaf.new.stack.items c.perform_leaf.new.output.page machine.shared.globals.rows) (leading c.perform_leaf.result c.perform_leaf.new.transfer)) (sym (leaf_found (goal.at.returns-in-Some-clause-effect c).In-Some)) c.perform_leaf.ensures.effect
 
 pub returns-in-Some-clause-threads : goal.returns-in-Some-clause-threads
 returns-in-Some-clause-threads c =
@@ -33,7 +33,7 @@ returns-in-Some-clause-threads c =
     let machine = c.args.self.now in
     let seen = context_of (config_of s machine) in
     let old = fields_of (config_of s machine) in
-    subst (λ o. OnOk c.perform_leaf.result (Keeps s (effect s p o seen old) machine.flow.threads.threads c.perform_leaf.new.self.flow.threads.threads)) (sym (leaf_found (goal.at.returns-in-Some-clause-threads c).In-Some)) c.perform_leaf.ensures.threads
+    subst (λ o. OnOk c.perform_leaf.result (Keeps s (effect s p o seen old) machine.flow.threads.threads c.perform_leaf.new.threads.threads)) (sym (leaf_found (goal.at.returns-in-Some-clause-threads c).In-Some)) c.perform_leaf.ensures.threads
 
 pub returns-in-Some-clause-choices : goal.returns-in-Some-clause-choices
 returns-in-Some-clause-choices c =
@@ -42,4 +42,4 @@ returns-in-Some-clause-choices c =
     let machine = c.args.self.now in
     let seen = context_of (config_of s machine) in
     let old = fields_of (config_of s machine) in
-    subst (λ o. OnOk c.perform_leaf.result (KeepsChoices s (effect s p o seen old) machine.flow.choices.items c.perform_leaf.new.self.flow.choices.items)) (sym (leaf_found (goal.at.returns-in-Some-clause-choices c).In-Some)) c.perform_leaf.ensures.choices
+    subst (λ o. OnOk c.perform_leaf.result (KeepsChoices s (effect s p o seen old) machine.flow.choices.items c.perform_leaf.new.choices.items)) (sym (leaf_found (goal.at.returns-in-Some-clause-choices c).In-Some)) c.perform_leaf.ensures.choices
