@@ -16,3 +16,4 @@ pub mod Holding
 pub mod Backs
 pub mod Unmarked
 pub mod Keeping
+pub mod Tops

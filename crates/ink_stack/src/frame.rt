@@ -33,7 +33,6 @@ impl CallKind {
 
 /// A frame: what it was pushed for, where it is, its temporaries, whether it evaluates, whether it is a fresh function, how
 /// many sections were open at its push, and the number of its mark on this line.
-#[derive(Drop)]
 pub struct Frame<P> {
     pub(crate) kind: FrameKind,
     pub(crate) evaluating: bool,
@@ -42,6 +41,20 @@ pub struct Frame<P> {
     pub(crate) place: Option<P>,
     pub(crate) enter: Option<u64>,
     pub(crate) temps: Temps,
+}
+
+impl<P: Drop> Drop for Frame<P> {
+    fn drop(self) {
+        let Frame {
+            kind: _,
+            evaluating: _,
+            fresh: _,
+            depth: _,
+            place: _,
+            enter: _,
+            temps: _,
+        } = self;
+    }
 }
 
 impl<P> Model for Frame<P> {

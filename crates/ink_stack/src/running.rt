@@ -24,7 +24,6 @@ use std::mem;
 /// `quiet` says that of the function frames that are nearest below the top one none is fresh, so that a text need not look at
 /// them. `numbered` says whether a frame below the top one may have the number of its mark, so that the end of a line need not
 /// look at them where none has one.
-#[derive(Drop)]
 pub struct Running<P> {
     pub(crate) frame: Frame<P>,
     pub(crate) below: Vec<Frame<P>>,
@@ -32,6 +31,19 @@ pub struct Running<P> {
     pub(crate) quiet: bool,
     pub(crate) numbered: bool,
     pub(crate) alloc: Global,
+}
+
+impl<P: Drop> Drop for Running<P> {
+    fn drop(self) {
+        let Running {
+            frame: _,
+            below: _,
+            previous: _,
+            quiet: _,
+            numbered: _,
+            alloc: _,
+        } = self;
+    }
 }
 
 impl<P> Model for Running<P> {

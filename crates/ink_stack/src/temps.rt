@@ -12,10 +12,15 @@ use std::marker::Model;
 use std::mem;
 
 /// Values by name, in the order of the names. The copies of a frame share the names. A contract sees the rows.
-#[derive(Drop)]
 pub(crate) struct Temps {
     pub(crate) rows: Vec<(Shared<Text>, Value)>,
     pub(crate) alloc: Global,
+}
+
+impl Drop for Temps {
+    fn drop(self) {
+        let Temps { rows: _, alloc: _ } = self;
+    }
 }
 
 impl Model for Temps {

@@ -23,12 +23,22 @@ use std::mem;
 
 /// Where flow is: threads, of which there is always one on top, 100 at the most; and while a mark stands, the trail of what they
 /// were. A contract sees those below the top one with the nearest first.
-#[derive(Drop)]
 pub struct Threads<P> {
     pub(crate) running: Running<P>,
     pub(crate) below: Vec<Thread<P>>,
     pub(crate) trail: Trail<ThreadsPair<P>>,
     pub(crate) alloc: Global,
+}
+
+impl<P: Drop> Drop for Threads<P> {
+    fn drop(self) {
+        let Threads {
+            running: _,
+            below: _,
+            trail: _,
+            alloc: _,
+        } = self;
+    }
 }
 
 impl<P> Model for Threads<P> {

@@ -1,5 +1,6 @@
-use Rattle.std.proofs.Common.{ap, arith}
+use Rattle.std.proofs.Common.{ap, arith, ◌∙◌, [], ◌∷◌, refl, reverse}
 use Rattle.ink_stack.specs.Running.{threads_in}
+use Rattle.std.proofs.lemmas.List.{reverse-append}
 use Rattle.ink_stack.proofs.undo.put_one_back.Goals as goal
 
 pub returns-in-Placed-clause-threads : goal.returns-in-Placed-clause-threads
@@ -43,3 +44,32 @@ returns-in-FramePopped-clause-threads g c = rw c.in-FramePopped.is (ap (λ v. th
 
 pub returns-in-FramePopped-clause-room : goal.returns-in-FramePopped-clause-room
 returns-in-FramePopped-clause-room g c = rw c.in-FramePopped.is (record { frames = omega (arith, ap (λ v. v.room) c.unpop.ensures); threads = omega arith })
+
+pub returns-in-Numbered-clause-threads : goal.returns-in-Numbered-clause-threads
+returns-in-Numbered-clause-threads g c = rw c.in-Numbered.is (ap (λ v. threads_in v c.args.below.now.items) c.put_number_back.ensures)
+
+pub returns-in-Numbered-clause-room : goal.returns-in-Numbered-clause-room
+returns-in-Numbered-clause-room g c = rw c.in-Numbered.is (record { frames = omega (arith, ap (λ v. v.room) c.put_number_back.ensures); threads = omega arith })
+
+pub returns-in-ThreadPopped-clause-threads : goal.returns-in-ThreadPopped-clause-threads
+returns-in-ThreadPopped-clause-threads g c =
+    let items = c.args.below.now.items in
+    let under = c.replace-under.result in
+    let top = c.in-ThreadPopped.top.thread in
+    rw c.in-ThreadPopped.is
+    (ap (λ v. threads_in v c.push_reserved.new.self.items) c.replace-under.ensures.after
+    ∙ ap (λ ts. record { thread = top; below = ts })
+    (ap reverse c.push_reserved.ensures.items ∙ reverse-append items (under.thread ∷ []) ∙ ap (λ v. v.thread ∷ reverse items) c.replace-under.ensures.value))
+
+pub returns-in-ThreadPopped-clause-room : goal.returns-in-ThreadPopped-clause-room
+returns-in-ThreadPopped-clause-room g c =
+    rw c.in-ThreadPopped.is (record {
+      frames = omega (arith, ap (λ v. v.room) c.replace-under.ensures.after);
+      threads = omega (arith, c.push_reserved.ensures.capacity);
+    })
+
+pub returns-in-Replaced-clause-threads : goal.returns-in-Replaced-clause-threads
+returns-in-Replaced-clause-threads g c = rw c.in-Replaced.is refl
+
+pub returns-in-Replaced-clause-room : goal.returns-in-Replaced-clause-room
+returns-in-Replaced-clause-room g c = rw c.in-Replaced.is (record { frames = omega arith; threads = omega arith })

@@ -1,7 +1,9 @@
-use Rattle.std.proofs.Common.{◌≡◌, ◌+◌, ◌∙◌, [], ◌∷◌, true, ap, arith, length}
-use Rattle.std.proofs.lemmas.List.{length-append}
-use Rattle.ink_model.specs.Frames.{is_function}
+use Rattle.std.proofs.Common.{◌≡◌, ◌+◌, ◌∙◌, [], ◌∷◌, true, ap, arith, length, reverse}
+use Rattle.std.proofs.lemmas.List.{length-append, reverse-append}
+use Rattle.ink_model.specs.Frames.{is_function, ThreadOf}
 use Rattle.ink_stack.proofs.Keeping.{base_fewer, quiet_fewer, unnumbered_fewer}
+use Rattle.ink_model.specs.Threads.{same_kind}
+use Rattle.ink_stack.proofs.Tops.{popped_made}
 use Rattle.ink_stack.proofs.running.Running.pop.Goals.{then-is_function, else-is_function}
 use Rattle.ink_stack.proofs.running.Running.pop.Goals as goal
 
@@ -22,3 +24,13 @@ invariant_of-self g c =
       base_fewer c.replace.new.dest.kind c.self.inside.frame.kind f rest items (ap (λ h. h.kind) c.replace.ensures.after) whole c.self.invariant.2,
       unnumbered_fewer f rest items c.self.inside.numbered whole c.self.invariant.3,
     )
+
+pub returns-after-is_function-clause-thread : goal.returns-after-is_function-clause-thread
+returns-after-is_function-clause-thread g c =
+    let f = c.in-Some.caller in
+    let rest = c.pop.new.self.items in
+    let t : ThreadOf g.row.P.Denot = record { frame = c.self.inside.frame; below = reverse c.self.inside.below.items; previous = c.self.inside.previous } in
+    let kind : same_kind t.frame.kind c.args.kind ≡ true = cc in
+    rw (← c.self.view_is)
+    (popped_made c.args.kind c.args.depth t f c.replace.new.dest c.replace.result (reverse rest) kind (omega (arith, c.depth.ensures))
+    (ap reverse c.in-Some.ensures.items ∙ reverse-append rest (f ∷ [])) c.replace.ensures.after)

@@ -1,11 +1,14 @@
-use Rattle.std.proofs.Common.{◌∙◌, ◌≤◌, ap, arith, length, length-set}
+use Rattle.std.proofs.Common.{◌∙◌, ◌≤◌, ap, arith, length, length-set, reverse, ◌≡◌, sym}
 use Rattle.std.proofs.lemmas.List.{length-reverse}
 use Rattle.std.proofs.lemmas.Result.{IfOk-weaker}
 use Rattle.ink_stack.specs.Cells.{temp_back}
-use Rattle.ink_stack.proofs.Bases.{fresh_along, kind_along}
+use Rattle.ink_stack.proofs.Bases.{fresh_along, kind_along, base_same}
 use Rattle.ink_stack.proofs.Framing.{base_set, unframed_below}
 use Rattle.ink_stack.proofs.Numbers.{memory_along, quiet_set, temp_along}
 use Rattle.ink_stack.proofs.Unnumbered.{number_along, unnumbered_set}
+use Rattle.ink_stack.proofs.Tops.{back_top, memory_top, temp_top}
+use Rattle.ink_model.specs.Frames.{ThreadOf}
+use Rattle.ink_model.specs.Threads.{frame_count}
 use Rattle.ink_stack.proofs.running.Running.set_temp.Goals as goal
 
 pub invariant_of-self-2 : goal.invariant_of-self-2
@@ -49,3 +52,27 @@ returns-clause-back g c =
     unframed_below (temp_back was.0 was.1) c.self.inside.frame items c.self.inside.previous c.args.frame c.index_mut.result.now c.set_temp-2.new.self c.requires.from within
     (back ∙ c.index_mut.ensures.value))
     c.set_temp-2.ensures.back)
+
+pub invariant_of-self : goal.invariant_of-self
+invariant_of-self g c =
+    let now = c.set_temp.new.self in
+    let kind = kind_along c.set_temp.result c.args.name.now c.args.value c.self.inside.frame now c.set_temp.ensures.ok c.set_temp.ensures.err in
+    (c.self.invariant.0, c.self.invariant.1, base_same c.self.inside.frame.kind now.kind (reverse c.self.inside.below.items) kind c.self.invariant.2, c.self.invariant.3)
+
+pub returns-then-frame-frames-clause-ok : goal.returns-then-frame-frames-clause-ok
+returns-then-frame-frames-clause-ok g c =
+    let top : c.args.frame ≡ frame_count c.args.self.now.thread = c.if-frame-frames.true ∙ c.frames.ensures.count in
+    let t : ThreadOf g.row.P.Denot = record { frame = c.self.inside.frame; below = reverse c.self.inside.below.items; previous = c.self.inside.previous } in
+    rw (← c.self.view_is) (temp_top c.set_temp.result t c.args.frame c.args.name.now c.args.value c.set_temp.new.self (top ∙ ap (λ v. frame_count v.thread) (sym c.self.view_is)) c.set_temp.ensures.ok)
+
+pub returns-then-frame-frames-clause-memory : goal.returns-then-frame-frames-clause-memory
+returns-then-frame-frames-clause-memory g c =
+    let top : c.args.frame ≡ frame_count c.args.self.now.thread = c.if-frame-frames.true ∙ c.frames.ensures.count in
+    let t : ThreadOf g.row.P.Denot = record { frame = c.self.inside.frame; below = reverse c.self.inside.below.items; previous = c.self.inside.previous } in
+    rw (← c.self.view_is) (memory_top c.set_temp.result t c.args.frame c.args.name.now (top ∙ ap (λ v. frame_count v.thread) (sym c.self.view_is)) c.set_temp.ensures.memory)
+
+pub returns-then-frame-frames-clause-back : goal.returns-then-frame-frames-clause-back
+returns-then-frame-frames-clause-back g c =
+    let top : c.args.frame ≡ frame_count c.args.self.now.thread = c.if-frame-frames.true ∙ c.frames.ensures.count in
+    let t : ThreadOf g.row.P.Denot = record { frame = c.self.inside.frame; below = reverse c.self.inside.below.items; previous = c.self.inside.previous } in
+    rw (← c.self.view_is) (back_top c.set_temp.result t c.args.frame c.set_temp.new.self (top ∙ ap (λ v. frame_count v.thread) (sym c.self.view_is)) c.set_temp.ensures.back)

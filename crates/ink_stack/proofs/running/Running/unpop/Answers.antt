@@ -1,7 +1,9 @@
-use Rattle.std.proofs.Common.{◌≡◌, ◌∙◌, [], ◌∷◌, ◌++◌, false, true, ap, arith, is_some, length}
-use Rattle.std.proofs.lemmas.List.{length-append, length-reverse}
-use Rattle.ink_model.specs.Frames.{is_function}
+use Rattle.std.proofs.Common.{◌≡◌, ◌∙◌, [], ◌∷◌, false, true, ap, arith, is_some, length, refl, vec_capacity, reverse}
+use Rattle.std.proofs.lemmas.List.{length-append, length-reverse, reverse-append}
+use Rattle.ink_model.specs.Frames.{is_function, ThreadOf}
 use Rattle.ink_stack.proofs.Keeping.{base_more, quiet_more, unnumbered_more}
+use Rattle.ink_stack.specs.Cells.{unpopped}
+use Rattle.ink_stack.proofs.Staling.{running_is}
 use Rattle.ink_stack.proofs.running.Running.unpop.Goals.{then-not-is_function, else-not-is_function+then-not-is_fresh, else-not-is_function+else-not-is_fresh, then-self, else-self}
 use Rattle.ink_stack.proofs.running.Running.unpop.Goals as goal
 
@@ -27,3 +29,13 @@ invariant_of-self g c =
       base_more c.replace-under.new.dest.kind c.args.frame.kind f c.self.inside.frame items (ap (λ h. h.kind) c.replace-under.ensures.after) c.replace-under.ensures.value within,
       λ is. unnumbered_more f items c.self.inside.numbered c.self.invariant.3 (numbered is),
     )
+
+pub returns : goal.returns
+returns g c =
+    let items = c.self.inside.below.items in
+    let f = c.replace-under.result in
+    let t : ThreadOf g.row.P.Denot = record { frame = c.self.inside.frame; below = reverse items; previous = c.self.inside.previous } in
+    rw (← c.self.view_is)
+    (running_is (record { thread = record { frame = c.replace-under.new.dest; below = reverse c.push_reserved.new.self.items; previous = c.self.inside.previous }; room = vec_capacity c.push_reserved.new.self })
+    (unpopped c.args.frame t) (vec_capacity c.self.inside.below) c.replace-under.ensures.after
+    (ap reverse c.push_reserved.ensures.items ∙ reverse-append items (f ∷ []) ∙ ap (λ h. h ∷ reverse items) c.replace-under.ensures.value) refl c.push_reserved.ensures.capacity)

@@ -3,7 +3,7 @@ use Rattle.std.proofs.lemmas.List.{length-map, length-reverse, with_items_is}
 use Rattle.ink_model.specs.Frames.{unnumbered_thread}
 use Rattle.ink_trail.specs.Undo.{trail_of}
 use Rattle.ink_stack.specs.Running.{threads_in}
-use Rattle.ink_stack.specs.Undo.{Rooms}
+use Rattle.ink_stack.specs.Undo.{Rooms, threads_spare}
 use Rattle.ink_stack.proofs.Backs.{stood-unmarked, unmarked-stood}
 use Rattle.ink_stack.proofs.Holding.{held-now, held-unmarked}
 use Rattle.ink_stack.proofs.Reversing.{map-reverse}
@@ -43,3 +43,10 @@ returns-clause-threads g c =
 
 pub returns-clause-stood : goal.returns-clause-stood
 returns-clause-stood g c = stood-unmarked c.args.self.now _ c.requires.unmarked (ap (λ v. v.trail.undo) c.self.view_is)
+
+pub returns-clause-trail : goal.returns-clause-trail
+returns-clause-trail g c = rw (← c.self.view_is) (refl, omega arith)
+
+pub returns-clause-spare : goal.returns-clause-spare
+unfolding threads_spare
+returns-clause-spare g c = rw (← c.self.view_is) (omega arith)

@@ -1,9 +1,9 @@
-use Rattle.std.proofs.Common.{◌∙◌, arith, refl, sym, vec_capacity}
+use Rattle.std.proofs.Common.{◌∙◌, arith, refl, sym, vec_capacity, ap, subst, ◌≤◌}
 use Rattle.ink_model.specs.Threads.{frame_count}
 use Rattle.ink_trail.proofs.Undoing.{trails-unmarked}
 use Rattle.ink_trail.specs.Undo.{trail_of}
 use Rattle.ink_stack.specs.Running.{threads_in}
-use Rattle.ink_stack.specs.Undo.{Rooms, threads_back}
+use Rattle.ink_stack.specs.Undo.{Rooms, threads_back, threads_spare}
 use Rattle.ink_stack.proofs.Backs.{spare-of, stood-of}
 use Rattle.ink_stack.proofs.Holding.{held-now, held-unmarked}
 use Rattle.ink_stack.proofs.threads.Threads.end_freshness.Goals as goal
@@ -36,3 +36,19 @@ returns-clause-stood g c = stood-of (frame_count c.args.self.now.threads.thread)
 
 pub returns-clause-spare : goal.returns-clause-spare
 returns-clause-spare g c = spare-of (frame_count c.args.self.now.threads.thread) _ _ (returns-clause-trail g c)
+
+pub end_freshness-requires-clause-spare : goal.end_freshness-requires-clause-spare
+unfolding threads_spare
+end_freshness-requires-clause-spare g c = subst (λ v. frame_count v.threads.thread ≤ threads_spare v) (sym c.self.view_is) c.requires.room
+
+pub end_freshness-requires-clause-held : goal.end_freshness-requires-clause-held
+end_freshness-requires-clause-held g c = c.self.invariant.1
+
+pub invariant_of-self : goal.invariant_of-self
+invariant_of-self g c = (c.self.invariant.0, c.end_freshness.ensures.held)
+
+pub returns-then-is_marked-clause-threads : goal.returns-then-is_marked-clause-threads
+returns-then-is_marked-clause-threads g c = rw (← c.self.view_is) (ap (λ v. threads_in v c.self.inside.below.items) c.end_freshness.ensures.running)
+
+pub returns-clause-threads : goal.returns-clause-threads
+returns-clause-threads g c = rw (← c.self.view_is) (ap (λ v. threads_in v c.self.inside.below.items) c.end_freshness-2.ensures)

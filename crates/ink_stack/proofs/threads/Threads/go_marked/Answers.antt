@@ -1,9 +1,9 @@
-use Rattle.std.proofs.Common.{arith, refl, vec_capacity}
+use Rattle.std.proofs.Common.{arith, refl, vec_capacity, ap, sym, subst, ◌≤◌}
 use Rattle.ink_trail.proofs.Undoing.{trails-one, trails-trails}
-use Rattle.ink_trail.specs.Undo.{trail_of, with_pair}
+use Rattle.ink_trail.specs.Undo.{trail_of, with_pair, spare}
 use Rattle.ink_model.specs.Frames.{gone, on_top}
 use Rattle.ink_stack.specs.Running.{threads_in}
-use Rattle.ink_stack.specs.Undo.{Rooms, threads_back}
+use Rattle.ink_stack.specs.Undo.{Rooms, threads_back, threads_spare}
 use Rattle.ink_stack.specs.declared.undo.ThreadsPair.TheVariants.{Placed, Previous}
 use Rattle.ink_stack.proofs.Backs.{going, gone-back, spare-of, stood-of, went-back}
 use Rattle.ink_stack.proofs.Holding.{held-now, held-top, more-refl, within-same}
@@ -43,3 +43,18 @@ returns-clause-stood g c = stood-of 2 _ _ (returns-clause-trail g c)
 
 pub returns-clause-spare : goal.returns-clause-spare
 returns-clause-spare g c = spare-of 2 _ _ (returns-clause-trail g c)
+
+pub note-requires-clause-spare : goal.note-requires-clause-spare
+unfolding threads_spare
+note-requires-clause-spare g c =
+    let room : 2 ≤ spare c.self.inside.trail = subst (λ v. 2 ≤ threads_spare v) (sym c.self.view_is) c.requires.room in
+    omega (arith, room)
+
+pub note-requires-2-clause-spare : goal.note-requires-2-clause-spare
+unfolding threads_spare
+note-requires-2-clause-spare g c =
+    let room : 2 ≤ spare c.self.inside.trail = subst (λ v. 2 ≤ threads_spare v) (sym c.self.view_is) c.requires.room in
+    omega (arith, room, c.note.ensures.spare)
+
+pub returns-clause-threads : goal.returns-clause-threads
+returns-clause-threads g c = rw (← c.self.view_is) (ap (λ v. threads_in v c.self.inside.below.items) c.go.ensures)

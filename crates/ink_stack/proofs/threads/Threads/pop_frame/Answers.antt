@@ -1,12 +1,13 @@
-use Rattle.std.proofs.Common.{◌∙◌, Ok, ap, arith, refl, reverse, sym, vec_capacity}
+use Rattle.std.proofs.Common.{◌∙◌, Ok, ap, arith, refl, reverse, sym, vec_capacity, Err}
 use Rattle.ink_model.specs.Threads.{popped}
 use Rattle.ink_trail.proofs.Undoing.{trails-unmarked}
 use Rattle.ink_trail.specs.Undo.{trail_of}
 use Rattle.ink_stack.specs.Running.{threads_in}
 use Rattle.ink_stack.specs.Undo.{Rooms, threads_back}
-use Rattle.ink_stack.proofs.Backs.{changed-kept, changed-ok, spare-of, stood-of, stood-same}
+use Rattle.ink_stack.proofs.Backs.{changed-kept, changed-ok, spare-of, stood-of, stood-same, changed-err}
 use Rattle.ink_stack.proofs.Bases.{top_changes}
 use Rattle.ink_stack.proofs.Holding.{held-now, held-unmarked}
+use Rattle.ink_stack.proofs.Unmarked.{spare-or}
 use Rattle.ink_stack.proofs.threads.Threads.pop_frame.Goals as goal
 
 pub returns-in-Err-clause-trail : goal.returns-in-Err-clause-trail
@@ -54,3 +55,14 @@ invariant_of-self g c =
       held-unmarked c.self.inside.trail.undo s (threads_in c.pop-popped.new.self c.self.inside.below.items) (sym c.is_marked.ensures ∙ c.if-is_marked.false)
           (record { thread = c.within.ensures; few = now.few; fit = now.fit }),
     )
+
+pub returns-in-Err-clause-threads : goal.returns-in-Err-clause-threads
+returns-in-Err-clause-threads g c =
+    let t = c.self.inside.running.thread in
+    let rule = popped c.args.kind c.args.depth t in
+    rw (← c.self.view_is)
+    (top_changes rule (threads_in c.self.inside.running c.self.inside.below.items) c.pop-popped.new.self.thread (Err c.in-Err.fault)
+    (changed-err Unit rule t c.pop-popped.new.self.thread c.pop-popped.result c.in-Err.fault c.in-Err.is c.pop-popped.ensures.thread))
+
+pub returns-in-Err-clause-spare : goal.returns-in-Err-clause-spare
+returns-in-Err-clause-spare g c = spare-or {A = Unit} (Err c.in-Err.fault) 1 _ _ (returns-in-Err-clause-trail g c)

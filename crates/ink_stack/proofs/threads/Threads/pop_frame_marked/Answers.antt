@@ -1,14 +1,15 @@
-use Rattle.std.proofs.Common.{◌≡◌, ◌∙◌, ◌≤◌, Err, Ok, ap, arith, refl, reverse, vec_capacity}
+use Rattle.std.proofs.Common.{◌≡◌, ◌∙◌, ◌≤◌, Err, Ok, ap, arith, refl, reverse, vec_capacity, subst, sym}
 use Rattle.ink_model.specs.Threads.{popped}
 use Rattle.ink_trail.proofs.Undoing.{trails-one}
 use Rattle.ink_trail.specs.Undo.{trail_of}
 use Rattle.ink_stack.specs.Cells.{unpopped}
 use Rattle.ink_stack.specs.Running.{threads_in}
-use Rattle.ink_stack.specs.Undo.{Rooms, threads_back}
+use Rattle.ink_stack.specs.Undo.{Rooms, threads_back, threads_spare}
 use Rattle.ink_stack.specs.declared.undo.ThreadsPair.TheVariants.{FramePopped}
 use Rattle.ink_stack.proofs.Backs.{changed-err, changed-kept, changed-ok, spare-of, stood-of, stood-same, unpopped-changed}
 use Rattle.ink_stack.proofs.Bases.{top_changes}
 use Rattle.ink_stack.proofs.Holding.{held-as, held-now, held-with}
+use Rattle.ink_stack.proofs.Unmarked.{spare-or}
 use Rattle.ink_stack.proofs.threads.Threads.pop_frame_marked.Given.{Over}
 use Rattle.ink_stack.proofs.threads.Threads.pop_frame_marked.Goals.{After-note, In-Err}
 use Rattle.ink_stack.proofs.threads.Threads.pop_frame_marked.Goals as goal
@@ -89,3 +90,10 @@ returns-clause-stood g c = stood-of 1 _ _ (returns-clause-trail g c)
 
 pub returns-clause-spare : goal.returns-clause-spare
 returns-clause-spare g c = spare-of 1 _ _ (returns-clause-trail g c)
+
+pub returns-in-Err-clause-spare : goal.returns-in-Err-clause-spare
+returns-in-Err-clause-spare g c = spare-or {A = Unit} (Err c.in-Err.fault) 1 _ _ (returns-in-Err-clause-trail g c)
+
+pub note-requires-clause-spare : goal.note-requires-clause-spare
+unfolding threads_spare
+note-requires-clause-spare g c = subst (λ v. 1 ≤ threads_spare v) (sym c.self.view_is) c.requires.room

@@ -1,4 +1,4 @@
-use Rattle.std.proofs.Common.{[], ap, arith, length, option_to_list, refl, sym, vec_capacity, ◌+◌, ◌∙◌, ◌∷◌, ◌≡◌, ◌≤◌}
+use Rattle.std.proofs.Common.{[], ap, arith, length, option_to_list, refl, sym, vec_capacity, ◌+◌, ◌∙◌, ◌∷◌, ◌≡◌, ◌≤◌, reverse}
 use Rattle.std.proofs.lemmas.List.{length-append, length-reverse}
 use Rattle.ink_trail.proofs.Undoing.{trails-unmarked}
 use Rattle.ink_trail.specs.Undo.{trail_of}
@@ -6,6 +6,7 @@ use Rattle.ink_stack.specs.Running.{threads_in}
 use Rattle.ink_stack.specs.Undo.{Rooms, threads_back}
 use Rattle.ink_stack.proofs.Backs.{spare-of, stood-of}
 use Rattle.ink_stack.proofs.Holding.{held-next, held-now, held-unmarked}
+use Rattle.ink_stack.proofs.Tops.{dropped_is}
 use Rattle.ink_stack.proofs.threads.Threads.pop_thread.Goals as goal
 
 pub invariant_of-self-2 : goal.invariant_of-self-2
@@ -55,3 +56,28 @@ invariant_of-self g c =
             fit = omega (arith, fewer, length-reverse rest, length-reverse items, now.fit, c.pop.ensures.capacity);
           }),
     )
+
+pub returns-then-is_marked-clause-dropped : goal.returns-then-is_marked-clause-dropped
+returns-then-is_marked-clause-dropped g c = c.pop_thread_marked.ensures.dropped
+
+pub returns-then-is_marked-clause-new : goal.returns-then-is_marked-clause-new
+returns-then-is_marked-clause-new g c = c.pop_thread_marked.ensures.new
+
+pub returns-then-is_marked-clause-trail : goal.returns-then-is_marked-clause-trail
+returns-then-is_marked-clause-trail g c = c.pop_thread_marked.ensures.trail
+
+pub returns-then-is_marked-clause-stood : goal.returns-then-is_marked-clause-stood
+returns-then-is_marked-clause-stood g c = c.pop_thread_marked.ensures.stood
+
+pub returns-then-is_marked-clause-spare : goal.returns-then-is_marked-clause-spare
+returns-then-is_marked-clause-spare g c = c.pop_thread_marked.ensures.spare
+
+pub returns-clause-new : goal.returns-clause-new
+returns-clause-new g c =
+    let items = c.self.inside.below.items in
+    let rest = c.pop.new.self.items in
+    rw (← c.self.view_is, dropped_is c.self.inside.running.thread c.in-Some.next rest items c.in-Some.ensures.items)
+    (ap (λ t. record { thread = t; below = reverse rest }) c.run.ensures.thread)
+
+pub returns-clause-dropped : goal.returns-clause-dropped
+returns-clause-dropped g c = rw (← c.self.view_is, dropped_is c.self.inside.running.thread c.in-Some.next c.pop.new.self.items c.self.inside.below.items c.in-Some.ensures.items) refl

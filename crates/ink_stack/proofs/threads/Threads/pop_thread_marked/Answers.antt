@@ -1,9 +1,9 @@
-use Rattle.std.proofs.Common.{[], ap, arith, length, option_to_list, refl, sym, vec_capacity, ◌++◌, ◌+◌, ◌∙◌, ◌∷◌, ◌≡◌, ◌≤◌}
+use Rattle.std.proofs.Common.{[], ap, arith, length, option_to_list, refl, sym, vec_capacity, ◌++◌, ◌+◌, ◌∙◌, ◌∷◌, ◌≡◌, ◌≤◌, subst}
 use Rattle.std.proofs.lemmas.List.{append-nil, length-append}
-use Rattle.ink_trail.proofs.Undoing.{trails-one}
+use Rattle.ink_trail.proofs.Undoing.{trails-one, trails-kept}
 use Rattle.ink_trail.specs.Undo.{trail_of}
 use Rattle.ink_stack.specs.Running.{threads_in}
-use Rattle.ink_stack.specs.Undo.{Rooms, threads_back}
+use Rattle.ink_stack.specs.Undo.{Rooms, threads_back, threads_spare}
 use Rattle.ink_stack.specs.declared.undo.ThreadsPair.TheVariants.{ThreadPopped}
 use Rattle.ink_stack.proofs.Backs.{spare-of, stood-of, thread-popped-back}
 use Rattle.ink_stack.proofs.Holding.{held-as, held-next, held-now, held-with}
@@ -60,3 +60,19 @@ invariant_of-self g c =
       held-as u u r s (threads_in c.self.inside.running items) (threads_in c.self.inside.running rest) refl (ap (threads_in c.self.inside.running) same)
           (record { frames = omega arith; threads = omega (arith, c.pop.ensures.capacity) }) c.self.invariant.1,
     )
+
+pub returns-in_default-clause-trail : goal.returns-in_default-clause-trail
+returns-in_default-clause-trail g c =
+    let rest = c.pop.new.self.items in
+    let same : rest ≡ c.self.inside.below.items = sym (c.pop.ensures.items ∙ ap (λ o. rest ++ option_to_list o) c.in_default.is ∙ append-nil rest) in
+    rw (← c.self.view_is) (trails-kept threads_back 1 _ _ _ _ (ap (threads_in c.self.inside.running) same) (refl, omega arith))
+
+pub returns-in_default-clause-stood : goal.returns-in_default-clause-stood
+returns-in_default-clause-stood g c = stood-of 1 _ _ (returns-in_default-clause-trail g c)
+
+pub returns-in_default-clause-spare : goal.returns-in_default-clause-spare
+returns-in_default-clause-spare g c = spare-of 1 _ _ (returns-in_default-clause-trail g c)
+
+pub note-requires-clause-spare : goal.note-requires-clause-spare
+unfolding threads_spare
+note-requires-clause-spare g c = subst (λ v. 1 ≤ threads_spare v) (sym c.self.view_is) c.requires.room

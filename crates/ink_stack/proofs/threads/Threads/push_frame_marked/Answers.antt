@@ -12,6 +12,7 @@ use Rattle.ink_stack.specs.Words.{Grows}
 use Rattle.ink_stack.proofs.Backs.{grown-kept, grown-refused, spare-of, stood-of, stood-same, unpushed-grown}
 use Rattle.ink_stack.proofs.Bases.{top_grows}
 use Rattle.ink_stack.proofs.Holding.{held-as, held-now, held-with}
+use Rattle.ink_stack.proofs.Unmarked.{spare-or}
 use Rattle.ink_stack.proofs.threads.Threads.push_frame_marked.Given.{Over}
 use Rattle.ink_stack.proofs.threads.Threads.push_frame_marked.Goals.{After-add, After-unpush, In-Err}
 use Rattle.ink_stack.proofs.threads.Threads.push_frame_marked.Goals as goal
@@ -109,3 +110,15 @@ returns-clause-stood g c = stood-of 1 _ _ (returns-clause-trail g c)
 
 pub returns-clause-spare : goal.returns-clause-spare
 returns-clause-spare g c = spare-of 1 _ _ (returns-clause-trail g c)
+
+pub returns-in-Err-clause-trail : goal.returns-in-Err-clause-trail
+returns-in-Err-clause-trail g c = rw (← c.self.view_is) (kept g c, (refl, omega arith))
+
+pub returns-in-Err-clause-stood : goal.returns-in-Err-clause-stood
+returns-in-Err-clause-stood g c = stood-same _ _ (returns-in-Err-clause-trail g c)
+
+pub returns-in-Err-clause-spare : goal.returns-in-Err-clause-spare
+returns-in-Err-clause-spare g c = spare-or {A = Unit} (Err c.in-Err.fault) 1 _ _ (returns-in-Err-clause-trail g c)
+
+pub returns-in_default-add-clause-spare : goal.returns-in_default-add-clause-spare
+returns-in_default-add-clause-spare g c = spare-or {A = Unit} (Err OutOfMemory) 1 _ _ (returns-in_default-add-clause-trail g c)

@@ -1,4 +1,4 @@
-use Rattle.std.proofs.Common.{◌≡◌, ◌∙◌, ◌≤◌, ap, arith, length, refl, subst, vec_capacity}
+use Rattle.std.proofs.Common.{◌≡◌, ◌∙◌, ◌≤◌, ap, arith, length, refl, subst, vec_capacity, Err}
 use Rattle.std.proofs.lemmas.List.{length-reverse}
 use Rattle.ink_model.specs.Threads.{doubled}
 use Rattle.ink_trail.proofs.Undoing.{trails-one}
@@ -9,6 +9,8 @@ use Rattle.ink_stack.specs.Words.{Grows}
 use Rattle.ink_stack.specs.declared.undo.ThreadsPair.TheVariants.{ThreadPushed}
 use Rattle.ink_stack.proofs.Backs.{doubled-back, grown-kept, grown-refused, popped-drop, spare-of, stood-of, stood-same}
 use Rattle.ink_stack.proofs.Holding.{held-as, held-now, held-with}
+use Rattle.ink_model.specs.declared.fault.Fault.TheVariants.{OutOfMemory}
+use Rattle.ink_stack.proofs.Unmarked.{spare-or}
 use Rattle.ink_stack.proofs.threads.Threads.push_thread_marked.Given.{Over}
 use Rattle.ink_stack.proofs.threads.Threads.push_thread_marked.Goals.{After-add, After-pop-copy}
 use Rattle.ink_stack.proofs.threads.Threads.push_thread_marked.Goals as goal
@@ -99,3 +101,20 @@ returns-clause-stood g c = stood-of 1 _ _ (returns-clause-trail g c)
 
 pub returns-clause-spare : goal.returns-clause-spare
 returns-clause-spare g c = spare-of 1 _ _ (returns-clause-trail g c)
+
+pub returns-in-Err-clause-threads : goal.returns-in-Err-clause-threads
+returns-in-Err-clause-threads g c = rw (← c.self.view_is, ← c.in-Err.is) c.push_copy.ensures.threads
+
+pub returns-in-Err-clause-trail : goal.returns-in-Err-clause-trail
+returns-in-Err-clause-trail g c =
+    let ts = threads_in c.self.inside.running c.self.inside.below.items in
+    rw (← c.self.view_is) (grown-kept (doubled ts) ts (threads_in c.self.inside.running c.push_copy.new.below.items) c.push_copy.result c.in-Err.fault c.in-Err.is c.push_copy.ensures.threads, (refl, omega arith))
+
+pub returns-in-Err-clause-stood : goal.returns-in-Err-clause-stood
+returns-in-Err-clause-stood g c = stood-same _ _ (returns-in-Err-clause-trail g c)
+
+pub returns-in-Err-clause-spare : goal.returns-in-Err-clause-spare
+returns-in-Err-clause-spare g c = spare-or {A = Unit} (Err c.in-Err.fault) 1 _ _ (returns-in-Err-clause-trail g c)
+
+pub returns-in_default-add-clause-spare : goal.returns-in_default-add-clause-spare
+returns-in_default-add-clause-spare g c = spare-or {A = Unit} (Err OutOfMemory) 1 _ _ (returns-in_default-add-clause-trail g c)

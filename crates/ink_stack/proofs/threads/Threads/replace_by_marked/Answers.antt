@@ -1,7 +1,7 @@
-use Rattle.std.proofs.Common.{◌≡◌, ◌∙◌, ◌≤◌, [], ap, arith, vec_capacity}
+use Rattle.std.proofs.Common.{◌≡◌, ◌∙◌, ◌≤◌, [], ap, arith, vec_capacity, subst, sym}
 use Rattle.ink_trail.proofs.Undoing.{trails-one}
 use Rattle.ink_stack.specs.Running.{threads_in}
-use Rattle.ink_stack.specs.Undo.{Rooms, threads_back}
+use Rattle.ink_stack.specs.Undo.{Rooms, threads_back, threads_spare}
 use Rattle.ink_stack.specs.declared.undo.ThreadsPair.TheVariants.{Replaced}
 use Rattle.ink_stack.proofs.Backs.{spare-of, stood-of}
 use Rattle.ink_stack.proofs.Holding.{held-with}
@@ -40,3 +40,7 @@ returns-clause-stood g c = stood-of 1 _ _ (returns-clause-trail g c)
 
 pub returns-clause-spare : goal.returns-clause-spare
 returns-clause-spare g c = spare-of 1 _ _ (returns-clause-trail g c)
+
+pub note-requires-clause-spare : goal.note-requires-clause-spare
+unfolding threads_spare
+note-requires-clause-spare g c = subst (λ v. 1 ≤ threads_spare v) (sym c.self.view_is) c.requires.room

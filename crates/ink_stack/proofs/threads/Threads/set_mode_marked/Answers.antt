@@ -1,9 +1,9 @@
-use Rattle.std.proofs.Common.{arith, vec_capacity, refl}
+use Rattle.std.proofs.Common.{arith, vec_capacity, refl, ap, subst, sym, ◌≤◌}
 use Rattle.ink_trail.proofs.Undoing.{trails-one}
 use Rattle.ink_trail.specs.Undo.{trail_of}
 use Rattle.ink_model.specs.Frames.{mode_in}
 use Rattle.ink_stack.specs.Running.{threads_in}
-use Rattle.ink_stack.specs.Undo.{Rooms, threads_back}
+use Rattle.ink_stack.specs.Undo.{Rooms, threads_back, threads_spare}
 use Rattle.ink_stack.specs.declared.undo.ThreadsPair.TheVariants.{Evaluating}
 use Rattle.ink_stack.proofs.Backs.{mode-back, spare-of, stood-of}
 use Rattle.ink_stack.proofs.Holding.{held-now, held-top, more-refl, within-same}
@@ -33,3 +33,10 @@ returns-clause-stood g c = stood-of 1 _ _ (returns-clause-trail g c)
 
 pub returns-clause-spare : goal.returns-clause-spare
 returns-clause-spare g c = spare-of 1 _ _ (returns-clause-trail g c)
+
+pub note-requires-clause-spare : goal.note-requires-clause-spare
+unfolding threads_spare
+note-requires-clause-spare g c = subst (λ v. 1 ≤ threads_spare v) (sym c.self.view_is) c.requires.room
+
+pub returns-clause-threads : goal.returns-clause-threads
+returns-clause-threads g c = rw (← c.self.view_is) (ap (λ v. threads_in v c.self.inside.below.items) c.set_mode.ensures)

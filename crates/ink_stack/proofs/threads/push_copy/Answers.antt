@@ -1,0 +1,15 @@
+use Rattle.std.proofs.Common.{arith}
+use Rattle.std.proofs.lemmas.List.{length-reverse}
+use Rattle.ink_stack.specs.Running.{threads_in}
+use Rattle.ink_stack.proofs.Tops.{doubled_full, doubled_refused}
+use Rattle.ink_stack.proofs.threads.push_copy.Goals as goal
+
+pub returns-then-len-clause-threads : goal.returns-then-len-clause-threads
+returns-then-len-clause-threads g c =
+    let items = c.args.below.now.items in
+    doubled_full (threads_in c.args.running.now items) (omega (arith, length-reverse items, c.args.below.now.ok.0))
+
+pub returns-in_default-clause-threads : goal.returns-in_default-clause-threads
+returns-in_default-clause-threads g c =
+    let items = c.args.below.now.items in
+    doubled_refused (threads_in c.args.running.now items) (omega (arith, length-reverse items, c.args.below.now.ok.0))
