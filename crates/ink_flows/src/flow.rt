@@ -17,13 +17,24 @@ use ink_value::EvalStack;
 use std::alloc::Global;
 
 /// A flow: where it is, what it evaluates, and what it offers.
-#[derive(Drop)]
 pub struct Flow {
     pub threads: Threads<Spot>,
     pub stack: EvalStack,
     pub choices: Choices<Spot>,
     /// Whether its last stop was a safe one.
     pub safe: bool,
+}
+
+/// Written out, so that wherever a flow is let go that is one call, and a proof there does not go through its contents.
+impl Drop for Flow {
+    fn drop(self) {
+        let Flow {
+            threads: _,
+            stack: _,
+            choices: _,
+            safe: _,
+        } = self;
+    }
 }
 
 impl Flow {

@@ -21,11 +21,21 @@ use std::marker::Model;
 ///
 /// What they were is found by notes of those that were put since, which fit the globals at all times. So a new moment costs what
 /// was noted since the last, however many globals there are.
-#[derive(Drop)]
 pub struct Globals {
     table: Table,
     changes: Changes,
     trail: Trail<GlobalPair>,
+}
+
+/// Written out, so that wherever globals are let go that is one call, and a proof there does not go through their contents.
+impl Drop for Globals {
+    fn drop(self) {
+        let Globals {
+            table: _,
+            changes: _,
+            trail: _,
+        } = self;
+    }
 }
 
 impl Model for Globals {
