@@ -19,10 +19,29 @@ use ink_tree::Tree;
 use std::alloc::{AllocError, Global};
 
 /// Flows by name, with none at the current one's name, and that one, once it came.
-#[derive(Drop)]
 pub(crate) struct Gathered {
     pub(crate) rows: IndexMap<String, Option<Flow>>,
     pub(crate) current: Option<Flow>,
+}
+
+/// Written out, so that wherever flows are let go that is one call, and a proof there does not go through their contents.
+impl Drop for Gathered {
+    fn drop(self) {
+        let Gathered {
+            rows: _,
+            current: _,
+        } = self;
+    }
+}
+
+impl Gathered {
+    /// The flows by name, and the current one.
+    pub(crate) fn into_parts(self) -> (IndexMap<String, Option<Flow>>, Option<Flow>)
+        ensures { result ≡ (self.rows, self.current) }
+    {
+        let Gathered { rows, current } = self;
+        (rows, current)
+    }
 }
 
 /// The flows that a save spells, made in a story; none where one does not fit, or has a name that it may not have, or one that
@@ -90,13 +109,13 @@ pub(crate) fn build_flow(
 ) -> Result<Option<Flow>, AllocError>
     ensures { let s = story_tree tree.now in IfOk result (λ made. Builds (flow_of s) (FlowSound s) saved.now made) }
 {
-    let Some(threads) = saved.threads.build(alloc, tree)? else {
-        return Ok(None);
-    };
     let Some(stack) = build_stack(alloc, tree, saved.stack.as_slice())? else {
         return Ok(None);
     };
     let Some(choices) = build_choices(alloc, tree, saved.choices.as_slice())? else {
+        return Ok(None);
+    };
+    let Some(threads) = saved.threads.build(alloc, tree)? else {
         return Ok(None);
     };
     Ok(Some(Flow {

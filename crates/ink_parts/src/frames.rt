@@ -1,12 +1,13 @@
 //! Frames and threads as JSON values, and as their text.
 
-ghost use Rattle.std.specs.Prelude.{◌≡◌, ◌∷◌, IfOk, OnOk, codes, true, map, reverse};
+ghost use Rattle.std.specs.Prelude.{◌≡◌, ◌∷◌, IfOk, OnOk, codes, true, map, option_map, reverse};
 ghost use Rattle.json.specs.Token as tokens;
 ghost use Rattle.serde_json.specs.Data.{no_members, object};
+ghost use Rattle.serde_json.specs.Data as entries;
 ghost use Rattle.serde_json.specs.View.{members_view, view};
 ghost use Rattle.ink_model.specs.Frames.{map_frame, map_thread, map_threads};
 ghost use Rattle.ink_model.specs.Rows.{name_order, rows_rise};
-ghost use Rattle.ink_model.specs.Save.Spelling.{frame_data, list_data, temps_members, thread_data, threads_data};
+ghost use Rattle.ink_model.specs.Save.Spelling.{frame_data, list_data, place_or_null, temps_members, thread_data, threads_data};
 ghost use Rattle.ink_parts.specs.Words.{frame_members, put_all};
 ghost use Rattle.ink_tokens.specs.Tokens.{Added, data_tokens};
 ghost use Rattle.ink_tree.specs.Nodes.{place_of, story_tree};
@@ -17,7 +18,7 @@ use ink_stack::{Frame, Running, Thread, Threads};
 use ink_tokens::{put, put_flag, put_number};
 use ink_tree::{Spot, Tree};
 use json::{Token, Writer};
-use serde_json::{Map, Number, Value as Json, json, put as put_entry};
+use serde_json::{Map, Number, Value as Json, put as put_entry};
 use std::alloc::{AllocError, Global};
 
 impl Written for Frame<Spot> {
@@ -141,9 +142,27 @@ fn write_thread(
     ensures { let p = place_of (story_tree tree.now) in
         IfOk result (λ json. view json ≡ thread_data (map_thread p (record { frame = top.now; below = reverse below.now; previous = previous }))) }
 {
+    let mut members = Map::new(alloc);
+    add_thread(alloc, tree, &mut members, below, top, previous)?;
+    Ok(Json::Object(members))
+}
+
+// Puts the members of a thread. The one error is a refused request for memory.
+fn add_thread(
+    alloc: Global,
+    tree: &Tree,
+    members: &mut Map<String, Json>,
+    below: &[Frame<Spot>],
+    top: &Frame<Spot>,
+    previous: Option<Spot>,
+) -> Result<(), AllocError>
+    ensures { let p = place_of (story_tree tree.now) in
+        let frames = list_data frame_data (reverse (map_frame p top.now ∷ map (map_frame p) (reverse below.now))) in
+        OnOk result (members_view members.new.entries ≡ entries.put (codes "previous") (place_or_null (option_map p previous)) (entries.put (codes "frames") frames (members_view members.old.entries))) }
+{
     let frames = write_frames(alloc, tree, below, top)?;
-    let previous = previous.write(alloc, tree)?;
-    json!(in alloc; {"frames": frames, "previous": previous})
+    put_entry(members, alloc, "frames", frames)?;
+    add_member(alloc, tree, members, "previous", &previous)
 }
 
 // The same as tokens.

@@ -54,15 +54,15 @@ impl Built for SavedThread {
         let Some(previous) = any_spot(tree, &self.previous) else {
             return Ok(None);
         };
-        let Some(frame) = self.frame.build(alloc, tree)? else {
-            return Ok(None);
-        };
         let Some(below) = build_all(alloc, tree, self.below.as_slice())? else {
             return Ok(None);
         };
         if !all_stand(below.as_slice()) {
             return Ok(None);
         }
+        let Some(frame) = self.frame.build(alloc, tree)? else {
+            return Ok(None);
+        };
         let mut frames = below;
         frames.push(frame)?;
         Ok(Thread::from_frames(alloc, frames, previous))

@@ -147,7 +147,7 @@ fn with_aside(alloc: Global, gathered: Gathered) -> Option<AllFlows>
     requires current { IfSome gathered.current (λ _. holes (rows_of gathered.rows.entries) ≡ 1) }
     ensures { option_map parts_of result ≡ option_map (with_rows (rows_of gathered.rows.entries)) gathered.current }
 {
-    let Gathered { rows, current } = gathered;
+    let (rows, current) = gathered.into_parts();
     match current {
         Some(flow) => Some(AllFlows {
             flow,

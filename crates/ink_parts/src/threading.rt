@@ -21,15 +21,15 @@ impl Built for SavedThreads {
     ghost fits = { λ s threads. ThreadsFit s threads };
 
     fn build(&self, alloc: Global, tree: &Tree) -> Result<Option<Threads<Spot>>, AllocError> {
-        let Some(thread) = self.thread.build(alloc, tree)? else {
-            return Ok(None);
-        };
         let Some(below) = build_all(alloc, tree, self.below.as_slice())? else {
             return Ok(None);
         };
         if !all_placed(below.as_slice()) {
             return Ok(None);
         }
+        let Some(thread) = self.thread.build(alloc, tree)? else {
+            return Ok(None);
+        };
         if !flows(thread.place(), below.as_slice()) {
             return Ok(None);
         }

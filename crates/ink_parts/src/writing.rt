@@ -1,11 +1,11 @@
 //! Plain things as JSON values, and as their text.
 
 ghost use Rattle.std.specs.Prelude.{◌≡◌, IfOk};
-ghost use Rattle.serde_json.specs.Data.{string};
+ghost use Rattle.serde_json.specs.Data.{member, no_members, object, string};
 ghost use Rattle.serde_json.specs.View.{view};
 ghost use Rattle.ink_model.specs.ValueJson.{value_data};
 ghost use Rattle.ink_model.specs.Save.Spelling.{kind_data};
-ghost use Rattle.ink_model.specs.declared.value.Value.TheVariants.{Target};
+ghost use Rattle.ink_model.specs.declared.value.Value.TheVariants.{Pointer, Target};
 
 use crate::written::Written;
 use ink_model::{FrameKind, Path, Shared, Text, Value};
@@ -13,7 +13,7 @@ use ink_path::print_path;
 use ink_tokens::{put, write_value};
 use ink_tree::Tree;
 use json::{Token, Writer};
-use serde_json::{Number, Value as Json, json};
+use serde_json::{Map, Number, Value as Json, put as put_entry};
 use std::alloc::{AllocError, Global};
 
 /// A text. The one error is a refused request for memory.
@@ -67,9 +67,9 @@ impl Written for Value {
             Value::Bool(truth) => Ok(Json::Bool(*truth)),
             Value::Text(text) => write_text(alloc, text.as_str()),
             Value::Target(path) => write_target(alloc, path.get()),
-            Value::Pointer(frame, name) => { json!(in alloc; {"ci": *frame, "var": name.as_str()}) }
+            Value::Pointer(frame, name) => write_pointer(alloc, *frame, name.as_str()),
             Value::Void => Ok(Json::Null),
-            Value::Tag(text) => json!(in alloc; {"tag": text.as_str()}),
+            Value::Tag(text) => write_member(alloc, "tag", text.as_str()),
         }
     }
 
@@ -83,5 +83,26 @@ fn write_target(alloc: Global, path: &Path) -> Result<Json, AllocError>
     ensures { IfOk result (λ json. view json ≡ value_data (Target path.now)) }
 {
     let text = print_path(alloc, path)?;
-    json!(in alloc; {"->": text.as_str()})
+    write_member(alloc, "->", text.as_str())
+}
+
+// An object that has one member, a text. The one error is a refused request for memory.
+fn write_member(alloc: Global, name: &str, text: &str) -> Result<Json, AllocError>
+    ensures { IfOk result (λ json. view json ≡ object (member name.now (string text.now) no_members)) }
+{
+    let value = write_text(alloc, text)?;
+    let mut members = Map::new(alloc);
+    put_entry(&mut members, alloc, name, value)?;
+    Ok(Json::Object(members))
+}
+
+// A pointer: the number of a frame, and a name. The one error is a refused request for memory.
+fn write_pointer(alloc: Global, frame: i32, name: &str) -> Result<Json, AllocError>
+    ensures { IfOk result (λ json. view json ≡ value_data (Pointer frame name.now)) }
+{
+    let name = write_text(alloc, name)?;
+    let mut members = Map::new(alloc);
+    put_entry(&mut members, alloc, "var", name)?;
+    put_entry(&mut members, alloc, "ci", Json::Number(Number::from(frame)))?;
+    Ok(Json::Object(members))
 }

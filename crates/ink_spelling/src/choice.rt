@@ -6,7 +6,7 @@ ghost use Rattle.ink_model.specs.Save.Asks.{choice_asks, choice_asks_by};
 ghost use Rattle.ink_model.specs.Save.Unspelled.{choice_by, choice_of};
 
 use crate::listed::Listed;
-use crate::members::{alone, next_named};
+use crate::members::{alone, next_spelled};
 use crate::spelled::Spelled;
 use crate::thread::SavedThread;
 use ink_model::{Part, Shared, Text};
@@ -58,34 +58,19 @@ fn read_members(
     ensures memory { OnErr result (choice_asks_by (members_view members.now.entries) ≡ true) }
 {
     let mut rest = members.iter();
-    let Some(json) = next_named(&mut rest, "hidden") else {
+    let Some(hidden) = next_spelled::<bool>(alloc, &mut rest, "hidden")? else {
         return Ok(None);
     };
-    let Some(hidden) = bool::read(alloc, json)? else {
+    let Some(tags) = next_spelled::<Listed<Shared<Text>>>(alloc, &mut rest, "tags")? else {
         return Ok(None);
     };
-    let Some(json) = next_named(&mut rest, "tags") else {
+    let Some(target) = next_spelled::<Listed<Part>>(alloc, &mut rest, "target")? else {
         return Ok(None);
     };
-    let Some(tags) = Listed::<Shared<Text>>::read(alloc, json)? else {
+    let Some(text) = next_spelled::<Text>(alloc, &mut rest, "text")? else {
         return Ok(None);
     };
-    let Some(json) = next_named(&mut rest, "target") else {
-        return Ok(None);
-    };
-    let Some(target) = Listed::<Part>::read(alloc, json)? else {
-        return Ok(None);
-    };
-    let Some(json) = next_named(&mut rest, "text") else {
-        return Ok(None);
-    };
-    let Some(text) = Text::read(alloc, json)? else {
-        return Ok(None);
-    };
-    let Some(json) = next_named(&mut rest, "thread") else {
-        return Ok(None);
-    };
-    let Some(thread) = SavedThread::read(alloc, json)? else {
+    let Some(thread) = next_spelled::<SavedThread>(alloc, &mut rest, "thread")? else {
         return Ok(None);
     };
     let choice = SavedChoice {

@@ -7,7 +7,7 @@ ghost use Rattle.ink_spelling.specs.Words.{flow_from_safe, named_flow_asks, name
 
 use crate::choice::SavedChoice;
 use crate::listed::Listed;
-use crate::members::{alone, next_named};
+use crate::members::{alone, next_spelled};
 use crate::spelled::Spelled;
 use crate::thread::{SavedThread, SavedThreads};
 use crate::value::SavedValue;
@@ -90,16 +90,10 @@ fn read_members(alloc: Global, members: &Map<String, Json>) -> Result<Option<Nam
     ensures memory { OnErr result (named_flow_asks_by (members_view members.now.entries) ≡ true) }
 {
     let mut rest = members.iter();
-    let Some(json) = next_named(&mut rest, "choices") else {
+    let Some(choices) = next_spelled::<Listed<SavedChoice>>(alloc, &mut rest, "choices")? else {
         return Ok(None);
     };
-    let Some(choices) = Listed::<SavedChoice>::read(alloc, json)? else {
-        return Ok(None);
-    };
-    let Some(json) = next_named(&mut rest, "name") else {
-        return Ok(None);
-    };
-    let Some(name) = Text::read(alloc, json)? else {
+    let Some(name) = next_spelled::<Text>(alloc, &mut rest, "name")? else {
         return Ok(None);
     };
     read_safe(alloc, &mut rest, choices, name)
@@ -115,22 +109,13 @@ fn read_safe(
     ensures found { IfOk result (λ flow. flow ≡ flow_from_safe choices name (members_view rest.old)) }
     ensures memory { OnErr result (safe_asks (members_view rest.old) ≡ true) }
 {
-    let Some(json) = next_named(rest, "safe") else {
+    let Some(safe) = next_spelled::<bool>(alloc, rest, "safe")? else {
         return Ok(None);
     };
-    let Some(safe) = bool::read(alloc, json)? else {
+    let Some(stack) = next_spelled::<Listed<SavedValue>>(alloc, rest, "stack")? else {
         return Ok(None);
     };
-    let Some(json) = next_named(rest, "stack") else {
-        return Ok(None);
-    };
-    let Some(stack) = Listed::<SavedValue>::read(alloc, json)? else {
-        return Ok(None);
-    };
-    let Some(json) = next_named(rest, "threads") else {
-        return Ok(None);
-    };
-    let Some(threads) = Listed::<SavedThread>::read(alloc, json)? else {
+    let Some(threads) = next_spelled::<Listed<SavedThread>>(alloc, rest, "threads")? else {
         return Ok(None);
     };
     let Some(threads) = SavedThreads::of(threads) else {

@@ -6,7 +6,7 @@ ghost use Rattle.ink_model.specs.Save.Asks.{frame_asks, frame_asks_by, none_asks
 ghost use Rattle.ink_model.specs.Save.Unspelled.{frame_by, frame_of, kind_by, kind_of};
 
 use crate::listed::Listed;
-use crate::members::{alone, next_named};
+use crate::members::{alone, next_spelled};
 use crate::spelled::Spelled;
 use crate::temps::SavedTemps;
 use ink_model::{FrameKind, Part};
@@ -59,40 +59,22 @@ fn read_members(
     ensures memory { OnErr result (frame_asks_by (members_view members.now.entries) ≡ true) }
 {
     let mut rest = members.iter();
-    let Some(json) = next_named(&mut rest, "depth") else {
+    let Some(depth) = next_spelled::<u64>(alloc, &mut rest, "depth")? else {
         return Ok(None);
     };
-    let Some(depth) = u64::read(alloc, json)? else {
+    let Some(evaluating) = next_spelled::<bool>(alloc, &mut rest, "eval")? else {
         return Ok(None);
     };
-    let Some(json) = next_named(&mut rest, "eval") else {
+    let Some(fresh) = next_spelled::<bool>(alloc, &mut rest, "fresh")? else {
         return Ok(None);
     };
-    let Some(evaluating) = bool::read(alloc, json)? else {
+    let Some(kind) = next_spelled::<FrameKind>(alloc, &mut rest, "kind")? else {
         return Ok(None);
     };
-    let Some(json) = next_named(&mut rest, "fresh") else {
+    let Some(place) = next_spelled::<Option<Listed<Part>>>(alloc, &mut rest, "place")? else {
         return Ok(None);
     };
-    let Some(fresh) = bool::read(alloc, json)? else {
-        return Ok(None);
-    };
-    let Some(json) = next_named(&mut rest, "kind") else {
-        return Ok(None);
-    };
-    let Some(kind) = FrameKind::read(alloc, json)? else {
-        return Ok(None);
-    };
-    let Some(json) = next_named(&mut rest, "place") else {
-        return Ok(None);
-    };
-    let Some(place) = Option::<Listed<Part>>::read(alloc, json)? else {
-        return Ok(None);
-    };
-    let Some(json) = next_named(&mut rest, "temps") else {
-        return Ok(None);
-    };
-    let Some(temps) = SavedTemps::read(alloc, json)? else {
+    let Some(temps) = next_spelled::<SavedTemps>(alloc, &mut rest, "temps")? else {
         return Ok(None);
     };
     let frame = SavedFrame {

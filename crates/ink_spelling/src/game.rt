@@ -8,10 +8,9 @@ ghost use Rattle.ink_spelling.specs.Words.{spelled_from_flows, spelled_from_glob
 
 use crate::flow::NamedFlow;
 use crate::listed::Listed;
-use crate::members::{alone, next_named};
+use crate::members::{alone, next_named, next_spelled};
 use crate::plain::is_layout;
 use crate::saved::SavedShared;
-use crate::spelled::Spelled;
 use crate::value::SavedValue;
 use ink_model::{Part, Text};
 use serde_json::{Map, Value as Json};
@@ -45,10 +44,7 @@ pub(crate) fn read_game(
     ensures memory { OnErr result (spelled_asks (members_view members.now.entries) ≡ true) }
 {
     let mut rest = members.iter();
-    let Some(json) = next_named(&mut rest, "current") else {
-        return Ok(None);
-    };
-    let Some(current) = Text::read(alloc, json)? else {
+    let Some(current) = next_spelled::<Text>(alloc, &mut rest, "current")? else {
         return Ok(None);
     };
     read_flows(alloc, &mut rest, current)
@@ -62,10 +58,7 @@ fn read_flows(
 ) -> Result<Option<SavedGame>, AllocError>
     ensures { IfOk result (λ game. game ≡ spelled_from_flows current (members_view rest.old)) }
 {
-    let Some(json) = next_named(rest, "flows") else {
-        return Ok(None);
-    };
-    let Some(flows) = Listed::<NamedFlow>::read(alloc, json)? else {
+    let Some(flows) = next_spelled::<Listed<NamedFlow>>(alloc, rest, "flows")? else {
         return Ok(None);
     };
     let Some(json) = next_named(rest, "format") else {
@@ -86,28 +79,16 @@ fn read_globals(
 ) -> Result<Option<SavedGame>, AllocError>
     ensures { IfOk result (λ game. game ≡ spelled_from_globals current flows (members_view rest.old)) }
 {
-    let Some(json) = next_named(rest, "globals") else {
+    let Some(globals) = next_spelled::<Listed<(Text, SavedValue)>>(alloc, rest, "globals")? else {
         return Ok(None);
     };
-    let Some(globals) = Listed::<(Text, SavedValue)>::read(alloc, json)? else {
+    let Some(turn) = next_spelled::<u64>(alloc, rest, "turn")? else {
         return Ok(None);
     };
-    let Some(json) = next_named(rest, "turn") else {
+    let Some(turns) = next_spelled::<Listed<(Listed<Part>, u64)>>(alloc, rest, "turns")? else {
         return Ok(None);
     };
-    let Some(turn) = u64::read(alloc, json)? else {
-        return Ok(None);
-    };
-    let Some(json) = next_named(rest, "turns") else {
-        return Ok(None);
-    };
-    let Some(turns) = Listed::<(Listed<Part>, u64)>::read(alloc, json)? else {
-        return Ok(None);
-    };
-    let Some(json) = next_named(rest, "visits") else {
-        return Ok(None);
-    };
-    let Some(visits) = Listed::<(Listed<Part>, u64)>::read(alloc, json)? else {
+    let Some(visits) = next_spelled::<Listed<(Listed<Part>, u64)>>(alloc, rest, "visits")? else {
         return Ok(None);
     };
     let shared = SavedShared {

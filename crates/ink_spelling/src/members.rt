@@ -1,11 +1,13 @@
 //! Members of objects, one after another.
 
-ghost use Rattle.std.specs.Prelude.{◌≡◌, IfSome, option_map};
+ghost use Rattle.std.specs.Prelude.{◌≡◌, IfOk, IfSome, OnErr, Some, option_and_then, option_map, true};
 ghost use Rattle.serde_json.specs.View.{view, members_view};
 ghost use Rattle.ink_model.specs.Save.Unspelled.{closed};
 ghost use Rattle.ink_model.specs.Save.Unspelled as rules;
 
+use crate::spelled::Spelled;
 use serde_json::Value as Json;
+use std::alloc::{AllocError, Global};
 use std::collections::btree_map::Iter;
 
 /// The value of the next member, if it has this name. It goes one member on.
@@ -18,6 +20,23 @@ pub(crate) fn next_named<'a>(members: &mut Iter<'a, String, Json>, name: &str) -
         Some(value)
     } else {
         None
+    }
+}
+
+/// What the value of the next member spells, if it has this name. It goes one member on. The one error is a refused request for
+/// memory.
+pub(crate) fn next_spelled<T: Spelled>(
+    alloc: Global,
+    members: &mut Iter<'_, String, Json>,
+    name: &str,
+) -> Result<Option<T>, AllocError>
+    ensures found { IfOk result (λ found. found ≡ option_and_then (λ r. T.spelled r.0) (rules.next_named name.now (members_view members.old))) }
+    ensures rest { IfOk result (λ found. IfSome found (λ _. option_map (λ r. r.1) (rules.next_named name.now (members_view members.old)) ≡ Some (members_view members.new))) }
+    ensures memory { OnErr result (option_map (λ r. T.asks r.0) (rules.next_named name.now (members_view members.old)) ≡ Some true) }
+{
+    match next_named(members, name) {
+        Some(json) => T::read(alloc, json),
+        None => Ok(None),
     }
 }
 

@@ -8,7 +8,7 @@ ghost use Rattle.ink_model.specs.Save.Unspelled.{from_threads, from_turn, unspel
 use crate::choice::SavedChoice;
 use crate::flow::SavedFlow;
 use crate::listed::Listed;
-use crate::members::{alone, next_named};
+use crate::members::{alone, next_named, next_spelled};
 use crate::plain::is_layout;
 use crate::spelled::Spelled;
 use crate::thread::{SavedThread, SavedThreads};
@@ -109,10 +109,7 @@ fn read_threads(
     ensures saved { IfOk result (λ saved. saved ≡ from_threads choices globals safe stack (members_view rest.old)) }
     ensures memory { OnErr result (threads_ask (members_view rest.old) ≡ true) }
 {
-    let Some(json) = next_named(rest, "threads") else {
-        return Ok(None);
-    };
-    let Some(threads) = Listed::<SavedThread>::read(alloc, json)? else {
+    let Some(threads) = next_spelled::<Listed<SavedThread>>(alloc, rest, "threads")? else {
         return Ok(None);
     };
     read_turn(alloc, rest, choices, globals, safe, stack, threads)
@@ -131,22 +128,13 @@ fn read_turn(
     ensures saved { IfOk result (λ saved. saved ≡ from_turn choices globals safe stack threads (members_view rest.old)) }
     ensures memory { OnErr result (turn_asks (members_view rest.old) ≡ true) }
 {
-    let Some(json) = next_named(rest, "turn") else {
+    let Some(turn) = next_spelled::<u64>(alloc, rest, "turn")? else {
         return Ok(None);
     };
-    let Some(turn) = u64::read(alloc, json)? else {
+    let Some(turns) = next_spelled::<Listed<(Listed<Part>, u64)>>(alloc, rest, "turns")? else {
         return Ok(None);
     };
-    let Some(json) = next_named(rest, "turns") else {
-        return Ok(None);
-    };
-    let Some(turns) = Listed::<(Listed<Part>, u64)>::read(alloc, json)? else {
-        return Ok(None);
-    };
-    let Some(json) = next_named(rest, "visits") else {
-        return Ok(None);
-    };
-    let Some(visits) = Listed::<(Listed<Part>, u64)>::read(alloc, json)? else {
+    let Some(visits) = next_spelled::<Listed<(Listed<Part>, u64)>>(alloc, rest, "visits")? else {
         return Ok(None);
     };
     let Some(threads) = SavedThreads::of(threads) else {

@@ -7,7 +7,7 @@ ghost use Rattle.ink_model.specs.Save.Unspelled.{thread_by, thread_in, thread_wi
 
 use crate::frame::SavedFrame;
 use crate::listed::Listed;
-use crate::members::{alone, next_named};
+use crate::members::{alone, next_spelled};
 use crate::spelled::Spelled;
 use ink_model::Part;
 use serde_json::{Map, Value as Json};
@@ -71,16 +71,10 @@ fn read_members(
     ensures memory { OnErr result (thread_asks_by (members_view members.now.entries) ≡ true) }
 {
     let mut rest = members.iter();
-    let Some(json) = next_named(&mut rest, "frames") else {
+    let Some(frames) = next_spelled::<Listed<SavedFrame>>(alloc, &mut rest, "frames")? else {
         return Ok(None);
     };
-    let Some(frames) = Listed::<SavedFrame>::read(alloc, json)? else {
-        return Ok(None);
-    };
-    let Some(json) = next_named(&mut rest, "previous") else {
-        return Ok(None);
-    };
-    let Some(previous) = Option::<Listed<Part>>::read(alloc, json)? else {
+    let Some(previous) = next_spelled::<Option<Listed<Part>>>(alloc, &mut rest, "previous")? else {
         return Ok(None);
     };
     let Some(thread) = SavedThread::of(frames, previous) else {

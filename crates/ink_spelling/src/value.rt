@@ -8,7 +8,7 @@ ghost use Rattle.ink_model.specs.Save.Unspelled.{number_integer, path_in, pointe
 ghost use Rattle.ink_model.specs.declared.value.Value.TheVariants.{Int};
 ghost use Rattle.ink_spelling.specs.Words.{IsRead, ReadsSame, path_of, value_by};
 
-use crate::members::{alone, next_named};
+use crate::members::{alone, next_named, next_spelled};
 use crate::plain::{shared_text, small_integer};
 use crate::spelled::Spelled;
 use ink_model::{Cause, Path, Shared, Text, Value};
@@ -128,16 +128,10 @@ fn read_pointer(alloc: Global, members: &Map<String, Json>) -> Result<Option<Val
     ensures memory { OnErr result (pointer_asks (members_view members.now.entries) ≡ true) }
 {
     let mut rest = members.iter();
-    let Some(json) = next_named(&mut rest, "ci") else {
+    let Some(frame) = next_spelled::<i32>(alloc, &mut rest, "ci")? else {
         return Ok(None);
     };
-    let Some(frame) = i32::read(alloc, json)? else {
-        return Ok(None);
-    };
-    let Some(json) = next_named(&mut rest, "var") else {
-        return Ok(None);
-    };
-    let Some(name) = Shared::<Text>::read(alloc, json)? else {
+    let Some(name) = next_spelled::<Shared<Text>>(alloc, &mut rest, "var")? else {
         return Ok(None);
     };
     Ok(alone(&mut rest, Value::Pointer(frame, name)))
@@ -149,10 +143,7 @@ fn read_tag(alloc: Global, members: &Map<String, Json>) -> Result<Option<Value>,
     ensures memory { OnErr result (tag_asks (members_view members.now.entries) ≡ true) }
 {
     let mut rest = members.iter();
-    let Some(json) = next_named(&mut rest, "tag") else {
-        return Ok(None);
-    };
-    let Some(text) = Shared::<Text>::read(alloc, json)? else {
+    let Some(text) = next_spelled::<Shared<Text>>(alloc, &mut rest, "tag")? else {
         return Ok(None);
     };
     Ok(alone(&mut rest, Value::Tag(text)))
