@@ -1,0 +1,88 @@
+//! Names with their numbers.
+
+ghost use Rattle.std.specs.Prelude.{◌≡◌, [], ◌∷◌, ◌++◌, None, length, option_map, slice_get, OnOk, OnErr};
+ghost use Rattle.ink_names.specs.Names.{Differ, number_of, without_last};
+
+use std::alloc::{AllocError, Global};
+use std::collections::BTreeMap;
+use std::marker::Model;
+
+/// Names, each once, in the order in which they came. They are found by order and not by hash, so that nobody can choose names
+/// that are slow to find.
+#[derive(Drop)]
+pub struct Names {
+    list: Vec<String>,
+    numbers: BTreeMap<String, usize>,
+}
+
+impl Model for Names {
+    ghost use Rattle.std.specs.Prelude.{ℕ, List};
+    ghost use Rattle.ink_names.specs.Names.{Differ, Finds, names_of};
+
+    ghost Value = { List (List ℕ) };
+
+    ghost view = { λ n. names_of n.list.items };
+
+    ghost invariant = { λ n. Differ (names_of n.list.items) × Finds n.numbers (names_of n.list.items) };
+}
+
+impl Names {
+    /// No names, which take no memory.
+    pub fn new(alloc: Global) -> Names
+        ensures { result ≡ [] }
+    {
+        Names {
+            list: Vec::new(alloc),
+            numbers: BTreeMap::new(alloc),
+        }
+    }
+
+    /// How many there are; no two are the same.
+    pub fn len(&self) -> usize
+        ensures len { result ≡ length self.now }
+        ensures differ { Differ self.now }
+    {
+        self.list.len()
+    }
+
+    /// The number of a name, where it is there. Takes no memory.
+    pub fn number(&self, name: &str) -> Option<usize>
+        ensures { result ≡ number_of self.now name.now }
+    {
+        self.numbers.get(name).copied()
+    }
+
+    /// The name of a number; none past the last. Takes no memory.
+    pub fn name(&self, number: usize) -> Option<&str>
+        ensures { option_map (λ name. name.now) result ≡ slice_get self.now number }
+    {
+        match self.list.get(number) {
+            Some(name) => Some(name.as_str()),
+            None => None,
+        }
+    }
+
+    /// Adds a name that is not there behind the others. The one error is a refused request for memory, and leaves all as it was.
+    pub fn add(&mut self, alloc: Global, name: &str) -> Result<(), AllocError>
+        requires { number_of self.old name.now ≡ None }
+        ensures ok { OnOk result (self.new ≡ self.old ++ name.now ∷ []) }
+        ensures err { OnErr result (self.new ≡ self.old) }
+    {
+        let listed = String::from_str(alloc, name)?;
+        let key = String::from_str(alloc, name)?;
+        self.list.reserve(1)?;
+        let number = self.list.len();
+        self.numbers.insert(key, number)?;
+        self.list.push_reserved(listed);
+        Ok(())
+    }
+
+    /// Takes the last name away, where there is one. Takes no memory.
+    pub fn remove_last(&mut self)
+        ensures { self.new ≡ without_last self.old }
+    {
+        if let Some(name) = self.list.pop() {
+            let _number = self.numbers.remove(name.as_str());
+        }
+    }
+}
