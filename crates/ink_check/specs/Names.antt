@@ -1,7 +1,6 @@
 -- The names of a story's variables, and their numbers.
-use Rattle.std.specs.Prelude.{ℕ, List, [], ◌∷◌, ◌++◌, Option, Some, None, bytes_eq, if◌then◌else◌, map, position, String, string_bytes}
-use Rattle.std.specs.List.{list_any}
-use Rattle.std.specs.declared.alloc.Global.{Global}
+use Rattle.std.specs.Prelude.{ℕ, List, [], ◌∷◌, ◌++◌, Option, Some, None, if◌then◌else◌, is_some}
+use Rattle.ink_names.specs.Names.{number_of}
 use Rattle.ink_model.specs.Places.{places}
 use Rattle.ink_model.specs.Tree.{StoryTree, leaf, container, at}
 use Rattle.ink_model.specs.declared.content.Destination.{Destination}
@@ -34,7 +33,7 @@ variable_of (Some (leaf l)) = variable_name l
 
 -- names with one more, which comes last, unless it is among them
 abbrev pub with_name : List ℕ → List (List ℕ) → List (List ℕ)
-with_name name names = if list_any (bytes_eq name) names then names else names ++ name ∷ []
+with_name name names = if is_some (number_of names name) then names else names ++ name ∷ []
 
 abbrev pub with_variable : Option (List ℕ) → List (List ℕ) → List (List ℕ)
 with_variable None names = names
@@ -48,15 +47,7 @@ names_from s (p ∷ ps) names = names_from s ps (with_variable (variable_of (at 
 abbrev pub names : StoryTree → List (List ℕ)
 names s = names_from s (places s) []
 
--- the names that a set keeps
-abbrev pub names_of : List (String Global) → List (List ℕ)
-names_of keys = map string_bytes keys
-
 -- ---- numbers
-
--- the number of a name: its index among these
-abbrev pub number_of : List (List ℕ) → List ℕ → Option ℕ
-number_of names name = position (bytes_eq name) names
 
 abbrev pub number_in : List (List ℕ) → Option (List ℕ) → Option ℕ
 number_in names None = None

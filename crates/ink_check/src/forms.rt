@@ -9,9 +9,10 @@ ghost use Rattle.ink_tree.specs.Nodes.{story_tree};
 
 use crate::leading::follow;
 use crate::link::{Link, Purpose};
-use crate::names::{Names, variable};
+use crate::names::variable;
 use ink_model::choice_flags::is_once_only;
 use ink_model::{Destination, Failure, Leaf};
+use ink_names::Names;
 use ink_tree::{NodeId, Tree};
 use std::alloc::Global;
 

@@ -1,58 +1,14 @@
 //! The names of variables (docs/VARIABLES.md).
 
-ghost use Rattle.std.specs.Prelude.{◌≡◌, [], IfOk, OnOk, option_map};
+ghost use Rattle.std.specs.Prelude.{◌≡◌, IfOk, OnOk, option_map};
 ghost use Rattle.ink_check.specs.Names as rules;
 ghost use Rattle.ink_model.specs.Tree as trees;
 ghost use Rattle.ink_tree.specs.Nodes.{node_place, story_tree};
 
-use indexmap::IndexSet;
 use ink_model::{Destination, Leaf};
+use ink_names::Names;
 use ink_tree::{NodeId, Tree};
 use std::alloc::{AllocError, Global};
-use std::marker::Model;
-
-/// Names, each once, with their indices as their numbers.
-#[derive(Drop)]
-pub(crate) struct Names {
-    names: IndexSet<String>,
-}
-
-impl Model for Names {
-    ghost use Rattle.std.specs.Prelude.{ℕ, List};
-    ghost use Rattle.ink_check.specs.Names.{names_of};
-
-    ghost Value = { List (List ℕ) };
-
-    ghost view = { λ n. names_of n.names.keys };
-}
-
-impl Names {
-    fn new(alloc: Global) -> Names
-        ensures { result ≡ [] }
-    {
-        Names {
-            names: IndexSet::new(alloc),
-        }
-    }
-
-    // A name comes last, unless it is there. The one error is a refused request for memory.
-    fn add(&mut self, alloc: Global, name: &str) -> Result<(), AllocError>
-        ensures { OnOk result (self.new ≡ rules.with_name name.now self.old) }
-    {
-        if !self.names.contains(name) {
-            let name = String::from_str(alloc, name)?;
-            self.names.insert(name)?;
-        }
-        Ok(())
-    }
-
-    /// The number of a name, where it is there.
-    pub(crate) fn number(&self, name: &str) -> Option<usize>
-        ensures { result ≡ rules.number_of self.now name.now }
-    {
-        self.names.get_index_of(name)
-    }
-}
 
 /// The names of a story's variables, in order of their first occurrence. The one error is a refused request for memory.
 pub(crate) fn variable_names(alloc: Global, tree: &Tree) -> Result<Names, AllocError>
@@ -61,10 +17,20 @@ pub(crate) fn variable_names(alloc: Global, tree: &Tree) -> Result<Names, AllocE
     let mut names = Names::new(alloc);
     for number in 0..tree.len() {
         if let Some(name) = node_variable(tree, NodeId { number }) {
-            names.add(alloc, name)?;
+            add(&mut names, alloc, name)?;
         }
     }
     Ok(names)
+}
+
+// A name comes last, unless it is there. The one error is a refused request for memory.
+fn add(names: &mut Names, alloc: Global, name: &str) -> Result<(), AllocError>
+    ensures { OnOk result (names.new ≡ rules.with_name name.now names.old) }
+{
+    if names.number(name).is_none() {
+        names.add(alloc, name)?;
+    }
+    Ok(())
 }
 
 fn node_variable(tree: &Tree, node: NodeId) -> Option<&str>

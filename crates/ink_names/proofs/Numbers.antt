@@ -1,8 +1,8 @@
 -- The numbers of names, where one is added.
-use Rattle.std.proofs.Common.{◌≡◌, ◌∙◌, ℕ, suc, Bool, true, false, bytes_eq, if◌then◌else◌, List, [], ◌∷◌, ◌++◌, Option, None, Some, String, Global, ap, cond, is_some, length, option_map, refl, string_bytes, sym}
+use Rattle.std.proofs.Common.{◌≡◌, ◌∙◌, ◌<◌, ℕ, zero, suc, Bool, true, false, bytes_eq, if◌then◌else◌, List, [], ◌∷◌, ◌++◌, Option, None, Some, String, Global, ap, arith, cond, is_some, length, option_map, refl, slice_get, slice_index_or, string_bytes, sym}
 use Rattle.std.specs.BTreeMap.{BTreeMap, get_by_text}
 use Rattle.std.proofs.lemmas.Slice.Eq.{bytes_eq-Decides}
-use Rattle.ink_names.specs.Names.{Differ, Finds, number_of, without_last}
+use Rattle.ink_names.specs.Names.{Differ, Finds, names_of, number_of, without_last}
 
 -- the number of a name behind others, where it is not among them
 abbrev last : Bool → ℕ → Option ℕ → Option ℕ
@@ -106,3 +106,29 @@ finds_popped m n names name absent finds is q =
     by : (b : Bool) → bytes_eq name q ≡ b → cond b None (last (bytes_eq q name) (length names) (number_of names q)) ≡ number_of names q
     by true e = sym (ap (number_of names) (sym ((bytes_eq-Decides name q).0 e)) ∙ absent)
     by false e = ap (λ b. last b (length names) (number_of names q)) (other name q e) ∙ at (number_of names q)
+
+-- ---- by number
+
+-- a name that stands at a number has that number
+unlike : (name n : List ℕ) (ns : List (List ℕ)) (i : ℕ) → number_of ns n ≡ None → number_of ns name ≡ Some i → bytes_eq name n ≡ false
+unlike name n ns i absent there = by (bytes_eq name n) refl
+  where
+    by : (b : Bool) → bytes_eq name n ≡ b → b ≡ false
+    by false e = refl
+    by true e =
+        let wrong : None ≡ Some i = sym absent ∙ sym (ap (number_of ns) ((bytes_eq-Decides name n).0 e)) ∙ there in
+        absurd (cc)
+
+pub number_at : (name : List ℕ) (ns : List (List ℕ)) (i : ℕ) → Differ ns → slice_get ns i ≡ Some name → number_of ns name ≡ Some i
+number_at name [] i differ at = absurd (cc)
+number_at name (n ∷ ns) zero differ at =
+    let same : n ≡ name = cc in
+    ap (λ b. if b then Some 0 else option_map suc (number_of ns name)) ((bytes_eq-Decides name n).1 (sym same))
+number_at name (n ∷ ns) (suc i) differ at =
+    let there : number_of ns name ≡ Some i = number_at name ns i differ.1 at in
+    ap (λ b. if b then Some 0 else option_map suc (number_of ns name)) (unlike name n ns i differ.0 there) ∙ ap (option_map suc) there
+
+pub listed_at : (list : List (String Global)) (i : ℕ) (name : String Global) → i < length list → name ≡ slice_index_or list i name → slice_get (names_of list) i ≡ Some (string_bytes name)
+listed_at [] i name within is = absurd (omega (arith, within))
+listed_at (s ∷ list) zero name within is = ap (λ n. Some (string_bytes n)) (sym is)
+listed_at (s ∷ list) (suc i) name within is = listed_at list i name (omega (arith, within)) is

@@ -1,6 +1,6 @@
 //! Names with their numbers.
 
-ghost use Rattle.std.specs.Prelude.{◌≡◌, [], ◌∷◌, ◌++◌, None, length, option_map, slice_get, OnOk, OnErr};
+ghost use Rattle.std.specs.Prelude.{◌≡◌, [], ◌∷◌, ◌++◌, None, Some, length, option_map, slice_get, IfSome, OnOk, OnErr};
 ghost use Rattle.ink_names.specs.Names.{Differ, number_of, without_last};
 
 use std::alloc::{AllocError, Global};
@@ -54,7 +54,8 @@ impl Names {
 
     /// The name of a number; none past the last. Takes no memory.
     pub fn name(&self, number: usize) -> Option<&str>
-        ensures { option_map (λ name. name.now) result ≡ slice_get self.now number }
+        ensures name { option_map (λ name. name.now) result ≡ slice_get self.now number }
+        ensures number { IfSome result (λ name. number_of self.now name.now ≡ Some number) }
     {
         match self.list.get(number) {
             Some(name) => Some(name.as_str()),

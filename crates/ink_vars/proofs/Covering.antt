@@ -2,7 +2,7 @@
 use Rattle.std.proofs.Common.{◌≡◌, ◌≢◌, ◌∙◌, ◌⊎◌, ◌≤◌, ◌<◌, ◌+◌, ◌-◌, ℕ, zero, suc, Bool, true, false, bytes_eq, eqb, if◌then◌else◌, List, [], ◌∷◌, ◌++◌, Option, Some, None, ap, arith, inl, inr, is_some, length, refl, subst, sym}
 use Rattle.std.proofs.lemmas.Bool.{cases_Bool, cases_lt, eq-eqb, eqb-true}
 use Rattle.std.specs.Option.{option_or}
-use Rattle.indexmap.specs.IndexMap.{set_value_at}
+use Rattle.ink_vars.specs.Globals.{set_value_at}
 use Rattle.ink_model.specs.Store.{Values, stored}
 use Rattle.ink_model.specs.declared.value.Value.{Value}
 use Rattle.ink_trail.specs.Undo.{Undo, but_last, trail_of, with_pair}

@@ -1,6 +1,6 @@
 pub mod Chains
 pub mod Naming
-pub mod Entries
+pub mod Rows
 pub mod Numbered
 pub mod Restored
 pub mod Marking

@@ -2,11 +2,10 @@
 use Rattle.std.proofs.Common.{◌≡◌, ◌∙◌, Option, ◌≤◌, ◌<◌, ℕ, zero, suc, List, [], ◌∷◌, ◌++◌, None, Some, String, Global, ap, arith, bytes_eq, false, true, Bool, if◌then◌else◌, is_some, length, map, refl, slice_get, string_bytes, sym}
 use Rattle.std.proofs.lemmas.List.{map-append}
 use Rattle.std.specs.Option.{option_to_list}
-use Rattle.indexmap.specs.IndexMap.{set_value_at}
+use Rattle.ink_vars.specs.Globals.{set_value_at}
 use Rattle.ink_model.specs.Store.{Values, store, stored}
 use Rattle.ink_model.specs.declared.value.Value.{Value}
 use Rattle.ink_vars.specs.Changes.{number_of}
-use Rattle.ink_vars.specs.Globals.{values_of}
 use Rattle.ink_vars.proofs.Naming.{store_new}
 use Rattle.ink_vars.proofs.Numbers.{number_there}
 use Rattle.ink_trail.proofs.Ending.{but_last-snoc}
@@ -16,37 +15,6 @@ use Rattle.ink_trail.specs.Undo.{but_last}
 pub added : (name : List ℕ) (v : Value) (rows : Values) → stored name rows ≡ None → but_last (store name v rows) ≡ rows
 added name v [] h = refl
 added name v (e ∷ rows) h = ap but_last (store_new name v (e ∷ rows) h) ∙ but_last-snoc (e ∷ rows) (name, v)
-
--- a value that is written at an index
-pub written : (es : List (String Global × Value)) (i : ℕ) (v : Value) → values_of (set_value_at es i v) ≡ set_value_at (values_of es) i v
-written [] i v = refl
-written (e ∷ es) zero v = refl
-written (e ∷ es) (suc i) v = ap (λ rest. (string_bytes e.0, e.1) ∷ rest) (written es i v)
-
--- what was at an index is put back
-pub swapped : (es : List (String Global × Value)) (i : ℕ) (v w : Value) → slice_get (map (λ e. e.1) es) i ≡ Some w → set_value_at (set_value_at es i v) i w ≡ es
-swapped [] i v w h = refl
-swapped (e ∷ es) zero v w h =
-    let same : e.1 ≡ w = cc in
-    ap (λ x. (e.0, x) ∷ es) (sym same)
-swapped (e ∷ es) (suc i) v w h = ap (λ rest. e ∷ rest) (swapped es i v w h)
-
--- the last is taken out, where there is one
-pub popped : (old new : List (String Global × Value)) (r : Option (String Global × Value)) → old ≡ new ++ option_to_list r → (0 < length old → is_some r ≡ true)
-    → values_of new ≡ but_last (values_of old)
-popped old new (Some e) h s = sym (ap (λ es. but_last (values_of es)) h ∙ ap but_last (map-append (λ e. (string_bytes e.0, e.1)) new (e ∷ [])) ∙ but_last-snoc (values_of new) (string_bytes e.0, e.1))
-popped (x ∷ old) new None h s =
-    let some : false ≡ true = s (omega arith) in
-    absurd (cc)
-popped [] [] None h s = refl
-popped [] (y ∷ new) None h s = absurd (cc)
-
-pub written_absent : (es : List (String Global × Value)) (i : ℕ) (v : Value) → (i < length es → false ≡ true) → set_value_at (values_of es) i v ≡ values_of es
-written_absent [] i v h = refl
-written_absent (e ∷ es) zero v h =
-    let wrong : false ≡ true = h (omega arith) in
-    absurd (cc)
-written_absent (e ∷ es) (suc i) v h = ap (λ rest. (string_bytes e.0, e.1) ∷ rest) (written_absent es i v (λ k. h (omega (arith, k))))
 
 -- ---- by the number of a name
 

@@ -1,7 +1,7 @@
 -- How changes of globals and counts are put back.
 use Rattle.std.specs.Ordering.{nat_cmp}
 use Rattle.std.specs.Prelude.{◌≡◌, ◌≤◌, ◌<◌, ◌-◌, ⊤, ℕ, Bool, List, [], ◌∷◌, Option, None, is_some, IfSome, if◌then◌else◌, true}
-use Rattle.indexmap.specs.IndexMap.{set_value_at}
+use Rattle.ink_vars.specs.Globals.{set_value_at}
 use Rattle.ink_model.specs.Counts.{CountsOf}
 use Rattle.ink_model.specs.Rows.{row}
 use Rattle.ink_model.specs.Store.{Values}

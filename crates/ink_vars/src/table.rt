@@ -1,37 +1,41 @@
-//! Values by name, in order, found by hash and by number.
+//! Values by name, in order, found by name and by number.
 
 ghost use Rattle.std.specs.Prelude.{◌≡◌, ◌<◌, [], false, true, is_some, is_ok, length, option_map, slice_get, IfErr, IfSome, OnOk, OnErr, Some};
 ghost use Rattle.ink_model.specs.Store.{stored, store};
+ghost use Rattle.ink_trail.specs.Undo.{but_last};
 ghost use Rattle.ink_vars.specs.Changes.{number_of};
-ghost use Rattle.indexmap.specs.IndexMap.{index_map_len, set_value_at};
-ghost use Rattle.ink_vars.specs.Globals.{DifferInName, values_of};
+ghost use Rattle.ink_vars.specs.Globals.{DifferInName, set_value_at};
 ghost use Rattle.ink_vars.specs.Undo.{global_back};
 
 use crate::undo::GlobalPair;
-use indexmap::IndexMap;
 use ink_model::Value;
+use ink_names::Names;
 use std::alloc::{AllocError, Global};
 use std::marker::Model;
 use std::mem;
 
-/// The values of globals by name, found by hash, in the order in which they were declared. A contract sees the list of them.
+/// The values of globals by name, in the order in which they were declared. A contract sees the list of them.
 ///
 /// A name may have a number, which whoever asks gives with it: the slot of that number is where the global was put last, so that
-/// it is found there without a hash. It is looked at whether the name stands there; if not, the global is found by its name.
+/// it is found there at once. It is looked at whether the name stands there; if not, the global is found by its name.
 #[derive(Drop)]
 pub(crate) struct Table {
-    values: IndexMap<String, Value>,
+    names: Names,
+    values: Vec<Value>,
     slots: Vec<usize>,
     alloc: Global,
 }
 
 impl Model for Table {
+    ghost use Rattle.std.specs.Prelude.{◌≡◌, length};
     ghost use Rattle.ink_model.specs.Store.{Values};
-    ghost use Rattle.ink_vars.specs.Globals.{values_of};
+    ghost use Rattle.ink_vars.specs.Globals.{rows_of};
 
     ghost Value = { Values };
 
-    ghost view = { λ t. values_of t.values.entries };
+    ghost view = { λ t. rows_of t.names t.values.items };
+
+    ghost invariant = { λ t. length t.names ≡ length t.values.items };
 }
 
 impl Table {
@@ -40,7 +44,8 @@ impl Table {
         ensures { result ≡ [] }
     {
         Table {
-            values: IndexMap::new(alloc),
+            names: Names::new(alloc),
+            values: Vec::new(alloc),
             slots: Vec::new(alloc),
             alloc,
         }
@@ -50,7 +55,10 @@ impl Table {
     pub(crate) fn get(&self, name: &str) -> Option<&Value>
         ensures { option_map (λ value. value.now) result ≡ stored name.now self.now }
     {
-        self.values.get(name)
+        match self.names.number(name) {
+            Some(index) => self.values.get(index),
+            None => None,
+        }
     }
 
     /// The same by a name and its number.
@@ -68,7 +76,7 @@ impl Table {
     pub(crate) fn contains(&self, name: &str) -> bool
         ensures { result ≡ is_some (stored name.now self.now) }
     {
-        self.values.contains_key(name)
+        self.names.number(name).is_some()
     }
 
     /// How many globals there are, each with a name of its own.
@@ -76,7 +84,7 @@ impl Table {
         ensures len { result ≡ length self.now }
         ensures names { DifferInName self.now }
     {
-        self.values.len()
+        self.names.len()
     }
 
     /// The number of a global in order of declaration, which is its index; where there is no such global, that of the next
@@ -84,8 +92,8 @@ impl Table {
     pub(crate) fn number_of(&self, name: &str) -> usize
         ensures { result ≡ number_of name.now self.now }
     {
-        let next = self.values.len();
-        self.values.get_index_of(name).unwrap_or(next)
+        let next = self.names.len();
+        self.names.number(name).unwrap_or(next)
     }
 
     /// The same by a name and its number.
@@ -104,11 +112,9 @@ impl Table {
         ensures { IfSome result (λ f. (f.0 ≡ number_of name.now self.now) × (Some f.1.now ≡ stored name.now self.now)) }
     {
         let index = *self.slots.get(number?)?;
-        if index >= self.values.len() {
-            return None;
-        }
-        let (key, value) = self.values.get_index(index)?;
-        if key.as_str() == name {
+        let there = self.names.name(index)?;
+        let value = self.values.get(index)?;
+        if there == name {
             Some((index, value))
         } else {
             None
@@ -120,8 +126,11 @@ impl Table {
     pub(crate) fn pair(&self, index: usize) -> Option<(&str, &Value)>
         ensures { option_map (λ pair. (pair.0.now, pair.1.now)) result ≡ slice_get self.now index }
     {
-        match self.values.get_index(index) {
-            Some((name, value)) => Some((name.as_str(), value)),
+        match self.names.name(index) {
+            Some(name) => match self.values.get(index) {
+                Some(value) => Some((name, value)),
+                None => None,
+            },
             None => None,
         }
     }
@@ -133,11 +142,13 @@ impl Table {
         ensures err { IfErr result (λ handed_back. handed_back ≡ value) }
         ensures kept { OnErr result (self.new ≡ self.old) }
     {
-        if let Some(place) = self.values.get_mut(name) {
-            *place = value;
-            return Ok(());
+        match self.names.number(name) {
+            Some(index) => {
+                self.values[index] = value;
+                Ok(())
+            }
+            None => Err(value),
         }
-        Err(value)
     }
 
     /// Gives the global of a name, which may have a number, a value: one that is there keeps its place, and a new one comes last,
@@ -166,13 +177,13 @@ impl Table {
         ensures err { IfErr result (λ handed_back. handed_back ≡ value) }
         ensures kept { OnErr result (self.new ≡ self.old) }
     {
-        if let Some((index, _)) = self.found(name, number) {
-            if let Some(slot) = self.values.get_index_mut(index) {
-                *slot = value;
-                return Ok(());
+        match self.found(name, number) {
+            Some((index, _)) => {
+                self.values[index] = value;
+                Ok(())
             }
+            None => self.replace(name, value),
         }
-        self.replace(name, value)
     }
 
     /// As `put_at`, of a global that stands at an index.
@@ -190,11 +201,8 @@ impl Table {
         ensures err { OnErr result (self.new ≡ self.old) }
         ensures memory { OnErr result (is_some (stored name.now self.old) ≡ false) }
     {
-        if let Some(slot) = self.values.get_index_mut(index) {
-            *slot = value;
-            return Ok(());
-        }
-        self.put_at(name, number, value)
+        self.values[index] = value;
+        Ok(())
     }
 
     /// As `put_at`, of a global that is not there.
@@ -207,7 +215,7 @@ impl Table {
         ensures ok { OnOk result (self.new ≡ store name.now value self.old) }
         ensures err { OnErr result (self.new ≡ self.old) }
     {
-        let index = self.values.len();
+        let index = self.names.len();
         if let Some(number) = number {
             make_slot(&mut self.slots, number)?;
             self.slots[number] = index;
@@ -221,14 +229,29 @@ impl Table {
         ensures written { self.new ≡ set_value_at self.old index value }
         ensures before { set_value_at self.new index result ≡ self.old }
     {
-        swap_at(&mut self.values, index, value)
+        mem::replace(&mut self.values[index], value)
     }
 
     /// Puts what a global held back. Takes no memory.
     pub(crate) fn put_one_back(&mut self, pair: GlobalPair)
         ensures { self.new ≡ global_back pair self.old }
     {
-        put_one_back(&mut self.values, pair);
+        match pair {
+            GlobalPair::Added => self.remove_last(),
+            GlobalPair::Changed(index, value) => {
+                if index < self.len() {
+                    let _before = self.swap_at(index, value);
+                }
+            }
+        }
+    }
+
+    // Takes the last global away, where there is one.
+    fn remove_last(&mut self)
+        ensures { self.new ≡ but_last self.old }
+    {
+        self.names.remove_last();
+        self.values.truncate(self.names.len());
     }
 
     // As `put_at`, without a slot, and with a copy of the name.
@@ -236,36 +259,12 @@ impl Table {
         ensures ok { OnOk result (self.new ≡ store name.now value self.old) }
         ensures err { OnErr result (self.new ≡ self.old) }
     {
-        let key = String::from_str(self.alloc, name)?;
-        self.values.insert(key, value)?;
+        if let Err(value) = self.replace(name, value) {
+            self.values.reserve(1)?;
+            self.names.add(self.alloc, name)?;
+            self.values.push_reserved(value);
+        }
         Ok(())
-    }
-}
-
-// Gives the global at an index a value, and hands out the one before.
-#[tactic(auto, using(crate::proofs::Taking::swapped))]
-#[inline(always)]
-fn swap_at(values: &mut IndexMap<String, Value>, index: usize, value: Value) -> Value
-    requires { index < index_map_len values.old }
-    ensures entries { values.new.entries ≡ set_value_at values.old.entries index value }
-    ensures before { set_value_at values.new.entries index result ≡ values.old.entries }
-{
-    mem::replace(values.get_index_mut(index).unwrap(), value)
-}
-
-// Puts what a global held back.
-fn put_one_back(values: &mut IndexMap<String, Value>, pair: GlobalPair)
-    ensures { values_of values.new.entries ≡ global_back pair (values_of values.old.entries) }
-{
-    match pair {
-        GlobalPair::Added => {
-            let _added = values.pop();
-        }
-        GlobalPair::Changed(index, value) => {
-            if let Some(place) = values.get_index_mut(index) {
-                *place = value;
-            }
-        }
     }
 }
 

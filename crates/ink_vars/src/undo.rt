@@ -1,7 +1,7 @@
 //! How changes of globals and counts are put back.
 
 ghost use Rattle.std.specs.Prelude.{◌≡◌, ◌≤◌, ◌<◌, ◌+◌, None, List, OnOk, OnErr, is_some, length, nat_lt, true, false};
-ghost use Rattle.indexmap.specs.IndexMap.{set_value_at};
+ghost use Rattle.ink_vars.specs.Globals.{set_value_at};
 ghost use Rattle.ink_model.specs.Store.{store, stored};
 ghost use Rattle.ink_trail.specs.Undo.{Ends, KeepsTrail, Trails, TrailsOrKeeps, spare, trail_of, undone, writes_of};
 ghost use Rattle.ink_vars.specs.Changes.{AreNew, noted_at, number_of};

@@ -1,11 +1,22 @@
-use Rattle.std.proofs.Common.{◌∙◌, ap}
-use Rattle.ink_model.specs.Store.{store}
-use Rattle.ink_vars.specs.Globals.{values_of}
-use Rattle.ink_vars.proofs.Entries.{kept_value}
+use Rattle.std.proofs.Common.{◌≡◌, ◌∙◌, ◌∷◌, ◌++◌, [], false, ap, is_some, sym}
+use Rattle.ink_model.specs.Store.{store, stored}
+use Rattle.ink_vars.specs.Globals.{rows_of}
+use Rattle.ink_vars.proofs.Naming.{store_new}
+use Rattle.ink_vars.proofs.Rows.{none_stored, not_in, pushed}
 use Rattle.ink_vars.proofs.table.Table.add.Goals as goal
 
-pub returns-clause-ok : goal.returns-clause-ok
-returns-clause-ok c =
-    ap values_of c.in_ok-insert.ensures.entries ∙ kept_value c.in_ok-key.key c.args.value c.self.inside.values.entries
-    ∙ ap (λ name. store name c.args.value (values_of c.self.inside.values.entries)) c.in_ok-key.ensures.ok
-    ∙ ap (store c.args.name.now c.args.value) c.self.view_is
+pub add-requires : goal.add-requires
+add-requires c =
+    not_in c.args.name.now c.self.inside.names c.self.inside.values.items c.self.invariant
+    (ap is_some (ap (stored c.args.name.now) (c.self.view_is ∙ c.in-Err.ensures.kept)) ∙ sym c.in-Err.ensures.found)
+
+pub returns-in_ok-add-clause-ok : goal.returns-in_ok-add-clause-ok
+returns-in_ok-add-clause-ok c =
+    let held = c.self.inside in
+    let name = c.args.name.now in
+    ap (λ names. rows_of names c.push_reserved.new.self.items) c.in_ok-add.ensures.ok
+    ∙ ap (rows_of (held.names ++ name ∷ [])) (c.push_reserved.ensures.items ∙ ap (λ items. items ++ c.in-Err.value ∷ []) c.in_ok-reserve.ensures.items
+    ∙ ap (λ v. held.values.items ++ v ∷ []) c.in-Err.ensures.err)
+    ∙ pushed held.names held.values.items name c.args.value c.self.invariant
+    ∙ ap (λ rows. rows ++ (name, c.args.value) ∷ []) (c.self.view_is ∙ c.in-Err.ensures.kept)
+    ∙ sym (store_new name c.args.value c.args.self.now (none_stored (stored name c.args.self.now) (sym c.in-Err.ensures.found)))
