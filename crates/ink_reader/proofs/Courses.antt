@@ -10,7 +10,7 @@ use Rattle.ink_page.specs.Typed.{Asked}
 use Rattle.ink_page.specs.declared.page.Look.{Look}
 use Rattle.ink_player.specs.Words.{PlayerView, state_of}
 use Rattle.ink_reader.specs.Course.{IsCourse, IsTelling, Leads, Played, Spoken, chosen}
-use Rattle.ink_reader.proofs.Playing.{played-behind, played-lost, played-played, played-well}
+use Rattle.ink_reader.proofs.Playing.{played-behind, played-played}
 
 tells-none : IsTelling []
 tells-none = record { lines = 0; last = []; whole = refl; saves = inl refl }

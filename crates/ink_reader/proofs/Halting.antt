@@ -1,6 +1,6 @@
 -- After an answer that is no passage, the story does not go on.
-use Rattle.std.proofs.Common.{◌≡◌, ◌∙◌, ◌⊎◌, List, [], Bool, true, false, MatchBool, ap, inl, inr, refl, sym, true≢false}
-use Rattle.ink_model.specs.Answer.{Reply, Acts, Breaks, Counts, Refuses, Saves, Shows, Tells, reply_of_halt}
+use Rattle.std.proofs.Common.{◌≡◌, ◌∙◌, List, [], Bool, true, false, MatchBool, ap, inl, inr, refl, sym, true≢false}
+use Rattle.ink_model.specs.Answer.{Reply, Refuses, Tells, reply_of_halt}
 use Rattle.ink_model.specs.Configuration.{Configuration, can_go_on, settled}
 use Rattle.ink_model.specs.Host.{Bindings}
 use Rattle.ink_model.specs.Run.{Made, RunEnd, Kept, Broke}

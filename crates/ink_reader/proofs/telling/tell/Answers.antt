@@ -1,4 +1,3 @@
-use Rattle.std.proofs.Common.{refl}
 use Rattle.std.proofs.lemmas.Result.{err_from_is_err_and}
 use Rattle.ink_reader.proofs.Playing.{lines-more, played-lost, played-none, played-off, played-well}
 use Rattle.ink_reader.proofs.telling.tell.Goals as goal

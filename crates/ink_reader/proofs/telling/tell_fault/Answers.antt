@@ -1,4 +1,4 @@
-use Rattle.std.proofs.Common.{◌≡◌, ◌∙◌, ◌++◌, List, ℕ, OnOk, ap, append_assoc, subst}
+use Rattle.std.proofs.Common.{◌∙◌, ◌++◌, List, ℕ, OnOk, ap, append_assoc, subst}
 use Rattle.std.proofs.KnownBytes.{Appends-trans}
 use Rattle.std.specs.Io.KnownBytes.{Appends}
 use Rattle.ink_page.specs.Showing.{events_shown, said}

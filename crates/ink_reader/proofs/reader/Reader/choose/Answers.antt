@@ -1,5 +1,4 @@
-use Rattle.std.proofs.Common.{[], ◌∷◌, refl, sym}
-use Rattle.ink_model.specs.Command as command
+use Rattle.std.proofs.Common.{refl, sym}
 use Rattle.ink_page.specs.Typed as asks
 use Rattle.ink_model.specs.declared.fault.Refusal.TheVariants as refusal
 use Rattle.ink_reader.proofs.Courses.{chosen-none, chosen-some, goes-first, goes-on}

@@ -1,8 +1,6 @@
 use Rattle.std.proofs.Common.{[], ◌∷◌, inl, inr, refl}
 use Rattle.std.proofs.lemmas.Result.{err_from_is_err_and}
 use Rattle.ink_model.specs.Command as command
-use Rattle.ink_player.specs.Words.{state_of, story_of}
-use Rattle.ink_reader.proofs.Keeping.{kept-saved}
 use Rattle.ink_reader.proofs.Playing.{played-behind, played-failed, played-kept, played-lost, played-none, played-own, played-well, speaks-word, spoken-stop}
 use Rattle.ink_reader.specs.Words.{PlaceLacks, word_text}
 use Rattle.ink_reader.proofs.reader.Reader.stop.Goals as goal
