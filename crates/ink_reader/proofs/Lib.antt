@@ -1,2 +1,4 @@
 pub mod Playing
 pub mod Courses
+pub mod Halting
+pub mod Keeping

@@ -5,8 +5,10 @@
 mod moves;
 mod past;
 mod reader;
+mod saving;
 mod shelf;
 mod telling;
+mod turns;
 
 pub use reader::Reader;
 pub use shelf::{NotKept, Shelf};

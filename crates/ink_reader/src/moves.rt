@@ -1,9 +1,15 @@
 //! The calls of a player that a reading makes, each as a command.
 
-ghost use Rattle.std.specs.Prelude.{◌≡◌, ℕ, [], ◌∷◌, Some, replicate};
-ghost use Rattle.ink_model.specs.Command as command;
-ghost use Rattle.ink_reader.specs.Course.{Played, chosen};
+ghost use Rattle.std.specs.Prelude.{◌≡◌, ◌⊎◌, ℕ, List, [], ◌∷◌, None, Some, false, MatchOption, IfOk, map};
+ghost use Rattle.serde_json.specs.Data.{Data};
 ghost use Rattle.serde_json.specs.View.{view};
+ghost use Rattle.serde_json.specs.Written.{compact_text};
+ghost use Rattle.ink_model.specs.Answer.{Reply, reply_of, reply_of_events, reply_of_landing, reply_of_value};
+ghost use Rattle.ink_model.specs.Command as command;
+ghost use Rattle.ink_model.specs.State.{is_running};
+ghost use Rattle.ink_player.specs.Saving.{ReadsAsState};
+ghost use Rattle.ink_player.specs.Words.{state_of, story_of};
+ghost use Rattle.ink_reader.specs.Course.{Gave};
 
 use ink_host::{PureFn, TurnFn, Watcher};
 use ink_model::{Event, Halt, Passage, Refusal, Seq, Text, Value};
@@ -14,7 +20,7 @@ use serde_json::Value as Json;
 pub(crate) fn next_line<P: PureFn, F: TurnFn, O: Watcher>(
     player: &mut Player<P, F, O>,
 ) -> Option<Result<Passage, Halt>>
-    ensures { (n : ℕ) × Played P.meaning F.log O.state player.old (replicate n command.Continue) player.new }
+    ensures { MatchOption result ((is_running (state_of player.new).condition ≡ false) × (player.new ≡ player.old)) (λ line. Gave P.meaning F.log O.state player.old command.Continue (reply_of line) player.new) }
 {
     if !player.can_continue() {
         return None;
@@ -22,17 +28,14 @@ pub(crate) fn next_line<P: PureFn, F: TurnFn, O: Watcher>(
     Some(player.continue_line())
 }
 
-/// Takes the choice of a number, from 1.
+/// Takes a choice.
 pub(crate) fn take_choice<P: PureFn, F: TurnFn, O: Watcher>(
     player: &mut Player<P, F, O>,
-    number: u32,
+    index: u32,
 ) -> Result<(), Refusal>
-    ensures { Played P.meaning F.log O.state player.old (chosen number) player.new }
+    ensures { Gave P.meaning F.log O.state player.old (command.Choose index) (reply_of_landing result) player.new }
 {
-    match number.checked_sub(1) {
-        Some(index) => player.choose(index),
-        None => Err(Refusal::NotAChoice),
-    }
+    player.choose(index)
 }
 
 /// Goes on where a save stands.
@@ -40,7 +43,7 @@ pub(crate) fn load_save<P: PureFn, F: TurnFn, O: Watcher>(
     player: &mut Player<P, F, O>,
     save: &Json,
 ) -> Result<Seq<Event>, Halt>
-    ensures { Played P.meaning F.log O.state player.old (command.Load (Some (view save.now)) ∷ []) player.new }
+    ensures { Gave P.meaning F.log O.state player.old (command.Load (Some (view save.now))) (reply_of_events result) player.new }
 {
     player.load(save)
 }
@@ -49,7 +52,7 @@ pub(crate) fn load_save<P: PureFn, F: TurnFn, O: Watcher>(
 pub(crate) fn begin_anew<P: PureFn, F: TurnFn, O: Watcher>(
     player: &mut Player<P, F, O>,
 ) -> Result<Seq<Event>, Halt>
-    ensures { Played P.meaning F.log O.state player.old (command.Restart ∷ []) player.new }
+    ensures { Gave P.meaning F.log O.state player.old command.Restart (reply_of_events result) player.new }
 {
     player.restart()
 }
@@ -58,7 +61,8 @@ pub(crate) fn begin_anew<P: PureFn, F: TurnFn, O: Watcher>(
 pub(crate) fn save_of<P: PureFn, F: TurnFn, O: Watcher>(
     player: &Player<P, F, O>,
 ) -> Result<Text, Refusal>
-    ensures { Played P.meaning F.log O.state player.now (command.Save ∷ []) player.now }
+    ensures gave { (reply : Reply) × Gave P.meaning F.log O.state player.now command.Save reply player.now }
+    ensures reads { IfOk result (λ text. (j : Data) × (text ≡ compact_text j) × ReadsAsState (story_of player.now) j (state_of player.now)) }
 {
     player.save_text()
 }
@@ -68,7 +72,7 @@ pub(crate) fn value_of<P: PureFn, F: TurnFn, O: Watcher>(
     player: &Player<P, F, O>,
     name: &str,
 ) -> Result<Value, Refusal>
-    ensures { Played P.meaning F.log O.state player.now (command.Get name.now ∷ []) player.now }
+    ensures { Gave P.meaning F.log O.state player.now (command.Get name.now) (reply_of_value result) player.now }
 {
     player.get(name)
 }

@@ -1,7 +1,8 @@
 //! Where a story stood.
 
-ghost use Rattle.std.specs.Prelude.{◌≡◌, ◌++◌, None, Some, OnOk, option_map};
+ghost use Rattle.std.specs.Prelude.{◌≡◌, ◌++◌, ◌-◌, [], ◌∷◌, List, ℕ, vec_len, Option, None, OnOk, IfSome};
 ghost use Rattle.std.specs.Option.{option_to_list};
+ghost use Rattle.ink_reader.specs.Kept.{Noted};
 
 use ink_model::Text;
 use std::alloc::{AllocError, Global};
@@ -15,16 +16,19 @@ pub(crate) struct Past {
 
 impl Past {
     /// Nothing was noted yet.
-    pub(crate) fn new(alloc: Global) -> Past {
+    pub(crate) fn new(alloc: Global) -> Past
+        ensures here { result.here ≡ None }
+        ensures before { result.before.items ≡ [] }
+    {
         Past {
             before: Vec::new(alloc),
             here: None,
         }
     }
 
-    /// Where it stands, if that is a choice that was noted.
-    pub(crate) fn here(&self) -> Option<&Text> {
-        self.here.as_ref()
+    /// Whether the story stands at a choice that was noted.
+    pub(crate) fn is_at_choice(&self) -> bool {
+        self.here.is_some()
     }
 
     /// The story stands here now.
@@ -39,6 +43,7 @@ impl Past {
     pub(crate) fn leave(&mut self) -> Result<(), AllocError>
         ensures here { self.new.here ≡ None }
         ensures before { OnOk result (self.new.before.items ≡ self.old.before.items ++ option_to_list self.old.here) }
+        ensures noted { Noted self.old.before.items self.old.here self.new.before.items }
     {
         if let Some(here) = self.here.take() {
             self.before.push(here)?;
@@ -47,12 +52,18 @@ impl Past {
     }
 
     /// Where it stood before the last choice.
-    pub(crate) fn last(&self) -> Option<&Text> {
+    pub(crate) fn last(&self) -> Option<&Text>
+        ensures { IfSome result (λ last. (earlier : List (List ℕ)) × (self.now.before.items ≡ earlier ++ last.now ∷ [])) }
+    {
         self.before.last()
     }
 
     /// That choice is taken back.
-    pub(crate) fn take_back(&mut self) {
+    pub(crate) fn take_back(&mut self)
+        ensures here { self.new.here ≡ self.old.here }
+        ensures before { (last : Option (List ℕ)) × (self.old.before.items ≡ self.new.before.items ++ option_to_list last) }
+        ensures fewer { vec_len self.new.before ≡ vec_len self.old.before - 1 }
+    {
         let _last = self.before.pop();
     }
 }

@@ -1,5 +1,9 @@
 //! Where saves are kept.
 
+ghost use Rattle.std.specs.Prelude.{◌≡◌, List, ℕ, Option};
+ghost use Rattle.ink_reader.specs.Kept.{Fetches, Keeps};
+ghost use Rattle.ink_reader.specs.Words.{unread, unwritten};
+
 use std::alloc::Global;
 
 /// Why a save could not be kept, or what is kept could not be read.
@@ -15,7 +19,9 @@ pub enum NotKept {
 
 impl NotKept {
     /// Why a save was not written, in words.
-    pub(crate) fn unwritten(self) -> &'static str {
+    pub(crate) fn unwritten(self) -> &'static str
+        ensures { result.now ≡ unwritten self }
+    {
         match self {
             NotKept::TooLong =>
                 "The save would be longer than 64 MiB; what was saved before stays.",
@@ -25,7 +31,9 @@ impl NotKept {
     }
 
     /// Why a save was not read, in words.
-    pub(crate) fn unread(self) -> &'static str {
+    pub(crate) fn unread(self) -> &'static str
+        ensures { result.now ≡ unread self }
+    {
         match self {
             NotKept::TooLong =>
                 "The save is longer than 64 MiB, so it is not read; it stays as it is.",
@@ -37,9 +45,14 @@ impl NotKept {
 
 /// Keeps one save.
 pub trait Shelf {
+    /// The save that is kept, or that there is none, where that is known.
+    ghost kept: { Self → Option (Option (List ℕ)) };
+
     /// Keeps a save in the place of the one before. Where it fails, the one before stands.
-    fn keep(&mut self, save: &str) -> Result<(), NotKept>;
+    fn keep(&mut self, save: &str) -> Result<(), NotKept>
+        ensures { Keeps (kept self.old) (kept self.new) save.now result };
 
     /// The save that is kept, if there is one.
-    fn fetch(&self, alloc: Global) -> Result<Option<String>, NotKept>;
+    fn fetch(&self, alloc: Global) -> Result<Option<String>, NotKept>
+        ensures { Fetches (kept self.now) result };
 }

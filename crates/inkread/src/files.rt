@@ -1,5 +1,7 @@
 //! The story's file, and the save's.
 
+ghost use Rattle.std.specs.Prelude.{None};
+
 use ink_model::{MAX_INPUT, MAX_STORY};
 use ink_reader::{NotKept, Shelf};
 use std::alloc::Global;
@@ -42,6 +44,9 @@ impl<R: Files> SaveFile<'_, R> {
 }
 
 impl<R: Files> Shelf for SaveFile<'_, R> {
+    // What a file has is not known: others may write it.
+    ghost kept = { λ s. None };
+
     fn keep(&mut self, save: &str) -> Result<(), NotKept> {
         if save.len() > MAX_INPUT {
             return Err(NotKept::TooLong);

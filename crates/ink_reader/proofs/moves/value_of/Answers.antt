@@ -1,11 +1,6 @@
-use Rattle.ink_model.specs.Command as command
-use Rattle.ink_player.specs.Words.{desk_of}
-use Rattle.ink_player.proofs.Tellings.{dealt-kept, dealt-none, dealt-once}
-use Rattle.ink_reader.proofs.Playing.{played-none, played-one}
-use Rattle.std.proofs.Common.{[], sym, subst, refl}
+use Rattle.std.proofs.Common.{refl}
+use Rattle.ink_reader.proofs.Playing.{gave-still}
 use Rattle.ink_reader.proofs.moves.value_of.Goals as goal
 
 pub returns : goal.returns
-returns g c =
-    let p = c.args.player.now in
-    played-one g.P.PureFn.meaning g.F.TurnFn.log g.O.Watcher.state p p (command.Get c.args.name.now) [] _ (refl, c.get.ensures) (dealt-none g.F.TurnFn.log g.O.Watcher.state (desk_of p)) refl
+returns g c = gave-still (refl, c.get.ensures)

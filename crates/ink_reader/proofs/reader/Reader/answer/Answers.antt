@@ -1,42 +1,38 @@
-use Rattle.std.proofs.Common.{[], ap, refl, subst, sym}
+use Rattle.std.proofs.Common.{ap, refl}
+use Rattle.std.proofs.lemmas.Result.{err_from_is_err_and}
 use Rattle.ink_page.specs.Typed as asks
-use Rattle.ink_page.specs.Typed.{Asked, asked_by}
-use Rattle.ink_reader.proofs.Courses.{Goes, goes-first}
-use Rattle.ink_reader.proofs.Playing.{played-none}
+use Rattle.ink_page.specs.Typed.{asked_by}
+use Rattle.ink_reader.proofs.Courses.{goes-as, goes-first}
+use Rattle.ink_reader.proofs.Playing.{played-lost, played-none, played-well, played-word}
+use Rattle.ink_reader.specs.Words.{Help, Unclear}
 use Rattle.ink_reader.proofs.reader.Reader.answer.Goals as goal
 
-pub returns-in-Choice : goal.returns-in-Choice
-returns-in-Choice g c = subst (λ (a : Asked). Goes g.P.PureFn.meaning g.F.TurnFn.log g.O.Watcher.state a c.args.self.now.player c.choose.new.self.player) (sym (ap asked_by c.in-Choice.is)) c.choose.ensures
+pub returns-in-Choice-clause-reads : goal.returns-in-Choice-clause-reads
+returns-in-Choice-clause-reads g c = goes-as (ap asked_by c.in-Choice.is) c.choose.ensures.reads
 
-pub returns-in-Save : goal.returns-in-Save
-returns-in-Save g c = subst (λ (a : Asked). Goes g.P.PureFn.meaning g.F.TurnFn.log g.O.Watcher.state a c.args.self.now.player c.args.self.now.player) (sym (ap asked_by c.in-Save.is)) c.save.ensures
+pub returns-in-Save-clause-reads : goal.returns-in-Save-clause-reads
+returns-in-Save-clause-reads g c = goes-as (ap asked_by c.in-Save.is) (goes-first asks.Save refl c.save.ensures.reads)
 
-pub returns-in-Back : goal.returns-in-Back
-returns-in-Back g c = subst (λ (a : Asked). Goes g.P.PureFn.meaning g.F.TurnFn.log g.O.Watcher.state a c.args.self.now.player c.go_back.new.self.player) (sym (ap asked_by c.in-Back.is)) c.go_back.ensures
+pub returns-in-Back-clause-reads : goal.returns-in-Back-clause-reads
+returns-in-Back-clause-reads g c = goes-as (ap asked_by c.in-Back.is) c.go_back.ensures.reads
 
-pub returns-in-Restart : goal.returns-in-Restart
-returns-in-Restart g c = subst (λ (a : Asked). Goes g.P.PureFn.meaning g.F.TurnFn.log g.O.Watcher.state a c.args.self.now.player c.restart.new.self.player) (sym (ap asked_by c.in-Restart.is)) c.restart.ensures
+pub returns-in-Restart-clause-reads : goal.returns-in-Restart-clause-reads
+returns-in-Restart-clause-reads g c = goes-as (ap asked_by c.in-Restart.is) c.restart.ensures.reads
 
-pub returns-in-Variable : goal.returns-in-Variable
-returns-in-Variable g c = subst (λ (a : Asked). Goes g.P.PureFn.meaning g.F.TurnFn.log g.O.Watcher.state a c.args.self.now.player c.args.self.now.player) (sym (ap asked_by c.in-Variable.is)) c.tell_variable.ensures
+pub returns-in-Variable-clause-reads : goal.returns-in-Variable-clause-reads
+returns-in-Variable-clause-reads g c = goes-as (ap asked_by c.in-Variable.is) (goes-first (asks.Variable c.in-Variable.name.now) refl c.tell_variable.ensures)
 
-pub returns-in_err-_loaded-in-Load : goal.returns-in_err-_loaded-in-Load
-returns-in_err-_loaded-in-Load g c = subst (λ (a : Asked). Goes g.P.PureFn.meaning g.F.TurnFn.log g.O.Watcher.state a c.args.self.now.player c.load.new.self.player) (sym (ap asked_by c.in-Load.is)) c.load.ensures
+pub returns-in-Help-clause-reads : goal.returns-in-Help-clause-reads
+returns-in-Help-clause-reads g c = goes-as (ap asked_by c.in-Help.is) (goes-first asks.Help refl (played-word c.say.result Help refl c.say.ensures))
 
-pub returns-in_ok-_loaded-in-Load : goal.returns-in_ok-_loaded-in-Load
-returns-in_ok-_loaded-in-Load g c = subst (λ (a : Asked). Goes g.P.PureFn.meaning g.F.TurnFn.log g.O.Watcher.state a c.args.self.now.player c.load.new.self.player) (sym (ap asked_by c.in-Load.is)) c.load.ensures
+pub returns-in-Quit-clause-reads : goal.returns-in-Quit-clause-reads
+returns-in-Quit-clause-reads g c = goes-as (ap asked_by c.in-Quit.is) (goes-first asks.Quit refl played-none)
 
-pub returns-in-Help : goal.returns-in-Help
-returns-in-Help g c =
-    let p = c.args.self.now.player in
-    subst (λ (a : Asked). Goes g.P.PureFn.meaning g.F.TurnFn.log g.O.Watcher.state a p p) (sym (ap asked_by c.in-Help.is)) (goes-first g.P.PureFn.meaning g.F.TurnFn.log g.O.Watcher.state asks.Help p p [] refl (played-none g.P.PureFn.meaning g.F.TurnFn.log g.O.Watcher.state p))
+pub returns-in-Unclear-clause-reads : goal.returns-in-Unclear-clause-reads
+returns-in-Unclear-clause-reads g c = goes-as (ap asked_by c.in-Unclear.is) (goes-first asks.Unclear refl (played-word c.say-in-Unclear.result Unclear refl c.say-in-Unclear.ensures))
 
-pub returns-in-Quit : goal.returns-in-Quit
-returns-in-Quit g c =
-    let p = c.args.self.now.player in
-    subst (λ (a : Asked). Goes g.P.PureFn.meaning g.F.TurnFn.log g.O.Watcher.state a p p) (sym (ap asked_by c.in-Quit.is)) (goes-first g.P.PureFn.meaning g.F.TurnFn.log g.O.Watcher.state asks.Quit p p [] refl (played-none g.P.PureFn.meaning g.F.TurnFn.log g.O.Watcher.state p))
+pub returns-in_err-_loaded-in-Load-clause-reads : goal.returns-in_err-_loaded-in-Load-clause-reads
+returns-in_err-_loaded-in-Load-clause-reads g c = let read = c.load.ensures.reads in goes-as (ap asked_by c.in-Load.is) (read.0, read.1, played-lost (err_from_is_err_and c.from_residual.result c.from_residual.ensures.1).1 read.2)
 
-pub returns-in-Unclear : goal.returns-in-Unclear
-returns-in-Unclear g c =
-    let p = c.args.self.now.player in
-    subst (λ (a : Asked). Goes g.P.PureFn.meaning g.F.TurnFn.log g.O.Watcher.state a p p) (sym (ap asked_by c.in-Unclear.is)) (goes-first g.P.PureFn.meaning g.F.TurnFn.log g.O.Watcher.state asks.Unclear p p [] refl (played-none g.P.PureFn.meaning g.F.TurnFn.log g.O.Watcher.state p))
+pub returns-in_ok-_loaded-in-Load-clause-reads : goal.returns-in_ok-_loaded-in-Load-clause-reads
+returns-in_ok-_loaded-in-Load-clause-reads g c = let read = c.load.ensures.reads in goes-as (ap asked_by c.in-Load.is) (read.0, read.1, played-well c.in_ok-_loaded-in-Load.was read.2)

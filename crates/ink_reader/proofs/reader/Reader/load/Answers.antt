@@ -1,25 +1,36 @@
-use Rattle.std.proofs.Common.{[], inl, refl}
+use Rattle.std.proofs.Common.{inl, inr, refl}
+use Rattle.std.proofs.lemmas.Result.{err_from_is_err_and}
+use Rattle.serde_json.specs.View.{view}
 use Rattle.ink_page.specs.Typed as asks
+use Rattle.ink_player.specs.Words.{state_of}
 use Rattle.ink_reader.proofs.Courses.{goes-first, goes-on}
-use Rattle.ink_reader.proofs.Playing.{played-none}
+use Rattle.ink_reader.proofs.Playing.{played-behind, played-failed, played-lost, played-own, played-well}
 use Rattle.ink_reader.proofs.reader.Reader.load.Goals as goal
 
-pub returns-in_err-json : goal.returns-in_err-json
-returns-in_err-json g c = goes-first g.P.PureFn.meaning g.F.TurnFn.log g.O.Watcher.state asks.Load c.args.self.now.player c.args.self.now.player [] (inl refl) (played-none g.P.PureFn.meaning g.F.TurnFn.log g.O.Watcher.state c.args.self.now.player)
+pub returns-in_err-json-clause-reads : goal.returns-in_err-json-clause-reads
+returns-in_err-json-clause-reads g c = goes-first asks.Load (inl refl) (played-failed (err_from_is_err_and c.from_residual.result c.from_residual.ensures.1).1)
 
-pub returns-in_default : goal.returns-in_default
-returns-in_default g c = goes-first g.P.PureFn.meaning g.F.TurnFn.log g.O.Watcher.state asks.Load c.args.self.now.player c.args.self.now.player [] (inl refl) (played-none g.P.PureFn.meaning g.F.TurnFn.log g.O.Watcher.state c.args.self.now.player)
+pub returns-in_default-clause-reads : goal.returns-in_default-clause-reads
+returns-in_default-clause-reads g c = goes-first asks.Load (inl refl) (played-own (c.in_ok-json.ensures.says (state_of c.args.self.now.player)))
 
-pub returns-in_err-stand_at : goal.returns-in_err-stand_at
-returns-in_err-stand_at g c = goes-first g.P.PureFn.meaning g.F.TurnFn.log g.O.Watcher.state asks.Load c.args.self.now.player c.stand_at.new.self.player c.stand_at.ensures.0 c.stand_at.ensures.1 c.stand_at.ensures.2
+pub returns-in_err-stand_at-clause-reads : goal.returns-in_err-stand_at-clause-reads
+returns-in_err-stand_at-clause-reads g c =
+    let from = rw c.in-Some.is at c.in_ok-json.ensures.kept in
+    goes-first asks.Load (inr (from.0, from.1, (view c.in-Some.json, from.2, refl))) (played-behind (c.in_ok-json.ensures.says (state_of c.args.self.now.player)) (played-lost (err_from_is_err_and c.from_residual-in_err-stand_at.result c.from_residual-in_err-stand_at.ensures.1).1 c.stand_at.ensures.reads))
 
-pub returns-then-not-branch : goal.returns-then-not-branch
-returns-then-not-branch g c = goes-first g.P.PureFn.meaning g.F.TurnFn.log g.O.Watcher.state asks.Load c.args.self.now.player c.stand_at.new.self.player c.stand_at.ensures.0 c.stand_at.ensures.1 c.stand_at.ensures.2
+pub returns-then-not-branch-clause-reads : goal.returns-then-not-branch-clause-reads
+returns-then-not-branch-clause-reads g c =
+    let from = rw c.in-Some.is at c.in_ok-json.ensures.kept in
+    goes-first asks.Load (inr (from.0, from.1, (view c.in-Some.json, from.2, refl))) (played-behind (c.in_ok-json.ensures.says (state_of c.args.self.now.player)) (played-well c.in_ok-stand_at.was c.stand_at.ensures.reads))
 
-pub returns-in_err-leave : goal.returns-in_err-leave
-returns-in_err-leave g c =
-    goes-on g.P.PureFn.meaning g.F.TurnFn.log g.O.Watcher.state asks.Load c.args.self.now.player c.stand_at.new.self.player c.leave.new.self.player c.stand_at.ensures.0 c.stand_at.ensures.1 c.stand_at.ensures.2 c.leave.ensures
+pub returns-in_err-leave-clause-reads : goal.returns-in_err-leave-clause-reads
+returns-in_err-leave-clause-reads g c =
+    let from = rw c.in-Some.is at c.in_ok-json.ensures.kept in
+    let told = rw c.stand_at.ensures.look at c.leave.ensures.reads in
+    goes-on asks.Load (inr (from.0, from.1, (view c.in-Some.json, from.2, refl))) (played-behind (c.in_ok-json.ensures.says (state_of c.args.self.now.player)) (played-well c.in_ok-stand_at.was c.stand_at.ensures.reads)) (told.0, told.1, played-lost (err_from_is_err_and c.from_residual-in_err-leave.result c.from_residual-in_err-leave.ensures.1).1 told.2)
 
-pub returns : goal.returns
-returns g c =
-    goes-on g.P.PureFn.meaning g.F.TurnFn.log g.O.Watcher.state asks.Load c.args.self.now.player c.stand_at.new.self.player c.leave.new.self.player c.stand_at.ensures.0 c.stand_at.ensures.1 c.stand_at.ensures.2 c.leave.ensures
+pub returns-clause-reads : goal.returns-clause-reads
+returns-clause-reads g c =
+    let from = rw c.in-Some.is at c.in_ok-json.ensures.kept in
+    let told = rw c.stand_at.ensures.look at c.leave.ensures.reads in
+    goes-on asks.Load (inr (from.0, from.1, (view c.in-Some.json, from.2, refl))) (played-behind (c.in_ok-json.ensures.says (state_of c.args.self.now.player)) (played-well c.in_ok-stand_at.was c.stand_at.ensures.reads)) (told.0, told.1, played-well c.in_ok-leave.was told.2)

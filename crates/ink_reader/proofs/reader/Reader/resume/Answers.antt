@@ -1,7 +1,9 @@
+use Rattle.std.proofs.lemmas.Result.{err_from_is_err_and}
+use Rattle.ink_reader.proofs.Playing.{played-lost, played-well}
 use Rattle.ink_reader.proofs.reader.Reader.resume.Goals as goal
 
-pub returns-in_err-loaded : goal.returns-in_err-loaded
-returns-in_err-loaded g c = c.load.ensures
+pub returns-in_err-loaded-clause-reads : goal.returns-in_err-loaded-clause-reads
+returns-in_err-loaded-clause-reads g c = let read = c.load.ensures.reads in (read.0, read.1, played-lost (err_from_is_err_and c.from_residual.result c.from_residual.ensures.1).1 read.2)
 
-pub returns : goal.returns
-returns g c = c.load.ensures
+pub returns-clause-reads : goal.returns-clause-reads
+returns-clause-reads g c = let read = c.load.ensures.reads in (read.0, read.1, played-well c.in_ok-loaded.was read.2)

@@ -1,0 +1,56 @@
+-- What a reading says of its own (docs/READER.md).
+use Rattle.std.specs.Prelude.{ℕ, List, codes}
+use Rattle.ink_model.specs.declared.fault.Refusal.{Refusal}
+use Rattle.ink_page.specs.Sentences.{refusal_sentence}
+use Rattle.ink_reader.specs.declared.shelf.NotKept.{NotKept}
+use Rattle.ink_reader.specs.declared.shelf.NotKept.TheVariants as why
+use Rattle.ink_reader.specs.declared.telling.Told.{Told}
+use Rattle.ink_reader.specs.declared.telling.Told.TheVariants as told
+
+pub data Word : Type 0 where
+  Help : Word
+  Unclear : Word
+  FirstPlace : Word
+  PlaceLacks : Word
+  LastLacks : Word
+  Saved : Word
+  NotWritten : NotKept → Word
+  NoSave : Word
+  BadSave : Word
+  NotRead : NotKept → Word
+  Stopped : Told → Word
+  Refused : Refusal → Word
+
+-- why a save was not written
+abbrev pub unwritten : NotKept → List ℕ
+unwritten why.TooLong = codes "The save would be longer than 64 MiB; what was saved before stays."
+unwritten other = codes "The save could not be written; what was saved before stays."
+
+-- why none was read
+abbrev pub unread : NotKept → List ℕ
+unread why.TooLong = codes "The save is longer than 64 MiB, so it is not read; it stays as it is."
+unread why.NoText = codes "The save is cut, or is no save; it stays as it is."
+unread why.Failed = codes "The save could not be read; it stays as it is."
+
+-- how a story ends where there is no choice
+abbrev pub end_words : Told → List ℕ
+end_words told.LooseEnd = codes "The story stops here at a loose end: nothing was written to come after this."
+end_words other = codes "The story ends here."
+
+abbrev pub word_text : Word → List ℕ
+word_text Help = codes "A number takes the choice of that number. s saves, l loads the save, b goes back to before the last choice, r restarts, v NAME shows a variable, q quits, ? shows this."
+word_text Unclear = codes "That was not understood; ? shows what is."
+word_text FirstPlace = codes "There is no choice to take back."
+word_text PlaceLacks = codes "There is not enough memory to note this place: it is not saved, and b does not come back to it."
+word_text LastLacks = codes "There is not enough memory to note the last place: b does not come back to it."
+word_text Saved = codes "Saved."
+word_text (NotWritten cause) = unwritten cause
+word_text NoSave = codes "There is no save."
+word_text BadSave = codes "The save is cut, or is no save; it stays as it is."
+word_text (NotRead cause) = unread cause
+word_text (Stopped t) = end_words t
+word_text (Refused r) = refusal_sentence r
+
+-- behind a fault
+abbrev pub broke_off : List ℕ
+broke_off = codes "The story breaks off behind the last line. What was saved stays; b goes back to before the last choice, if there was one, and r restarts."

@@ -1,0 +1,253 @@
+//! What is done at each line that is typed, and how the story is told then.
+
+ghost use Rattle.std.specs.Prelude.{◌≡◌, ◌⊎◌, ◌++◌, ℕ, [], ◌∷◌, List, None, Some, false, IfOk, IfSome, OnOk, is_ok};
+ghost use Rattle.serde_json.specs.Read.{read as read_text};
+ghost use Rattle.serde_json.specs.View.{view};
+ghost use Rattle.ink_model.specs.Command as command;
+ghost use Rattle.ink_model.specs.Command.{Command};
+ghost use Rattle.ink_model.specs.State.{is_running};
+ghost use Rattle.ink_page.specs.Typed as asks;
+ghost use Rattle.ink_player.specs.Words.{state_of, story_of};
+ghost use Rattle.ink_reader.specs.Course.{IsCourse, IsTelling, Played, Speaks};
+ghost use Rattle.ink_reader.specs.Kept.{IsPlace, KeptAs, Noted, Notes, StandsAt};
+
+use crate::moves::{begin_anew, load_save, save_of, take_choice, value_of};
+use crate::reader::Reader;
+use crate::saving::{fetch_save, keep_save, read_save};
+use crate::shelf::Shelf;
+use crate::telling::{Told, tell, tell_outcome, tell_stop};
+use ink_host::{PureFn, TurnFn, Watcher};
+use ink_model::{Refusal, Text};
+use ink_page::{refusal_words, show_value};
+use ink_protocol::{RunFault, Sink};
+use serde_json::Value as Json;
+
+impl<P: PureFn, F: TurnFn, O: Watcher> Reader<P, F, O> {
+    /// Tells what comes, up to the next choice, and notes where the story stands there.
+    pub(crate) fn go_on<T: Sink, S: Shelf>(
+        &mut self,
+        sink: &mut T,
+        shelf: &mut S,
+    ) -> Result<(), RunFault>
+        ensures reads { (ks : List Command) × IsTelling ks × Played P.meaning F.log O.state self.old.look self.old.player ks self.new.player (T.contents sink.old) (T.contents sink.new) (is_ok result) }
+        ensures stops { OnOk result (is_running (state_of self.new.player).condition ≡ false) }
+        ensures keeps { KeptAs (story_of self.new.player) (state_of self.new.player) (S.kept shelf.old) (S.kept shelf.new) }
+        ensures before { self.new.past.before.items ≡ self.old.past.before.items }
+        ensures here { IsPlace (story_of self.new.player) (state_of self.new.player) self.new.past.here }
+    {
+        self.past.stand(None);
+        let told = tell(self.alloc, self.look, sink, &mut self.player)?;
+        self.stop(told, sink, shelf)
+    }
+
+    // Shows the choices where the story stopped, and notes where it stands.
+    fn stop<T: Sink, S: Shelf>(
+        &mut self,
+        told: Told,
+        sink: &mut T,
+        shelf: &mut S,
+    ) -> Result<(), RunFault>
+        requires { self.old.past.here ≡ None }
+        ensures reads { (ks : List Command) × ((ks ≡ []) ⊎ (ks ≡ command.Save ∷ [])) × Played P.meaning F.log O.state self.old.look self.old.player ks self.new.player (T.contents sink.old) (T.contents sink.new) (is_ok result) }
+        ensures player { self.new.player ≡ self.old.player }
+        ensures keeps { KeptAs (story_of self.new.player) (state_of self.new.player) (S.kept shelf.old) (S.kept shelf.new) }
+        ensures before { self.new.past.before.items ≡ self.old.past.before.items }
+        ensures here { IsPlace (story_of self.new.player) (state_of self.new.player) self.new.past.here }
+    {
+        if let Told::Break = told {
+            return Ok(());
+        }
+        if !tell_stop(self.alloc, self.look, sink, &self.player, told)? {
+            return Ok(());
+        }
+        match save_of(&self.player) {
+            Ok(save) => {
+                self.save_here(&save, sink, shelf)?;
+                self.past.stand(Some(save));
+                Ok(())
+            }
+            Err(_) => self.say(
+                sink,
+                "There is not enough memory to note this place: it is not saved, and b does not come back to it.",
+            ),
+        }
+    }
+
+    /// Saves where the story stands at a choice, unless it is not to save by itself.
+    pub(crate) fn save_here<T: Sink, S: Shelf>(
+        &self,
+        save: &Text,
+        sink: &mut T,
+        shelf: &mut S,
+    ) -> Result<(), RunFault>
+        ensures says { Speaks self.now.look (T.contents sink.old) (T.contents sink.new) result }
+        ensures keeps { (S.kept shelf.new ≡ S.kept shelf.old) ⊎ (S.kept shelf.new ≡ Some (Some save.now)) }
+    {
+        if !self.saves {
+            return Ok(());
+        }
+        let _kept = keep_save(self.alloc, self.look, save, sink, shelf)?;
+        Ok(())
+    }
+
+    /// Takes the choice of a number, from 1.
+    pub(crate) fn choose<T: Sink, S: Shelf>(
+        &mut self,
+        number: u32,
+        sink: &mut T,
+        shelf: &mut S,
+    ) -> Result<(), RunFault>
+        ensures reads { (ks : List Command) × IsCourse self.old.past.before.items (S.kept shelf.old) (asks.Choice number) ks × Played P.meaning F.log O.state self.old.look self.old.player ks self.new.player (T.contents sink.old) (T.contents sink.new) (is_ok result) }
+        ensures keeps { KeptAs (story_of self.new.player) (state_of self.new.player) (S.kept shelf.old) (S.kept shelf.new) }
+        ensures notes { Notes (asks.Choice number) self.old.past.before.items self.old.past.here self.new.past.before.items }
+        ensures stands { StandsAt (story_of self.new.player) (state_of self.new.player) self.old.past.here self.new.past.here }
+    {
+        let Some(index) = number.checked_sub(1) else {
+            return self.say(sink, refusal_words(Refusal::NotAChoice));
+        };
+        match take_choice(&mut self.player, index) {
+            Ok(()) => self.leave(sink, shelf),
+            Err(refusal) => self.say(sink, refusal_words(refusal)),
+        }
+    }
+
+    // Goes on from where the story stood, which is noted.
+    fn leave<T: Sink, S: Shelf>(&mut self, sink: &mut T, shelf: &mut S) -> Result<(), RunFault>
+        ensures reads { (ks : List Command) × IsTelling ks × Played P.meaning F.log O.state self.old.look self.old.player ks self.new.player (T.contents sink.old) (T.contents sink.new) (is_ok result) }
+        ensures keeps { KeptAs (story_of self.new.player) (state_of self.new.player) (S.kept shelf.old) (S.kept shelf.new) }
+        ensures noted { Noted self.old.past.before.items self.old.past.here self.new.past.before.items }
+        ensures here { IsPlace (story_of self.new.player) (state_of self.new.player) self.new.past.here }
+    {
+        if self.past.leave().is_ok() {
+            return self.go_on(sink, shelf);
+        }
+        self.say(
+            sink,
+            "There is not enough memory to note the last place: b does not come back to it.",
+        )?;
+        self.go_on(sink, shelf)
+    }
+
+    /// Goes back to before the last choice.
+    pub(crate) fn go_back<T: Sink, S: Shelf>(
+        &mut self,
+        sink: &mut T,
+        shelf: &mut S,
+    ) -> Result<(), RunFault>
+        ensures reads { (ks : List Command) × IsCourse self.old.past.before.items (S.kept shelf.old) asks.Back ks × Played P.meaning F.log O.state self.old.look self.old.player ks self.new.player (T.contents sink.old) (T.contents sink.new) (is_ok result) }
+        ensures keeps { KeptAs (story_of self.new.player) (state_of self.new.player) (S.kept shelf.old) (S.kept shelf.new) }
+        ensures notes { Notes asks.Back self.old.past.before.items self.old.past.here self.new.past.before.items }
+        ensures stands { StandsAt (story_of self.new.player) (state_of self.new.player) self.old.past.here self.new.past.here }
+    {
+        let Some(json) = self.last_place(sink)? else {
+            return Ok(());
+        };
+        if !self.stand_at(&json, sink)? {
+            return Ok(());
+        }
+        self.past.take_back();
+        self.go_on(sink, shelf)
+    }
+
+    // Where the story stood before the last choice; where it cannot be gone back to, it is said why.
+    fn last_place<T: Sink>(&self, sink: &mut T) -> Result<Option<Json>, RunFault>
+        ensures says { Speaks self.now.look (T.contents sink.old) (T.contents sink.new) result }
+        ensures last { IfOk result (λ place. IfSome place (λ json. (earlier : List (List ℕ)) × (text : List ℕ) × (self.now.past.before.items ≡ earlier ++ text ∷ []) × (read_text text ≡ Some (view json)))) }
+    {
+        let Some(save) = self.past.last() else {
+            self.say(sink, "There is no choice to take back.")?;
+            return Ok(None);
+        };
+        read_save(self.alloc, self.look, save.as_str(), sink)
+    }
+
+    // Stands where a save stands, and tells whether it does; where it does not, it says why.
+    fn stand_at<T: Sink>(&mut self, json: &Json, sink: &mut T) -> Result<bool, RunFault>
+        ensures reads { Played P.meaning F.log O.state self.old.look self.old.player (command.Load (Some (view json.now)) ∷ []) self.new.player (T.contents sink.old) (T.contents sink.new) (is_ok result) }
+        ensures look { self.new.look ≡ self.old.look }
+        ensures past { self.new.past ≡ self.old.past }
+    {
+        let outcome = load_save(&mut self.player, json);
+        tell_outcome(self.alloc, self.look, &outcome, sink)
+    }
+
+    /// Begins the story anew.
+    pub(crate) fn restart<T: Sink, S: Shelf>(
+        &mut self,
+        sink: &mut T,
+        shelf: &mut S,
+    ) -> Result<(), RunFault>
+        ensures reads { (ks : List Command) × IsCourse self.old.past.before.items (S.kept shelf.old) asks.Restart ks × Played P.meaning F.log O.state self.old.look self.old.player ks self.new.player (T.contents sink.old) (T.contents sink.new) (is_ok result) }
+        ensures keeps { KeptAs (story_of self.new.player) (state_of self.new.player) (S.kept shelf.old) (S.kept shelf.new) }
+        ensures notes { Notes asks.Restart self.old.past.before.items self.old.past.here self.new.past.before.items }
+        ensures stands { StandsAt (story_of self.new.player) (state_of self.new.player) self.old.past.here self.new.past.here }
+    {
+        let outcome = begin_anew(&mut self.player);
+        if !tell_outcome(self.alloc, self.look, &outcome, sink)? {
+            return Ok(());
+        }
+        self.leave(sink, shelf)
+    }
+
+    /// Tells a global's value.
+    pub(crate) fn tell_variable<T: Sink>(&self, name: &str, sink: &mut T) -> Result<(), RunFault>
+        ensures { Played P.meaning F.log O.state self.now.look self.now.player (command.Get name.now ∷ []) self.now.player (T.contents sink.old) (T.contents sink.new) (is_ok result) }
+    {
+        match value_of(&self.player, name) {
+            Ok(value) => show_value(self.alloc, self.look, sink, name, &value),
+            Err(refusal) => self.say(sink, refusal_words(refusal)),
+        }
+    }
+
+    /// Saves where the story stands.
+    pub(crate) fn save<T: Sink, S: Shelf>(
+        &self,
+        sink: &mut T,
+        shelf: &mut S,
+    ) -> Result<(), RunFault>
+        ensures reads { Played P.meaning F.log O.state self.now.look self.now.player (command.Save ∷ []) self.now.player (T.contents sink.old) (T.contents sink.new) (is_ok result) }
+        ensures keeps { KeptAs (story_of self.now.player) (state_of self.now.player) (S.kept shelf.old) (S.kept shelf.new) }
+    {
+        match save_of(&self.player) {
+            Ok(save) => self.keep(&save, sink, shelf),
+            Err(refusal) => self.say(sink, refusal_words(refusal)),
+        }
+    }
+
+    // Keeps a save, and says that it did.
+    fn keep<T: Sink, S: Shelf>(
+        &self,
+        save: &Text,
+        sink: &mut T,
+        shelf: &mut S,
+    ) -> Result<(), RunFault>
+        ensures says { Speaks self.now.look (T.contents sink.old) (T.contents sink.new) result }
+        ensures keeps { (S.kept shelf.new ≡ S.kept shelf.old) ⊎ (S.kept shelf.new ≡ Some (Some save.now)) }
+    {
+        if !keep_save(self.alloc, self.look, save, sink, shelf)? {
+            return Ok(());
+        }
+        self.say(sink, "Saved.")
+    }
+
+    /// Goes on where the save stands that is kept, and tells whether it does; where it does not, it is said why.
+    pub(crate) fn load<T: Sink, S: Shelf>(
+        &mut self,
+        sink: &mut T,
+        shelf: &mut S,
+    ) -> Result<bool, RunFault>
+        ensures reads { (ks : List Command) × IsCourse self.old.past.before.items (S.kept shelf.old) asks.Load ks × Played P.meaning F.log O.state self.old.look self.old.player ks self.new.player (T.contents sink.old) (T.contents sink.new) (is_ok result) }
+        ensures keeps { KeptAs (story_of self.new.player) (state_of self.new.player) (S.kept shelf.old) (S.kept shelf.new) }
+        ensures notes { Notes asks.Load self.old.past.before.items self.old.past.here self.new.past.before.items }
+        ensures stands { StandsAt (story_of self.new.player) (state_of self.new.player) self.old.past.here self.new.past.here }
+    {
+        let Some(json) = fetch_save(self.alloc, self.look, sink, shelf)? else {
+            return Ok(false);
+        };
+        if !self.stand_at(&json, sink)? {
+            return Ok(false);
+        }
+        self.leave(sink, shelf)?;
+        Ok(true)
+    }
+}
