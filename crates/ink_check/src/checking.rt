@@ -19,8 +19,8 @@ use crate::links::Links;
 use crate::names::variable_names;
 use crate::story::Story;
 use ink_json::RawStory;
-use ink_names::Names;
 use ink_model::{Cause, Failure, ReadRefusal};
+use ink_names::Names;
 use ink_tree::{NodeId, Spot, Tree};
 use std::alloc::Global;
 

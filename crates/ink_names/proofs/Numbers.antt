@@ -46,12 +46,11 @@ absent_tail n ns name = by (bytes_eq name n) (number_of ns name)
 
 pub differ_pushed : (names : List (List ℕ)) (name : List ℕ) → number_of names name ≡ None → Differ names → Differ (names ++ name ∷ [])
 differ_pushed [] name absent differ = (refl, tt)
-differ_pushed (n ∷ ns) name absent (here, there) =
-    (
-      number_pushed ns name n ∙ ap (last (bytes_eq n name) (length ns)) here
+differ_pushed (n ∷ ns) name absent (here, there) = (
+  number_pushed ns name n ∙ ap (last (bytes_eq n name) (length ns)) here
       ∙ ap (λ b. if b then Some (length ns) else None) (other name n (absent_head n ns name absent)),
-      differ_pushed ns name (absent_tail n ns name absent) there,
-    )
+  differ_pushed ns name (absent_tail n ns name absent) there,
+)
 
 pub finds_pushed : (m n : BTreeMap (String Global) ℕ) (names : List (List ℕ)) (name : List ℕ) → number_of names name ≡ None → Finds m names
     → ((q : List ℕ) → get_by_text n q ≡ cond (bytes_eq name q) (Some (length names)) (get_by_text m q)) → Finds n (names ++ name ∷ [])
@@ -61,6 +60,7 @@ finds_pushed m n names name absent finds is q =
     at : (o : Option ℕ) → o ≡ last false (length names) o
     at None = refl
     at (Some i) = refl
+
     by : (b : Bool) → bytes_eq name q ≡ b → cond b (Some (length names)) (number_of names q) ≡ last (bytes_eq q name) (length names) (number_of names q)
     by true e =
         let same : name ≡ q = (bytes_eq-Decides name q).0 e in
@@ -84,8 +84,7 @@ pub differ_popped : (names : List (List ℕ)) (name : List ℕ) → Differ (name
 differ_popped [] name differ = (tt, refl)
 differ_popped (n ∷ ns) name (here, there) =
     let on = differ_popped ns name there in
-    let unlike : bytes_eq n name ≡ false = apart (bytes_eq n name) (length ns) (number_of ns n) (sym (number_pushed ns name n) ∙ here) in
-    (
+    let unlike : bytes_eq n name ≡ false = apart (bytes_eq n name) (length ns) (number_of ns n) (sym (number_pushed ns name n) ∙ here) in (
       (present (bytes_eq n name) (length ns) (number_of ns n) (sym (number_pushed ns name n) ∙ here), on.0),
       ap (λ b. if b then Some 0 else option_map suc (number_of ns name)) (other n name unlike) ∙ ap (option_map suc) on.1,
     )
@@ -103,6 +102,7 @@ finds_popped m n names name absent finds is q =
     at : (o : Option ℕ) → last false (length names) o ≡ o
     at None = refl
     at (Some i) = refl
+
     by : (b : Bool) → bytes_eq name q ≡ b → cond b None (last (bytes_eq q name) (length names) (number_of names q)) ≡ number_of names q
     by true e = sym (ap (number_of names) (sym ((bytes_eq-Decides name q).0 e)) ∙ absent)
     by false e = ap (λ b. last b (length names) (number_of names q)) (other name q e) ∙ at (number_of names q)

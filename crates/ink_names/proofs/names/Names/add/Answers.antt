@@ -16,11 +16,10 @@ invariant_of-self-2 c =
     let absent : number_of names name ≡ None = ap (λ ns. number_of ns name) c.self.view_is ∙ c.requires in
     let numbered : c.len-number.result ≡ length names = c.len-number.ensures ∙ c.reserve.new.self.ok.0 ∙ ap length c.in_ok-reserve.ensures.items ∙ sym (length-map c.self.inside.list.items string_bytes) in
     let found : (q : List ℕ) → get_by_text c.insert.new.self q ≡ cond (bytes_eq name q) (Some (length names)) (get_by_text c.self.inside.numbers q) = λ q.
-      btree_map_updates_text (string_bytes c.in_ok-key.key) c.self.inside.numbers c.insert.new.self _ c.in_ok-insert.ensures.updates q
-      ∙ ap (λ key. cond (bytes_eq key q) (Some c.len-number.result) (get_by_text c.self.inside.numbers q)) c.in_ok-key.ensures.ok
-      ∙ ap (λ n. cond (bytes_eq name q) (Some n) (get_by_text c.self.inside.numbers q)) numbered in
-    let numbers = c.insert.new.self in
-    (
+    btree_map_updates_text (string_bytes c.in_ok-key.key) c.self.inside.numbers c.insert.new.self _ c.in_ok-insert.ensures.updates q
+    ∙ ap (λ key. cond (bytes_eq key q) (Some c.len-number.result) (get_by_text c.self.inside.numbers q)) c.in_ok-key.ensures.ok
+    ∙ ap (λ n. cond (bytes_eq name q) (Some n) (get_by_text c.self.inside.numbers q)) numbered in
+    let numbers = c.insert.new.self in (
       subst Differ (sym list) (differ_pushed names name absent c.self.invariant.0),
       subst (Finds numbers) (sym list) (finds_pushed c.self.inside.numbers numbers names name absent c.self.invariant.1 found),
     )

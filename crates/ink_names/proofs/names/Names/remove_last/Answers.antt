@@ -16,8 +16,8 @@ invariant_of-self c =
     let parts : old ≡ names ++ name ∷ [] = ap names_of c.in-Some.ensures.items ∙ map-append string_bytes c.pop.new.self.items (c.in-Some.name ∷ []) in
     let differ = differ_popped names name (subst Differ parts c.self.invariant.0) in
     let gone : (q : List ℕ) → get_by_text numbers q ≡ cond (bytes_eq name q) None (get_by_text c.self.inside.numbers q) = λ q.
-      btree_map_updates_text c.as_str.result.now c.self.inside.numbers numbers _ c.remove-number.ensures.updates q
-      ∙ ap (λ key. cond (bytes_eq key q) None (get_by_text c.self.inside.numbers q)) c.as_str.ensures.value in
+    btree_map_updates_text c.as_str.result.now c.self.inside.numbers numbers _ c.remove-number.ensures.updates q
+    ∙ ap (λ key. cond (bytes_eq key q) None (get_by_text c.self.inside.numbers q)) c.as_str.ensures.value in
     (differ.0, finds_popped c.self.inside.numbers numbers names name differ.1 (subst (Finds c.self.inside.numbers) parts c.self.invariant.1) gone)
 
 pub returns-in-Some : goal.returns-in-Some
