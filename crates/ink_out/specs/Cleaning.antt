@@ -1,6 +1,6 @@
 -- A text that is made by pieces, as it is or cleaned.
-use Rattle.std.specs.Prelude.{◌≡◌, ℕ, List, [], ◌∷◌, ◌++◌, Bool, true, false, if◌then◌else◌, Option, None, Some, string_bytes}
-use Rattle.ink_model.specs.Bytes.{is_blank, is_newline}
+use Rattle.std.specs.Prelude.{◌≡◌, ◌⊎◌, ◌≤◌, ◌<◌, ℕ, List, [], ◌∷◌, ◌++◌, Bool, true, false, if◌then◌else◌, Option, None, Some, drop, get_or, length, string_bytes, take}
+use Rattle.ink_model.specs.Bytes.{is_blank, is_newline, is_white}
 use Rattle.ink_model.specs.Clean.{clean}
 use Rattle.ink_out.specs.declared.cleaning.Before.{Before}
 use Rattle.ink_out.specs.declared.cleaning.Before.TheVariants.{Nothing, Word, Gap}
@@ -24,6 +24,13 @@ cleaned_on before [] = []
 cleaned_on before (c ∷ cs) =
     if is_newline c then 10 ∷ cleaned_on Nothing cs else
     (if is_blank c then cleaned_on (gap before) cs else space before ++ c ∷ cleaned_on Word cs)
+
+-- So many bytes of a text are words, which cleaning leaves as they are, with a space in front of them where a gap stands before them.
+-- Behind them the text ends, or a blank or a newline stands.
+pub record AreWords (cs : List ℕ) (n : ℕ) : Type 0 where
+  pub within : n ≤ length cs
+  pub cleaned : 0 < n → (before : Before) (more : List ℕ) → cleaned_on before (cs ++ more) ≡ space before ++ (take n cs ++ cleaned_on Word (drop n cs ++ more))
+  pub ends : (n ≡ length cs) ⊎ (is_white (get_or cs n 0) ≡ true)
 
 abbrev pub shown_as : Bool → List ℕ → List ℕ
 shown_as true cs = clean cs

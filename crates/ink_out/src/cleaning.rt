@@ -1,10 +1,10 @@
 //! The text that is shown, as it is or cleaned (docs/TEXT.md, "Cleaning").
 
-ghost use Rattle.std.specs.Prelude.{◌≡◌, ℕ, List, [], ◌∷◌, ◌++◌, Bool, not, IfOk, IsTrue, OnOk, string_bytes};
+ghost use Rattle.std.specs.Prelude.{◌≡◌, ◌≤◌, ◌<◌, ◌+◌, ℕ, List, [], ◌∷◌, ◌++◌, Bool, true, false, get_or, length, not, IfOk, IsTrue, OnOk, string_bytes};
 ghost use Rattle.std.specs.List.{prefix_len};
 ghost use Rattle.ink_model.specs.Bytes.{is_white};
 ghost use Rattle.ink_model.specs.Clean.{clean};
-ghost use Rattle.ink_out.specs.Cleaning.{Holds, cleaned_on, shown_as, space};
+ghost use Rattle.ink_out.specs.Cleaning.{AreWords, Holds, cleaned_on, shown_as, space};
 
 use ink_model::Text;
 use std::alloc::{AllocError, Global};
@@ -74,18 +74,18 @@ impl Shown {
     }
 }
 
-/// Adds a piece with one space between any two words of a line, and answers what stands on its last line. The one error is
-/// a refused request for memory.
+/// Adds a piece with one space between any two words of a line, and answers what stands on its last line. Words that have one
+/// space between them already are added at once. The one error is a refused request for memory.
 #[inline(always)]
 fn push_cleaned(text: &mut String, mut before: Before, piece: &str) -> Result<Before, AllocError>
     ensures { IfOk result (λ after. (more : List ℕ) → string_bytes text.new ++ cleaned_on after more ≡ string_bytes text.old ++ cleaned_on before (piece.now ++ more)) }
 {
     let mut rest = piece;
     while !rest.is_empty() {
-        let len = word_len(rest);
+        let len = words_len(rest.as_bytes());
         if len > 0 {
-            let (word, after) = rest.split_at(len);
-            push_word(text, before, word)?;
+            let (words, after) = rest.split_at(len);
+            push_words(text, before, words)?;
             before = Before::Word;
             rest = after;
         } else {
@@ -96,15 +96,15 @@ fn push_cleaned(text: &mut String, mut before: Before, piece: &str) -> Result<Be
     Ok(before)
 }
 
-/// Adds a word's bytes, and in front of them the space that a gap leaves. The one error is a refused request for memory.
+/// Adds words, and in front of them the space that a gap leaves. The one error is a refused request for memory.
 #[inline(always)]
-fn push_word(text: &mut String, before: Before, word: &str) -> Result<(), AllocError>
-    ensures { OnOk result (string_bytes text.new ≡ string_bytes text.old ++ space before ++ word.now) }
+fn push_words(text: &mut String, before: Before, words: &str) -> Result<(), AllocError>
+    ensures { OnOk result (string_bytes text.new ≡ string_bytes text.old ++ space before ++ words.now) }
 {
     if let Before::Gap = before {
         text.push_str(" ")?;
     }
-    text.push_str(word)
+    text.push_str(words)
 }
 
 /// Goes past a blank or a newline, which is added. The one error is a refused request for memory.
@@ -124,15 +124,37 @@ fn push_white(text: &mut String, before: Before, byte: u8) -> Result<Before, All
     }
 }
 
+/// How many bytes a text begins with that are words with one space between any two of them, which cleaning leaves as they are.
+#[inline(always)]
+fn words_len(text: &[u8]) -> usize
+    ensures words { AreWords text.now result }
+    ensures none { result ≡ 0 → prefix_len (λ byte. not (is_white byte)) text.now ≡ 0 }
+{
+    let mut len = word_len(text);
+    if len == 0 {
+        return 0;
+    }
+    'words: while goes_on(text, len) {
+        len += 1 + word_len(&text[len + 1..]);
+    }
+    len
+}
+
+/// Whether one space stands at an index, and a word behind it.
+#[inline(always)]
+fn goes_on(text: &[u8], at: usize) -> bool
+    requires { at ≤ length text.now }
+    ensures { result ≡ true → (at + 1 < length text.now) × (get_or text.now at 0 ≡ 32) × (is_white (get_or text.now (at + 1) 0) ≡ false) }
+{
+    at + 1 < text.len() && text[at] == b' ' && !is_white(text[at + 1])
+}
+
 /// How many bytes a text begins with that are no blank and no newline.
 #[inline(always)]
-fn word_len(text: &str) -> usize
+fn word_len(text: &[u8]) -> usize
     ensures { result ≡ prefix_len (λ byte. not (is_white byte)) text.now }
 {
-    text.as_bytes()
-        .iter()
-        .take_while(|byte| !is_white(**byte))
-        .count()
+    text.iter().take_while(|byte| !is_white(**byte)).count()
 }
 
 #[inline(always)]
