@@ -1,20 +1,22 @@
 -- What each change of frames and threads puts back.
-use Rattle.std.proofs.Common.{◌≡◌, ◌∙◌, ◌≤◌, ◌+◌, MatchOption, arith, drop, length, option_to_list, ℕ, List, [], ◌∷◌, ◌++◌, Bool, true, false, Option, Some, None, Result, Ok, Err, ap, if◌then◌else◌, is_some, nat_eq, nat_lt, refl, reverse, subst, sym}
-use Rattle.std.proofs.lemmas.List.{length-append, reverse-append}
+use Rattle.std.proofs.Common.{◌≡◌, ◌∙◌, ◌≤◌, ◌+◌, ◌-◌, MatchOption, arith, drop, get_or, length, option_to_list, ℕ, List, [], ◌∷◌, ◌++◌, Bool, true, false, Option, Some, None, Result, Ok, Err, ap, if◌then◌else◌, is_some, nat_eq, nat_lt, refl, reverse, subst, sym}
+use Rattle.std.proofs.Math.Seq.{get_or-append_seam}
+use Rattle.std.proofs.lemmas.List.{length-append, length-reverse, reverse-append, reverse-reverse}
 use Rattle.ink_model.specs.Frames.{FrameOf, ThreadOf, ThreadsOf, gone, mode_in, on_top, put_in}
 use Rattle.ink_model.specs.Threads.{back_to, doubled, frame_count, new_frame, number_in, popped, pushed, same_kind, thread_count}
 use Rattle.ink_model.specs.declared.fault.Fault.{Fault}
 use Rattle.ink_model.specs.declared.fault.Fault.TheVariants.{BadMode, BadPop, OutOfMemory, TooDeep}
 use Rattle.ink_model.specs.declared.frame.FrameKind.{FrameKind}
 use Rattle.ink_model.specs.declared.limits.TheConstants.{MAX_FRAMES, MAX_THREADS}
-use Rattle.ink_trail.proofs.Undoing.{none-stood, spare-trails, stood-kept, stood-none, stood-trails}
-use Rattle.ink_trail.specs.Undo.{KeepsTrail, Trails}
+use Rattle.ink_trail.proofs.Undoing.{none-stood, spare-notes, spare-trails, stood-kept, stood-none, stood-notes, stood-trails}
+use Rattle.ink_trail.specs.Undo.{KeepsTrail, Notes, Trails, undone}
 use Rattle.ink_stack.specs.Cells.{number_back, previous_back, unpopped, unpushed}
 use Rattle.ink_stack.specs.Running.{RunningView, threads_in}
 use Rattle.ink_stack.specs.Threads.{ThreadsView}
-use Rattle.ink_stack.specs.Undo.{threads_back, threads_spare, threads_stood}
+use Rattle.ink_stack.specs.Undo.{HasGone, HasMode, threads_back, threads_spare, threads_stood}
 use Rattle.ink_stack.specs.Words.{Changes, Grows}
-use Rattle.ink_stack.specs.declared.undo.ThreadsPair.TheVariants.{Placed, Previous, Evaluating, Numbered, ThreadPushed, ThreadPopped}
+use Rattle.ink_stack.specs.declared.undo.ThreadsPair.{ThreadsPair}
+use Rattle.ink_stack.specs.declared.undo.ThreadsPair.TheVariants.{Placed, Previous, Evaluating, Numbered, Fresh, Temp, FramePushed, FramePopped, ThreadPushed, ThreadPopped, Replaced}
 
 -- a list without its last item, seen from its end
 pub popped-drop : {X : Type 0} (xs rest : List X) (o : Option X) (n m : ℕ) → xs ≡ rest ++ option_to_list o → MatchOption o ((n ≡ 0) × (m ≡ 0)) (λ x. m + 1 ≡ n) → n ≡ length xs
@@ -22,6 +24,15 @@ pub popped-drop : {X : Type 0} (xs rest : List X) (o : Option X) (n m : ℕ) →
 popped-drop xs rest (Some x) n m is cases len = sym (ap (λ ys. drop 1 (reverse ys)) is ∙ ap (drop 1) (reverse-append rest (x ∷ [])))
 popped-drop xs [] None n m is cases len = sym (ap (λ ys. drop 1 (reverse ys)) is)
 popped-drop xs (y ∷ ys) None n m is cases len = absurd (omega (arith, cases.0, len, ap length is, length-append (y ∷ ys) []))
+
+-- the third from the end
+third_last : {X : Type 0} (xs rest : List X) (a b c d : X) → reverse xs ≡ a ∷ b ∷ c ∷ rest → get_or xs (length xs - 3) d ≡ c
+third_last xs rest a b c d is =
+    let ys = reverse rest ++ c ∷ b ∷ a ∷ [] in
+    let turned : reverse ys ≡ a ∷ b ∷ c ∷ rest = reverse-append (reverse rest) (c ∷ b ∷ a ∷ []) ∙ ap (λ zs. a ∷ b ∷ c ∷ zs) (reverse-reverse rest) in
+    let same : xs ≡ ys = sym (reverse-reverse xs) ∙ ap reverse (is ∙ sym turned) ∙ reverse-reverse ys in
+    let at : length xs - 3 ≡ length (reverse rest) = omega (arith, ap length same ∙ length-append (reverse rest) (c ∷ b ∷ a ∷ [])) in
+    ap (λ n. get_or xs n d) at ∙ ap (λ zs. get_or zs (length (reverse rest)) d) same ∙ get_or-append_seam (reverse rest) c (b ∷ a ∷ []) d
 
 module _ {P : Type 0} where
   -- ---- fields of the top frame
@@ -44,6 +55,86 @@ module _ {P : Type 0} where
 
   pub gone-back : (ts : ThreadsOf P) (p q : Option P) → q ≡ ts.thread.frame.place → threads_back (Placed q) (on_top (gone p) ts) ≡ going ts
   gone-back ts p q is = ap (λ x. on_top (put_in x) (on_top (previous_back ts.thread.frame.place) ts)) is
+
+  -- what was noted last
+  pub gone-is : (es : List (ThreadsPair P)) → HasGone es → (p : Option P) × (q : Option P) × (rest : List (ThreadsPair P)) × (es ≡ Placed p ∷ Previous q ∷ rest)
+  gone-is [] h = absurd h
+  gone-is (Placed p ∷ []) h = absurd h
+  gone-is (Placed p ∷ (Previous q ∷ es)) h = (p, q, es, refl)
+  gone-is (Placed p ∷ (Placed _ ∷ es)) h = absurd h
+  gone-is (Placed p ∷ (Evaluating _ ∷ es)) h = absurd h
+  gone-is (Placed p ∷ (Numbered _ ∷ es)) h = absurd h
+  gone-is (Placed p ∷ (Fresh _ ∷ es)) h = absurd h
+  gone-is (Placed p ∷ (Temp _ _ _ ∷ es)) h = absurd h
+  gone-is (Placed p ∷ (FramePushed ∷ es)) h = absurd h
+  gone-is (Placed p ∷ (FramePopped _ ∷ es)) h = absurd h
+  gone-is (Placed p ∷ (ThreadPushed ∷ es)) h = absurd h
+  gone-is (Placed p ∷ (ThreadPopped _ ∷ es)) h = absurd h
+  gone-is (Placed p ∷ (Replaced _ _ ∷ es)) h = absurd h
+  gone-is (Previous _ ∷ es) h = absurd h
+  gone-is (Evaluating _ ∷ es) h = absurd h
+  gone-is (Numbered _ ∷ es) h = absurd h
+  gone-is (Fresh _ ∷ es) h = absurd h
+  gone-is (Temp _ _ _ ∷ es) h = absurd h
+  gone-is (FramePushed ∷ es) h = absurd h
+  gone-is (FramePopped _ ∷ es) h = absurd h
+  gone-is (ThreadPushed ∷ es) h = absurd h
+  gone-is (ThreadPopped _ ∷ es) h = absurd h
+  gone-is (Replaced _ _ ∷ es) h = absurd h
+
+  -- both places are put back already
+  pub gone-noted : (p : Option P) (es : List (ThreadsPair P)) (ts : ThreadsOf P) → HasGone es → undone threads_back es (on_top (gone p) ts) ≡ undone threads_back es ts
+  gone-noted p es ts h = rw (gone-is es h).3 refl
+
+  pub mode-is : (es : List (ThreadsPair P)) → HasMode es → (p : Option P) × (q : Option P) × (b : Bool) × (rest : List (ThreadsPair P)) × (es ≡ Placed p ∷ Previous q ∷ Evaluating b ∷ rest)
+  mode-is [] h = absurd h
+  mode-is (Placed p ∷ []) h = absurd h
+  mode-is (Placed p ∷ (Previous q ∷ [])) h = absurd h
+  mode-is (Placed p ∷ (Previous q ∷ (Evaluating b ∷ es))) h = (p, q, b, es, refl)
+  mode-is (Placed p ∷ (Previous q ∷ (Placed _ ∷ es))) h = absurd h
+  mode-is (Placed p ∷ (Previous q ∷ (Previous _ ∷ es))) h = absurd h
+  mode-is (Placed p ∷ (Previous q ∷ (Numbered _ ∷ es))) h = absurd h
+  mode-is (Placed p ∷ (Previous q ∷ (Fresh _ ∷ es))) h = absurd h
+  mode-is (Placed p ∷ (Previous q ∷ (Temp _ _ _ ∷ es))) h = absurd h
+  mode-is (Placed p ∷ (Previous q ∷ (FramePushed ∷ es))) h = absurd h
+  mode-is (Placed p ∷ (Previous q ∷ (FramePopped _ ∷ es))) h = absurd h
+  mode-is (Placed p ∷ (Previous q ∷ (ThreadPushed ∷ es))) h = absurd h
+  mode-is (Placed p ∷ (Previous q ∷ (ThreadPopped _ ∷ es))) h = absurd h
+  mode-is (Placed p ∷ (Previous q ∷ (Replaced _ _ ∷ es))) h = absurd h
+  mode-is (Placed p ∷ (Placed _ ∷ es)) h = absurd h
+  mode-is (Placed p ∷ (Evaluating _ ∷ es)) h = absurd h
+  mode-is (Placed p ∷ (Numbered _ ∷ es)) h = absurd h
+  mode-is (Placed p ∷ (Fresh _ ∷ es)) h = absurd h
+  mode-is (Placed p ∷ (Temp _ _ _ ∷ es)) h = absurd h
+  mode-is (Placed p ∷ (FramePushed ∷ es)) h = absurd h
+  mode-is (Placed p ∷ (FramePopped _ ∷ es)) h = absurd h
+  mode-is (Placed p ∷ (ThreadPushed ∷ es)) h = absurd h
+  mode-is (Placed p ∷ (ThreadPopped _ ∷ es)) h = absurd h
+  mode-is (Placed p ∷ (Replaced _ _ ∷ es)) h = absurd h
+  mode-is (Previous _ ∷ es) h = absurd h
+  mode-is (Evaluating _ ∷ es) h = absurd h
+  mode-is (Numbered _ ∷ es) h = absurd h
+  mode-is (Fresh _ ∷ es) h = absurd h
+  mode-is (Temp _ _ _ ∷ es) h = absurd h
+  mode-is (FramePushed ∷ es) h = absurd h
+  mode-is (FramePopped _ ∷ es) h = absurd h
+  mode-is (ThreadPushed ∷ es) h = absurd h
+  mode-is (ThreadPopped _ ∷ es) h = absurd h
+  mode-is (Replaced _ _ ∷ es) h = absurd h
+
+  -- the mode was noted before the places
+  pub mode-at : (ps : List (ThreadsPair P)) (d : ThreadsPair P) (b : Bool) → 3 ≤ length ps → HasGone (reverse ps) → get_or ps (length ps - 3) d ≡ Evaluating b → HasMode (reverse ps)
+  mode-at ps d b some went is = by (gone-is (reverse ps) went)
+    where
+      by : ((p : Option P) × (q : Option P) × (rest : List (ThreadsPair P)) × (reverse ps ≡ Placed p ∷ Previous q ∷ rest)) → HasMode (reverse ps)
+      by (p, q, [], e) = absurd (omega (arith, some, ap length e, length-reverse ps))
+      by (p, q, c ∷ rest, e) =
+          let mode : c ≡ Evaluating b = sym (third_last ps rest (Placed p) (Previous q) c d e) ∙ is in
+          subst HasMode (sym e) (subst (λ x. HasMode (Placed p ∷ Previous q ∷ x ∷ rest)) (sym mode) tt)
+
+  -- the mode is put back already
+  pub mode-noted : (b : Bool) (es : List (ThreadsPair P)) (ts : ThreadsOf P) → HasMode es → undone threads_back es (on_top (mode_in b) ts) ≡ undone threads_back es ts
+  mode-noted b es ts h = rw (mode-is es h).4 refl
 
   -- ---- frames
 
@@ -93,6 +184,14 @@ module _ {P : Type 0} where
   pub spare-of : (n : ℕ) (old new : ThreadsView P) → Trails threads_back n old.threads old.trail new.threads new.trail → threads_spare old ≤ threads_spare new + n
   unfolding threads_spare
   spare-of n old new p = spare-trails threads_back p
+
+  pub stood-noted : (n : ℕ) (old new : ThreadsView P) → Notes threads_back n old.threads old.trail new.threads new.trail → threads_stood new ≡ threads_stood old
+  unfolding threads_stood
+  stood-noted n old new p = stood-notes threads_back p
+
+  pub spare-noted : (n : ℕ) (old new : ThreadsView P) → Notes threads_back n old.threads old.trail new.threads new.trail → threads_spare old ≤ threads_spare new + n
+  unfolding threads_spare
+  spare-noted n old new p = spare-notes threads_back p
 
   pub stood-same : (old new : ThreadsView P) → (new.threads ≡ old.threads) × KeepsTrail old.trail new.trail → threads_stood new ≡ threads_stood old
   unfolding threads_stood

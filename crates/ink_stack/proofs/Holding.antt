@@ -1,14 +1,15 @@
 -- There is room for what is put back of frames and threads.
-use Rattle.std.proofs.Common.{◌≡◌, ◌∙◌, ◌≤◌, ℕ, List, [], ◌∷◌, ◌++◌, false, Option, Some, None, ap, arith, is_some, length, subst, sym}
+use Rattle.std.proofs.Common.{◌≡◌, ◌∙◌, ◌≤◌, ℕ, List, [], ◌∷◌, ◌++◌, Bool, false, Option, Some, None, ap, arith, is_some, length, refl, subst, sym}
 use Rattle.std.proofs.lemmas.List.{length-append, length-reverse}
 use Rattle.ink_model.specs.Bases.{BaseFirst}
-use Rattle.ink_model.specs.Frames.{ThreadOf, ThreadsOf}
+use Rattle.ink_model.specs.Frames.{ThreadOf, ThreadsOf, gone, mode_in, on_top, put_in}
 use Rattle.ink_trail.proofs.Staying.{stays-more, stays-now, stays-with}
-use Rattle.ink_trail.specs.Undo.{Undo, trail_of, with_pair}
+use Rattle.ink_trail.specs.Undo.{Undo, trail_of, with_count, with_pair}
+use Rattle.ink_stack.proofs.Backs.{gone-is, mode-is}
 use Rattle.ink_stack.proofs.Bases.{base_same}
-use Rattle.ink_stack.specs.Cells.{Within}
+use Rattle.ink_stack.specs.Cells.{Within, previous_back}
 use Rattle.ink_stack.specs.Running.{RunningView, threads_in}
-use Rattle.ink_stack.specs.Undo.{Held, More, Rooms, StaysHeld, rooms_of, threads_back}
+use Rattle.ink_stack.specs.Undo.{HasGone, HasMode, Held, More, Rooms, StaysHeld, rooms_of, threads_back}
 use Rattle.ink_stack.specs.declared.undo.ThreadsPair.{ThreadsPair}
 use Rattle.ink_stack.specs.declared.undo.ThreadsPair.TheVariants.{Placed, Previous, Evaluating, Numbered, Fresh, Temp, FramePushed, FramePopped, ThreadPushed, ThreadPopped, Replaced}
 
@@ -88,3 +89,33 @@ module _ {P : Type 0} where
   held-as u v r s ts us undo same more h =
       subst (λ (w : Option (Undo (ThreadsPair P))). StaysHeld s (trail_of w) us) (sym undo)
       (subst (λ w. StaysHeld s (trail_of u) w) (sym same) (stays-roomy r s (trail_of u) ts more h))
+
+  -- ---- what is put back already
+
+  as_before : (t s : ThreadOf P) (below : List (ThreadOf P)) (r : Rooms) → s.below ≡ t.below → s.frame.kind ≡ t.frame.kind → Held r (record { thread = t; below = below })
+      → Held r (record { thread = s; below = below })
+  as_before t s below r same kind held = record { thread = within-same r.frames t s same kind held.thread; few = held.few; fit = held.fit }
+
+  -- flow goes further
+  pub held-further : (n : ℕ) (p : Option P) (u : Option (Undo (ThreadsPair P))) (ts : ThreadsOf P) (r : Rooms) → HasGone (trail_of u) → StaysHeld r (trail_of u) ts
+      → StaysHeld r (trail_of (with_count n u)) (on_top (gone p) ts)
+  held-further n p None ts r went h = absurd went
+  held-further n p (Some u) ts r went h =
+      let last = gone-is u.trail went in
+      let held : StaysHeld r (Placed last.0 ∷ Previous last.1 ∷ last.2) ts = subst (λ es. StaysHeld r es ts) last.3 h in
+      let first : Held r (on_top (gone p) ts) = as_before ts.thread (gone p ts.thread) ts.below r refl refl held.0 in
+      let second : Held r (threads_back (Placed last.0) (on_top (gone p) ts)) = as_before ts.thread (put_in last.0 (gone p ts.thread)) ts.below r refl refl held.0 in
+      subst (λ es. StaysHeld r es (on_top (gone p) ts)) (sym last.3) (first, (second, held.1.1))
+
+  -- the mode changes again
+  pub held-again : (n : ℕ) (b : Bool) (u : Option (Undo (ThreadsPair P))) (ts : ThreadsOf P) (r : Rooms) → HasMode (trail_of u) → StaysHeld r (trail_of u) ts
+      → StaysHeld r (trail_of (with_count n u)) (on_top (mode_in b) ts)
+  held-again n b None ts r mode h = absurd mode
+  held-again n b (Some u) ts r mode h =
+      let last = mode-is u.trail mode in
+      let held : StaysHeld r (Placed last.0 ∷ Previous last.1 ∷ Evaluating last.2 ∷ last.3) ts = subst (λ es. StaysHeld r es ts) last.4 h in
+      let now = mode_in b ts.thread in
+      let first : Held r (on_top (mode_in b) ts) = as_before ts.thread now ts.below r refl refl held.0 in
+      let second : Held r (threads_back (Placed last.0) (on_top (mode_in b) ts)) = as_before ts.thread (put_in last.0 now) ts.below r refl refl held.0 in
+      let third : Held r (threads_back (Previous last.1) (threads_back (Placed last.0) (on_top (mode_in b) ts))) = as_before ts.thread (previous_back last.1 (put_in last.0 now)) ts.below r refl refl held.0 in
+      subst (λ es. StaysHeld r es (on_top (mode_in b) ts)) (sym last.4) (first, (second, (third, held.1.1.1)))

@@ -1,11 +1,11 @@
 -- What holds of the threads where no mark stands.
-use Rattle.std.proofs.Common.{◌≡◌, ◌≤◌, ◌+◌, ℕ, List, Option, None, Result, Ok, Err, ap, false, is_some, refl}
+use Rattle.std.proofs.Common.{◌≡◌, ◌≤◌, ◌+◌, ℕ, List, Option, None, Result, Ok, Err, false, is_some, refl}
 use Rattle.ink_model.specs.Frames.{ThreadOf, ThreadsOf}
 use Rattle.ink_model.specs.declared.fault.Fault.{Fault}
 use Rattle.ink_trail.proofs.Undoing.{spare-or-kept, stood-none, stood-or-kept, trails-unmarked}
 use Rattle.ink_trail.specs.Undo.{KeepsTrail, TrailView, TrailsOrKeeps, Undo, trail_of}
 use Rattle.ink_stack.specs.Threads.{ThreadsView}
-use Rattle.ink_stack.specs.Undo.{Held, Rooms, StaysHeld, threads_back, threads_spare, threads_stood}
+use Rattle.ink_stack.specs.Undo.{Rooms, StaysHeld, threads_back, threads_spare, threads_stood}
 use Rattle.ink_stack.specs.Words.{Grows}
 use Rattle.ink_stack.specs.declared.undo.ThreadsPair.{ThreadsPair}
 use Rattle.ink_stack.proofs.Backs.{grown-kept}

@@ -1,5 +1,5 @@
 -- How changes of frames and threads are put back.
-use Rattle.std.specs.Prelude.{◌≤◌, ◌<◌, ℕ, List, ◌∷◌, length, drop, true, vec_capacity, Option}
+use Rattle.std.specs.Prelude.{⊤, ◌≤◌, ◌<◌, ℕ, List, ◌∷◌, length, drop, true, vec_capacity, Option}
 use Rattle.ink_model.specs.Frames.{ThreadsOf, mode_in, on_top, put_in}
 use Rattle.ink_model.specs.declared.limits.TheConstants.{MAX_THREADS}
 use Rattle.ink_trail.specs.Stays.{Stays}
@@ -34,6 +34,16 @@ module _ {P : Type 0} where
   threads_back ThreadPushed ts = record ts { below = drop 1 ts.below }
   threads_back (ThreadPopped t) ts = record { thread = t.thread; below = ts.thread ∷ ts.below }
   threads_back (Replaced t below) ts = threads_in t below.items
+
+  -- what was noted last is the places that flow left
+  abbrev pub HasGone : List (ThreadsPair P) → Type 0
+  HasGone (Placed p ∷ Previous q ∷ es) = ⊤
+  HasGone es = ⊥
+
+  -- what was noted last is the mode, and then the places that flow left
+  abbrev pub HasMode : List (ThreadsPair P) → Type 0
+  HasMode (Placed p ∷ Previous q ∷ Evaluating b ∷ es) = ⊤
+  HasMode es = ⊥
 
   -- ---- what a mark keeps
 

@@ -7,14 +7,14 @@ ghost use Rattle.ink_model.specs.Threads.{alone, doubled, dropped, frame_count, 
 ghost use Rattle.ink_model.specs.declared.limits.TheConstants.{MAX_THREADS};
 ghost use Rattle.ink_stack.specs.Calls.{frame_kind};
 ghost use Rattle.ink_stack.specs.Running.{threads_in};
-ghost use Rattle.ink_stack.specs.Undo.{threads_back, threads_spare, threads_stood};
+ghost use Rattle.ink_stack.specs.Undo.{HasGone, HasMode, threads_back, threads_spare, threads_stood};
 ghost use Rattle.ink_stack.specs.Words.{Changes, Grows};
-ghost use Rattle.ink_trail.specs.Undo.{Begins, Ends, KeepsTrail, Trails, TrailsOrKeeps, trail_of, writes_of};
+ghost use Rattle.ink_trail.specs.Undo.{Begins, Ends, KeepsTrail, Notes, Trails, TrailsOrKeeps, trail_of, writes_of};
 
 use crate::frame::CallKind;
 use crate::running::Running;
 use crate::thread::Thread;
-use crate::undo::{ThreadsPair, end_freshness, put_back};
+use crate::undo::{ThreadsPair, end_freshness, has_gone, has_mode, put_back};
 use ink_model::{Fault, FrameKind, MAX_THREADS, Value};
 use ink_trail::Trail;
 use std::alloc::{AllocError, Global};
@@ -105,7 +105,7 @@ impl<P: Copy> Threads<P> {
     pub fn go(&mut self, place: Option<P>)
         requires room { 2 ≤ threads_spare self.old }
         ensures threads { self.new.threads ≡ on_top (gone place) self.old.threads }
-        ensures trail { Trails threads_back 2 self.old.threads self.old.trail self.new.threads self.new.trail }
+        ensures trail { Notes threads_back 2 self.old.threads self.old.trail self.new.threads self.new.trail }
         ensures stood { threads_stood self.new ≡ threads_stood self.old }
         ensures spare { threads_spare self.old ≤ threads_spare self.new + 2 }
     {
@@ -121,14 +121,30 @@ impl<P: Copy> Threads<P> {
     fn go_marked(&mut self, place: Option<P>)
         requires room { 2 ≤ threads_spare self.old }
         ensures threads { self.new.threads ≡ on_top (gone place) self.old.threads }
-        ensures trail { Trails threads_back 2 self.old.threads self.old.trail self.new.threads self.new.trail }
+        ensures trail { Notes threads_back 2 self.old.threads self.old.trail self.new.threads self.new.trail }
         ensures stood { threads_stood self.new ≡ threads_stood self.old }
         ensures spare { threads_spare self.old ≤ threads_spare self.new + 2 }
     {
+        if has_gone(self.trail.pairs()) {
+            return self.go_further(place);
+        }
         let previous = self.running.previous();
         let left = self.running.place();
         self.trail.note(ThreadsPair::Previous(previous), 1);
         self.trail.note(ThreadsPair::Placed(left), 1);
+        self.running.go(place);
+    }
+
+    // As `go`, where nothing was noted since flow went last: that puts both places back already.
+    #[inline(always)]
+    fn go_further(&mut self, place: Option<P>)
+        requires gone { HasGone (trail_of self.old.trail.undo) }
+        ensures threads { self.new.threads ≡ on_top (gone place) self.old.threads }
+        ensures trail { Notes threads_back 2 self.old.threads self.old.trail self.new.threads self.new.trail }
+        ensures stood { threads_stood self.new ≡ threads_stood self.old }
+        ensures spare { threads_spare self.old ≤ threads_spare self.new + 2 }
+    {
+        self.trail.count(2);
         self.running.go(place);
     }
 
@@ -165,7 +181,7 @@ impl<P: Copy> Threads<P> {
     pub fn set_mode(&mut self, evaluating: bool)
         requires room { 1 ≤ threads_spare self.old }
         ensures threads { self.new.threads ≡ on_top (mode_in evaluating) self.old.threads }
-        ensures trail { Trails threads_back 1 self.old.threads self.old.trail self.new.threads self.new.trail }
+        ensures trail { Notes threads_back 1 self.old.threads self.old.trail self.new.threads self.new.trail }
         ensures stood { threads_stood self.new ≡ threads_stood self.old }
         ensures spare { threads_spare self.old ≤ threads_spare self.new + 1 }
     {
@@ -181,12 +197,28 @@ impl<P: Copy> Threads<P> {
     fn set_mode_marked(&mut self, evaluating: bool)
         requires room { 1 ≤ threads_spare self.old }
         ensures threads { self.new.threads ≡ on_top (mode_in evaluating) self.old.threads }
-        ensures trail { Trails threads_back 1 self.old.threads self.old.trail self.new.threads self.new.trail }
+        ensures trail { Notes threads_back 1 self.old.threads self.old.trail self.new.threads self.new.trail }
         ensures stood { threads_stood self.new ≡ threads_stood self.old }
         ensures spare { threads_spare self.old ≤ threads_spare self.new + 1 }
     {
+        if has_mode(self.trail.pairs()) {
+            return self.set_mode_again(evaluating);
+        }
         let was = self.running.is_evaluating();
         self.trail.note(ThreadsPair::Evaluating(was), 1);
+        self.running.set_mode(evaluating);
+    }
+
+    // As `set_mode`, where nothing was noted since but that flow went: the mode is put back already.
+    #[inline(always)]
+    fn set_mode_again(&mut self, evaluating: bool)
+        requires mode { HasMode (trail_of self.old.trail.undo) }
+        ensures threads { self.new.threads ≡ on_top (mode_in evaluating) self.old.threads }
+        ensures trail { Notes threads_back 1 self.old.threads self.old.trail self.new.threads self.new.trail }
+        ensures stood { threads_stood self.new ≡ threads_stood self.old }
+        ensures spare { threads_spare self.old ≤ threads_spare self.new + 1 }
+    {
+        self.trail.count(1);
         self.running.set_mode(evaluating);
     }
 

@@ -1,10 +1,10 @@
 //! How changes of frames and threads are put back.
 
-ghost use Rattle.std.specs.Prelude.{◌≡◌, ◌≤◌, ◌<◌, ◌+◌, length, vec_capacity};
+ghost use Rattle.std.specs.Prelude.{◌≡◌, ◌≤◌, ◌<◌, ◌+◌, length, reverse, true, vec_capacity};
 ghost use Rattle.ink_model.specs.Threads.{frame_count, stale, stale_run, staled};
 ghost use Rattle.ink_stack.specs.Cells.{with_frame};
 ghost use Rattle.ink_stack.specs.Running.{threads_in};
-ghost use Rattle.ink_stack.specs.Undo.{Held, More, StaysHeld, rooms_of, threads_back};
+ghost use Rattle.ink_stack.specs.Undo.{HasGone, HasMode, Held, More, StaysHeld, rooms_of, threads_back};
 ghost use Rattle.ink_trail.specs.Undo.{Trails, spare, trail_of, undone, writes_of};
 
 use crate::frame::Frame;
@@ -35,6 +35,31 @@ pub enum ThreadsPair<P> {
     ThreadPopped(Running<P>),
     /// All threads.
     Replaced(Running<P>, Vec<Thread<P>>),
+}
+
+/// Whether the last that was noted is that flow went.
+#[inline(always)]
+pub(crate) fn has_gone<P>(pairs: &[ThreadsPair<P>]) -> bool
+    ensures { result ≡ true → HasGone (reverse pairs.now) }
+{
+    matches!(
+        pairs,
+        [.., ThreadsPair::Previous(_), ThreadsPair::Placed(_)]
+    )
+}
+
+/// Whether the last that was noted, but for that flow went, is the mode of the frame.
+#[inline(always)]
+pub(crate) fn has_mode<P>(pairs: &[ThreadsPair<P>]) -> bool
+    ensures { result ≡ true → HasMode (reverse pairs.now) }
+{
+    if pairs.len() < 3 || !has_gone(pairs) {
+        return false;
+    }
+    match pairs[pairs.len() - 3] {
+        ThreadsPair::Evaluating(_) => true,
+        _ => false,
+    }
 }
 
 /// A text is written where so many sections are open, and each frame that is fresh no more is noted.

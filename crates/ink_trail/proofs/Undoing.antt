@@ -1,7 +1,7 @@
 -- Laws of what is put back.
 use Rattle.std.proofs.Common.{◌≡◌, ◌∙◌, Bool, false, if◌then◌else◌, ◌≤◌, ◌<◌, ◌+◌, ◌^◌, ℕ, List, [], ◌∷◌, ◌++◌, length, true, is_some, IsSome, Option, Some, None, unwrap_or, Result, Ok, Err, ap, arith, refl, subst, sym}
 use Rattle.std.proofs.lemmas.List.{append_assoc, length-append}
-use Rattle.ink_trail.specs.Undo.{Begins, HasRoom, KeepsTrail, LacksRoom, TrailView, Trails, TrailsOrKeeps, Undo, spare, spare_of, stood, stood_at, stood_of, trail_of, undone, with_pair, writes_of}
+use Rattle.ink_trail.specs.Undo.{Begins, HasRoom, KeepsTrail, LacksRoom, Notes, TrailView, Trails, TrailsOrKeeps, Undo, spare, spare_of, stood, stood_at, stood_of, trail_of, undone, with_count, with_pair, writes_of}
 
 -- ---- how many pairs more fit
 
@@ -177,6 +177,47 @@ module _ {E D : Type 0} (back : E → D → D) where
   trails-stood n a b u v p h =
       ap (λ es. undone back es b) p.trail ∙ undone-++ p.pairs (trail_of u.undo) b ∙ ap (undone back (trail_of u.undo)) (p.undone h)
 
+  -- so does a call that leaves a trail
+  pub notes-trails : (n : ℕ) (was is : D) (old new : TrailView E) → Trails back n was old is new → Notes back n was old is new
+  notes-trails n was is old new p = record {
+    marked = p.marked;
+    pairs = p.pairs;
+    trail = p.trail;
+    stood = trails-stood n was is old new p;
+    few = p.few;
+    most = p.most;
+    least = p.least;
+    room = p.room;
+  }
+
+  counts : (n : ℕ) (was is : D) (u v : Option (Undo E)) (r s : ℕ) → v ≡ with_count n u → (is_some u ≡ true → undone back (trail_of u) is ≡ undone back (trail_of u) was) → r ≤ s + n
+      → Notes back n was (record { undo = u; room = r }) is (record { undo = v; room = s })
+  counts n was is None v r s eq h k = rw eq (record {
+    marked = refl;
+    pairs = [];
+    trail = refl;
+    stood = λ m. absurd (cc);
+    few = omega arith;
+    most = omega arith;
+    least = omega arith;
+    room = k;
+  })
+  counts n was is (Some u) v r s eq h k = rw eq (record {
+    marked = refl;
+    pairs = [];
+    trail = refl;
+    stood = λ m. h refl;
+    few = omega arith;
+    most = omega arith;
+    least = omega arith;
+    room = k;
+  })
+
+  -- a call whose cells the last pairs put back
+  pub notes-none : (n : ℕ) (was is : D) (old new : TrailView E) → new.undo ≡ with_count n old.undo → (is_some old.undo ≡ true → stood back old is ≡ stood back old was) → old.room ≤ new.room + n
+      → Notes back n was old is new
+  notes-none n was is old new undo same room = counts n was is old.undo new.undo old.room new.room undo same room
+
   empty_from : (es fs : List E) → fs ≡ es ++ fs → es ≡ []
   empty_from [] fs h = refl
   empty_from (e ∷ es) fs h = absurd (omega (arith, ap length h ∙ length-append (e ∷ es) fs))
@@ -208,6 +249,13 @@ module _ {E D : Type 0} (back : E → D → D) where
   unfolding stood_at
   stood-trails {n = n} {was = was} {is = is} {old = old} {new = new} p =
       same_by old.undo new.undo was is p.marked (trails-stood n was is old new p)
+
+  pub stood-notes : {n : ℕ} {was is : D} {old new : TrailView E} → Notes back n was old is new → stood_at back new is ≡ stood_at back old was
+  unfolding stood_at
+  stood-notes {was = was} {is = is} {old = old} {new = new} p = same_by old.undo new.undo was is p.marked p.stood
+
+  pub spare-notes : {n : ℕ} {was is : D} {old new : TrailView E} → Notes back n was old is new → spare old ≤ spare new + n
+  spare-notes {n = n} {old = old} {new = new} p = spare-less n old new p.marked p.room
 
   pub spare-trails : {n : ℕ} {was is : D} {old new : TrailView E} → Trails back n was old is new → spare old ≤ spare new + n
   spare-trails {n = n} {was = was} {is = is} {old = old} {new = new} p = spare-less n old new p.marked p.room

@@ -25,6 +25,11 @@ module _ {E : Type 0} where
   with_pair e n None = None
   with_pair e n (Some u) = Some (record { trail = e ∷ u.trail; writes = min (u.writes + n) (2 ^ 64 - 1) })
 
+  -- no pair more, by a call that counts n changes
+  abbrev pub with_count : ℕ → Option (Undo E) → Option (Undo E)
+  with_count n None = None
+  with_count n (Some u) = Some (record u { writes = min (u.writes + n) (2 ^ 64 - 1) })
+
   -- ---- room
 
   -- the room of a trail, and where no mark stands more than a call can count
@@ -90,7 +95,19 @@ module _ {E D : Type 0} (back : E → D → D) where
     pub least : min (writes_of old.undo + length pairs) (2 ^ 64 - 1) ≤ writes_of new.undo
     pub room : old.room ≤ new.room + n
 
-  -- The same of a call that may fail, and changes nothing then.
+  -- The same of a call that notes nothing where the pairs that were noted last put its cells back already: the data at the mark stay
+  -- what they were.
+  pub record Notes (n : ℕ) (was : D) (old : TrailView E) (is : D) (new : TrailView E) : Type 0 where
+    pub marked : is_some new.undo ≡ is_some old.undo
+    pub pairs : List E
+    pub trail : trail_of new.undo ≡ pairs ++ trail_of old.undo
+    pub stood : is_some old.undo ≡ true → stood new is ≡ stood old was
+    pub few : length pairs ≤ n
+    pub most : writes_of new.undo ≤ writes_of old.undo + n
+    pub least : min (writes_of old.undo + length pairs) (2 ^ 64 - 1) ≤ writes_of new.undo
+    pub room : old.room ≤ new.room + n
+
+  -- As `Trails`, of a call that may fail, and changes nothing then.
   abbrev pub TrailsOrKeeps : {A F : Type 0} → ℕ → D → TrailView E → D → TrailView E → Result A F → Type 0
   TrailsOrKeeps n was old is new (Ok x) = Trails n was old is new
   TrailsOrKeeps n was old is new (Err f) = (is ≡ was) × KeepsTrail old new

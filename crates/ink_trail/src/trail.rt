@@ -1,7 +1,7 @@
 //! A trail of pairs.
 
-ghost use Rattle.std.specs.Prelude.{◌≡◌, ◌≤◌, ◌<◌, ◌+◌, [], ◌∷◌, None, Some, is_some, length, OnOk, OnErr, MatchOption, true};
-ghost use Rattle.ink_trail.specs.Undo.{Begins, Ends, HasRoom, KeepsTrail, LacksRoom, spare, trail_of, with_pair, writes_of};
+ghost use Rattle.std.specs.Prelude.{◌≡◌, ◌≤◌, ◌<◌, ◌+◌, [], ◌∷◌, None, Some, is_some, length, reverse, OnOk, OnErr, MatchOption, true};
+ghost use Rattle.ink_trail.specs.Undo.{Begins, Ends, HasRoom, KeepsTrail, LacksRoom, spare, trail_of, with_count, with_pair, writes_of};
 
 use std::alloc::{AllocError, Global};
 use std::marker::Model;
@@ -62,6 +62,30 @@ impl<E> Trail<E> {
         ensures writes { result ≤ writes_of self.now.undo }
     {
         if self.marked { self.pairs.len() } else { 0 }
+    }
+
+    /// The pairs, in the order in which they were noted; none where no mark stands.
+    #[inline(always)]
+    pub fn pairs(&self) -> &[E]
+        ensures { result.now ≡ reverse (trail_of self.now.undo) }
+    {
+        if self.marked {
+            self.pairs.as_slice()
+        } else {
+            &[]
+        }
+    }
+
+    /// Counts so many changes of single cells, where a mark stands: those that the pairs that were noted last put back already.
+    #[tactic(auto, unfolding(crate::specs::Undo::spare))]
+    pub fn count(&mut self, cells: u64)
+        ensures undo { self.new.undo ≡ with_count cells self.old.undo }
+        ensures room { self.new.room ≡ self.old.room }
+        ensures spare { spare self.new ≡ spare self.old }
+    {
+        if self.marked {
+            self.writes = self.writes.saturating_add(cells);
+        }
     }
 
     /// How many pairs more fit without memory.

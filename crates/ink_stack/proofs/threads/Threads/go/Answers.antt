@@ -1,8 +1,8 @@
 use Rattle.std.proofs.Common.{◌∙◌, arith, refl, reverse, sym, vec_capacity}
 use Rattle.ink_model.specs.Frames.{gone}
-use Rattle.ink_trail.proofs.Undoing.{trails-unmarked}
+use Rattle.ink_trail.proofs.Undoing.{notes-trails, trails-unmarked}
 use Rattle.ink_stack.specs.Undo.{Rooms, threads_back}
-use Rattle.ink_stack.proofs.Backs.{spare-of, stood-of}
+use Rattle.ink_stack.proofs.Backs.{spare-noted, stood-noted}
 use Rattle.ink_stack.proofs.Unmarked.{held-same}
 use Rattle.ink_stack.proofs.threads.Threads.go.Goals as goal
 
@@ -17,10 +17,10 @@ invariant_of-self g c =
 
 pub returns-clause-trail : goal.returns-clause-trail
 returns-clause-trail g c =
-    rw (← c.self.view_is) (trails-unmarked threads_back 2 _ _ _ _ (sym c.is_marked.ensures ∙ c.if-is_marked.false) (refl, omega arith))
+    rw (← c.self.view_is) (notes-trails threads_back 2 _ _ _ _ (trails-unmarked threads_back 2 _ _ _ _ (sym c.is_marked.ensures ∙ c.if-is_marked.false) (refl, omega arith)))
 
 pub returns-clause-stood : goal.returns-clause-stood
-returns-clause-stood g c = stood-of 2 _ _ (returns-clause-trail g c)
+returns-clause-stood g c = stood-noted 2 _ _ (returns-clause-trail g c)
 
 pub returns-clause-spare : goal.returns-clause-spare
-returns-clause-spare g c = spare-of 2 _ _ (returns-clause-trail g c)
+returns-clause-spare g c = spare-noted 2 _ _ (returns-clause-trail g c)

@@ -1,11 +1,12 @@
-use Rattle.std.proofs.Common.{arith, refl, vec_capacity, ap, sym, subst, ◌≤◌}
-use Rattle.ink_trail.proofs.Undoing.{trails-one, trails-trails}
+use Rattle.std.proofs.Common.{arith, refl, reverse, vec_capacity, ap, sym, subst, ◌≤◌}
+use Rattle.std.proofs.lemmas.List.{reverse-reverse}
+use Rattle.ink_trail.proofs.Undoing.{notes-trails, trails-one, trails-trails}
 use Rattle.ink_trail.specs.Undo.{trail_of, with_pair, spare}
 use Rattle.ink_model.specs.Frames.{gone, on_top}
 use Rattle.ink_stack.specs.Running.{threads_in}
-use Rattle.ink_stack.specs.Undo.{Rooms, threads_back, threads_spare}
+use Rattle.ink_stack.specs.Undo.{HasGone, Rooms, threads_back, threads_spare}
 use Rattle.ink_stack.specs.declared.undo.ThreadsPair.TheVariants.{Placed, Previous}
-use Rattle.ink_stack.proofs.Backs.{going, gone-back, spare-of, stood-of, went-back}
+use Rattle.ink_stack.proofs.Backs.{going, gone-back, spare-noted, stood-noted, went-back}
 use Rattle.ink_stack.proofs.Holding.{held-now, held-top, more-refl, within-same}
 use Rattle.ink_stack.proofs.threads.Threads.go_marked.Goals as goal
 
@@ -33,16 +34,16 @@ returns-clause-trail g c =
     let previous = c.previous-previous.result in
     let left = c.place-left.result in
     rw (← c.self.view_is, c.go.ensures)
-    (trails-trails threads_back 1 1 ts (going ts) (on_top (gone c.args.place) ts) _ c.note.new.self _
+    (notes-trails threads_back 2 _ _ _ _ (trails-trails threads_back 1 1 ts (going ts) (on_top (gone c.args.place) ts) _ c.note.new.self _
     (trails-one threads_back (Previous previous) 1 ts (going ts) _ _ (omega arith) (went-back ts previous c.previous-previous.ensures) c.note.ensures.undo c.note.ensures.room)
     (trails-one threads_back (Placed left) 1 (going ts) (on_top (gone c.args.place) ts) _ _ (omega arith) (gone-back ts c.args.place left c.place-left.ensures)
-    c.note-2.ensures.undo c.note-2.ensures.room))
+    c.note-2.ensures.undo c.note-2.ensures.room)))
 
 pub returns-clause-stood : goal.returns-clause-stood
-returns-clause-stood g c = stood-of 2 _ _ (returns-clause-trail g c)
+returns-clause-stood g c = stood-noted 2 _ _ (returns-clause-trail g c)
 
 pub returns-clause-spare : goal.returns-clause-spare
-returns-clause-spare g c = spare-of 2 _ _ (returns-clause-trail g c)
+returns-clause-spare g c = spare-noted 2 _ _ (returns-clause-trail g c)
 
 pub note-requires-clause-spare : goal.note-requires-clause-spare
 unfolding threads_spare
@@ -58,3 +59,8 @@ note-requires-2-clause-spare g c =
 
 pub returns-clause-threads : goal.returns-clause-threads
 returns-clause-threads g c = rw (← c.self.view_is) (ap (λ v. threads_in v c.self.inside.below.items) c.go.ensures)
+
+pub go_further-requires : goal.go_further-requires
+go_further-requires g c =
+    let noted : HasGone (reverse (reverse (trail_of c.self.inside.trail.undo))) = subst (λ es. HasGone (reverse es)) c.pairs.ensures (c.has_gone.ensures c.if-has_gone.true) in
+    record { gone = subst (λ v. HasGone (trail_of v.trail.undo)) c.self.view_is (subst HasGone (reverse-reverse (trail_of c.self.inside.trail.undo)) noted) }
