@@ -10,8 +10,8 @@ loop-slots-preserved c =
     let old = c.loop-slots.slots.items in
     let items : c.push.new.self.items ≡ old ++ None ∷ [] = c.in_ok-push.ensures.items in
     record {
-      rows = ap (rows_from 0) items ∙ more_room 0 old ∙ c.loop-slots.invariant.rows;
-      counts = λ h. subst AreCounts (sym items) (count_more old (c.loop-slots.invariant.counts h));
+      rows = ap (rows_from 0) items ∙ more_room 0 1 old ∙ c.loop-slots.invariant.rows;
+      counts = λ h. subst AreCounts (sym items) (count_more 1 old (c.loop-slots.invariant.counts h));
       most = omega (arith, ap length items ∙ length-append old (None ∷ []), c.loop-slots-test.true, c.len.ensures);
     }
 
