@@ -1,4 +1,5 @@
 pub mod Playing
+pub mod Lines
 pub mod Courses
 pub mod Halting
 pub mod Keeping
