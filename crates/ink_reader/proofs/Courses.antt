@@ -20,7 +20,7 @@ use Rattle.ink_reader.specs.Words.{Word, LastLacks, Stopped}
 use Rattle.ink_reader.specs.declared.shelf.NotKept.{NotKept}
 use Rattle.ink_reader.specs.declared.telling.Told.{Told}
 use Rattle.ink_reader.specs.declared.telling.Told.TheVariants as told
-use Rattle.ink_reader.proofs.Lines.{any-stop}
+use Rattle.ink_reader.proofs.Tellings.{any-stop}
 
 -- ---- to its end, or not
 
@@ -56,7 +56,7 @@ up-well {C = C} {ds = ds} {new = new} is h = subst (λ w. UpTo w C ds new) (ap i
 
 -- ---- telling
 
-any-telling : (saves : Bool) → (rest : List Deed) × IsTelling saves rest None
+pub any-telling : (saves : Bool) → (rest : List Deed) × IsTelling saves rest None
 any-telling saves = (
   Goes false ∷ Offers (Ok []) ∷ Says (Stopped told.Stop) ∷ [],
   record { lines = Goes false ∷ []; end = told.Stop; rest = Offers (Ok []) ∷ Says (Stopped told.Stop) ∷ []; whole = refl; told = (refl, refl); stop = (refl, refl) },

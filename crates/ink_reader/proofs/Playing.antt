@@ -1,5 +1,5 @@
 -- What a reading does, one deed after another, and what is shown of it.
-use Rattle.std.proofs.Common.{◌≡◌, ◌∙◌, ℕ, List, [], ◌∷◌, ◌++◌, Bool, true, false, Option, Some, Result, Ok, Err, OnErr, OnOk, is_ok, refl, sym, ap, subst, append_assoc, append-nil, true≢false}
+use Rattle.std.proofs.Common.{◌≡◌, ◌∙◌, ℕ, List, [], ◌∷◌, ◌++◌, Bool, true, false, Option, Some, Result, Ok, Err, OnErr, OnOk, is_ok, refl, sym, ap, subst, append_assoc, append-nil, true≢false, codes}
 use Rattle.std.proofs.KnownBytes.{Appends-nil, Appends-trans}
 use Rattle.std.specs.Io.KnownBytes.{Appends}
 use Rattle.ink_host.specs.Telling.{Watching}
@@ -18,10 +18,12 @@ use Rattle.ink_model.specs.declared.passage.Shown.{Shown}
 use Rattle.ink_model.specs.declared.value.Value.{Value}
 use Rattle.ink_page.specs.Showing.{said}
 use Rattle.ink_page.specs.declared.page.Look.{Look}
+use Rattle.ink_protocol.specs.Ends.{WritesText}
+use Rattle.ink_protocol.specs.declared.fault.RunFault.{RunFault}
 use Rattle.ink_player.specs.Words.{DealtOnce, PlayerView, bindings, desk_of, state_of, story_of, told_from}
 use Rattle.ink_player.proofs.Tellings.{bindings-same, dealt-dealt, dealt-kept, dealt-none, dealt-once}
 use Rattle.ink_reader.specs.Course.{saving_told, unsaved_told}
-use Rattle.ink_reader.specs.Deeds.{AreDone, AreShelved, Deed, Fetches, Gave, Gives, Goes, IsDone, IsShelved, Keeps, Played, Says, answer_shown, deed_shown, deeds_shown}
+use Rattle.ink_reader.specs.Deeds.{AreDone, AreShelved, Asks, Deed, Fetches, Gave, Gives, Goes, IsDone, IsShelved, Keeps, Played, Says, answer_shown, deed_shown, deeds_shown}
 use Rattle.ink_reader.specs.Kept as shelf
 use Rattle.ink_reader.specs.Steps.{stop_told}
 use Rattle.ink_reader.specs.Words.{Word, word_text}
@@ -52,6 +54,11 @@ on_ok (Err x) h e = absurd (true≢false (sym e))
 pub on_err : {T E X : Type 0} (r : Result T E) → OnErr r X → is_ok r ≡ false → X
 on_err (Ok x) h e = absurd (true≢false e)
 on_err (Err x) h e = h
+
+-- a text was written, where that did not fail
+pub written : (held held' : Option (List ℕ)) (text : List ℕ) (r : Result (Unit {0}) RunFault) → WritesText held held' text r → OnOk r (Appends held held' text)
+written held held' text (Ok u) h = h
+written held held' text (Err e) h = tt
 
 -- more was written behind it
 pub more-written : {T E : Type 0} (a b c : Option (List ℕ)) (text more : List ℕ) (r : Result T E) → Appends a b text → OnOk r (Appends b c more) → OnOk r (Appends a c (text ++ more))
@@ -103,6 +110,10 @@ module _ {P F O : Type 0} {meaning : P → List Value → Option Given} {turn_lo
   pub played-goes : {p : PlayerView P F O} {more : Bool} {held : Option (List ℕ)} {kept : Option (Option (List ℕ))} {well : Bool} → is_running (state_of p).condition ≡ more
       → Played meaning turn_log state look p (Goes more ∷ []) p held held kept kept well
   played-goes is = played-quiet (is, refl, refl) refl refl
+
+  pub played-asks : {T E : Type 0} {p : PlayerView P F O} {held held' : Option (List ℕ)} {kept : Option (Option (List ℕ))} (r : Result T E) → OnOk r (Appends held held' (codes "> "))
+      → Played meaning turn_log state look p (Asks ∷ []) p held held' kept kept (is_ok r)
+  played-asks {p = p} {kept = kept} r h = played-still (state_of p, [], [], refl, (refl, refl), (refl, refl)) (kept, refl, refl) (on_ok r h)
 
   pub played-fetches : {p : PlayerView P F O} {answer : Result (Option (List ℕ)) NotKept} {held : Option (List ℕ)} {kept : Option (Option (List ℕ))} {well : Bool}
       → shelf.Fetches kept answer → Played meaning turn_log state look p (Fetches answer ∷ []) p held held kept kept well

@@ -1,5 +1,5 @@
 -- What a reading does, one deed after another, and what is shown of it (docs/READER.md, "What is shown").
-use Rattle.std.specs.Prelude.{◌≡◌, ℕ, List, [], ◌∷◌, ◌++◌, Bool, true, Option, Some, Result, Ok, Err}
+use Rattle.std.specs.Prelude.{◌≡◌, ℕ, List, [], ◌∷◌, ◌++◌, Bool, true, Option, Some, Result, Ok, Err, codes}
 use Rattle.std.specs.Io.KnownBytes.{Appends}
 use Rattle.ink_host.specs.Telling.{Watching}
 use Rattle.ink_host.specs.declared.objects.Called.{Called}
@@ -31,6 +31,8 @@ pub data Deed : Type 0 where
   Gives : Command → Reply → Deed
   -- its player is asked for the choices that there are
   Offers : Result (List Shown) Refusal → Deed
+  -- it asks for a line
+  Asks : Deed
   -- it says words of its own
   Says : Word → Deed
   -- a save is brought to the shelf
@@ -66,6 +68,7 @@ abbrev pub deed_shown : Look → Deed → List ℕ
 deed_shown look (Goes more) = []
 deed_shown look (Gives k reply) = answer_shown look k reply
 deed_shown look (Offers shown) = offer_shown look shown
+deed_shown look Asks = codes "> "
 deed_shown look (Says word) = said look (word_text word)
 deed_shown look (Keeps text answer) = []
 deed_shown look (Fetches answer) = []
@@ -81,6 +84,7 @@ abbrev pub IsDone : StoryTree → Bindings → List Event → Deed → State →
 IsDone s h es (Gives k reply) old new = Does s h es (Some k) old reply new
 IsDone s h es (Goes more) old new = (is_running old.condition ≡ more) × (es ≡ []) × (new ≡ old)
 IsDone s h es (Offers shown) old new = ShowsChoices old shown × (es ≡ []) × (new ≡ old)
+IsDone s h es Asks old new = (es ≡ []) × (new ≡ old)
 IsDone s h es (Says word) old new = (es ≡ []) × (new ≡ old)
 IsDone s h es (Keeps text answer) old new = (es ≡ []) × (new ≡ old)
 IsDone s h es (Fetches answer) old new = (es ≡ []) × (new ≡ old)
@@ -97,6 +101,7 @@ IsShelved old (Fetches answer) new = shelf.Fetches old answer × (new ≡ old)
 IsShelved old (Goes more) new = new ≡ old
 IsShelved old (Gives k reply) new = new ≡ old
 IsShelved old (Offers shown) new = new ≡ old
+IsShelved old Asks new = new ≡ old
 IsShelved old (Says word) new = new ≡ old
 
 abbrev pub AreShelved : Option (Option (List ℕ)) → List Deed → Option (Option (List ℕ)) → Type 0

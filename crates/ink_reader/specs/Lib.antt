@@ -3,3 +3,4 @@ pub mod Words
 pub mod Deeds
 pub mod Course
 pub mod Steps
+pub mod Session

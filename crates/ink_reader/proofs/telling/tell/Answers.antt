@@ -4,7 +4,7 @@ use Rattle.ink_model.specs.Command as command
 use Rattle.ink_reader.specs.Course.{IsTold}
 use Rattle.ink_reader.specs.Deeds.{Gives, Goes}
 use Rattle.ink_reader.specs.declared.telling.Told.TheVariants as told
-use Rattle.ink_reader.proofs.Lines.{leads-line, leads-more, told-break, told-off, told-part}
+use Rattle.ink_reader.proofs.Tellings.{leads-line, leads-more, told-break, told-off, told-part}
 use Rattle.ink_reader.proofs.Playing.{played-goes, played-lost, played-none, played-off, played-played, played-well}
 use Rattle.ink_reader.proofs.telling.tell.Goals as goal
 

@@ -1,7 +1,7 @@
 use Rattle.std.proofs.Common.{ℕ, List, Option, true}
 use Rattle.ink_reader.specs.Deeds.{Deed, Played}
 use Rattle.ink_reader.specs.declared.telling.Told.TheVariants as told
-use Rattle.ink_reader.proofs.Lines.{Leads}
+use Rattle.ink_reader.proofs.Tellings.{Leads}
 use Rattle.ink_reader.proofs.telling.tell.Given as goal
 
 -- lines were told, and behind them telling goes on

@@ -2,7 +2,7 @@ use Rattle.std.proofs.Common.{◌∙◌, sym}
 use Rattle.ink_model.specs.Answer.{Tells, reply_of_halt}
 use Rattle.ink_player.specs.Words.{bindings, desk_of, state_of, story_of}
 use Rattle.ink_player.proofs.Tellings.{if-ok}
-use Rattle.ink_reader.proofs.Lines.{goes-behind, halt-breaks}
+use Rattle.ink_reader.proofs.Tellings.{goes-behind, halt-breaks}
 use Rattle.ink_reader.proofs.Halting.{halted}
 use Rattle.ink_reader.proofs.Playing.{played-gives}
 use Rattle.ink_reader.proofs.telling.tell_line.Goals as goal
