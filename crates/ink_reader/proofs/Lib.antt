@@ -1,4 +1,6 @@
 pub mod Playing
+pub mod Tellings
 pub mod Courses
+pub mod Sessions
 pub mod Halting
 pub mod Keeping

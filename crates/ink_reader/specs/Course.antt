@@ -1,142 +1,166 @@
--- Which commands a reading gives to its player, and what it shows (docs/READER.md).
-use Rattle.std.specs.Prelude.{◌≡◌, ◌⊎◌, ℕ, zero, suc, List, [], ◌∷◌, ◌++◌, Bool, true, Option, Some, Result, Ok, Err, OnOk, replicate, ⊤}
-use Rattle.std.specs.Io.KnownBytes.{Appends}
-use Rattle.ink_host.specs.Telling.{Watching}
-use Rattle.ink_host.specs.declared.objects.Called.{Called}
-use Rattle.ink_model.specs.Answer.{Reply, Acts, Breaks, Counts, Refuses, Saves, Shows, Tells}
+-- What a reading does for what is typed (docs/READER.md, "What is typed").
+use Rattle.std.specs.Prelude.{◌≡◌, ◌⊎◌, ℕ, zero, suc, List, [], ◌∷◌, ◌++◌, Bool, true, false, MatchBool, Option, Some, None, Result, Ok, Err}
+use Rattle.std.specs.Option.{option_to_list}
+use Rattle.serde_json.specs.Data.{Data}
+use Rattle.serde_json.specs.Read.{read}
+use Rattle.serde_json.specs.Written.{compact_text}
+use Rattle.ink_model.specs.Answer.{Reply, Acts, Refuses, Saves, Tells}
 use Rattle.ink_model.specs.Command as command
 use Rattle.ink_model.specs.Command.{Command}
-use Rattle.ink_model.specs.Host.{Bindings}
-use Rattle.ink_model.specs.Session.{Does}
-use Rattle.ink_model.specs.State.{State}
-use Rattle.ink_model.specs.Tree.{StoryTree}
-use Rattle.ink_model.specs.Turns.{ShowsChoices}
-use Rattle.ink_model.specs.declared.fault.Refusal.{Refusal}
-use Rattle.ink_model.specs.declared.host.Event.{Event}
-use Rattle.ink_model.specs.declared.host.Given.{Given}
-use Rattle.ink_model.specs.declared.passage.Shown.{Shown}
-use Rattle.ink_model.specs.declared.value.Value.{Value}
-use Rattle.ink_page.specs.Sentences.{fault_sentence, refusal_sentence}
-use Rattle.ink_page.specs.Showing.{choices_shown, events_shown, passage_shown, said, value_shown}
+use Rattle.ink_model.specs.declared.fault.Refusal.TheVariants as refusal
 use Rattle.ink_page.specs.Typed as asks
 use Rattle.ink_page.specs.Typed.{Asked}
-use Rattle.ink_page.specs.declared.page.Look.{Look}
-use Rattle.ink_player.specs.Words.{Dealt, PlayerView, bindings, desk_of, state_of, story_of}
-use Rattle.ink_reader.specs.Kept.{LoadsKept, LoadsLast}
-use Rattle.ink_reader.specs.Words.{Word, broke_off, end_words, word_text}
+use Rattle.ink_reader.specs.Deeds.{Deed, Fetches, Gives, Goes, Keeps, Offers, Says}
+use Rattle.ink_reader.specs.Words.{Word, BadSave, FirstPlace, Help, LastLacks, NoSave, NotRead, NotWritten, PlaceLacks, Refused, Saved, Stopped, Unclear}
+use Rattle.ink_reader.specs.declared.past.Past.{Past}
+use Rattle.ink_reader.specs.declared.shelf.NotKept.{NotKept}
 use Rattle.ink_reader.specs.declared.telling.Told.{Told}
+use Rattle.ink_reader.specs.declared.telling.Told.TheVariants as told
 
--- ---- what is shown
+-- the texts of saves: from before each choice, and of where the story stands now, if that is noted
+pub record Places : Type 0 where
+  pub before : List (List ℕ)
+  pub here : Option (List ℕ)
 
--- of an answer
-abbrev pub reply_shown : Look → Reply → List ℕ
-reply_shown look (Tells passage) = passage_shown look passage
-reply_shown look (Acts events) = events_shown look events
-reply_shown look (Shows value) = []
-reply_shown look (Counts visits) = []
-reply_shown look (Saves saved) = []
-reply_shown look (Refuses r) = said look (refusal_sentence r)
-reply_shown look (Breaks f events) = events_shown look events ++ (said look (fault_sentence f) ++ said look broke_off)
+abbrev pub places_of : Past → Places
+places_of past = record { before = past.before.items; here = past.here }
 
--- of the answer to a command: a value with its name; that a place could not be saved is said in words of its own
-abbrev pub answer_shown : Look → Command → Reply → List ℕ
-answer_shown look (command.Get name) (Shows value) = value_shown look name value
-answer_shown look command.Save reply = []
-answer_shown look k reply = reply_shown look reply
+-- ---- keeping a save
 
--- of its own: words, or the choices of the player
-pub data Own : Type 0 where
-  Says : Word → Own
-  Offers : List Shown → Own
+-- what is said where a save that was asked for is kept, and where it is not
+abbrev pub saving_told : Result (Unit {0}) NotKept → List Deed
+saving_told (Ok u) = Says Saved ∷ []
+saving_told (Err cause) = Says (NotWritten cause) ∷ []
 
-abbrev pub owns_shown : Look → List Own → List ℕ
-owns_shown look [] = []
-owns_shown look (Says word ∷ os) = said look (word_text word) ++ owns_shown look os
-owns_shown look (Offers choices ∷ os) = choices_shown look choices ++ owns_shown look os
+-- the same where the reading saves by itself
+abbrev pub unsaved_told : Result (Unit {0}) NotKept → List Deed
+unsaved_told (Ok u) = []
+unsaved_told (Err cause) = Says (NotWritten cause) ∷ []
 
-abbrev pub AreOffered : State → List Own → Type 0
-AreOffered now [] = ⊤
-AreOffered now (Says word ∷ os) = AreOffered now os
-AreOffered now (Offers choices ∷ os) = ShowsChoices now (Ok choices) × AreOffered now os
+-- the reading saves by itself, if it is to
+abbrev pub SavesItself : Bool → List ℕ → List Deed → Type 0
+SavesItself false text ds = ds ≡ []
+SavesItself true text ds = (answer : Result (Unit {0}) NotKept) × (ds ≡ Keeps text answer ∷ unsaved_told answer)
 
-abbrev pub IsOwn : Look → State → List ℕ → Type 0
-IsOwn look now text = (os : List Own) × (text ≡ owns_shown look os) × AreOffered now os
+-- ---- telling
 
--- this was written, words of its own and choices that there are now
-pub record Spoken (look : Look) (now : State) (held held' : Option (List ℕ)) : Type 0 where
-  pub text : List ℕ
-  pub written : Appends held held' text
-  pub own : IsOwn look now text
+-- how a story ends, if no line comes behind one that has a loose end, or none
+abbrev pub end_behind : Bool → Told
+end_behind true = told.LooseEnd
+end_behind false = told.Stop
 
--- where a story stopped: its choices, or how it ends, or why they cannot be shown
-abbrev pub stop_shown : Look → Told → Result (List Shown) Refusal → List ℕ
-stop_shown look how (Ok []) = said look (end_words how)
-stop_shown look how (Ok (choice ∷ choices)) = choices_shown look (choice ∷ choices)
-stop_shown look how (Err r) = said look (refusal_sentence r)
+-- While flow can go on, lines are told, up to an answer that is none. It ends so, where it would have ended so before them.
+abbrev pub IsTold : Told → List Deed → Told → Type 0
+IsTold how (Goes false ∷ ds) end = (ds ≡ []) × (end ≡ how)
+IsTold how (Goes true ∷ Gives command.Continue (Tells p) ∷ ds) end = IsTold (end_behind p.loose) ds end
+IsTold how (Goes true ∷ Gives command.Continue reply ∷ ds) end = (ds ≡ []) × (end ≡ told.Break)
+IsTold how ds end = ⊥
 
--- where all went well, words of its own were written, and nothing else
-abbrev pub Speaks : {T E : Type 0} → Look → Option (List ℕ) → Option (List ℕ) → Result T E → Type 0
-Speaks look held held' result = OnOk result ((now : State) → Spoken look now held held')
+-- where there are choices, the place is noted, and saved
+abbrev pub IsNoted : Bool → List Deed → Option (List ℕ) → Type 0
+IsNoted saves (Gives command.Save (Saves j) ∷ ds) here = (here ≡ Some (compact_text j)) × SavesItself saves (compact_text j) ds
+IsNoted saves (Gives command.Save (Refuses r) ∷ ds) here = (here ≡ None) × (ds ≡ Says PlaceLacks ∷ [])
+IsNoted saves ds here = ⊥
 
--- ---- commands of a player
+-- where lines ended so, choices are shown; or how the story ends; or why they are not there
+abbrev pub IsStop : Bool → Told → List Deed → Option (List ℕ) → Type 0
+IsStop saves told.Break ds here = (ds ≡ []) × (here ≡ None)
+IsStop saves end (Offers (Ok (choice ∷ choices)) ∷ ds) here = IsNoted saves ds here
+IsStop saves end (Offers (Ok []) ∷ ds) here = (ds ≡ Says (Stopped end) ∷ []) × (here ≡ None)
+IsStop saves end (Offers (Err r) ∷ ds) here = (ds ≡ Says (Refused r) ∷ []) × (here ≡ None)
+IsStop saves end ds here = ⊥
 
--- These commands, one after another, each with its events, and what is shown: of each its answer, in order, and between them
--- what the reading says of its own.
-abbrev pub Commands : Look → StoryTree → Bindings → List Event → List Command → List ℕ → State → State → Type 0
-Commands look s h es [] text old new = (es ≡ []) × (new ≡ old) × IsOwn look old text
-Commands look s h es (k ∷ ks) text old new =
-    (mid : State) × (reply : Reply) × (first : List Event) × (others : List Event) × (own : List ℕ) × (rest : List ℕ)
-    × (es ≡ first ++ others) × (text ≡ own ++ (answer_shown look k reply ++ rest)) × IsOwn look old own
-    × Does s h first (Some k) old reply mid × Commands look s h others ks rest mid new
+-- the story is told from where it stands to its next stop
+pub record IsTelling (saves : Bool) (ds : List Deed) (here : Option (List ℕ)) : Type 0 where
+  pub lines : List Deed
+  pub end : Told
+  pub rest : List Deed
+  pub whole : ds ≡ lines ++ rest
+  pub told : IsTold told.Stop lines end
+  pub stop : IsStop saves end rest here
 
-module _ {P F O : Type 0} (meaning : P → List Value → Option Given) (turn_log : F → List Called) (state : O → Watching) where
-  -- a player was given this command, its objects were called and told what happened at it, and it answered
-  pub record Gave (old : PlayerView P F O) (k : Command) (reply : Reply) (new : PlayerView P F O) : Type 0 where
-    pub events : List Event
-    pub does : Does (story_of old) (bindings meaning (desk_of old)) events (Some k) (state_of old) reply (state_of new)
-    pub dealt : Dealt turn_log state (desk_of old) events (desk_of new)
-    pub story : story_of new ≡ story_of old
+-- It goes on from a place that is noted among those before choices; or there is no memory for that, and it is said.
+abbrev pub GoesOn : Bool → Places → List Deed → Places → Type 0
+GoesOn saves old ds new = ((new.before ≡ old.before ++ option_to_list old.here) × IsTelling saves ds new.here)
+    ⊎ ((rest : List Deed) × (ds ≡ Says LastLacks ∷ rest) × (new.before ≡ old.before) × IsTelling saves rest new.here)
 
-  -- Between these two moments a player was given these commands and nothing else, and its objects were called and told what happened
-  -- at them. Where all went well, just what is shown of that was written.
-  pub record Played (look : Look) (old : PlayerView P F O) (ks : List Command) (new : PlayerView P F O) (held held' : Option (List ℕ)) (well : Bool) : Type 0 where
-    pub events : List Event
-    pub text : List ℕ
-    pub commands : Commands look (story_of old) (bindings meaning (desk_of old)) events ks text (state_of old) (state_of new)
-    pub dealt : Dealt turn_log state (desk_of old) events (desk_of new)
-    pub story : story_of new ≡ story_of old
-    pub written : well ≡ true → Appends held held' text
+-- ---- what is typed
 
--- ---- what is given for what was typed
+-- whether a command was done that tells of events
+abbrev pub acts : Reply → Bool
+acts (Acts events) = true
+acts reply = false
 
--- the choice of a number, from 1
-abbrev pub chosen : ℕ → List Command
-chosen zero = []
-chosen (suc n) = command.Choose n ∷ []
+-- A command is given. Where it is done, this comes behind it; where it is not, nothing, and the places stay.
+abbrev pub Then : Command → (List Deed → Type 0) → Type 0 → List Deed → Type 0
+Then k Behind Stays ds = (reply : Reply) × (rest : List Deed) × (ds ≡ Gives k reply ∷ rest) × MatchBool (acts reply) (Behind rest) ((rest ≡ []) × Stays)
 
--- What was typed leads to these commands first, where these are the saves from before each choice, and that is the save that is kept.
-abbrev pub Leads : List (List ℕ) → Option (Option (List ℕ)) → Asked → List Command → Type 0
-Leads before kept (asks.Choice n) ks = ks ≡ chosen n
-Leads before kept asks.Save ks = ks ≡ command.Save ∷ []
-Leads before kept asks.Load ks = LoadsKept kept ks
-Leads before kept asks.Back ks = LoadsLast before ks
-Leads before kept asks.Restart ks = ks ≡ command.Restart ∷ []
-Leads before kept (asks.Variable name) ks = ks ≡ command.Get name ∷ []
-Leads before kept asks.Help ks = ks ≡ []
-Leads before kept asks.Quit ks = ks ≡ []
-Leads before kept asks.Unclear ks = ks ≡ []
+-- why the value of a save's text is not loaded: there is none, or that memory was refused
+abbrev pub IsUnread : List ℕ → Word → Type 0
+IsUnread text word = ((read text ≡ None) × (word ≡ BadSave)) ⊎ (word ≡ Refused refusal.OutOfMemory)
 
--- so many lines are told, and where the story stands then may be saved
-pub record IsTelling (ks : List Command) : Type 0 where
-  pub lines : ℕ
-  pub last : List Command
-  pub whole : ks ≡ replicate lines command.Continue ++ last
-  pub saves : (last ≡ []) ⊎ (last ≡ command.Save ∷ [])
+-- the value of a save's text is loaded, or it is said why not
+abbrev pub Loads : List ℕ → (List Deed → Type 0) → Type 0 → List Deed → Type 0
+Loads text Behind Stays ds = ((j : Data) × (read text ≡ Some j) × Then (command.Load (Some j)) Behind Stays ds)
+    ⊎ ((word : Word) × IsUnread text word × (ds ≡ Says word ∷ []) × Stays)
 
--- the commands for what was typed: those that it leads to, and then lines are told
-pub record IsCourse (before : List (List ℕ)) (kept : Option (Option (List ℕ))) (asked : Asked) (ks : List Command) : Type 0 where
-  pub first : List Command
-  pub rest : List Command
-  pub whole : ks ≡ first ++ rest
-  pub leads : Leads before kept asked first
-  pub tells : IsTelling rest
+-- from 1
+abbrev pub IsChoice : Bool → Places → ℕ → List Deed → Places → Type 0
+IsChoice saves old zero ds new = (ds ≡ Says (Refused refusal.NotAChoice) ∷ []) × (new ≡ old)
+IsChoice saves old (suc n) ds new = Then (command.Choose n) (λ rest. GoesOn saves old rest new) (new ≡ old) ds
+
+abbrev pub IsSaving : List Deed → Type 0
+IsSaving (Gives command.Save (Saves j) ∷ ds) = (answer : Result (Unit {0}) NotKept) × (ds ≡ Keeps (compact_text j) answer ∷ saving_told answer)
+IsSaving (Gives command.Save (Refuses r) ∷ ds) = ds ≡ Says (Refused r) ∷ []
+IsSaving ds = ⊥
+
+abbrev pub IsLoading : Bool → Places → List Deed → Places → Type 0
+IsLoading saves old (Fetches (Ok (Some text)) ∷ ds) new = Loads text (λ rest. GoesOn saves old rest new) (new ≡ old) ds
+IsLoading saves old (Fetches (Ok None) ∷ ds) new = (ds ≡ Says NoSave ∷ []) × (new ≡ old)
+IsLoading saves old (Fetches (Err cause) ∷ ds) new = (ds ≡ Says (NotRead cause) ∷ []) × (new ≡ old)
+IsLoading saves old ds new = ⊥
+
+-- whether the story stands where the save stands then
+abbrev pub has_loaded : List Deed → Bool
+has_loaded (Fetches answer ∷ Gives k reply ∷ ds) = acts reply
+has_loaded ds = false
+
+-- the last place is taken away where the story stands there then
+abbrev pub IsBack : Bool → Places → List Deed → Places → Type 0
+IsBack saves old ds new = ((old.before ≡ []) × (ds ≡ Says FirstPlace ∷ []) × (new ≡ old))
+    ⊎ ((earlier : List (List ℕ)) × (text : List ℕ) × (old.before ≡ earlier ++ text ∷ [])
+    × Loads text (λ rest. (new.before ≡ earlier) × IsTelling saves rest new.here) (new ≡ old) ds)
+
+abbrev pub IsCourse : Bool → Places → Asked → List Deed → Places → Type 0
+IsCourse saves old (asks.Choice number) ds new = IsChoice saves old number ds new
+IsCourse saves old asks.Save ds new = IsSaving ds × (new ≡ old)
+IsCourse saves old asks.Load ds new = IsLoading saves old ds new
+IsCourse saves old asks.Back ds new = IsBack saves old ds new
+IsCourse saves old asks.Restart ds new = Then command.Restart (λ rest. GoesOn saves old rest new) (new ≡ old) ds
+IsCourse saves old (asks.Variable name) ds new = ((reply : Reply) × (ds ≡ Gives (command.Get name) reply ∷ [])) × (new ≡ old)
+IsCourse saves old asks.Help ds new = (ds ≡ Says Help ∷ []) × (new ≡ old)
+IsCourse saves old asks.Quit ds new = (ds ≡ []) × (new ≡ old)
+IsCourse saves old asks.Unclear ds new = (ds ≡ Says Unclear ∷ []) × (new ≡ old)
+
+-- the reading begins: the story is told from its start
+abbrev pub IsBeginning : Bool → Places → List Deed → Places → Type 0
+IsBeginning saves old ds new = (new.before ≡ old.before) × IsTelling saves ds new.here
+
+-- it ends: where the story stands at a choice that is noted, the reading saves by itself
+abbrev pub EndsAt : Bool → Option (List ℕ) → List Deed → Type 0
+EndsAt saves None ds = ds ≡ []
+EndsAt saves (Some place) (Gives command.Save (Saves j) ∷ ds) = SavesItself saves (compact_text j) ds
+EndsAt saves (Some place) (Gives command.Save (Refuses r) ∷ ds) = ds ≡ Says (Refused r) ∷ []
+EndsAt saves (Some place) ds = ⊥
+
+abbrev pub IsEnding : Bool → Places → List Deed → Places → Type 0
+IsEnding saves old ds new = EndsAt saves old.here ds × (new ≡ old)
+
+-- ---- to its end, or not
+
+-- What was done is what comes before some rest of it. Where all went well there is no rest, and these are the places then.
+pub record UpTo (well : Bool) (Course : List Deed → Places → Type 0) (ds : List Deed) (new : Places) : Type 0 where
+  pub rest : List Deed
+  pub end : Places
+  pub course : Course (ds ++ rest) end
+  pub whole : well ≡ true → (rest ≡ []) × (end ≡ new)

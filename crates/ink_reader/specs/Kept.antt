@@ -1,12 +1,9 @@
 -- Where saves are kept (docs/READER.md, "Saves").
-use Rattle.std.specs.Prelude.{◌≡◌, ◌⊎◌, ℕ, List, [], ◌∷◌, ◌++◌, Option, None, Some, Result, Ok, Err, option_map, string_bytes, String, ⊤}
+use Rattle.std.specs.Prelude.{◌≡◌, ◌⊎◌, ℕ, List, ◌++◌, Option, None, Some, Result, Ok, Err, option_map, string_bytes, String, ⊤}
 use Rattle.std.specs.Global.{Global}
 use Rattle.std.specs.Option.{option_to_list}
 use Rattle.serde_json.specs.Data.{Data}
-use Rattle.serde_json.specs.Read.{read}
 use Rattle.serde_json.specs.Written.{compact_text}
-use Rattle.ink_model.specs.Command as command
-use Rattle.ink_model.specs.Command.{Command}
 use Rattle.ink_model.specs.State.{State}
 use Rattle.ink_model.specs.Tree.{StoryTree}
 use Rattle.ink_page.specs.Typed as asks
@@ -19,16 +16,16 @@ Keeps None new save result = new ≡ None
 Keeps (Some old) new save (Ok u) = new ≡ Some (Some save)
 Keeps (Some old) new save (Err e) = new ≡ Some old
 
--- what is kept is given, or it is said that it cannot be
-abbrev pub Fetches : {E : Type 0} → Option (Option (List ℕ)) → Result (Option (String Global)) E → Type 0
-Fetches None result = ⊤
-Fetches (Some kept) (Ok save) = option_map string_bytes save ≡ kept
-Fetches (Some kept) (Err e) = ⊤
+-- what a shelf hands out, as text
+abbrev pub text_of : {E : Type 0} → Result (Option (String Global)) E → Result (Option (List ℕ)) E
+text_of (Ok save) = Ok (option_map string_bytes save)
+text_of (Err e) = Err e
 
--- this text is what is kept, where that is known
-abbrev pub IsKept : Option (Option (List ℕ)) → List ℕ → Type 0
-IsKept None text = ⊤
-IsKept (Some kept) text = kept ≡ Some text
+-- what is kept is handed out, or it is said that it cannot be
+abbrev pub Fetches : {E : Type 0} → Option (Option (List ℕ)) → Result (Option (List ℕ)) E → Type 0
+Fetches None answer = ⊤
+Fetches (Some kept) (Ok save) = save ≡ kept
+Fetches (Some kept) (Err e) = ⊤
 
 -- the text of a save that reads as where the story stands now, or none
 abbrev pub IsPlace : StoryTree → State → Option (List ℕ) → Type 0
@@ -51,15 +48,3 @@ Noted before here new = (new ≡ before) ⊎ (new ≡ before ++ option_to_list h
 abbrev pub Notes : Asked → List (List ℕ) → Option (List ℕ) → List (List ℕ) → Type 0
 Notes asks.Back before here new = (last : Option (List ℕ)) × (before ≡ new ++ option_to_list last)
 Notes asked before here new = Noted before here new
-
--- the value of this text is loaded
-abbrev pub LoadsText : List ℕ → List Command → Type 0
-LoadsText text ks = (j : Data) × (read text ≡ Some j) × (ks ≡ command.Load (Some j) ∷ [])
-
--- what is kept is loaded, or nothing
-abbrev pub LoadsKept : Option (Option (List ℕ)) → List Command → Type 0
-LoadsKept kept ks = (ks ≡ []) ⊎ ((text : List ℕ) × IsKept kept text × LoadsText text ks)
-
--- the last of these texts is loaded, or nothing
-abbrev pub LoadsLast : List (List ℕ) → List Command → Type 0
-LoadsLast texts ks = (ks ≡ []) ⊎ ((earlier : List (List ℕ)) × (text : List ℕ) × (texts ≡ earlier ++ text ∷ []) × LoadsText text ks)

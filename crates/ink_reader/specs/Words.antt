@@ -8,6 +8,7 @@ use Rattle.ink_reader.specs.declared.telling.Told.{Told}
 use Rattle.ink_reader.specs.declared.telling.Told.TheVariants as told
 
 pub data Word : Type 0 where
+  Offer : Word
   Help : Word
   Unclear : Word
   FirstPlace : Word
@@ -38,6 +39,7 @@ end_words told.LooseEnd = codes "The story stops here at a loose end: nothing wa
 end_words other = codes "The story ends here."
 
 abbrev pub word_text : Word → List ℕ
+word_text Offer = codes "There is a save. Go on with it? (n begins anew; the next save takes its place)"
 word_text Help = codes "A number takes the choice of that number. s saves, l loads the save, b goes back to before the last choice, r restarts, v NAME shows a variable, q quits, ? shows this."
 word_text Unclear = codes "That was not understood; ? shows what is."
 word_text FirstPlace = codes "There is no choice to take back."

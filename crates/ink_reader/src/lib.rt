@@ -2,13 +2,16 @@
 //! knows of files.
 #![tactic(auto)]
 
+mod lines;
 mod moves;
 mod past;
 mod reader;
 mod saving;
+mod session;
 mod shelf;
 mod telling;
 mod turns;
 
+pub use lines::Lines;
 pub use reader::Reader;
 pub use shelf::{NotKept, Shelf};

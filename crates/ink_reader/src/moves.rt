@@ -1,31 +1,28 @@
 //! The calls of a player that a reading makes, each as a command.
 
-ghost use Rattle.std.specs.Prelude.{◌≡◌, ◌⊎◌, ℕ, List, [], ◌∷◌, None, Some, false, MatchOption, IfOk, map};
+ghost use Rattle.std.specs.Prelude.{◌≡◌, Some, IfOk};
 ghost use Rattle.serde_json.specs.Data.{Data};
 ghost use Rattle.serde_json.specs.View.{view};
 ghost use Rattle.serde_json.specs.Written.{compact_text};
-ghost use Rattle.ink_model.specs.Answer.{Reply, reply_of, reply_of_events, reply_of_landing, reply_of_value};
+ghost use Rattle.ink_model.specs.Answer.{reply_of, reply_of_events, reply_of_landing, reply_of_value};
 ghost use Rattle.ink_model.specs.Command as command;
-ghost use Rattle.ink_model.specs.State.{is_running};
 ghost use Rattle.ink_player.specs.Saving.{ReadsAsState};
 ghost use Rattle.ink_player.specs.Words.{state_of, story_of};
-ghost use Rattle.ink_reader.specs.Course.{Gave};
+ghost use Rattle.ink_protocol.specs.Replies.{IsTextOf, reply_of_text};
+ghost use Rattle.ink_reader.specs.Deeds.{Gave};
 
 use ink_host::{PureFn, TurnFn, Watcher};
 use ink_model::{Event, Halt, Passage, Refusal, Seq, Text, Value};
 use ink_player::Player;
 use serde_json::Value as Json;
 
-/// The next line, if flow goes on.
+/// Goes on by a line.
 pub(crate) fn next_line<P: PureFn, F: TurnFn, O: Watcher>(
     player: &mut Player<P, F, O>,
-) -> Option<Result<Passage, Halt>>
-    ensures { MatchOption result ((is_running (state_of player.new).condition ≡ false) × (player.new ≡ player.old)) (λ line. Gave P.meaning F.log O.state player.old command.Continue (reply_of line) player.new) }
+) -> Result<Passage, Halt>
+    ensures { Gave P.meaning F.log O.state player.old command.Continue (reply_of result) player.new }
 {
-    if !player.can_continue() {
-        return None;
-    }
-    Some(player.continue_line())
+    player.continue_line()
 }
 
 /// Takes a choice.
@@ -61,7 +58,7 @@ pub(crate) fn begin_anew<P: PureFn, F: TurnFn, O: Watcher>(
 pub(crate) fn save_of<P: PureFn, F: TurnFn, O: Watcher>(
     player: &Player<P, F, O>,
 ) -> Result<Text, Refusal>
-    ensures gave { (reply : Reply) × Gave P.meaning F.log O.state player.now command.Save reply player.now }
+    ensures gave { (j : Data) × IsTextOf j result × Gave P.meaning F.log O.state player.now command.Save (reply_of_text j result) player.now }
     ensures reads { IfOk result (λ text. (j : Data) × (text ≡ compact_text j) × ReadsAsState (story_of player.now) j (state_of player.now)) }
 {
     player.save_text()

@@ -1,6 +1,6 @@
 //! Where a story stood.
 
-ghost use Rattle.std.specs.Prelude.{◌≡◌, ◌++◌, ◌-◌, [], ◌∷◌, List, ℕ, vec_len, Option, None, OnOk, IfSome};
+ghost use Rattle.std.specs.Prelude.{◌≡◌, ◌++◌, [], ◌∷◌, List, ℕ, Option, None, MatchOption, OnErr, OnOk, is_some};
 ghost use Rattle.std.specs.Option.{option_to_list};
 ghost use Rattle.ink_reader.specs.Kept.{Noted};
 
@@ -27,7 +27,9 @@ impl Past {
     }
 
     /// Whether the story stands at a choice that was noted.
-    pub(crate) fn is_at_choice(&self) -> bool {
+    pub(crate) fn is_at_choice(&self) -> bool
+        ensures { result ≡ is_some self.now.here }
+    {
         self.here.is_some()
     }
 
@@ -43,6 +45,7 @@ impl Past {
     pub(crate) fn leave(&mut self) -> Result<(), AllocError>
         ensures here { self.new.here ≡ None }
         ensures before { OnOk result (self.new.before.items ≡ self.old.before.items ++ option_to_list self.old.here) }
+        ensures stays { OnErr result (self.new.before.items ≡ self.old.before.items) }
         ensures noted { Noted self.old.before.items self.old.here self.new.before.items }
     {
         if let Some(here) = self.here.take() {
@@ -53,7 +56,7 @@ impl Past {
 
     /// Where it stood before the last choice.
     pub(crate) fn last(&self) -> Option<&Text>
-        ensures { IfSome result (λ last. (earlier : List (List ℕ)) × (self.now.before.items ≡ earlier ++ last.now ∷ [])) }
+        ensures { MatchOption result (self.now.before.items ≡ []) (λ last. (earlier : List (List ℕ)) × (self.now.before.items ≡ earlier ++ last.now ∷ [])) }
     {
         self.before.last()
     }
@@ -62,7 +65,7 @@ impl Past {
     pub(crate) fn take_back(&mut self)
         ensures here { self.new.here ≡ self.old.here }
         ensures before { (last : Option (List ℕ)) × (self.old.before.items ≡ self.new.before.items ++ option_to_list last) }
-        ensures fewer { vec_len self.new.before ≡ vec_len self.old.before - 1 }
+        ensures takes { (earlier : List (List ℕ)) → (last : List ℕ) → self.old.before.items ≡ earlier ++ last ∷ [] → self.new.before.items ≡ earlier }
     {
         let _last = self.before.pop();
     }

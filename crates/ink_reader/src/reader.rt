@@ -1,15 +1,14 @@
 //! A reading, and what is done at each line that is typed.
 
-ghost use Rattle.std.specs.Prelude.{◌≡◌, ◌⊎◌, [], ◌∷◌, List, None, false, OnOk, is_ok};
+ghost use Rattle.std.specs.Prelude.{◌≡◌, ◌&&◌, [], List, None, false, IfOk, OnOk, is_ok};
 ghost use Rattle.std.specs.Io.KnownBytes.{Appends};
-ghost use Rattle.ink_model.specs.Command as command;
-ghost use Rattle.ink_model.specs.Command.{Command};
 ghost use Rattle.ink_model.specs.State.{is_running};
 ghost use Rattle.ink_page.specs.Showing.{said};
 ghost use Rattle.ink_page.specs.Typed as asks;
 ghost use Rattle.ink_page.specs.Typed.{asked_by};
 ghost use Rattle.ink_player.specs.Words.{desk_of, state_of, story_of};
-ghost use Rattle.ink_reader.specs.Course.{IsCourse, IsTelling, Played};
+ghost use Rattle.ink_reader.specs.Course.{IsBeginning, IsCourse, IsEnding, UpTo, has_loaded, places_of};
+ghost use Rattle.ink_reader.specs.Deeds.{Deed, Played};
 ghost use Rattle.ink_reader.specs.Kept.{IsPlace, KeptAs, Notes, StandsAt};
 
 use crate::moves::save_of;
@@ -38,6 +37,8 @@ impl<P: PureFn, F: TurnFn, O: Watcher> Reader<P, F, O> {
     /// A reading of which nothing was told yet. It may save at each choice.
     pub fn new(alloc: Global, player: Player<P, F, O>, look: Look, saves: bool) -> Reader<P, F, O>
         ensures player { result.player ≡ player }
+        ensures look { result.look ≡ look }
+        ensures saves { result.saves ≡ saves }
         ensures before { result.past.before.items ≡ [] }
         ensures here { result.past.here ≡ None }
     {
@@ -71,7 +72,9 @@ impl<P: PureFn, F: TurnFn, O: Watcher> Reader<P, F, O> {
         sink: &mut T,
         shelf: &mut S,
     ) -> Result<(), RunFault>
-        ensures reads { (ks : List Command) × IsCourse self.old.past.before.items (S.kept shelf.old) (asked_by typed.entry) ks × Played P.meaning F.log O.state self.old.look self.old.player ks self.new.player (T.contents sink.old) (T.contents sink.new) (is_ok result) }
+        ensures reads { (ds : List Deed) × UpTo (is_ok result) (IsCourse self.old.saves (places_of self.old.past) (asked_by typed.entry)) ds (places_of self.new.past)
+            × Played P.meaning F.log O.state self.old.look self.old.player ds self.new.player (T.contents sink.old) (T.contents sink.new) (S.kept shelf.old) (S.kept shelf.new) (is_ok result) }
+        ensures settings { (self.new.look ≡ self.old.look) × (self.new.saves ≡ self.old.saves) }
         ensures keeps { KeptAs (story_of self.new.player) (state_of self.new.player) (S.kept shelf.old) (S.kept shelf.new) }
         ensures notes { Notes (asked_by typed.entry) self.old.past.before.items self.old.past.here self.new.past.before.items }
         ensures stands { StandsAt (story_of self.new.player) (state_of self.new.player) self.old.past.here self.new.past.here }
@@ -94,7 +97,9 @@ impl<P: PureFn, F: TurnFn, O: Watcher> Reader<P, F, O> {
 
     /// Tells the story from where the player stands, up to where it stops.
     pub fn begin<T: Sink, S: Shelf>(&mut self, sink: &mut T, shelf: &mut S) -> Result<(), RunFault>
-        ensures reads { (ks : List Command) × IsTelling ks × Played P.meaning F.log O.state self.old.look self.old.player ks self.new.player (T.contents sink.old) (T.contents sink.new) (is_ok result) }
+        ensures reads { (ds : List Deed) × UpTo (is_ok result) (IsBeginning self.old.saves (places_of self.old.past)) ds (places_of self.new.past)
+            × Played P.meaning F.log O.state self.old.look self.old.player ds self.new.player (T.contents sink.old) (T.contents sink.new) (S.kept shelf.old) (S.kept shelf.new) (is_ok result) }
+        ensures settings { (self.new.look ≡ self.old.look) × (self.new.saves ≡ self.old.saves) }
         ensures stops { OnOk result (is_running (state_of self.new.player).condition ≡ false) }
         ensures keeps { KeptAs (story_of self.new.player) (state_of self.new.player) (S.kept shelf.old) (S.kept shelf.new) }
         ensures before { self.new.past.before.items ≡ self.old.past.before.items }
@@ -110,7 +115,11 @@ impl<P: PureFn, F: TurnFn, O: Watcher> Reader<P, F, O> {
         sink: &mut T,
         shelf: &mut S,
     ) -> Result<bool, RunFault>
-        ensures reads { (ks : List Command) × IsCourse self.old.past.before.items (S.kept shelf.old) (asks.Load) ks × Played P.meaning F.log O.state self.old.look self.old.player ks self.new.player (T.contents sink.old) (T.contents sink.new) (is_ok result) }
+        ensures reads { (ds : List Deed) × UpTo (is_ok result) (IsCourse self.old.saves (places_of self.old.past) asks.Load) ds (places_of self.new.past)
+            × IfOk result (λ loaded. loaded ≡ has_loaded ds)
+            × Played P.meaning F.log O.state self.old.look self.old.player ds self.new.player (T.contents sink.old) (T.contents sink.new) (S.kept shelf.old) (S.kept shelf.new) (is_ok result) }
+        ensures look { self.new.look ≡ self.old.look }
+        ensures saves { IfOk result (λ loaded. self.new.saves ≡ (self.old.saves && loaded)) }
         ensures keeps { KeptAs (story_of self.new.player) (state_of self.new.player) (S.kept shelf.old) (S.kept shelf.new) }
         ensures notes { Notes asks.Load self.old.past.before.items self.old.past.here self.new.past.before.items }
         ensures stands { StandsAt (story_of self.new.player) (state_of self.new.player) self.old.past.here self.new.past.here }
@@ -122,7 +131,8 @@ impl<P: PureFn, F: TurnFn, O: Watcher> Reader<P, F, O> {
 
     /// Saves where the story stands at a choice, unless it is not to save by itself: the reading ends.
     pub fn quit<T: Sink, S: Shelf>(&self, sink: &mut T, shelf: &mut S) -> Result<(), RunFault>
-        ensures reads { (ks : List Command) × ((ks ≡ []) ⊎ (ks ≡ command.Save ∷ [])) × Played P.meaning F.log O.state self.now.look self.now.player ks self.now.player (T.contents sink.old) (T.contents sink.new) (is_ok result) }
+        ensures reads { (ds : List Deed) × UpTo (is_ok result) (IsEnding self.now.saves (places_of self.now.past)) ds (places_of self.now.past)
+            × Played P.meaning F.log O.state self.now.look self.now.player ds self.now.player (T.contents sink.old) (T.contents sink.new) (S.kept shelf.old) (S.kept shelf.new) (is_ok result) }
         ensures keeps { KeptAs (story_of self.now.player) (state_of self.now.player) (S.kept shelf.old) (S.kept shelf.new) }
     {
         if !self.past.is_at_choice() {

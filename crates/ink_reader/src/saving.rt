@@ -1,13 +1,15 @@
-//! Keeping and fetching a save, and what is said where it cannot be.
+//! Keeping and fetching a save.
 
-ghost use Rattle.std.specs.Prelude.{◌≡◌, ◌⊎◌, ℕ, List, None, Some, IfOk, IfSome, OnOk};
+ghost use Rattle.std.specs.Prelude.{◌≡◌, ◌⊎◌, ℕ, List, Option, Result, Ok, Some, IfOk, MatchResult, OnOk, if◌then◌else◌, is_ok};
 ghost use Rattle.std.specs.Io.KnownBytes.{Appends};
 ghost use Rattle.serde_json.specs.Read.{read as read_text};
 ghost use Rattle.serde_json.specs.View.{view};
-ghost use Rattle.ink_reader.specs.Course.{Speaks};
-ghost use Rattle.ink_page.specs.Showing.{said};
-ghost use Rattle.ink_reader.specs.Kept.{IsKept};
-ghost use Rattle.ink_reader.specs.Words.{Word, word_text};
+ghost use Rattle.ink_reader.specs.Course.{IsUnread, unsaved_told};
+ghost use Rattle.ink_reader.specs.Deeds.{deeds_shown};
+ghost use Rattle.ink_reader.specs.Kept.{Fetches, Keeps};
+ghost use Rattle.ink_reader.specs.Steps.{IsMissing};
+ghost use Rattle.ink_reader.specs.Words.{BadSave, Refused, Word, word_text};
+ghost use Rattle.ink_reader.specs.declared.shelf.NotKept.{NotKept};
 
 use crate::shelf::Shelf;
 use ink_model::{Refusal, Text};
@@ -24,7 +26,8 @@ pub(crate) fn keep_save<T: Sink, S: Shelf>(
     sink: &mut T,
     shelf: &mut S,
 ) -> Result<bool, RunFault>
-    ensures says { Speaks look (T.contents sink.old) (T.contents sink.new) result }
+    ensures answers { (answer : Result (Unit {0}) NotKept) × Keeps (S.kept shelf.old) (S.kept shelf.new) save.now answer × IfOk result (λ kept. kept ≡ is_ok answer)
+        × OnOk result (Appends (T.contents sink.old) (T.contents sink.new) (deeds_shown look (unsaved_told answer))) }
     ensures keeps { (S.kept shelf.new ≡ S.kept shelf.old) ⊎ (S.kept shelf.new ≡ Some (Some save.now)) }
 {
     match shelf.keep(save.as_str()) {
@@ -36,59 +39,35 @@ pub(crate) fn keep_save<T: Sink, S: Shelf>(
     }
 }
 
-/// The save that is kept, where it is JSON; where it is not, it is said why.
-pub(crate) fn fetch_save<T: Sink, S: Shelf>(
-    alloc: Global,
-    look: Look,
-    sink: &mut T,
-    shelf: &S,
-) -> Result<Option<Json>, RunFault>
-    ensures says { Speaks look (T.contents sink.old) (T.contents sink.new) result }
-    ensures kept { IfOk result (λ save. IfSome save (λ json. (text : List ℕ) × IsKept (S.kept shelf.now) text × (read_text text ≡ Some (view json)))) }
+/// The save that is kept, or words that say why there is none that is JSON.
+pub(crate) fn fetch_save<S: Shelf>(alloc: Global, shelf: &S) -> Result<Json, &'static str>
+    ensures { MatchResult result
+        (λ json. (text : List ℕ) × Fetches {E = NotKept} (S.kept shelf.now) (Ok (Some text)) × (read_text text ≡ Some (view json)))
+        (λ words. (answer : Result (Option (List ℕ)) NotKept) × (word : Word) × Fetches (S.kept shelf.now) answer × IsMissing answer word × (words.now ≡ word_text word)) }
 {
     match shelf.fetch(alloc) {
-        Ok(Some(save)) => read_save(alloc, look, save.as_str(), sink),
-        Ok(None) => none_for(alloc, look, sink, "There is no save."),
-        Err(cause) => none_for(alloc, look, sink, cause.unread()),
+        Ok(Some(save)) => read_save(alloc, save.as_str()),
+        Ok(None) => Err("There is no save."),
+        Err(cause) => Err(cause.unread()),
     }
 }
 
-/// A save's text as JSON; where it is none, it is said why.
-pub(crate) fn read_save<T: Sink>(
-    alloc: Global,
-    look: Look,
-    save: &str,
-    sink: &mut T,
-) -> Result<Option<Json>, RunFault>
-    ensures says { Speaks look (T.contents sink.old) (T.contents sink.new) result }
-    ensures read { IfOk result (λ read. IfSome read (λ json. read_text save.now ≡ Some (view json))) }
+/// A save's text as JSON, or words that say why it is none.
+pub(crate) fn read_save(alloc: Global, save: &str) -> Result<Json, &'static str>
+    ensures { MatchResult result (λ json. read_text save.now ≡ Some (view json)) (λ words. (word : Word) × IsUnread save.now word × (words.now ≡ word_text word)) }
 {
     match Json::from_str(alloc, save) {
-        Ok(json) => Ok(Some(json)),
-        Err(error) => none_for(alloc, look, sink, unread_words(error.is_memory())),
+        Ok(json) => Ok(json),
+        Err(error) => Err(unread_words(error.is_memory())),
     }
 }
 
 // Why a text gives no JSON: there was no memory, or it is none.
 fn unread_words(lacks: bool) -> &'static str
-    ensures { (word : Word) × (result.now ≡ word_text word) }
+    ensures { result.now ≡ word_text (if lacks then Refused Refusal.OutOfMemory else BadSave) }
 {
     if lacks {
         return refusal_words(Refusal::OutOfMemory);
     }
     "The save is cut, or is no save; it stays as it is."
-}
-
-// Says why there is none.
-fn none_for<T: Sink>(
-    alloc: Global,
-    look: Look,
-    sink: &mut T,
-    words: &str,
-) -> Result<Option<Json>, RunFault>
-    ensures says { OnOk result (Appends (T.contents sink.old) (T.contents sink.new) (said look words.now)) }
-    ensures none { IfOk result (λ none. none ≡ None) }
-{
-    say(alloc, look, sink, words)?;
-    Ok(None)
 }

@@ -1,7 +1,7 @@
 //! Where saves are kept.
 
 ghost use Rattle.std.specs.Prelude.{◌≡◌, List, ℕ, Option};
-ghost use Rattle.ink_reader.specs.Kept.{Fetches, Keeps};
+ghost use Rattle.ink_reader.specs.Kept.{Fetches, Keeps, text_of};
 ghost use Rattle.ink_reader.specs.Words.{unread, unwritten};
 
 use std::alloc::Global;
@@ -54,5 +54,5 @@ pub trait Shelf {
 
     /// The save that is kept, if there is one.
     fn fetch(&self, alloc: Global) -> Result<Option<String>, NotKept>
-        ensures { Fetches (kept self.now) result };
+        ensures { Fetches (kept self.now) (text_of result) };
 }

@@ -1,8 +1,8 @@
 //! Telling what comes, up to the next choice.
 
-ghost use Rattle.std.specs.Prelude.{◌≡◌, ◌++◌, ℕ, List, Result, false, is_none, is_ok, replicate, IfOk, OnOk};
+ghost use Rattle.std.specs.Prelude.{◌≡◌, ◌++◌, ℕ, List, [], ◌∷◌, Option, Result, false, is_ok, IfOk, OnOk};
 ghost use Rattle.std.specs.Io.KnownBytes.{Appends};
-ghost use Rattle.ink_model.specs.Answer.{reply_of_events, reply_of_halt};
+ghost use Rattle.ink_model.specs.Answer.{Reply, reply_of_events, reply_of_halt};
 ghost use Rattle.ink_model.specs.Command as command;
 ghost use Rattle.ink_model.specs.State.{is_running};
 ghost use Rattle.ink_model.specs.Turns.{ShowsChoices};
@@ -11,7 +11,9 @@ ghost use Rattle.ink_model.specs.declared.passage.Shown.{Shown};
 ghost use Rattle.ink_page.specs.Sentences.{fault_sentence};
 ghost use Rattle.ink_page.specs.Showing.{events_shown, passage_shown, said};
 ghost use Rattle.ink_player.specs.Words.{state_of};
-ghost use Rattle.ink_reader.specs.Course.{Played, reply_shown, stop_shown};
+ghost use Rattle.ink_reader.specs.Course.{acts, end_behind};
+ghost use Rattle.ink_reader.specs.Deeds.{Deed, Gives, Played, deeds_shown, reply_shown};
+ghost use Rattle.ink_reader.specs.Steps.{ToldBy, are_offered, end_after, stop_told};
 ghost use Rattle.ink_reader.specs.Words.{broke_off, end_words};
 
 use crate::moves::next_line;
@@ -37,32 +39,35 @@ pub(crate) fn tell<T: Sink, P: PureFn, F: TurnFn, O: Watcher>(
     sink: &mut T,
     player: &mut Player<P, F, O>,
 ) -> Result<Told, RunFault>
-    ensures lines { (n : ℕ) × Played P.meaning F.log O.state look player.old (replicate n command.Continue) player.new (T.contents sink.old) (T.contents sink.new) (is_ok result) }
+    ensures lines { (ds : List Deed) × ToldBy result ds × ((kept : Option (Option (List ℕ))) → Played P.meaning F.log O.state look player.old ds player.new (T.contents sink.old) (T.contents sink.new) kept kept (is_ok result)) }
     ensures stops { OnOk result (is_running (state_of player.new).condition ≡ false) }
 {
+    let mut told = Told::Stop;
     'lines: for _line in 0..u64::MAX {
-        match tell_line(alloc, look, sink, player)? {
-            None => {}
-            Some(told) => return Ok(told),
+        if !player.can_continue() {
+            return Ok(told);
+        }
+        told = tell_line(alloc, look, sink, player)?;
+        if let Told::Break = told {
+            return Ok(told);
         }
     }
     Err(RunFault::TooLong)
 }
 
-// Tells the next line, if there is one, and how telling ended, if it did.
+// Tells the next line, and how the story ends if no line comes behind it.
 fn tell_line<T: Sink, P: PureFn, F: TurnFn, O: Watcher>(
     alloc: Global,
     look: Look,
     sink: &mut T,
     player: &mut Player<P, F, O>,
-) -> Result<Option<Told>, RunFault>
-    ensures lines { (n : ℕ) × Played P.meaning F.log O.state look player.old (replicate n command.Continue) player.new (T.contents sink.old) (T.contents sink.new) (is_ok result) }
-    ensures stops { IfOk result (λ told. is_none told ≡ is_running (state_of player.new).condition) }
+) -> Result<Told, RunFault>
+    ensures line { (reply : Reply) × IfOk result (λ end. end ≡ end_after reply) × ((kept : Option (Option (List ℕ))) → Played P.meaning F.log O.state look player.old (Gives command.Continue reply ∷ []) player.new (T.contents sink.old) (T.contents sink.new) kept kept (is_ok result)) }
+    ensures stops { IfOk result (λ end. end ≡ Told.Break → is_running (state_of player.new).condition ≡ false) }
 {
     match next_line(player) {
-        Some(Ok(passage)) => tell_passage(alloc, look, sink, player.can_continue(), &passage),
-        Some(Err(halt)) => tell_break(alloc, look, sink, &halt),
-        None => Ok(Some(Told::Stop)),
+        Ok(passage) => tell_passage(alloc, look, sink, &passage),
+        Err(halt) => tell_break(alloc, look, sink, &halt),
     }
 }
 
@@ -70,20 +75,16 @@ fn tell_passage<T: Sink>(
     alloc: Global,
     look: Look,
     sink: &mut T,
-    more: bool,
     passage: &Passage,
-) -> Result<Option<Told>, RunFault>
+) -> Result<Told, RunFault>
     ensures shows { OnOk result (Appends (T.contents sink.old) (T.contents sink.new) (passage_shown look passage.now)) }
-    ensures stops { IfOk result (λ told. is_none told ≡ more) }
+    ensures end { IfOk result (λ end. end ≡ end_behind passage.now.loose) }
 {
     show_passage(alloc, look, sink, passage)?;
-    if more {
-        return Ok(None);
-    }
     if passage.loose {
-        return Ok(Some(Told::LooseEnd));
+        return Ok(Told::LooseEnd);
     }
-    Ok(Some(Told::Stop))
+    Ok(Told::Stop)
 }
 
 fn tell_break<T: Sink>(
@@ -91,12 +92,12 @@ fn tell_break<T: Sink>(
     look: Look,
     sink: &mut T,
     halt: &Halt,
-) -> Result<Option<Told>, RunFault>
+) -> Result<Told, RunFault>
     ensures shows { OnOk result (Appends (T.contents sink.old) (T.contents sink.new) (reply_shown look (reply_of_halt halt.now))) }
-    ensures stops { IfOk result (λ told. is_none told ≡ false) }
+    ensures end { IfOk result (λ end. end ≡ Told.Break) }
 {
     tell_halt(alloc, look, sink, halt)?;
-    Ok(Some(Told::Break))
+    Ok(Told::Break)
 }
 
 /// Tells why the story does not go on.
@@ -141,7 +142,8 @@ pub(crate) fn tell_outcome<T: Sink>(
     outcome: &Result<Seq<Event>, Halt>,
     sink: &mut T,
 ) -> Result<bool, RunFault>
-    ensures { OnOk result (Appends (T.contents sink.old) (T.contents sink.new) (reply_shown look (reply_of_events outcome.now))) }
+    ensures shows { OnOk result (Appends (T.contents sink.old) (T.contents sink.new) (reply_shown look (reply_of_events outcome.now))) }
+    ensures done { IfOk result (λ done. done ≡ acts (reply_of_events outcome.now)) }
 {
     match outcome {
         Ok(events) => {
@@ -163,21 +165,27 @@ pub(crate) fn tell_stop<T: Sink, P: PureFn, F: TurnFn, O: Watcher>(
     player: &Player<P, F, O>,
     told: Told,
 ) -> Result<bool, RunFault>
-    ensures { OnOk result ((shown : Result (List Shown) Refusal) × ShowsChoices (state_of player.now) shown × Appends (T.contents sink.old) (T.contents sink.new) (stop_shown look told shown)) }
+    ensures { (shown : Result (List Shown) Refusal) × ShowsChoices (state_of player.now) shown × IfOk result (λ offered. offered ≡ are_offered shown)
+        × OnOk result (Appends (T.contents sink.old) (T.contents sink.new) (deeds_shown look (stop_told told shown))) }
 {
     let choices = match player.choices() {
         Ok(choices) => choices,
-        Err(refusal) => {
-            say(alloc, look, sink, refusal_words(refusal))?;
-            return Ok(false);
-        }
+        Err(refusal) => return tell_end(alloc, look, sink, refusal_words(refusal)),
     };
     if choices.as_slice().is_empty() {
-        say(alloc, look, sink, end_words(told))?;
-        return Ok(false);
+        return tell_end(alloc, look, sink, end_words(told));
     }
     show_choices(alloc, look, sink, choices.as_slice())?;
     Ok(true)
+}
+
+// Says why there are no choices.
+fn tell_end<T: Sink>(alloc: Global, look: Look, sink: &mut T, words: &str) -> Result<bool, RunFault>
+    ensures says { OnOk result (Appends (T.contents sink.old) (T.contents sink.new) (said look words.now)) }
+    ensures none { IfOk result (λ offered. offered ≡ false) }
+{
+    say(alloc, look, sink, words)?;
+    Ok(false)
 }
 
 // How a story ends where there is no choice.

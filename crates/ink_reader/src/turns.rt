@@ -1,15 +1,19 @@
 //! What is done at each line that is typed, and how the story is told then.
 
-ghost use Rattle.std.specs.Prelude.{◌≡◌, ◌⊎◌, ◌++◌, ℕ, [], ◌∷◌, List, None, Some, false, IfOk, IfSome, OnOk, is_ok};
+ghost use Rattle.std.specs.Prelude.{◌≡◌, ◌⊎◌, ◌++◌, ℕ, [], ◌∷◌, List, Option, Result, None, Some, false, IfOk, MatchResult, OnOk, is_ok};
 ghost use Rattle.serde_json.specs.Read.{read as read_text};
 ghost use Rattle.serde_json.specs.View.{view};
+ghost use Rattle.ink_model.specs.Answer.{Reply};
 ghost use Rattle.ink_model.specs.Command as command;
-ghost use Rattle.ink_model.specs.Command.{Command};
 ghost use Rattle.ink_model.specs.State.{is_running};
 ghost use Rattle.ink_page.specs.Typed as asks;
 ghost use Rattle.ink_player.specs.Words.{state_of, story_of};
-ghost use Rattle.ink_reader.specs.Course.{IsCourse, IsTelling, Played, Speaks};
+ghost use Rattle.ink_reader.specs.Course.{GoesOn, IsBeginning, IsCourse, IsNoted, IsSaving, IsStop, SavesItself, UpTo, acts, has_loaded, places_of, saving_told};
+ghost use Rattle.ink_reader.specs.Deeds.{Deed, Gives, Keeps, Played};
 ghost use Rattle.ink_reader.specs.Kept.{IsPlace, KeptAs, Noted, Notes, StandsAt};
+ghost use Rattle.ink_reader.specs.Steps.{NoPlace};
+ghost use Rattle.ink_reader.specs.Words.{Word, word_text};
+ghost use Rattle.ink_reader.specs.declared.shelf.NotKept.{NotKept};
 
 use crate::moves::{begin_anew, load_save, save_of, take_choice, value_of};
 use crate::reader::Reader;
@@ -29,7 +33,9 @@ impl<P: PureFn, F: TurnFn, O: Watcher> Reader<P, F, O> {
         sink: &mut T,
         shelf: &mut S,
     ) -> Result<(), RunFault>
-        ensures reads { (ks : List Command) × IsTelling ks × Played P.meaning F.log O.state self.old.look self.old.player ks self.new.player (T.contents sink.old) (T.contents sink.new) (is_ok result) }
+        ensures reads { (ds : List Deed) × UpTo (is_ok result) (IsBeginning self.old.saves (places_of self.old.past)) ds (places_of self.new.past)
+            × Played P.meaning F.log O.state self.old.look self.old.player ds self.new.player (T.contents sink.old) (T.contents sink.new) (S.kept shelf.old) (S.kept shelf.new) (is_ok result) }
+        ensures settings { (self.new.look ≡ self.old.look) × (self.new.saves ≡ self.old.saves) }
         ensures stops { OnOk result (is_running (state_of self.new.player).condition ≡ false) }
         ensures keeps { KeptAs (story_of self.new.player) (state_of self.new.player) (S.kept shelf.old) (S.kept shelf.new) }
         ensures before { self.new.past.before.items ≡ self.old.past.before.items }
@@ -48,7 +54,9 @@ impl<P: PureFn, F: TurnFn, O: Watcher> Reader<P, F, O> {
         shelf: &mut S,
     ) -> Result<(), RunFault>
         requires { self.old.past.here ≡ None }
-        ensures reads { (ks : List Command) × ((ks ≡ []) ⊎ (ks ≡ command.Save ∷ [])) × Played P.meaning F.log O.state self.old.look self.old.player ks self.new.player (T.contents sink.old) (T.contents sink.new) (is_ok result) }
+        ensures reads { (ds : List Deed) × UpTo (is_ok result) (λ ds new. IsStop self.old.saves told ds new.here) ds (places_of self.new.past)
+            × Played P.meaning F.log O.state self.old.look self.old.player ds self.new.player (T.contents sink.old) (T.contents sink.new) (S.kept shelf.old) (S.kept shelf.new) (is_ok result) }
+        ensures settings { (self.new.look ≡ self.old.look) × (self.new.saves ≡ self.old.saves) }
         ensures player { self.new.player ≡ self.old.player }
         ensures keeps { KeptAs (story_of self.new.player) (state_of self.new.player) (S.kept shelf.old) (S.kept shelf.new) }
         ensures before { self.new.past.before.items ≡ self.old.past.before.items }
@@ -60,6 +68,20 @@ impl<P: PureFn, F: TurnFn, O: Watcher> Reader<P, F, O> {
         if !tell_stop(self.alloc, self.look, sink, &self.player, told)? {
             return Ok(());
         }
+        self.note(sink, shelf)
+    }
+
+    // Notes where the story stands at a choice, and saves there.
+    fn note<T: Sink, S: Shelf>(&mut self, sink: &mut T, shelf: &mut S) -> Result<(), RunFault>
+        requires { self.old.past.here ≡ None }
+        ensures reads { (ds : List Deed) × UpTo (is_ok result) (λ ds new. IsNoted self.old.saves ds new.here) ds (places_of self.new.past)
+            × Played P.meaning F.log O.state self.old.look self.old.player ds self.new.player (T.contents sink.old) (T.contents sink.new) (S.kept shelf.old) (S.kept shelf.new) (is_ok result) }
+        ensures settings { (self.new.look ≡ self.old.look) × (self.new.saves ≡ self.old.saves) }
+        ensures player { self.new.player ≡ self.old.player }
+        ensures keeps { KeptAs (story_of self.new.player) (state_of self.new.player) (S.kept shelf.old) (S.kept shelf.new) }
+        ensures before { self.new.past.before.items ≡ self.old.past.before.items }
+        ensures here { IsPlace (story_of self.new.player) (state_of self.new.player) self.new.past.here }
+    {
         match save_of(&self.player) {
             Ok(save) => {
                 self.save_here(&save, sink, shelf)?;
@@ -80,7 +102,8 @@ impl<P: PureFn, F: TurnFn, O: Watcher> Reader<P, F, O> {
         sink: &mut T,
         shelf: &mut S,
     ) -> Result<(), RunFault>
-        ensures says { Speaks self.now.look (T.contents sink.old) (T.contents sink.new) result }
+        ensures reads { (ds : List Deed) × SavesItself self.now.saves save.now ds
+            × Played P.meaning F.log O.state self.now.look self.now.player ds self.now.player (T.contents sink.old) (T.contents sink.new) (S.kept shelf.old) (S.kept shelf.new) (is_ok result) }
         ensures keeps { (S.kept shelf.new ≡ S.kept shelf.old) ⊎ (S.kept shelf.new ≡ Some (Some save.now)) }
     {
         if !self.saves {
@@ -97,7 +120,9 @@ impl<P: PureFn, F: TurnFn, O: Watcher> Reader<P, F, O> {
         sink: &mut T,
         shelf: &mut S,
     ) -> Result<(), RunFault>
-        ensures reads { (ks : List Command) × IsCourse self.old.past.before.items (S.kept shelf.old) (asks.Choice number) ks × Played P.meaning F.log O.state self.old.look self.old.player ks self.new.player (T.contents sink.old) (T.contents sink.new) (is_ok result) }
+        ensures reads { (ds : List Deed) × UpTo (is_ok result) (IsCourse self.old.saves (places_of self.old.past) (asks.Choice number)) ds (places_of self.new.past)
+            × Played P.meaning F.log O.state self.old.look self.old.player ds self.new.player (T.contents sink.old) (T.contents sink.new) (S.kept shelf.old) (S.kept shelf.new) (is_ok result) }
+        ensures settings { (self.new.look ≡ self.old.look) × (self.new.saves ≡ self.old.saves) }
         ensures keeps { KeptAs (story_of self.new.player) (state_of self.new.player) (S.kept shelf.old) (S.kept shelf.new) }
         ensures notes { Notes (asks.Choice number) self.old.past.before.items self.old.past.here self.new.past.before.items }
         ensures stands { StandsAt (story_of self.new.player) (state_of self.new.player) self.old.past.here self.new.past.here }
@@ -113,7 +138,9 @@ impl<P: PureFn, F: TurnFn, O: Watcher> Reader<P, F, O> {
 
     // Goes on from where the story stood, which is noted.
     fn leave<T: Sink, S: Shelf>(&mut self, sink: &mut T, shelf: &mut S) -> Result<(), RunFault>
-        ensures reads { (ks : List Command) × IsTelling ks × Played P.meaning F.log O.state self.old.look self.old.player ks self.new.player (T.contents sink.old) (T.contents sink.new) (is_ok result) }
+        ensures reads { (ds : List Deed) × UpTo (is_ok result) (GoesOn self.old.saves (places_of self.old.past)) ds (places_of self.new.past)
+            × Played P.meaning F.log O.state self.old.look self.old.player ds self.new.player (T.contents sink.old) (T.contents sink.new) (S.kept shelf.old) (S.kept shelf.new) (is_ok result) }
+        ensures settings { (self.new.look ≡ self.old.look) × (self.new.saves ≡ self.old.saves) }
         ensures keeps { KeptAs (story_of self.new.player) (state_of self.new.player) (S.kept shelf.old) (S.kept shelf.new) }
         ensures noted { Noted self.old.past.before.items self.old.past.here self.new.past.before.items }
         ensures here { IsPlace (story_of self.new.player) (state_of self.new.player) self.new.past.here }
@@ -134,13 +161,16 @@ impl<P: PureFn, F: TurnFn, O: Watcher> Reader<P, F, O> {
         sink: &mut T,
         shelf: &mut S,
     ) -> Result<(), RunFault>
-        ensures reads { (ks : List Command) × IsCourse self.old.past.before.items (S.kept shelf.old) asks.Back ks × Played P.meaning F.log O.state self.old.look self.old.player ks self.new.player (T.contents sink.old) (T.contents sink.new) (is_ok result) }
+        ensures reads { (ds : List Deed) × UpTo (is_ok result) (IsCourse self.old.saves (places_of self.old.past) asks.Back) ds (places_of self.new.past)
+            × Played P.meaning F.log O.state self.old.look self.old.player ds self.new.player (T.contents sink.old) (T.contents sink.new) (S.kept shelf.old) (S.kept shelf.new) (is_ok result) }
+        ensures settings { (self.new.look ≡ self.old.look) × (self.new.saves ≡ self.old.saves) }
         ensures keeps { KeptAs (story_of self.new.player) (state_of self.new.player) (S.kept shelf.old) (S.kept shelf.new) }
         ensures notes { Notes asks.Back self.old.past.before.items self.old.past.here self.new.past.before.items }
         ensures stands { StandsAt (story_of self.new.player) (state_of self.new.player) self.old.past.here self.new.past.here }
     {
-        let Some(json) = self.last_place(sink)? else {
-            return Ok(());
+        let json = match self.last_place() {
+            Ok(json) => json,
+            Err(words) => return self.say(sink, words),
         };
         if !self.stand_at(&json, sink)? {
             return Ok(());
@@ -149,22 +179,23 @@ impl<P: PureFn, F: TurnFn, O: Watcher> Reader<P, F, O> {
         self.go_on(sink, shelf)
     }
 
-    // Where the story stood before the last choice; where it cannot be gone back to, it is said why.
-    fn last_place<T: Sink>(&self, sink: &mut T) -> Result<Option<Json>, RunFault>
-        ensures says { Speaks self.now.look (T.contents sink.old) (T.contents sink.new) result }
-        ensures last { IfOk result (λ place. IfSome place (λ json. (earlier : List (List ℕ)) × (text : List ℕ) × (self.now.past.before.items ≡ earlier ++ text ∷ []) × (read_text text ≡ Some (view json)))) }
+    // Where the story stood before the last choice, or words that say why it cannot be gone back to.
+    fn last_place(&self) -> Result<Json, &'static str>
+        ensures { MatchResult result
+            (λ json. (earlier : List (List ℕ)) × (text : List ℕ) × (self.now.past.before.items ≡ earlier ++ text ∷ []) × (read_text text ≡ Some (view json)))
+            (λ words. (word : Word) × NoPlace self.now.past.before.items word × (words.now ≡ word_text word)) }
     {
         let Some(save) = self.past.last() else {
-            self.say(sink, "There is no choice to take back.")?;
-            return Ok(None);
+            return Err("There is no choice to take back.");
         };
-        read_save(self.alloc, self.look, save.as_str(), sink)
+        read_save(self.alloc, save.as_str())
     }
 
     // Stands where a save stands, and tells whether it does; where it does not, it says why.
     fn stand_at<T: Sink>(&mut self, json: &Json, sink: &mut T) -> Result<bool, RunFault>
-        ensures reads { Played P.meaning F.log O.state self.old.look self.old.player (command.Load (Some (view json.now)) ∷ []) self.new.player (T.contents sink.old) (T.contents sink.new) (is_ok result) }
-        ensures look { self.new.look ≡ self.old.look }
+        ensures loads { (reply : Reply) × IfOk result (λ stands. stands ≡ acts reply)
+            × ((kept : Option (Option (List ℕ))) → Played P.meaning F.log O.state self.old.look self.old.player (Gives (command.Load (Some (view json.now))) reply ∷ []) self.new.player (T.contents sink.old) (T.contents sink.new) kept kept (is_ok result)) }
+        ensures settings { (self.new.look ≡ self.old.look) × (self.new.saves ≡ self.old.saves) }
         ensures past { self.new.past ≡ self.old.past }
     {
         let outcome = load_save(&mut self.player, json);
@@ -177,7 +208,9 @@ impl<P: PureFn, F: TurnFn, O: Watcher> Reader<P, F, O> {
         sink: &mut T,
         shelf: &mut S,
     ) -> Result<(), RunFault>
-        ensures reads { (ks : List Command) × IsCourse self.old.past.before.items (S.kept shelf.old) asks.Restart ks × Played P.meaning F.log O.state self.old.look self.old.player ks self.new.player (T.contents sink.old) (T.contents sink.new) (is_ok result) }
+        ensures reads { (ds : List Deed) × UpTo (is_ok result) (IsCourse self.old.saves (places_of self.old.past) asks.Restart) ds (places_of self.new.past)
+            × Played P.meaning F.log O.state self.old.look self.old.player ds self.new.player (T.contents sink.old) (T.contents sink.new) (S.kept shelf.old) (S.kept shelf.new) (is_ok result) }
+        ensures settings { (self.new.look ≡ self.old.look) × (self.new.saves ≡ self.old.saves) }
         ensures keeps { KeptAs (story_of self.new.player) (state_of self.new.player) (S.kept shelf.old) (S.kept shelf.new) }
         ensures notes { Notes asks.Restart self.old.past.before.items self.old.past.here self.new.past.before.items }
         ensures stands { StandsAt (story_of self.new.player) (state_of self.new.player) self.old.past.here self.new.past.here }
@@ -191,7 +224,7 @@ impl<P: PureFn, F: TurnFn, O: Watcher> Reader<P, F, O> {
 
     /// Tells a global's value.
     pub(crate) fn tell_variable<T: Sink>(&self, name: &str, sink: &mut T) -> Result<(), RunFault>
-        ensures { Played P.meaning F.log O.state self.now.look self.now.player (command.Get name.now ∷ []) self.now.player (T.contents sink.old) (T.contents sink.new) (is_ok result) }
+        ensures { (reply : Reply) × ((kept : Option (Option (List ℕ))) → Played P.meaning F.log O.state self.now.look self.now.player (Gives (command.Get name.now) reply ∷ []) self.now.player (T.contents sink.old) (T.contents sink.new) kept kept (is_ok result)) }
     {
         match value_of(&self.player, name) {
             Ok(value) => show_value(self.alloc, self.look, sink, name, &value),
@@ -205,7 +238,7 @@ impl<P: PureFn, F: TurnFn, O: Watcher> Reader<P, F, O> {
         sink: &mut T,
         shelf: &mut S,
     ) -> Result<(), RunFault>
-        ensures reads { Played P.meaning F.log O.state self.now.look self.now.player (command.Save ∷ []) self.now.player (T.contents sink.old) (T.contents sink.new) (is_ok result) }
+        ensures reads { (ds : List Deed) × IsSaving ds × Played P.meaning F.log O.state self.now.look self.now.player ds self.now.player (T.contents sink.old) (T.contents sink.new) (S.kept shelf.old) (S.kept shelf.new) (is_ok result) }
         ensures keeps { KeptAs (story_of self.now.player) (state_of self.now.player) (S.kept shelf.old) (S.kept shelf.new) }
     {
         match save_of(&self.player) {
@@ -221,7 +254,7 @@ impl<P: PureFn, F: TurnFn, O: Watcher> Reader<P, F, O> {
         sink: &mut T,
         shelf: &mut S,
     ) -> Result<(), RunFault>
-        ensures says { Speaks self.now.look (T.contents sink.old) (T.contents sink.new) result }
+        ensures reads { (answer : Result (Unit {0}) NotKept) × Played P.meaning F.log O.state self.now.look self.now.player (Keeps save.now answer ∷ saving_told answer) self.now.player (T.contents sink.old) (T.contents sink.new) (S.kept shelf.old) (S.kept shelf.new) (is_ok result) }
         ensures keeps { (S.kept shelf.new ≡ S.kept shelf.old) ⊎ (S.kept shelf.new ≡ Some (Some save.now)) }
     {
         if !keep_save(self.alloc, self.look, save, sink, shelf)? {
@@ -236,13 +269,20 @@ impl<P: PureFn, F: TurnFn, O: Watcher> Reader<P, F, O> {
         sink: &mut T,
         shelf: &mut S,
     ) -> Result<bool, RunFault>
-        ensures reads { (ks : List Command) × IsCourse self.old.past.before.items (S.kept shelf.old) asks.Load ks × Played P.meaning F.log O.state self.old.look self.old.player ks self.new.player (T.contents sink.old) (T.contents sink.new) (is_ok result) }
+        ensures reads { (ds : List Deed) × UpTo (is_ok result) (IsCourse self.old.saves (places_of self.old.past) asks.Load) ds (places_of self.new.past)
+            × IfOk result (λ loaded. loaded ≡ has_loaded ds)
+            × Played P.meaning F.log O.state self.old.look self.old.player ds self.new.player (T.contents sink.old) (T.contents sink.new) (S.kept shelf.old) (S.kept shelf.new) (is_ok result) }
+        ensures settings { (self.new.look ≡ self.old.look) × (self.new.saves ≡ self.old.saves) }
         ensures keeps { KeptAs (story_of self.new.player) (state_of self.new.player) (S.kept shelf.old) (S.kept shelf.new) }
         ensures notes { Notes asks.Load self.old.past.before.items self.old.past.here self.new.past.before.items }
         ensures stands { StandsAt (story_of self.new.player) (state_of self.new.player) self.old.past.here self.new.past.here }
     {
-        let Some(json) = fetch_save(self.alloc, self.look, sink, shelf)? else {
-            return Ok(false);
+        let json = match fetch_save(self.alloc, shelf) {
+            Ok(json) => json,
+            Err(words) => {
+                self.say(sink, words)?;
+                return Ok(false);
+            }
         };
         if !self.stand_at(&json, sink)? {
             return Ok(false);

@@ -3,9 +3,9 @@
 
 mod desk;
 mod files;
+mod lines;
 mod looks;
 mod report;
-mod session;
 mod settings;
 
 use desk::reader_desk;
@@ -18,9 +18,9 @@ use ink_player::{Player, Watched};
 use ink_protocol::RunFault;
 use ink_reader::Reader;
 use ink_words::{PlayDesk, bind_words};
+use lines::InputLines;
 use looks::look;
 use report::{refuse_file, refuse_memory, refuse_start, refuse_story, refuse_words, tell_run};
-use session::read_to_end;
 use settings::{Settings, read_settings, reader_command};
 use std::alloc::Global;
 use std::process::ExitCode;
@@ -135,8 +135,9 @@ fn read_player<P: PureFn + Drop, F: TurnFn + Drop, O: Watcher + Drop>(
         path: settings.save.as_str(),
         beside: settings.beside.as_str(),
     };
+    let mut lines = InputLines { rt };
     let mut sink = Watched::new(io::writer(&rt));
-    let outcome = read_to_end(&rt, alloc, look, &mut reader, &mut sink, &mut shelf);
+    let outcome = reader.read_to_end(&mut lines, &mut sink, &mut shelf);
     let _desk = reader.close();
     outcome
 }

@@ -1,5 +1,17 @@
-use Rattle.ink_reader.proofs.Playing.{speaks-word}
+use Rattle.std.proofs.Common.{◌≡◌, ◌↔◌, ℕ, List, Bool, true, false, None, IsTrue, if◌then◌else◌, inl, inr, refl, sym, true≢false}
+use Rattle.serde_json.specs.Read.{read}
+use Rattle.ink_model.specs.declared.fault.Refusal.TheVariants as refusal
+use Rattle.ink_reader.specs.Course.{IsUnread}
+use Rattle.ink_reader.specs.Words.{BadSave, Refused}
 use Rattle.ink_reader.proofs.saving.read_save.Goals as goal
 
-pub returns-in-Err-clause-says : goal.returns-in-Err-clause-says
-returns-in-Err-clause-says g c = let words = c.unread_words.ensures in speaks-word c.args.look (g.T.Sink.contents c.args.sink.now) (g.T.Sink.contents c.none_for.new.sink) c.none_for.result c.unread_words.result.now words.0 words.1 c.none_for.ensures.says
+unread : (lacks : Bool) (text : List ℕ) (M : Type 0) → IsTrue lacks ↔ M → ((M → ⊥) → read text ≡ None) → IsUnread text (if lacks then Refused refusal.OutOfMemory else BadSave)
+unread true text M h none = inr refl
+unread false text M h none = inl (none (λ m. true≢false (sym (h.1 m))), refl)
+
+pub returns-in-Err : goal.returns-in-Err
+returns-in-Err c = (
+  (if c.is_memory.result then Refused refusal.OutOfMemory else BadSave),
+  unread c.is_memory.result c.args.save.now _ c.is_memory.ensures c.in-Err.ensures.err,
+  c.unread_words.ensures,
+)

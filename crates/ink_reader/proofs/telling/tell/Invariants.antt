@@ -1,8 +1,10 @@
-use Rattle.std.proofs.Common.{ℕ, replicate, true}
-use Rattle.ink_model.specs.Command as command
-use Rattle.ink_reader.specs.Course.{Played}
+use Rattle.std.proofs.Common.{ℕ, List, Option, true}
+use Rattle.ink_reader.specs.Deeds.{Deed, Played}
+use Rattle.ink_reader.specs.declared.telling.Told.TheVariants as told
+use Rattle.ink_reader.proofs.Tellings.{Leads}
 use Rattle.ink_reader.proofs.telling.tell.Given as goal
 
--- so many lines were told
+-- lines were told, and behind them telling goes on
 abbrev pub invariant-lines : goal.invariant-lines
-invariant-lines g l = (n : ℕ) × Played g.P.PureFn.meaning g.F.TurnFn.log g.O.Watcher.state l.look l.fn.player (replicate n command.Continue) l.player (g.T.Sink.contents l.fn.sink) (g.T.Sink.contents l.sink) true
+invariant-lines g l = (ds : List Deed) × Leads told.Stop ds l.told
+    × ((kept : Option (Option (List ℕ))) → Played g.P.PureFn.meaning g.F.TurnFn.log g.O.Watcher.state l.look l.fn.player ds l.player (g.T.Sink.contents l.fn.sink) (g.T.Sink.contents l.sink) kept kept true)

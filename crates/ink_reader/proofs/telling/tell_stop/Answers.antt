@@ -1,39 +1,33 @@
-use Rattle.std.proofs.Common.{◌≡◌, ℕ, suc, List, [], ◌∷◌, true, false, Option, Ok, arith, length, subst, sym, true≢false}
+use Rattle.std.proofs.Common.{◌≡◌, suc, List, [], ◌∷◌, true, Ok, Err, arith, length, refl, subst, sym}
 use Rattle.std.proofs.lemmas.Bool.{eqb-true}
 use Rattle.std.specs.Bool.{◌==◌}
-use Rattle.std.specs.Io.KnownBytes.{Appends}
+use Rattle.ink_model.specs.Turns.{ShowsChoices}
 use Rattle.ink_model.specs.declared.passage.Shown.{Shown}
-use Rattle.ink_page.specs.Showing.{choices_shown, said}
-use Rattle.ink_page.specs.declared.page.Look.{Look}
-use Rattle.ink_reader.specs.Course.{stop_shown}
+use Rattle.ink_page.specs.Sentences.{refusal_sentence}
+use Rattle.ink_page.specs.Showing.{said}
+use Rattle.ink_player.specs.Words.{state_of}
 use Rattle.ink_reader.specs.Words.{end_words}
-use Rattle.ink_reader.specs.declared.telling.Told.{Told}
+use Rattle.ink_reader.proofs.Playing.{last-written}
 use Rattle.ink_reader.proofs.telling.tell_stop.Goals as goal
 
-module _ (look : Look) (how : Told) (held held' : Option (List ℕ)) where
-  -- there are no choices
-  ended : (cs : List Shown) (words : List ℕ) → true ≡ (length cs == 0) → words ≡ end_words how → Appends held held' (said look words) → Appends held held' (stop_shown look how (Ok cs))
-  ended [] words none same h = subst (λ w. Appends held held' (said look w)) same h
-  ended (c ∷ cs) words none same h = let zero : suc (length cs) ≡ 0 = eqb-true (suc (length cs)) 0 (sym none) in let no : ⊥ = omega arith in absurd no
-
-  -- there are some
-  offered : (cs : List Shown) → false ≡ (length cs == 0) → Appends held held' (choices_shown look cs) → Appends held held' (stop_shown look how (Ok cs))
-  offered [] some h = absurd (true≢false (sym some))
-  offered (c ∷ cs) some h = h
+none : (cs : List Shown) → true ≡ (length cs == 0) → cs ≡ []
+none [] h = refl
+none (c ∷ cs) h = let zero : suc (length cs) ≡ 0 = eqb-true (suc (length cs)) 0 (sym h) in let no : ⊥ = omega arith in absurd no
 
 pub returns-in-Err : goal.returns-in-Err
-returns-in-Err g c = (_, c.in-Err.ensures, (rw c.refusal_words.ensures at c.in_ok-say-in-Err.ensures))
+returns-in-Err g c = (
+  Err c.in-Err.refusal,
+  c.in-Err.ensures,
+  c.tell_end.ensures.none,
+  last-written (g.T.Sink.contents c.args.sink.now) (g.T.Sink.contents c.tell_end.new.sink) (said c.args.look (refusal_sentence c.in-Err.refusal)) c.tell_end.result
+      (rw c.refusal_words.ensures at c.tell_end.ensures.says),
+)
 
 pub returns-then-is_empty : goal.returns-then-is_empty
 returns-then-is_empty g c = (
-  _,
-  c.in-Ok.ensures,
-  ended c.args.look c.args.told (g.T.Sink.contents c.args.sink.now) (g.T.Sink.contents c.say-then-is_empty.new.sink) c.in-Ok.choices c.end_words.result.now (rw c.as_slice.ensures at c.if-is_empty.ensures) c.end_words.ensures c.in_ok-say.ensures,
-)
-
-pub returns : goal.returns
-returns g c = (
-  _,
-  c.in-Ok.ensures,
-  offered c.args.look c.args.told (g.T.Sink.contents c.args.sink.now) (g.T.Sink.contents c.show_choices.new.sink) c.in-Ok.choices (rw c.as_slice.ensures at c.if-is_empty.ensures) (rw c.as_slice-2.ensures at c.in_ok-show_choices.ensures),
+  Ok [],
+  subst (λ (cs : List Shown). ShowsChoices (state_of c.args.player.now) (Ok cs)) (none c.in-Ok.choices (rw c.as_slice.ensures at c.if-is_empty.ensures)) c.in-Ok.ensures,
+  c.tell_end-then-is_empty.ensures.none,
+  last-written (g.T.Sink.contents c.args.sink.now) (g.T.Sink.contents c.tell_end-then-is_empty.new.sink) (said c.args.look (end_words c.args.told)) c.tell_end-then-is_empty.result
+      (rw c.end_words.ensures at c.tell_end-then-is_empty.ensures.says),
 )

@@ -1,29 +1,55 @@
-use Rattle.std.proofs.Common.{inl, inr, refl}
+use Rattle.std.proofs.Common.{◌∙◌, [], ◌∷◌, Some, ap, sym}
 use Rattle.std.proofs.lemmas.Result.{err_from_is_err_and}
 use Rattle.serde_json.specs.View.{view}
-use Rattle.ink_page.specs.Typed as asks
-use Rattle.ink_player.specs.Words.{state_of}
-use Rattle.ink_reader.proofs.Courses.{goes-first, goes-on}
-use Rattle.ink_reader.proofs.Playing.{played-behind, played-failed, played-lost, played-own, played-well}
+use Rattle.ink_model.specs.Command as command
+use Rattle.ink_reader.specs.Course.{places_of}
+use Rattle.ink_reader.specs.Deeds.{Gives, Says}
+use Rattle.ink_reader.proofs.Courses.{back-done, back-not, back-part, back-stays, up-at, up-part, up-whole}
+use Rattle.ink_reader.proofs.Playing.{played-lost, played-played, played-says, played-well}
 use Rattle.ink_reader.proofs.reader.Reader.go_back.Goals as goal
 
-pub returns-in_err-json-clause-reads : goal.returns-in_err-json-clause-reads
-returns-in_err-json-clause-reads g c = goes-first asks.Back (inl refl) (played-failed (err_from_is_err_and c.from_residual.result c.from_residual.ensures.1).1)
-
-pub returns-in_default-clause-reads : goal.returns-in_default-clause-reads
-returns-in_default-clause-reads g c = goes-first asks.Back (inl refl) (played-own (c.in_ok-json.ensures.says (state_of c.args.self.now.player)))
+pub returns-in-Err-clause-reads : goal.returns-in-Err-clause-reads
+returns-in-Err-clause-reads g c =
+    let old = c.args.self.now in
+    let why = c.in-Err.ensures in
+    let ds = Says why.0 ∷ [] in
+    (ds, up-whole ds (back-not old.saves (places_of old.past) why.0 why.1), played-says c.say.result why.0 why.2 c.say.ensures)
 
 pub returns-in_err-stand_at-clause-reads : goal.returns-in_err-stand_at-clause-reads
 returns-in_err-stand_at-clause-reads g c =
-    let from = rw c.in-Some.is at c.in_ok-json.ensures.last in
-    goes-first asks.Back (inr (from.0, from.1, from.2, (view c.in-Some.json, from.3, refl))) (played-behind (c.in_ok-json.ensures.says (state_of c.args.self.now.player)) (played-lost (err_from_is_err_and c.from_residual-in_err-stand_at.result c.from_residual-in_err-stand_at.ensures.1).1 c.stand_at.ensures.reads))
+    let old = c.args.self.now in
+    let from = c.in-Ok.ensures in
+    let loads = c.stand_at.ensures.loads in
+    let j = view c.in-Ok.json in
+    let lost = (err_from_is_err_and c.from_residual.result c.from_residual.ensures.1).1 in (
+      Gives (command.Load (Some j)) loads.0 ∷ [],
+      up-part lost (back-part old.saves (places_of old.past) from.0 from.1 j loads.0 from.2 from.3),
+      played-lost lost (loads.2 (g.S.Shelf.kept c.args.shelf.now)),
+    )
 
 pub returns-then-not-branch-clause-reads : goal.returns-then-not-branch-clause-reads
 returns-then-not-branch-clause-reads g c =
-    let from = rw c.in-Some.is at c.in_ok-json.ensures.last in
-    goes-first asks.Back (inr (from.0, from.1, from.2, (view c.in-Some.json, from.3, refl))) (played-behind (c.in_ok-json.ensures.says (state_of c.args.self.now.player)) (played-well c.in_ok-stand_at.was c.stand_at.ensures.reads))
+    let old = c.args.self.now in
+    let from = c.in-Ok.ensures in
+    let loads = c.stand_at.ensures.loads in
+    let j = view c.in-Ok.json in
+    let is = rw c.in_ok-stand_at.was at loads.1 in
+    let ds = Gives (command.Load (Some j)) loads.0 ∷ [] in (
+      ds,
+      up-at ds (places_of old.past) (ap places_of (sym c.stand_at.ensures.past)) (back-stays old.saves (places_of old.past) from.0 from.1 j loads.0 from.2 from.3 (sym is ∙ c.if-not-branch.true)),
+      played-well c.in_ok-stand_at.was (loads.2 (g.S.Shelf.kept c.args.shelf.now)),
+    )
 
 pub returns-clause-reads : goal.returns-clause-reads
 returns-clause-reads g c =
-    let from = rw c.in-Some.is at c.in_ok-json.ensures.last in
-    goes-on asks.Back (inr (from.0, from.1, from.2, (view c.in-Some.json, from.3, refl))) (played-behind (c.in_ok-json.ensures.says (state_of c.args.self.now.player)) (played-well c.in_ok-stand_at.was c.stand_at.ensures.reads)) (rw c.stand_at.ensures.look at c.go_on.ensures.reads)
+    let old = c.args.self.now in
+    let from = c.in-Ok.ensures in
+    let loads = c.stand_at.ensures.loads in
+    let j = view c.in-Ok.json in
+    let is = rw c.in_ok-stand_at.was at loads.1 in
+    let takes = rw c.stand_at.ensures.past at c.take_back.ensures.takes in
+    let behind = rw (c.stand_at.ensures.settings.0, c.stand_at.ensures.settings.1) at c.go_on.ensures.reads in (
+      Gives (command.Load (Some j)) loads.0 ∷ behind.0,
+      back-done old.saves (places_of old.past) from.0 from.1 j loads.0 from.2 from.3 (places_of c.take_back.new.self) (sym is ∙ c.if-not-branch.false) (takes from.0 from.1 from.2) behind.1,
+      played-played (played-well c.in_ok-stand_at.was (loads.2 (g.S.Shelf.kept c.args.shelf.now))) behind.2,
+    )

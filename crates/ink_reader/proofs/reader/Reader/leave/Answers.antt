@@ -1,13 +1,29 @@
-use Rattle.std.proofs.Common.{refl}
+use Rattle.std.proofs.Common.{◌∙◌, [], ◌∷◌, refl, sym}
 use Rattle.std.proofs.lemmas.Result.{err_from_is_err_and}
-use Rattle.ink_player.specs.Words.{state_of}
-use Rattle.ink_reader.proofs.Courses.{tells-behind, tells-here}
-use Rattle.ink_reader.proofs.Playing.{played-failed, spoken-word}
+use Rattle.ink_reader.specs.Course.{places_of}
+use Rattle.ink_reader.specs.Deeds.{Says}
 use Rattle.ink_reader.specs.Words.{LastLacks}
+use Rattle.ink_reader.proofs.Courses.{goes-on, goes-part, goes-unnoted, up-part}
+use Rattle.ink_reader.proofs.Playing.{on_err, on_ok, played-lost, played-played, played-says, played-well}
 use Rattle.ink_reader.proofs.reader.Reader.leave.Goals as goal
 
+pub returns-then-is_ok-clause-reads : goal.returns-then-is_ok-clause-reads
+returns-then-is_ok-clause-reads g c =
+    let old = c.args.self.now in
+    let told = c.go_on.ensures.reads in
+    (told.0, goes-on old.saves (places_of old.past) (places_of c.leave.new.self) (on_ok c.leave.result c.leave.ensures.before (sym c.is_ok.ensures.value ∙ c.if-is_ok.true)) told.1, told.2)
+
 pub returns-in_err-say-clause-reads : goal.returns-in_err-say-clause-reads
-returns-in_err-say-clause-reads g c = tells-here (played-failed (err_from_is_err_and c.from_residual.result c.from_residual.ensures.1).1)
+returns-in_err-say-clause-reads g c =
+    let old = c.args.self.now in
+    let lost = (err_from_is_err_and c.from_residual.result c.from_residual.ensures.1).1 in
+    (Says LastLacks ∷ [], up-part lost (goes-part old.saves (places_of old.past)), played-lost lost (played-says c.say.result LastLacks refl c.say.ensures))
 
 pub returns-clause-reads : goal.returns-clause-reads
-returns-clause-reads g c = tells-behind (spoken-word LastLacks refl c.in_ok-say.ensures (state_of c.args.self.now.player)) c.go_on-2.ensures.reads
+returns-clause-reads g c =
+    let old = c.args.self.now in
+    let told = c.go_on-2.ensures.reads in (
+      Says LastLacks ∷ told.0,
+      goes-unnoted old.saves (places_of old.past) (places_of c.leave.new.self) (on_err c.leave.result c.leave.ensures.stays (sym c.is_ok.ensures.value ∙ c.if-is_ok.false)) told.1,
+      played-played (played-well c.in_ok-say.was (played-says c.say.result LastLacks refl c.say.ensures)) told.2,
+    )

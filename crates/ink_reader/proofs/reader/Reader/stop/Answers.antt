@@ -1,28 +1,46 @@
-use Rattle.std.proofs.Common.{[], ◌∷◌, inl, inr, refl}
+use Rattle.std.proofs.Common.{◌∙◌, [], ◌++◌, None, refl, subst, sym}
 use Rattle.std.proofs.lemmas.Result.{err_from_is_err_and}
-use Rattle.ink_model.specs.Command as command
-use Rattle.ink_reader.proofs.Playing.{played-behind, played-failed, played-kept, played-lost, played-none, played-own, played-well, speaks-word, spoken-stop}
-use Rattle.ink_reader.specs.Words.{PlaceLacks, word_text}
+use Rattle.ink_reader.specs.Course.{IsStop}
+use Rattle.ink_reader.specs.Steps.{stop_told}
+use Rattle.ink_reader.proofs.Courses.{up-behind, up-part, up-whole}
+use Rattle.ink_reader.proofs.Tellings.{stop-none, stop-part, stop-some}
+use Rattle.ink_reader.proofs.Playing.{played-lost, played-none, played-played, played-stop, played-well}
 use Rattle.ink_reader.proofs.reader.Reader.stop.Goals as goal
 
 pub returns-in-Break-clause-reads : goal.returns-in-Break-clause-reads
-returns-in-Break-clause-reads g c = ([], inl refl, played-none)
+returns-in-Break-clause-reads g c =
+    let old = c.args.self.now in ([], up-whole [] (subst (λ how. IsStop old.saves how [] old.past.here) (sym c.in-Break.is) (refl, c.requires)), played-none)
 
 pub returns-in_err-tell_stop-clause-reads : goal.returns-in_err-tell_stop-clause-reads
-returns-in_err-tell_stop-clause-reads g c = ([], inl refl, (played-failed (err_from_is_err_and c.from_residual.result c.from_residual.ensures.1).1))
+returns-in_err-tell_stop-clause-reads g c =
+    let old = c.args.self.now in
+    let shown = c.tell_stop.ensures in
+    let lost = (err_from_is_err_and c.from_residual.result c.from_residual.ensures.1).1 in
+    let part = stop-part old.saves c.args.told shown.0 c.in_default.not-Break in (
+      stop_told c.args.told shown.0,
+      up-part lost (part.0, record { before = old.past.before.items; here = None }, part.1),
+      played-lost lost (played-stop c.tell_stop.result c.args.told shown.0 shown.1 shown.3),
+    )
 
 pub returns-then-not-branch-clause-reads : goal.returns-then-not-branch-clause-reads
-returns-then-not-branch-clause-reads g c = ([], inl refl, played-own (spoken-stop _ c.in_ok-tell_stop.ensures))
+returns-then-not-branch-clause-reads g c =
+    let old = c.args.self.now in
+    let shown = c.tell_stop.ensures in
+    let is = rw c.in_ok-tell_stop.was at shown.2 in
+    let ds = stop_told c.args.told shown.0 in (
+      ds,
+      up-whole ds (stop-none old.saves c.args.told shown.0 old.past.here c.in_default.not-Break (sym c.if-not-branch.true ∙ is) c.requires),
+      played-well c.in_ok-tell_stop.was (played-stop c.tell_stop.result c.args.told shown.0 shown.1 shown.3),
+    )
 
-pub returns-in_err-save_here-in-Ok-clause-reads : goal.returns-in_err-save_here-in-Ok-clause-reads
-returns-in_err-save_here-in-Ok-clause-reads g c =
-    let gave = c.save_of.ensures.gave in (command.Save ∷ [], inr refl, played-lost (err_from_is_err_and c.from_residual-in_err-save_here-in-Ok.result c.from_residual-in_err-save_here-in-Ok.ensures.1).1 (played-behind (spoken-stop _ c.in_ok-tell_stop.ensures) (played-kept c.save_here.result gave.1 c.save_here.ensures.says)))
-
-pub returns-in_ok-save_here-in-Ok-clause-reads : goal.returns-in_ok-save_here-in-Ok-clause-reads
-returns-in_ok-save_here-in-Ok-clause-reads g c =
-    let gave = c.save_of.ensures.gave in (command.Save ∷ [], inr refl, played-well c.in_ok-save_here-in-Ok.was (played-behind (spoken-stop _ c.in_ok-tell_stop.ensures) (played-kept c.save_here.result gave.1 c.save_here.ensures.says)))
-
-pub returns-in-Err-clause-reads : goal.returns-in-Err-clause-reads
-returns-in-Err-clause-reads g c =
-    let gave = c.save_of.ensures.gave in
-    (command.Save ∷ [], inr refl, played-behind (spoken-stop _ c.in_ok-tell_stop.ensures) (played-kept c.say.result gave.1 (speaks-word c.args.self.now.look (g.T.Sink.contents c.tell_stop.new.sink) (g.T.Sink.contents c.say.new.sink) c.say.result (word_text PlaceLacks) PlaceLacks refl c.say.ensures)))
+pub returns-clause-reads : goal.returns-clause-reads
+returns-clause-reads g c =
+    let old = c.args.self.now in
+    let shown = c.tell_stop.ensures in
+    let noted = c.note.ensures.reads in
+    let is = rw c.in_ok-tell_stop.was at shown.2 in
+    let ds = stop_told c.args.told shown.0 in (
+      ds ++ noted.0,
+      up-behind ds (λ rest end h. stop-some old.saves c.args.told shown.0 rest end.here c.in_default.not-Break (sym c.if-not-branch.false ∙ is) h) noted.1,
+      played-played (played-well c.in_ok-tell_stop.was (played-stop c.tell_stop.result c.args.told shown.0 shown.1 shown.3)) noted.2,
+    )

@@ -1,0 +1,30 @@
+//! The lines of the input.
+
+ghost use Rattle.std.specs.Prelude.{None};
+
+use ink_protocol::RunFault;
+use ink_reader::Lines;
+use std::alloc::Global;
+use std::io::ErrorKind;
+
+/// The lines of the input.
+#[derive(Drop)]
+pub(crate) struct InputLines<R> {
+    pub(crate) rt: R,
+}
+
+impl<R: Input> Lines for InputLines<R> {
+    // What will be typed is not known.
+    ghost coming = { λ l. None };
+
+    // A line that is no text is as one that is not understood.
+    fn next(&mut self, alloc: Global) -> Result<Option<String>, RunFault> {
+        let mut line = String::new(alloc);
+        match self.rt.read_line(&mut line) {
+            Ok(0) => Ok(None),
+            Ok(_) => Ok(Some(line)),
+            Err(error) if error.kind() == ErrorKind::InvalidData => Ok(Some(String::new(alloc))),
+            Err(_) => Err(RunFault::Read),
+        }
+    }
+}
