@@ -1,6 +1,6 @@
 //! Frames.
 
-ghost use Rattle.std.specs.Prelude.{◌≡◌, ◌≢◌, [], None, true, option_map, IfOk, OnOk, OnErr};
+ghost use Rattle.std.specs.Prelude.{◌≡◌, ◌≢◌, [], None, true, option_map, IfOk, IfSome, OnOk, OnErr};
 ghost use Rattle.std.specs.Bool.{OnTrue, OnFalse};
 ghost use Rattle.ink_model.specs.Frames.{fresh_depth, is_function};
 ghost use Rattle.ink_model.specs.Rows.{name_order, row};
@@ -31,27 +31,28 @@ impl CallKind {
     }
 }
 
-/// A frame: what it was pushed for, where it is, its temporaries, whether it evaluates, whether it is a fresh function, how
-/// many sections were open at its push, and the number of its mark on this line.
-pub struct Frame<P> {
+/// What a frame has but for its temporaries: what it was pushed for, whether it evaluates, whether it is a fresh function, how
+/// many sections were open at its push, where it is, and the number of its mark on this line. A copy is a copy of some words.
+#[derive(Clone, Copy)]
+pub(crate) struct Header<P> {
     pub(crate) kind: FrameKind,
     pub(crate) evaluating: bool,
     pub(crate) fresh: bool,
     pub(crate) depth: usize,
     pub(crate) place: Option<P>,
     pub(crate) enter: Option<u64>,
+}
+
+/// A frame: its header, and its temporaries. A contract sees it as one record.
+pub struct Frame<P> {
+    pub(crate) header: Header<P>,
     pub(crate) temps: Temps,
 }
 
 impl<P: Drop> Drop for Frame<P> {
     fn drop(self) {
         let Frame {
-            kind: _,
-            evaluating: _,
-            fresh: _,
-            depth: _,
-            place: _,
-            enter: _,
+            header: _,
             temps: _,
         } = self;
     }
@@ -62,7 +63,7 @@ impl<P> Model for Frame<P> {
 
     ghost Value = { FrameOf P };
 
-    ghost view = { λ f. record { kind = f.kind; place = f.place; temps = f.temps; evaluating = f.evaluating; fresh = f.fresh; depth = f.depth; enter = f.enter } };
+    ghost view = { λ f. record { kind = f.header.kind; place = f.header.place; temps = f.temps; evaluating = f.header.evaluating; fresh = f.header.fresh; depth = f.header.depth; enter = f.header.enter } };
 }
 
 impl<P: Copy> Frame<P> {
@@ -72,30 +73,42 @@ impl<P: Copy> Frame<P> {
     {
         let fresh = matches!(kind, FrameKind::Function);
         Frame {
-            kind,
-            evaluating: false,
-            fresh,
-            depth,
-            place,
-            enter: None,
+            header: Header {
+                kind,
+                evaluating: false,
+                fresh,
+                depth,
+                place,
+                enter: None,
+            },
             temps: Temps::new(alloc),
         }
     }
 
     /// A copy. The one error is a refused request for memory, which a frame without temporaries never makes.
+    #[inline(always)]
     pub(crate) fn clone_in(&self, alloc: Global) -> Result<Frame<P>, AllocError>
         ensures copy { IfOk result (λ copy. copy ≡ self.now) }
         ensures memory { OnErr result (self.now.temps ≢ []) }
     {
         let temps = self.temps.clone_in(alloc)?;
         Ok(Frame {
-            kind: self.kind,
-            evaluating: self.evaluating,
-            fresh: self.fresh,
-            depth: self.depth,
-            place: self.place,
-            enter: self.enter,
+            header: self.header,
             temps,
+        })
+    }
+
+    /// A copy where there are no temporaries, which takes no memory.
+    #[inline(always)]
+    pub(crate) fn bare(&self, alloc: Global) -> Option<Frame<P>>
+        ensures { IfSome result (λ copy. copy ≡ self.now) }
+    {
+        if !self.temps.is_empty() {
+            return None;
+        }
+        Some(Frame {
+            header: self.header,
+            temps: Temps::new(alloc),
         })
     }
 
@@ -103,41 +116,41 @@ impl<P: Copy> Frame<P> {
     pub fn kind(&self) -> FrameKind
         ensures { result ≡ self.now.kind }
     {
-        self.kind
+        self.header.kind
     }
 
     /// Where it is; none where flow has stopped.
     pub fn place(&self) -> Option<P>
         ensures { result ≡ self.now.place }
     {
-        self.place
+        self.header.place
     }
 
     /// Whether it is in evaluation mode.
     pub fn is_evaluating(&self) -> bool
         ensures { result ≡ self.now.evaluating }
     {
-        self.evaluating
+        self.header.evaluating
     }
 
     pub(crate) fn number(&self) -> Option<u64>
         ensures { result ≡ self.now.enter }
     {
-        self.enter
+        self.header.enter
     }
 
     /// How many string and tag sections were open at its push.
     pub fn depth(&self) -> usize
         ensures { result ≡ self.now.depth }
     {
-        self.depth
+        self.header.depth
     }
 
     pub(crate) fn fresh_depth(&self) -> Option<usize>
         ensures { result ≡ fresh_depth self.now }
     {
-        match self.kind {
-            FrameKind::Function if self.fresh => Some(self.depth),
+        match self.header.kind {
+            FrameKind::Function if self.header.fresh => Some(self.header.depth),
             _ => None,
         }
     }
@@ -146,13 +159,13 @@ impl<P: Copy> Frame<P> {
     pub fn is_fresh(&self) -> bool
         ensures { result ≡ self.now.fresh }
     {
-        self.fresh
+        self.header.fresh
     }
 
     pub(crate) fn is(&self, kind: FrameKind) -> bool
         ensures { result ≡ same_kind self.now.kind kind }
     {
-        match (self.kind, kind) {
+        match (self.header.kind, kind) {
             (FrameKind::Base, FrameKind::Base) => true,
             (FrameKind::Function, FrameKind::Function) => true,
             (FrameKind::Tunnel, FrameKind::Tunnel) => true,
@@ -163,32 +176,32 @@ impl<P: Copy> Frame<P> {
     pub(crate) fn is_function(&self) -> bool
         ensures { result ≡ is_function self.now.kind }
     {
-        matches!(self.kind, FrameKind::Function)
+        matches!(self.header.kind, FrameKind::Function)
     }
 
     pub(crate) fn put(&mut self, place: Option<P>)
         ensures { self.new ≡ record self.old { place = place } }
     {
-        self.place = place;
+        self.header.place = place;
     }
 
     pub(crate) fn set_mode(&mut self, evaluating: bool)
         ensures { self.new ≡ record self.old { evaluating = evaluating } }
     {
-        self.evaluating = evaluating;
+        self.header.evaluating = evaluating;
     }
 
     pub(crate) fn set_number(&mut self, number: Option<u64>)
         ensures { self.new ≡ record self.old { enter = number } }
     {
-        self.enter = number;
+        self.header.enter = number;
     }
 
     pub(crate) fn end_freshness(&mut self, depth: usize)
         ensures { self.new ≡ stale depth self.old }
     {
-        if self.depth == depth {
-            self.fresh = false;
+        if self.header.depth == depth {
+            self.header.fresh = false;
         }
     }
 
@@ -222,8 +235,8 @@ impl<P: Copy> Frame<P> {
         ensures ended { OnTrue result (with_fresh true self.new ≡ self.old) }
         ensures kept { OnFalse result (self.new ≡ self.old) }
     {
-        if self.fresh && self.depth == depth {
-            self.fresh = false;
+        if self.header.fresh && self.header.depth == depth {
+            self.header.fresh = false;
             return true;
         }
         false
@@ -232,7 +245,7 @@ impl<P: Copy> Frame<P> {
     pub(crate) fn freshen(&mut self)
         ensures { self.new ≡ with_fresh true self.old }
     {
-        self.fresh = true;
+        self.header.fresh = true;
     }
 
     pub(crate) fn put_temp_back(&mut self, index: usize, was: Option<Value>)

@@ -384,9 +384,12 @@ fn copied_frames<P: Copy>(alloc: Global, frames: &[Frame<P>]) -> Result<Vec<Fram
     ensures copy { IfOk result (λ copies. copies.items ≡ frames.now) }
     ensures memory { OnErr result (frames.now ≢ []) }
 {
-    let mut copies = Vec::new(alloc);
+    let mut copies = Vec::with_capacity(alloc, frames.len())?;
     for frame in frames {
-        copies.push(frame.clone_in(alloc)?)?;
+        match frame.bare(alloc) {
+            Some(copy) => copies.push_reserved(copy),
+            None => copies.push_reserved(frame.clone_in(alloc)?),
+        }
     }
     Ok(copies)
 }

@@ -7,7 +7,7 @@ ghost use Rattle.ink_model.specs.declared.limits.TheConstants.{MAX_FRAMES, MAX_T
 ghost use Rattle.ink_stack.specs.Saving.{base_first, is_after, is_call, rise_after, thread_from, thread_with, threads_from, threads_with};
 ghost use Rattle.ink_stack.specs.Undo.{threads_stood};
 
-use crate::frame::Frame;
+use crate::frame::{Frame, Header};
 use crate::running::Running;
 use crate::temps::Temps;
 use crate::thread::Thread;
@@ -34,12 +34,14 @@ impl<P: Copy> Frame<P> {
     {
         let temps = Temps::of(alloc, temps)?;
         Some(Frame {
-            kind,
-            evaluating,
-            fresh,
-            depth,
-            place,
-            enter: None,
+            header: Header {
+                kind,
+                evaluating,
+                fresh,
+                depth,
+                place,
+                enter: None,
+            },
             temps,
         })
     }

@@ -1,6 +1,7 @@
 //! The temporaries of a frame.
 
 ghost use Rattle.std.specs.Prelude.{◌≡◌, ◌≢◌, [], None, option_map, remove, IfOk, OnOk, OnErr};
+ghost use Rattle.std.specs.Bool.{OnTrue, OnFalse};
 ghost use Rattle.ink_model.specs.Rows.{name_order, row, with_row};
 ghost use Rattle.ink_stack.specs.Cells.{temps_back, value_at};
 ghost use Rattle.ink_stack.specs.Rows.{FindsName};
@@ -46,12 +47,34 @@ impl Temps {
         }
     }
 
+    /// Whether there are none.
+    #[inline(always)]
+    pub(crate) fn is_empty(&self) -> bool
+        ensures none { OnTrue result (self.now ≡ []) }
+        ensures some { OnFalse result (self.now ≢ []) }
+    {
+        self.rows.is_empty()
+    }
+
     /// A copy. The one error is a refused request for memory, which no temporaries never make.
+    #[inline(always)]
     pub(crate) fn clone_in(&self, alloc: Global) -> Result<Temps, AllocError>
         ensures copy { IfOk result (λ copy. copy ≡ self.now) }
         ensures memory { OnErr result (self.now ≢ []) }
     {
-        let mut rows = Vec::new(alloc);
+        if self.rows.is_empty() {
+            return Ok(Temps::new(alloc));
+        }
+        self.copied(alloc)
+    }
+
+    // A copy of each row.
+    #[inline(never)]
+    fn copied(&self, alloc: Global) -> Result<Temps, AllocError>
+        ensures copy { IfOk result (λ copy. copy ≡ self.now) }
+        ensures memory { OnErr result (self.now ≢ []) }
+    {
+        let mut rows = Vec::with_capacity(alloc, self.rows.len())?;
         for row in &self.rows {
             let name = row.0.share()?;
             let value = row.1.clone_in(alloc)?;
