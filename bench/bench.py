@@ -339,20 +339,23 @@ def waiting(count, frames):
     return story, save_of(choices=[choice(number) for number in range(count)])
 
 
-def saves(_program, worker):
-    """Saves, as texts and as JSON values, and loads, beside what the JSON library takes to print and to parse the same values."""
-    print("%-34s %9s %9s %9s %9s %9s %9s %9s %9s %9s" % ("ms", "KiB", "saved", "printed", "times", "as value", "times", "loaded", "parsed", "times"))
+def saves(program, worker):
+    """Saves and loads by their commands, beside what the JSON library takes to print and to parse the same values."""
+    print("%-34s %9s %9s %9s %9s %9s %9s %9s" % ("ms", "KiB", "saved", "printed", "times", "loaded", "parsed", "times"))
     sizes = [("%d visited, %d globals" % (count, count // 10), counted(count)) for count in (1000, 10000, 100000)]
     sizes += [("%d choices of %d frames" % (count, frames), waiting(count, frames)) for count, frames in ((10, 10), (1000, 10), (10, 1000))]
     for name, (story, save) in sizes:
         text = json.dumps(save, separators=(",", ":"), sort_keys=True)
-        lines = json.dumps(story, separators=(",", ":")) + "\n" + text
+        load = "load %s\n" % text
+        begun = json.dumps(story, separators=(",", ":")) + "\n" + load
         rounds = max(1, (20 * MIB) // len(text))
-        def took(what):
-            return (best_work(worker, [what, rounds], lines) - best_work(worker, [what, 0], lines)) / rounds
-        saved, printed, value, loaded, parsed = (took(what) for what in ("save", "print", "value", "load", "parse"))
-        print("%-34s %9.0f %9.3f %9.3f %9.2f %9.3f %9.2f %9.3f %9.3f %9.2f"
-              % (name, len(text) / 1024, saved, printed, saved / printed, value, value / printed, loaded, parsed, loaded / parsed))
+        def each(line):
+            return (best(program, begun + line * rounds)[0] - best(program, begun)[0]) / rounds
+        def by_library(what):
+            return (best_work(worker, [what, rounds], text) - best_work(worker, [what, 0], text)) / rounds
+        saved, loaded = each("save\n"), each(load)
+        printed, parsed = by_library("print"), by_library("parse")
+        print("%-34s %9.0f %9.3f %9.3f %9.2f %9.3f %9.3f %9.2f" % (name, len(text) / 1024, saved, printed, saved / printed, loaded, parsed, loaded / parsed))
 
 
 # a loop of short lines, each with its number
