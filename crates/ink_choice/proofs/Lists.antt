@@ -87,6 +87,12 @@ module _ {P : Type 0} where
       let taken_is : taken n cs ≡ Some (get_or cs i x, remove cs i) = ap (λ b. taken_of (λ c. b || not c.hidden) n cs) (sym same) ∙ found.1 x in
       rw taken_is (is, left)
 
+  pub took_none : (n : ℕ) (cs : List (ChoiceOf P)) (any : Bool) → any ≡ none_visible cs → FindsIndex (λ c. any || not c.hidden) n cs None
+      → Takes (taken n cs) cs cs (Ok None)
+  took_none n cs any same found =
+      let taken_is : taken n cs ≡ None = ap (λ b. taken_of (λ c. b || not c.hidden) n cs) (sym same) ∙ found in
+      rw taken_is refl
+
   -- ---- where there is one
 
   pub any_visible : (cs : List (ChoiceOf P)) (i : ℕ) (d : ChoiceOf P) → i < length cs → (get_or cs i d).hidden ≡ false → visible cs ≢ []
