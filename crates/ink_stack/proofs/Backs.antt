@@ -1,5 +1,5 @@
 -- What each change of frames and threads puts back.
-use Rattle.std.proofs.Common.{◌≡◌, ◌∙◌, ◌≤◌, ◌+◌, ◌-◌, MatchOption, arith, drop, get_or, length, option_to_list, ℕ, List, [], ◌∷◌, ◌++◌, Bool, true, false, Option, Some, None, Result, Ok, Err, ap, if◌then◌else◌, is_some, nat_eq, nat_lt, refl, reverse, subst, sym}
+use Rattle.std.proofs.Common.{◌≡◌, ◌∙◌, ◌≤◌, ◌+◌, ◌-◌, MatchOption, arith, drop, get_or, length, option_to_list, ℕ, List, [], ◌∷◌, ◌++◌, Bool, true, false, Option, Some, None, Result, Ok, Err, ap, append_assoc, if◌then◌else◌, is_some, nat_eq, nat_lt, refl, reverse, subst, sym}
 use Rattle.std.proofs.Math.Seq.{get_or-append_seam}
 use Rattle.std.proofs.lemmas.List.{length-append, length-reverse, reverse-append, reverse-reverse}
 use Rattle.ink_model.specs.Frames.{FrameOf, ThreadOf, ThreadsOf, gone, mode_in, on_top, put_in}
@@ -24,6 +24,20 @@ pub popped-drop : {X : Type 0} (xs rest : List X) (o : Option X) (n m : ℕ) →
 popped-drop xs rest (Some x) n m is cases len = sym (ap (λ ys. drop 1 (reverse ys)) is ∙ ap (drop 1) (reverse-append rest (x ∷ [])))
 popped-drop xs [] None n m is cases len = sym (ap (λ ys. drop 1 (reverse ys)) is)
 popped-drop xs (y ∷ ys) None n m is cases len = absurd (omega (arith, cases.0, len, ap length is, length-append (y ∷ ys) []))
+
+-- the last two
+last_two : {X : Type 0} (xs rest : List X) (a b d : X) → reverse xs ≡ a ∷ b ∷ rest → (get_or xs (length xs - 1) d ≡ a) × (get_or xs (length xs - 2) d ≡ b)
+last_two xs rest a b d is =
+    let front = reverse rest in
+    let ys = front ++ b ∷ a ∷ [] in
+    let turned : reverse ys ≡ a ∷ b ∷ rest = reverse-append front (b ∷ a ∷ []) ∙ ap (λ zs. a ∷ b ∷ zs) (reverse-reverse rest) in
+    let same : xs ≡ ys = sym (reverse-reverse xs) ∙ ap reverse (is ∙ sym turned) ∙ reverse-reverse ys in
+    let len : length xs ≡ length front + 2 = ap length same ∙ length-append front (b ∷ a ∷ []) in
+    let one : length xs - 1 ≡ length (front ++ b ∷ []) = omega (arith, len, length-append front (b ∷ [])) in
+    let two : length xs - 2 ≡ length front = omega (arith, len) in (
+      ap (λ n. get_or xs n d) one ∙ ap (λ zs. get_or zs (length (front ++ b ∷ [])) d) (same ∙ sym (append_assoc front (b ∷ []) (a ∷ []))) ∙ get_or-append_seam (front ++ b ∷ []) a [] d,
+      ap (λ n. get_or xs n d) two ∙ ap (λ zs. get_or zs (length front) d) same ∙ get_or-append_seam front b (a ∷ []) d,
+    )
 
 -- the third from the end
 third_last : {X : Type 0} (xs rest : List X) (a b c d : X) → reverse xs ≡ a ∷ b ∷ c ∷ rest → get_or xs (length xs - 3) d ≡ c
@@ -83,6 +97,19 @@ module _ {P : Type 0} where
   gone-is (Replaced _ _ ∷ es) h = absurd h
 
   -- both places are put back already
+  -- the places were noted last
+  pub gone-at : (ps : List (ThreadsPair P)) (d e : ThreadsPair P) (p q : Option P) → 2 ≤ length ps → get_or ps (length ps - 1) d ≡ Placed p → get_or ps (length ps - 2) e ≡ Previous q
+      → HasGone (reverse ps)
+  gone-at ps d e p q some went left = by (reverse ps) refl
+    where
+      by : (es : List (ThreadsPair P)) → reverse ps ≡ es → HasGone (reverse ps)
+      by [] is = absurd (omega (arith, some, ap length is, length-reverse ps))
+      by (a ∷ []) is = absurd (omega (arith, some, ap length is, length-reverse ps))
+      by (a ∷ b ∷ rest) is =
+          let first : a ≡ Placed p = sym (last_two ps rest a b d is).0 ∙ went in
+          let second : b ≡ Previous q = sym (last_two ps rest a b e is).1 ∙ left in
+          subst HasGone (sym (is ∙ ap (λ x. x ∷ b ∷ rest) first ∙ ap (λ x. Placed p ∷ x ∷ rest) second)) tt
+
   pub gone-noted : (p : Option P) (es : List (ThreadsPair P)) (ts : ThreadsOf P) → HasGone es → undone threads_back es (on_top (gone p) ts) ≡ undone threads_back es ts
   gone-noted p es ts h = rw (gone-is es h).3 refl
 

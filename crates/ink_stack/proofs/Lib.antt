@@ -8,6 +8,7 @@ pub mod Numbers
 pub mod Unnumbered
 pub mod Bases
 pub mod Rising
+pub mod Searching
 pub mod BaseTests
 pub mod Cells
 pub mod Framing

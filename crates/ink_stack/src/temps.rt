@@ -1,8 +1,8 @@
 //! The temporaries of a frame.
 
-ghost use Rattle.std.specs.Prelude.{◌≡◌, ◌≢◌, [], None, option_map, remove, IfOk, OnOk, OnErr};
+ghost use Rattle.std.specs.Prelude.{◌≡◌, ◌≢◌, [], None, true, option_map, remove, IfOk, OnOk, OnErr};
 ghost use Rattle.std.specs.Bool.{OnTrue, OnFalse};
-ghost use Rattle.ink_model.specs.Rows.{name_order, row, with_row};
+ghost use Rattle.ink_model.specs.Rows.{name_order, row, rows_rise, with_row};
 ghost use Rattle.ink_stack.specs.Cells.{temps_back, value_at};
 ghost use Rattle.ink_stack.specs.Rows.{FindsName};
 
@@ -153,16 +153,36 @@ impl Temps {
     }
 }
 
-/// Where a name stands among rows, or where it would stand.
+/// So many rows, or fewer, are looked at one by one, which is faster then.
+const FEW: usize = 8;
+
+/// Where a name stands among rows that rise by name, or where it would stand.
 fn find(rows: &[(Shared<Text>, Value)], name: &str) -> Result<usize, usize>
+    requires { rows_rise name_order rows.now ≡ true }
+    ensures { FindsName name.now rows.now result }
+{
+    if rows.len() <= FEW {
+        return find_one_by_one(rows, name);
+    }
+    find_by_halves(rows, name)
+}
+
+fn find_one_by_one(rows: &[(Shared<Text>, Value)], name: &str) -> Result<usize, usize>
     ensures { FindsName name.now rows.now result }
 {
     for (index, row) in rows.iter().enumerate() {
-        match name.cmp(row.0.get().as_str()) {
+        match name.cmp(row.0.as_str()) {
             Ordering::Less => return Err(index),
             Ordering::Equal => return Ok(index),
             Ordering::Greater => {}
         }
     }
     Err(rows.len())
+}
+
+fn find_by_halves(rows: &[(Shared<Text>, Value)], name: &str) -> Result<usize, usize>
+    requires { rows_rise name_order rows.now ≡ true }
+    ensures { FindsName name.now rows.now result }
+{
+    rows.binary_search_by(|row| row.0.as_str().cmp(name))
 }

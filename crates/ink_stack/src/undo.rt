@@ -42,10 +42,16 @@ pub enum ThreadsPair<P> {
 pub(crate) fn has_gone<P>(pairs: &[ThreadsPair<P>]) -> bool
     ensures { result ≡ true → HasGone (reverse pairs.now) }
 {
-    matches!(
-        pairs,
-        [.., ThreadsPair::Previous(_), ThreadsPair::Placed(_)]
-    )
+    if pairs.len() < 2 {
+        return false;
+    }
+    match pairs[pairs.len() - 1] {
+        ThreadsPair::Placed(_) => match pairs[pairs.len() - 2] {
+            ThreadsPair::Previous(_) => true,
+            _ => false,
+        },
+        _ => false,
+    }
 }
 
 /// Whether the last that was noted, but for that flow went, is the mode of the frame.

@@ -1,6 +1,6 @@
 use Rattle.std.proofs.Common.{◌≡◌, get_or}
 use Rattle.ink_stack.proofs.Rows.{found_here}
-use Rattle.ink_stack.proofs.temps.find.Goals as goal
+use Rattle.ink_stack.proofs.temps.find_one_by_one.Goals as goal
 
 pub returns-in-Equal : goal.returns-in-Equal
 returns-in-Equal c =
