@@ -52,9 +52,9 @@ RUNS = (
 DIVIDES = ["ev", 1, 0, "/", "out", "/ev", "\n"]
 FAULTS = (
     ("a fault in a knot", [[{"->": "knot"}, None], "done", {"knot": ["^One.", "\n"] + DIVIDES + ["done", None]}], "One.\n", "knot.2"),
-    ("a fault in a knot that leads on", [[{"->": "knot"}, None], "done", {"knot": ["^One.", "\n", {"->": "far"}, None], "far": DIVIDES + ["done", None]}], "One.\n", "far.0"),
-    ("a fault in a named gather", [["^One.", "\n", DIVIDES + [{"#n": "g-0"}], None], "done", {}], "One.\n", "0.2.0"),
-    ("a fault at the start", [DIVIDES + ["done", None], "done", {}], "", "0.0"),
+    ("a fault in a knot that leads on", [[{"->": "knot"}, None], "done", {"knot": ["^One.", "\n", {"->": "far"}, None], "far": DIVIDES + ["done", None]}], "One.\n", "knot.2"),
+    ("a fault in a gather", [["^One.", "\n", DIVIDES + [{"#n": "g-0"}], None], "done", {}], "One.\n", "0.2"),
+    ("a fault at the start", [DIVIDES + ["done", None], "done", {}], "", "0"),
     ("a fault in a function below a tunnel", [["^One.", "\n", {"->t->": "tunnel"}, "done", None], "done", {
         "tunnel": ["^Two.", "\n", "ev", {"f()": "function"}, "out", "/ev", "\n", "ev", "void", "/ev", "->->", None],
         "function": ["^Three.", "\n"] + DIVIDES + [None]}], "One.\nTwo.\nThree.\n", "function.2"),
