@@ -23,6 +23,9 @@ ROSE = "You rise.\nThe story ends here.\n> "
 THERE_IS_ONE = "There is a save. Go on with it? (n begins anew; the next save takes its place)\n> "
 HELP = ("A number takes the choice of that number. s saves, l loads the save, b goes back\n"
         "to before the last choice, r restarts, v NAME shows a variable, q quits, ? shows\nthis.\n> ")
+DIVIDED = "The story divided by zero, or the least number by -1.\n"
+BROKE_OFF = ("The story breaks off behind the last line. What was saved stays; b goes back to\n"
+             "before the last choice, if there was one, and r restarts.\n")
 CUT = "The save is cut, or is no save; it stays as it is.\n"
 BAD = ("inkread: The story has something that is not played here: a list, a number with a point, a shuffle or a random number.\n"
        "It is at k.1.\nThere stands: 1.5\n")
@@ -44,6 +47,25 @@ RUNS = (
     ("tags of lines", None, ["--no-autosave", "--tags"], "", "You wake. # dawn\n" + CHOICES, None),
 )
 
+# Stories that divide by zero somewhere, and where the line began that broke off. The last thread is the one that ran, and its last
+# frame the nearest.
+DIVIDES = ["ev", 1, 0, "/", "out", "/ev", "\n"]
+FAULTS = (
+    ("a fault in a knot", [[{"->": "knot"}, None], "done", {"knot": ["^One.", "\n"] + DIVIDES + ["done", None]}], "One.\n", "knot.2"),
+    ("a fault in a knot that leads on", [[{"->": "knot"}, None], "done", {"knot": ["^One.", "\n", {"->": "far"}, None], "far": DIVIDES + ["done", None]}], "One.\n", "knot.2"),
+    ("a fault in a gather", [["^One.", "\n", DIVIDES + [{"#n": "g-0"}], None], "done", {}], "One.\n", "0.2"),
+    ("a fault at the start", [DIVIDES + ["done", None], "done", {}], "", "0"),
+    ("a fault in a function below a tunnel", [["^One.", "\n", {"->t->": "tunnel"}, "done", None], "done", {
+        "tunnel": ["^Two.", "\n", "ev", {"f()": "function"}, "out", "/ev", "\n", "ev", "void", "/ev", "->->", None],
+        "function": ["^Three.", "\n"] + DIVIDES + [None]}], "One.\nTwo.\nThree.\n", "function.2"),
+    ("a fault in a tunnel", [["^One.", "\n", {"->t->": "tunnel"}, "done", None], "done", {
+        "tunnel": ["^Two.", "\n"] + DIVIDES + ["ev", "void", "/ev", "->->", None]}], "One.\nTwo.\n", "tunnel.2"),
+    ("a fault in a second thread", [["^One.", "\n", "thread", {"->": "side"}, "^Main.", "\n", "done", None], "done", {
+        "side": ["^Side.", "\n"] + DIVIDES + ["done", None]}], "One.\nSide.\n", "side.2"),
+    ("a fault in a knot with control characters", [[{"->": "a\x1b[31mb\x9b2Jc"}, None], "done", {
+        "a\x1b[31mb\x9b2Jc": ["^One.", "\n"] + DIVIDES + ["done", None]}], "One.\n", "a [31mb 2Jc.2"),
+)
+
 
 def run(program, folder, words, typed, **env):
     """What a reading prints, its standard error and its status."""
@@ -58,6 +80,17 @@ def text_of(path):
         return None
     with open(path, encoding="utf-8") as it:
         return it.read()
+
+
+def in_another_flow(path, place):
+    """Makes a save one of a game in another flow, which stands at a place."""
+    with open(path, encoding="utf-8") as it:
+        save = json.load(it)
+    frame = {"depth": 0, "eval": False, "fresh": False, "kind": "base", "place": place, "temps": {}}
+    save["flows"].append({"choices": [], "name": "other", "safe": False, "stack": [], "threads": [{"frames": [frame], "previous": None}]})
+    save["current"] = "other"
+    with open(path, "w", encoding="utf-8") as out:
+        json.dump(save, out, separators=(",", ":"), sort_keys=True)
 
 
 def runs(program, folder):
@@ -75,6 +108,17 @@ def runs(program, folder):
         came = run(program, folder, ["story.json"] + words, typed)
         now = text_of(save)
         yield name, came + (None if now is None else "old" if now == was and left == "old" else "new",), (printed, "", 0, left)
+    for name, root, lines, path in FAULTS:
+        with open(os.path.join(folder, "fault.json"), "w", encoding="utf-8") as out:
+            json.dump(dict(STORY, root=root), out)
+        told = "%s%s%sThe line that broke off began at %s.\n> " % (lines, DIVIDED, BROKE_OFF, path)
+        yield name, run(program, folder, ["fault.json", "--no-autosave"], ""), (told, "", 0)
+    with open(os.path.join(folder, "fault.json"), "w", encoding="utf-8") as out:
+        json.dump(dict(STORY, root=[["ev", "str", "^On.", "/str", "/ev", {"*": "knot", "flg": 4}, "done", None], "done", {"knot": ["^One.", "\n"] + DIVIDES + ["done", None]}]), out)
+    run(program, folder, ["fault.json", "--save", "other"], "q\n")
+    in_another_flow(os.path.join(folder, "other"), ["knot", 2])
+    told = "%s%s%sThe line that broke off began at knot.2.\n> " % (THERE_IS_ONE, DIVIDED, BROKE_OFF)
+    yield "a fault in another flow", run(program, folder, ["fault.json", "--save", "other"], "\n"), (told, "", 0)
     dim = "You wake.\x1b[2m # dawn\x1b[0m\n" + CHOICES
     yield "dimmed tags", run(program, folder, ["story.json", "--no-autosave", "--tags", "--save", "none"], "", TERM="xterm"), (dim, "", 0)
     plain = dim.replace("\x1b[2m", "").replace("\x1b[0m", "")

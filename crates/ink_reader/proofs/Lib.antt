@@ -4,3 +4,5 @@ pub mod Courses
 pub mod Sessions
 pub mod Halting
 pub mod Keeping
+pub mod Flows
+pub mod Paths

@@ -4,13 +4,15 @@ use Rattle.std.proofs.KnownBytes.{Appends-nil, Appends-trans}
 use Rattle.std.specs.Io.KnownBytes.{Appends}
 use Rattle.ink_host.specs.Telling.{Watching}
 use Rattle.ink_host.specs.declared.objects.Called.{Called}
-use Rattle.ink_model.specs.Answer.{Reply}
+use Rattle.ink_model.specs.Answer.{Reply, reply_of_halt}
+use Rattle.ink_model.specs.Command as command
 use Rattle.ink_model.specs.Command.{Command}
 use Rattle.ink_model.specs.Host.{Bindings}
 use Rattle.ink_model.specs.Session.{Does}
 use Rattle.ink_model.specs.State.{State, globals_of, is_running}
 use Rattle.ink_model.specs.Tree.{StoryTree}
 use Rattle.ink_model.specs.Turns.{ShowsChoices}
+use Rattle.ink_model.specs.declared.fault.Halt.{Halt}
 use Rattle.ink_model.specs.declared.fault.Refusal.{Refusal}
 use Rattle.ink_model.specs.declared.host.Event.{Event}
 use Rattle.ink_model.specs.declared.host.Given.{Given}
@@ -23,12 +25,13 @@ use Rattle.ink_protocol.specs.declared.fault.RunFault.{RunFault}
 use Rattle.ink_player.specs.Words.{DealtOnce, PlayerView, bindings, desk_of, state_of, story_of, told_from}
 use Rattle.ink_player.proofs.Tellings.{bindings-same, dealt-dealt, dealt-kept, dealt-none, dealt-once}
 use Rattle.ink_reader.specs.Course.{saving_told, unsaved_told}
-use Rattle.ink_reader.specs.Deeds.{AreDone, AreShelved, Asks, Deed, Fetches, Gave, Gives, Goes, IsDone, IsShelved, Keeps, Played, Says, answer_shown, deed_shown, deeds_shown}
+use Rattle.ink_reader.specs.Deeds.{AreDone, AreShelved, Asks, Deed, Fetches, Gave, Gives, Goes, IsDone, IsShelved, Keeps, Played, Says, answer_shown, deed_shown, deeds_shown, reply_shown}
 use Rattle.ink_reader.specs.Kept as shelf
-use Rattle.ink_reader.specs.Steps.{stop_told}
-use Rattle.ink_reader.specs.Words.{Word, word_text}
+use Rattle.ink_reader.specs.Steps.{break_told, stop_told}
+use Rattle.ink_reader.specs.Words.{Word, broke_off, word_text}
 use Rattle.ink_reader.specs.declared.shelf.NotKept.{NotKept}
 use Rattle.ink_reader.specs.declared.telling.Told.{Told}
+use Rattle.ink_reader.proofs.Tellings.{break-done, break-shelved}
 
 -- ---- more deeds
 
@@ -172,6 +175,19 @@ module _ {P F O : Type 0} {meaning : P → List Value → Option Given} {turn_lo
       → Gave meaning turn_log state old k reply new → Played meaning turn_log state look old (Gives k reply ∷ []) new held held kept kept true
   played-hushed {held = held} quiet g =
       let all : Result (Unit {0}) (Unit {0}) = Ok tt in played-gives all g (subst (λ w. Appends held held w) (sym quiet) (Appends-nil held))
+
+  -- that broke off, and behind its answer it is said where it did
+  pub played-break : {T E X : Type 0} {old new : PlayerView P F O} {held held' : Option (List ℕ)} {kept : Option (Option (List ℕ))} (r : Result T E) (x : Halt) (path : Result (Option (List ℕ)) X)
+      → Gave meaning turn_log state old command.Continue (reply_of_halt x) new → OnOk r (Appends held held' (reply_shown look broke_off (reply_of_halt x) ++ deeds_shown look (break_told (reply_of_halt x) path)))
+      → Played meaning turn_log state look old (Gives command.Continue (reply_of_halt x) ∷ break_told (reply_of_halt x) path) new held held' kept kept (is_ok r)
+  played-break {old = old} {new = new} {kept = kept} r x path g shown = record {
+    events = g.events;
+    done = (state_of new, g.events, [], sym (append-nil g.events), g.does, break-done (story_of old) (bindings meaning (desk_of old)) (state_of new) x path);
+    dealt = g.dealt;
+    story = g.story;
+    shelved = (kept, refl, break-shelved kept x path);
+    written = on_ok r shown;
+  }
 
   -- ---- what went well, and what failed
 

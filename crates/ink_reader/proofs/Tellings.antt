@@ -1,15 +1,20 @@
 -- Lines that are told one after another, and the stop behind them.
-use Rattle.std.proofs.Common.{◌≡◌, ◌≢◌, ℕ, List, [], ◌∷◌, ◌++◌, Bool, true, false, Option, None, Result, Ok, Err, refl, sym, subst, append_assoc, append-nil, true≢false}
+use Rattle.std.proofs.Common.{◌≡◌, ◌≢◌, ℕ, List, [], ◌∷◌, ◌++◌, Bool, true, false, Option, None, Some, Result, Ok, Err, IfOk, ◌∙◌, ap, inl, inr, refl, sym, subst, append_assoc, append-nil, true≢false}
+use Rattle.serde_json.specs.Data.{Data}
 use Rattle.ink_model.specs.Answer.{Reply, Acts, Breaks, Counts, Refuses, Saves, Shows, Tells, reply_of_halt}
 use Rattle.ink_model.specs.Command as command
+use Rattle.ink_model.specs.Host.{Bindings}
+use Rattle.ink_model.specs.State.{State}
+use Rattle.ink_model.specs.Tree.{StoryTree}
 use Rattle.ink_model.specs.declared.fault.Halt.{Halt}
 use Rattle.ink_model.specs.declared.fault.Halt.TheVariants as halt
 use Rattle.ink_model.specs.declared.fault.Refusal.{Refusal}
 use Rattle.ink_model.specs.declared.fault.Refusal.TheVariants as refusal
 use Rattle.ink_model.specs.declared.passage.Shown.{Shown}
-use Rattle.ink_reader.specs.Course.{IsNoted, IsStop, IsTold, end_behind}
-use Rattle.ink_reader.specs.Deeds.{Deed, Gives, Goes, Offers, Says}
-use Rattle.ink_reader.specs.Steps.{ToldBy, are_offered, end_after, stop_told}
+use Rattle.ink_reader.specs.Course.{IsBreak, IsNoted, IsStop, IsTold, TellsPlace, end_behind, place_told}
+use Rattle.ink_reader.specs.Deeds.{AreDone, AreShelved, Deed, Gives, Goes, Offers, Says}
+use Rattle.ink_reader.specs.Steps.{ToldBy, are_offered, break_told, end_after, stop_told, whereabouts_told}
+use Rattle.ink_reader.specs.Whereabouts.{path_of}
 use Rattle.ink_reader.specs.Words.{PlaceLacks, Stopped}
 use Rattle.ink_reader.specs.declared.telling.Told.{Told}
 use Rattle.ink_reader.specs.declared.telling.Told.TheVariants as told
@@ -31,41 +36,73 @@ pub halt-breaks : (x : Halt) → end_after (reply_of_halt x) ≡ told.Break
 halt-breaks (halt.Refused r) = refl
 halt-breaks (halt.Fault f events) = refl
 
+-- the place is saved, and a line is asked for
+abbrev pub line_deeds : Reply → Reply → List Deed → List Deed
+line_deeds place reply ds = Goes true ∷ Gives command.Save place ∷ Gives command.Continue reply ∷ ds
+
 -- a line was told, and telling goes on
-pub leads-line : (how end : Told) (reply : Reply) → end ≡ end_after reply → end ≢ told.Break → Leads how (Goes true ∷ Gives command.Continue reply ∷ []) end
-leads-line how end (Tells p) is on = λ es last h. subst (λ t. IsTold t es last) is h
-leads-line how end (Acts events) is on = absurd (on is)
-leads-line how end (Shows value) is on = absurd (on is)
-leads-line how end (Counts visits) is on = absurd (on is)
-leads-line how end (Saves saved) is on = absurd (on is)
-leads-line how end (Refuses r) is on = absurd (on is)
-leads-line how end (Breaks f events) is on = absurd (on is)
+pub leads-line : (how end : Told) (place reply : Reply) (ds : List Deed) → IsBreak place reply ds → end ≡ end_after reply → end ≢ told.Break → Leads how (line_deeds place reply ds) end
+leads-line how end place (Tells p) ds none is on = λ es last h. subst (λ x. IsTold how (line_deeds place (Tells p) x ++ es) last) (sym none) (subst (λ t. IsTold t es last) is h)
+leads-line how end place (Acts events) ds none is on = absurd (on is)
+leads-line how end place (Shows value) ds none is on = absurd (on is)
+leads-line how end place (Counts visits) ds none is on = absurd (on is)
+leads-line how end place (Saves saved) ds none is on = absurd (on is)
+leads-line how end place (Refuses r) ds none is on = absurd (on is)
+leads-line how end place (Breaks f events) ds none is on = absurd (on is)
 
 -- it was none, and telling ended
-pub told-break : (how : Told) (reply : Reply) → told.Break ≡ end_after reply → IsTold how (Goes true ∷ Gives command.Continue reply ∷ []) told.Break
-told-break how (Tells p) is = absurd (goes-behind p.loose (sym is))
-told-break how (Acts events) is = (refl, refl)
-told-break how (Shows value) is = (refl, refl)
-told-break how (Counts visits) is = (refl, refl)
-told-break how (Saves saved) is = (refl, refl)
-told-break how (Refuses r) is = (refl, refl)
-told-break how (Breaks f events) is = (refl, refl)
+pub told-break : (how : Told) (place reply : Reply) (ds : List Deed) → IsBreak place reply ds → told.Break ≡ end_after reply → IsTold how (line_deeds place reply ds) told.Break
+told-break how place (Tells p) ds behind is = absurd (goes-behind p.loose (sym is))
+told-break how place (Acts events) ds behind is = (behind, refl)
+told-break how place (Shows value) ds behind is = (behind, refl)
+told-break how place (Counts visits) ds behind is = (behind, refl)
+told-break how place (Saves saved) ds behind is = (behind, refl)
+told-break how place (Refuses r) ds behind is = (behind, refl)
+told-break how place (Breaks f events) ds behind is = (behind, refl)
 
 -- it may have been told
-told-line : (how : Told) (reply : Reply) → (rest : List Deed) × (end : Told) × IsTold how (Goes true ∷ Gives command.Continue reply ∷ rest) end
-told-line how (Tells p) = (Goes false ∷ [], end_behind p.loose, (refl, refl))
-told-line how (Acts events) = ([], told.Break, (refl, refl))
-told-line how (Shows value) = ([], told.Break, (refl, refl))
-told-line how (Counts visits) = ([], told.Break, (refl, refl))
-told-line how (Saves saved) = ([], told.Break, (refl, refl))
-told-line how (Refuses r) = ([], told.Break, (refl, refl))
-told-line how (Breaks f events) = ([], told.Break, (refl, refl))
+told-line : (how : Told) (place reply : Reply) (ds : List Deed) → IsBreak place reply ds → (rest : List Deed) × (end : Told) × IsTold how (line_deeds place reply ds ++ rest) end
+told-line how place (Tells p) ds none = (Goes false ∷ [], end_behind p.loose, subst (λ x. IsTold how (line_deeds place (Tells p) x ++ (Goes false ∷ [])) (end_behind p.loose)) (sym none) (refl, refl))
+told-line how place (Acts events) ds behind = ([], told.Break, (append-nil ds ∙ behind, refl))
+told-line how place (Shows value) ds behind = ([], told.Break, (append-nil ds ∙ behind, refl))
+told-line how place (Counts visits) ds behind = ([], told.Break, (append-nil ds ∙ behind, refl))
+told-line how place (Saves saved) ds behind = ([], told.Break, (append-nil ds ∙ behind, refl))
+told-line how place (Refuses r) ds behind = ([], told.Break, (append-nil ds ∙ behind, refl))
+told-line how place (Breaks f events) ds behind = ([], told.Break, (subst (TellsPlace place) (sym (append-nil ds)) behind, refl))
 
-pub told-part : (how mid : Told) (ds : List Deed) (reply : Reply) → Leads how ds mid → (rest : List Deed) × (end : Told) × IsTold how ((ds ++ (Goes true ∷ Gives command.Continue reply ∷ [])) ++ rest) end
-told-part how mid ds reply a =
-    let more = told-line mid reply in
-    let whole = a (Goes true ∷ Gives command.Continue reply ∷ more.0) more.1 more.2 in
-    (more.0, more.1, subst (λ x. IsTold how x more.1) (sym (append_assoc ds (Goes true ∷ Gives command.Continue reply ∷ []) more.0)) whole)
+pub told-part : (how mid : Told) (ds : List Deed) (place reply : Reply) (es : List Deed) → Leads how ds mid → IsBreak place reply es
+    → (rest : List Deed) × (end : Told) × IsTold how ((ds ++ line_deeds place reply es) ++ rest) end
+told-part how mid ds place reply es a behind =
+    let more = told-line mid place reply es behind in
+    let whole = a (line_deeds place reply es ++ more.0) more.1 more.2 in
+    (more.0, more.1, subst (λ x. IsTold how x more.1) (sym (append_assoc ds (line_deeds place reply es) more.0)) whole)
+
+-- ---- where a line began
+
+-- by a save, or that no memory was there to tell
+pub path-tells : {E : Type 0} (j : Data) (path : Result (Option (List ℕ)) E) → IfOk path (λ p. p ≡ path_of j) → TellsPlace (Saves j) (whereabouts_told path)
+path-tells j (Ok p) is = inl (ap place_told is)
+path-tells j (Err e) is = inr refl
+
+-- behind an answer that is no passage that is said
+pub breaks-so : {E : Type 0} (place : Reply) (x : Halt) (path : Result (Option (List ℕ)) E) → TellsPlace place (whereabouts_told path) → IsBreak place (reply_of_halt x) (break_told (reply_of_halt x) path)
+breaks-so place (halt.Refused r) path tells = refl
+breaks-so place (halt.Fault f events) path tells = tells
+
+module _ {E : Type 0} where
+  -- it changes nothing of a player
+  pub break-done : (s : StoryTree) (h : Bindings) (st : State) (x : Halt) (path : Result (Option (List ℕ)) E) → AreDone s h [] (break_told (reply_of_halt x) path) st st
+  break-done s h st (halt.Refused r) path = (refl, refl)
+  break-done s h st (halt.Fault f events) (Ok None) = (refl, refl)
+  break-done s h st (halt.Fault f events) (Ok (Some path)) = (st, [], [], refl, (refl, refl), (refl, refl))
+  break-done s h st (halt.Fault f events) (Err e) = (st, [], [], refl, (refl, refl), (refl, refl))
+
+  -- or of a shelf
+  pub break-shelved : (kept : Option (Option (List ℕ))) (x : Halt) (path : Result (Option (List ℕ)) E) → AreShelved kept (break_told (reply_of_halt x) path) kept
+  break-shelved kept (halt.Refused r) path = refl
+  break-shelved kept (halt.Fault f events) (Ok None) = refl
+  break-shelved kept (halt.Fault f events) (Ok (Some path)) = (kept, refl, refl)
+  break-shelved kept (halt.Fault f events) (Err e) = (kept, refl, refl)
 
 -- by what was returned
 pub told-off : {E : Type 0} (r : Result Told E) (x : E) (ds : List Deed) → r ≡ Err x → (rest : List Deed) × (end : Told) × IsTold told.Stop (ds ++ rest) end → ToldBy r ds

@@ -4,14 +4,15 @@ use Rattle.std.specs.Option.{option_to_list}
 use Rattle.serde_json.specs.Data.{Data}
 use Rattle.serde_json.specs.Read.{read}
 use Rattle.serde_json.specs.Written.{compact_text}
-use Rattle.ink_model.specs.Answer.{Reply, Acts, Refuses, Saves, Tells}
+use Rattle.ink_model.specs.Answer.{Reply, Acts, Breaks, Refuses, Saves, Tells}
 use Rattle.ink_model.specs.Command as command
 use Rattle.ink_model.specs.Command.{Command}
 use Rattle.ink_model.specs.declared.fault.Refusal.TheVariants as refusal
 use Rattle.ink_page.specs.Typed as asks
 use Rattle.ink_page.specs.Typed.{Asked}
 use Rattle.ink_reader.specs.Deeds.{Deed, Fetches, Gives, Goes, Keeps, Offers, Says}
-use Rattle.ink_reader.specs.Words.{Word, BadSave, FirstPlace, Help, LastLacks, NoSave, NotRead, NotWritten, PlaceLacks, Refused, Saved, Stopped, Unclear}
+use Rattle.ink_reader.specs.Whereabouts.{path_of}
+use Rattle.ink_reader.specs.Words.{Word, BadSave, Began, FirstPlace, Help, LastLacks, NoSave, NotRead, NotWritten, PlaceLacks, PlaceUntold, Refused, Saved, Stopped, Unclear}
 use Rattle.ink_reader.specs.declared.past.Past.{Past}
 use Rattle.ink_reader.specs.declared.shelf.NotKept.{NotKept}
 use Rattle.ink_reader.specs.declared.telling.Told.{Told}
@@ -49,11 +50,27 @@ abbrev pub end_behind : Bool → Told
 end_behind true = told.LooseEnd
 end_behind false = told.Stop
 
--- While flow can go on, lines are told, up to an answer that is none. It ends so, where it would have ended so before them.
+-- where a line began, if it began at a place
+abbrev pub place_told : Option (List ℕ) → List Deed
+place_told None = []
+place_told (Some path) = Says (Began path) ∷ []
+
+-- It is said where a line began, by the save from before it; or that there was no memory to tell.
+abbrev pub TellsPlace : Reply → List Deed → Type 0
+TellsPlace (Saves j) ds = (ds ≡ place_told (path_of j)) ⊎ (ds ≡ Says PlaceUntold ∷ [])
+TellsPlace reply ds = ds ≡ Says PlaceUntold ∷ []
+
+-- What comes behind this answer to `continue`, if that is no passage: where it is a fault, it is said where its line began.
+abbrev pub IsBreak : Reply → Reply → List Deed → Type 0
+IsBreak place (Breaks f events) ds = TellsPlace place ds
+IsBreak place reply ds = ds ≡ []
+
+-- While flow can go on, the place is saved and a line is told, up to an answer that is none. It ends so, where it would have ended
+-- so before them.
 abbrev pub IsTold : Told → List Deed → Told → Type 0
 IsTold how (Goes false ∷ ds) end = (ds ≡ []) × (end ≡ how)
-IsTold how (Goes true ∷ Gives command.Continue (Tells p) ∷ ds) end = IsTold (end_behind p.loose) ds end
-IsTold how (Goes true ∷ Gives command.Continue reply ∷ ds) end = (ds ≡ []) × (end ≡ told.Break)
+IsTold how (Goes true ∷ Gives command.Save place ∷ Gives command.Continue (Tells p) ∷ ds) end = IsTold (end_behind p.loose) ds end
+IsTold how (Goes true ∷ Gives command.Save place ∷ Gives command.Continue reply ∷ ds) end = IsBreak place reply ds × (end ≡ told.Break)
 IsTold how ds end = ⊥
 
 -- where there are choices, the place is noted, and saved

@@ -21,7 +21,7 @@ use Rattle.ink_page.specs.Showing.{choices_shown, events_shown, passage_shown, s
 use Rattle.ink_page.specs.declared.page.Look.{Look}
 use Rattle.ink_player.specs.Words.{Dealt, PlayerView, bindings, desk_of, state_of, story_of}
 use Rattle.ink_reader.specs.Kept as shelf
-use Rattle.ink_reader.specs.Words.{Word, broke_off, word_text}
+use Rattle.ink_reader.specs.Words.{Word, broke_before, broke_off, word_text}
 use Rattle.ink_reader.specs.declared.shelf.NotKept.{NotKept}
 
 pub data Deed : Type 0 where
@@ -42,21 +42,22 @@ pub data Deed : Type 0 where
 
 -- ---- what is shown
 
--- of an answer
-abbrev pub reply_shown : Look → Reply → List ℕ
-reply_shown look (Tells passage) = passage_shown look passage
-reply_shown look (Acts events) = events_shown look events
-reply_shown look (Shows value) = []
-reply_shown look (Counts visits) = []
-reply_shown look (Saves saved) = []
-reply_shown look (Refuses r) = said look (refusal_sentence r)
-reply_shown look (Breaks f events) = events_shown look events ++ (said look (fault_sentence f) ++ said look broke_off)
+-- of an answer, and of a fault also how the story stands
+abbrev pub reply_shown : Look → List ℕ → Reply → List ℕ
+reply_shown look stands (Tells passage) = passage_shown look passage
+reply_shown look stands (Acts events) = events_shown look events
+reply_shown look stands (Shows value) = []
+reply_shown look stands (Counts visits) = []
+reply_shown look stands (Saves saved) = []
+reply_shown look stands (Refuses r) = said look (refusal_sentence r)
+reply_shown look stands (Breaks f events) = events_shown look events ++ (said look (fault_sentence f) ++ said look stands)
 
 -- of the answer to a command: a value with its name; that a place could not be saved is said in words of its own
 abbrev pub answer_shown : Look → Command → Reply → List ℕ
 answer_shown look (command.Get name) (Shows value) = value_shown look name value
 answer_shown look command.Save reply = []
-answer_shown look k reply = reply_shown look reply
+answer_shown look command.Continue reply = reply_shown look broke_off reply
+answer_shown look k reply = reply_shown look broke_before reply
 
 -- of the choices: how the story ends, or why they cannot be shown, is said in words of its own
 abbrev pub offer_shown : Look → Result (List Shown) Refusal → List ℕ

@@ -1,4 +1,5 @@
 pub mod Kept
+pub mod Whereabouts
 pub mod Words
 pub mod Deeds
 pub mod Course

@@ -1,11 +1,11 @@
 -- What comes of a part of a course, where the code has a function for it.
 use Rattle.std.specs.Prelude.{◌≡◌, ◌⊎◌, ℕ, List, [], ◌∷◌, ◌++◌, Bool, true, false, Option, None, Some, Result, Ok, Err}
-use Rattle.ink_model.specs.Answer.{Reply, Tells}
+use Rattle.ink_model.specs.Answer.{Reply, Breaks, Tells}
 use Rattle.ink_model.specs.declared.fault.Refusal.{Refusal}
 use Rattle.ink_model.specs.declared.passage.Shown.{Shown}
-use Rattle.ink_reader.specs.Course.{IsTold, IsUnread, end_behind}
+use Rattle.ink_reader.specs.Course.{IsTold, IsUnread, end_behind, place_told}
 use Rattle.ink_reader.specs.Deeds.{Deed, Offers, Says}
-use Rattle.ink_reader.specs.Words.{Word, FirstPlace, NoSave, NotRead, Refused, Stopped}
+use Rattle.ink_reader.specs.Words.{Word, FirstPlace, NoSave, NotRead, PlaceUntold, Refused, Stopped}
 use Rattle.ink_reader.specs.declared.shelf.NotKept.{NotKept}
 use Rattle.ink_reader.specs.declared.telling.Told.{Told}
 use Rattle.ink_reader.specs.declared.telling.Told.TheVariants as told
@@ -14,6 +14,16 @@ use Rattle.ink_reader.specs.declared.telling.Told.TheVariants as told
 abbrev pub end_after : Reply → Told
 end_after (Tells p) = end_behind p.loose
 end_after reply = told.Break
+
+-- what is said of where a line began, by its path, or where that was not found
+abbrev pub whereabouts_told : {E : Type 0} → Result (Option (List ℕ)) E → List Deed
+whereabouts_told (Ok path) = place_told path
+whereabouts_told (Err e) = Says PlaceUntold ∷ []
+
+-- what is said behind this answer to `continue`
+abbrev pub break_told : {E : Type 0} → Reply → Result (Option (List ℕ)) E → List Deed
+break_told (Breaks f events) place = whereabouts_told place
+break_told reply place = []
 
 -- lines were told to their end, or what comes before some rest of them
 abbrev pub ToldBy : {E : Type 0} → Result Told E → List Deed → Type 0

@@ -1,5 +1,5 @@
 -- What a reading says of its own (docs/READER.md).
-use Rattle.std.specs.Prelude.{ℕ, List, codes}
+use Rattle.std.specs.Prelude.{ℕ, List, ◌++◌, codes}
 use Rattle.ink_model.specs.declared.fault.Refusal.{Refusal}
 use Rattle.ink_page.specs.Sentences.{refusal_sentence}
 use Rattle.ink_reader.specs.declared.shelf.NotKept.{NotKept}
@@ -20,6 +20,9 @@ pub data Word : Type 0 where
   BadSave : Word
   NotRead : NotKept → Word
   Stopped : Told → Word
+  -- where the line began that broke off: the path of that place
+  Began : List ℕ → Word
+  PlaceUntold : Word
   Refused : Refusal → Word
 
 -- why a save was not written
@@ -51,8 +54,14 @@ word_text NoSave = codes "There is no save."
 word_text BadSave = codes "The save is cut, or is no save; it stays as it is."
 word_text (NotRead cause) = unread cause
 word_text (Stopped t) = end_words t
+word_text (Began path) = codes "The line that broke off began at " ++ (path ++ codes ".")
+word_text PlaceUntold = codes "There is not enough memory to tell where that line began."
 word_text (Refused r) = refusal_sentence r
 
--- behind a fault
+-- behind a fault of a line
 abbrev pub broke_off : List ℕ
 broke_off = codes "The story breaks off behind the last line. What was saved stays; b goes back to before the last choice, if there was one, and r restarts."
+
+-- behind one at a command that runs no line
+abbrev pub broke_before : List ℕ
+broke_before = codes "The story breaks off before the next line. What was saved stays; b goes back to before the last choice, if there was one, and r restarts."

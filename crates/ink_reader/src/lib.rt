@@ -11,7 +11,9 @@ mod session;
 mod shelf;
 mod telling;
 mod turns;
+mod whereabouts;
 
 pub use lines::Lines;
 pub use reader::Reader;
 pub use shelf::{NotKept, Shelf};
+pub use whereabouts::saves_tell_places;

@@ -8,7 +8,7 @@ ghost use Rattle.ink_model.specs.Answer.{reply_of, reply_of_events, reply_of_lan
 ghost use Rattle.ink_model.specs.Command as command;
 ghost use Rattle.ink_player.specs.Saving.{ReadsAsState};
 ghost use Rattle.ink_player.specs.Words.{state_of, story_of};
-ghost use Rattle.ink_protocol.specs.Replies.{IsTextOf, reply_of_text};
+ghost use Rattle.ink_protocol.specs.Replies.{IsTextOf, reply_of_json, reply_of_text};
 ghost use Rattle.ink_reader.specs.Deeds.{Gave};
 
 use ink_host::{PureFn, TurnFn, Watcher};
@@ -62,6 +62,15 @@ pub(crate) fn save_of<P: PureFn, F: TurnFn, O: Watcher>(
     ensures reads { IfOk result (λ text. (j : Data) × (text ≡ compact_text j) × ReadsAsState (story_of player.now) j (state_of player.now)) }
 {
     player.save_text()
+}
+
+/// Where the story stands, as a value.
+pub(crate) fn place_of<P: PureFn, F: TurnFn, O: Watcher>(
+    player: &Player<P, F, O>,
+) -> Result<Json, Refusal>
+    ensures { Gave P.meaning F.log O.state player.now command.Save (reply_of_json result) player.now }
+{
+    player.save()
 }
 
 /// What a global is.

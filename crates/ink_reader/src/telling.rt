@@ -11,18 +11,26 @@ ghost use Rattle.ink_model.specs.declared.passage.Shown.{Shown};
 ghost use Rattle.ink_page.specs.Sentences.{fault_sentence};
 ghost use Rattle.ink_page.specs.Showing.{events_shown, passage_shown, said};
 ghost use Rattle.ink_player.specs.Words.{state_of};
-ghost use Rattle.ink_reader.specs.Course.{acts, end_behind};
+ghost use Rattle.ink_reader.specs.Course.{IsBreak, acts, end_behind};
 ghost use Rattle.ink_reader.specs.Deeds.{Deed, Gives, Played, deeds_shown, reply_shown};
-ghost use Rattle.ink_reader.specs.Steps.{ToldBy, are_offered, end_after, stop_told};
-ghost use Rattle.ink_reader.specs.Words.{broke_off, end_words};
+ghost use Rattle.ink_reader.specs.Steps.{ToldBy, are_offered, break_told, end_after, stop_told, whereabouts_told};
+ghost use Rattle.ink_reader.specs.Words.{Began, broke_before, broke_off, end_words, word_text};
 
 use crate::moves::next_line;
+use crate::whereabouts::next_path;
 use ink_host::{PureFn, TurnFn, Watcher};
-use ink_model::{Event, Fault, Halt, Passage, Seq};
+use ink_model::{Event, Fault, Halt, Passage, Seq, Text};
 use ink_page::{Look, fault_words, refusal_words, say, show_choices, show_events, show_passage};
 use ink_player::Player;
 use ink_protocol::{RunFault, Sink};
-use std::alloc::Global;
+use std::alloc::{AllocError, Global};
+
+// How the story stands behind a fault.
+const BROKE_OFF: &str =
+    "The story breaks off behind the last line. What was saved stays; b goes back to before the last choice, if there was one, and r restarts.";
+// How it stands behind one that came as it was loaded, or began anew.
+const BROKE_BEFORE: &str =
+    "The story breaks off before the next line. What was saved stays; b goes back to before the last choice, if there was one, and r restarts.";
 
 /// How telling ended: the story stopped, or it broke off or was refused, and that was said.
 #[derive(Clone, Copy)]
@@ -55,19 +63,21 @@ pub(crate) fn tell<T: Sink, P: PureFn, F: TurnFn, O: Watcher>(
     Err(RunFault::TooLong)
 }
 
-// Tells the next line, and how the story ends if no line comes behind it.
+// Tells the next line, and how the story ends if no line comes behind it; behind a fault, where the line began.
 fn tell_line<T: Sink, P: PureFn, F: TurnFn, O: Watcher>(
     alloc: Global,
     look: Look,
     sink: &mut T,
     player: &mut Player<P, F, O>,
 ) -> Result<Told, RunFault>
-    ensures line { (reply : Reply) × IfOk result (λ end. end ≡ end_after reply) × ((kept : Option (Option (List ℕ))) → Played P.meaning F.log O.state look player.old (Gives command.Continue reply ∷ []) player.new (T.contents sink.old) (T.contents sink.new) kept kept (is_ok result)) }
+    ensures line { (place : Reply) × (reply : Reply) × (ds : List Deed) × IsBreak place reply ds × IfOk result (λ end. end ≡ end_after reply)
+        × ((kept : Option (Option (List ℕ))) → Played P.meaning F.log O.state look player.old (Gives command.Save place ∷ Gives command.Continue reply ∷ ds) player.new (T.contents sink.old) (T.contents sink.new) kept kept (is_ok result)) }
     ensures stops { IfOk result (λ end. end ≡ Told.Break → is_running (state_of player.new).condition ≡ false) }
 {
+    let path = next_path(alloc, player);
     match next_line(player) {
         Ok(passage) => tell_passage(alloc, look, sink, &passage),
-        Err(halt) => tell_break(alloc, look, sink, &halt),
+        Err(halt) => tell_break(alloc, look, sink, &halt, &path),
     }
 }
 
@@ -92,57 +102,92 @@ fn tell_break<T: Sink>(
     look: Look,
     sink: &mut T,
     halt: &Halt,
+    path: &Result<Option<Text>, AllocError>,
 ) -> Result<Told, RunFault>
-    ensures shows { OnOk result (Appends (T.contents sink.old) (T.contents sink.new) (reply_shown look (reply_of_halt halt.now))) }
+    ensures shows { OnOk result (Appends (T.contents sink.old) (T.contents sink.new) (reply_shown look broke_off (reply_of_halt halt.now) ++ deeds_shown look (break_told (reply_of_halt halt.now) path.now))) }
     ensures end { IfOk result (λ end. end ≡ Told.Break) }
 {
-    tell_halt(alloc, look, sink, halt)?;
+    tell_halt(alloc, look, sink, halt, BROKE_OFF)?;
+    if let Halt::Fault { .. } = halt {
+        tell_path(alloc, look, sink, path)?;
+    }
     Ok(Told::Break)
 }
 
-/// Tells why the story does not go on.
-pub(crate) fn tell_halt<T: Sink>(
+// Tells where a line began, by the path of that place.
+fn tell_path<T: Sink>(
+    alloc: Global,
+    look: Look,
+    sink: &mut T,
+    path: &Result<Option<Text>, AllocError>,
+) -> Result<(), RunFault>
+    ensures { OnOk result (Appends (T.contents sink.old) (T.contents sink.new) (deeds_shown look (whereabouts_told path.now))) }
+{
+    let Ok(path) = path else {
+        return say(
+            alloc,
+            look,
+            sink,
+            "There is not enough memory to tell where that line began.",
+        );
+    };
+    match path {
+        Some(path) => say_path(alloc, look, sink, path.as_str()),
+        None => Ok(()),
+    }
+}
+
+fn say_path<T: Sink>(alloc: Global, look: Look, sink: &mut T, path: &str) -> Result<(), RunFault>
+    ensures { OnOk result (Appends (T.contents sink.old) (T.contents sink.new) (said look (word_text (Began path.now)))) }
+{
+    let Ok(words) = format!(in alloc; "The line that broke off began at {path}.") else {
+        return Err(RunFault::OutOfMemory);
+    };
+    say(alloc, look, sink, words.as_str())
+}
+
+// Tells why the story does not go on, and behind a fault how it stands.
+fn tell_halt<T: Sink>(
     alloc: Global,
     look: Look,
     sink: &mut T,
     halt: &Halt,
+    stands: &str,
 ) -> Result<(), RunFault>
-    ensures { OnOk result (Appends (T.contents sink.old) (T.contents sink.new) (reply_shown look (reply_of_halt halt.now))) }
+    ensures { OnOk result (Appends (T.contents sink.old) (T.contents sink.new) (reply_shown look stands.now (reply_of_halt halt.now))) }
 {
     match halt {
         Halt::Refused(refusal) => say(alloc, look, sink, refusal_words(*refusal)),
-        Halt::Fault { fault, events } => tell_fault(alloc, look, sink, *fault, events.as_slice()),
+        Halt::Fault { fault, events } => {
+            tell_fault(alloc, look, sink, *fault, events.as_slice(), stands)
+        }
     }
 }
 
-// Tells what happened before a fault, and what it means.
+// Tells what happened before a fault, what it means, and how the story stands.
 fn tell_fault<T: Sink>(
     alloc: Global,
     look: Look,
     sink: &mut T,
     fault: Fault,
     events: &[Event],
+    stands: &str,
 ) -> Result<(), RunFault>
-    ensures { OnOk result (Appends (T.contents sink.old) (T.contents sink.new) (events_shown look events.now ++ (said look (fault_sentence fault) ++ said look broke_off))) }
+    ensures { OnOk result (Appends (T.contents sink.old) (T.contents sink.new) (events_shown look events.now ++ (said look (fault_sentence fault) ++ said look stands.now))) }
 {
     show_events(alloc, look, sink, events)?;
     say(alloc, look, sink, fault_words(fault))?;
-    say(
-        alloc,
-        look,
-        sink,
-        "The story breaks off behind the last line. What was saved stays; b goes back to before the last choice, if there was one, and r restarts.",
-    )
+    say(alloc, look, sink, stands)
 }
 
-/// Tells what happened at a command that runs nothing, and whether it was done; where it was not, it says why.
+/// Tells what happened at a command that runs no line, and whether it was done; where it was not, it says why.
 pub(crate) fn tell_outcome<T: Sink>(
     alloc: Global,
     look: Look,
     outcome: &Result<Seq<Event>, Halt>,
     sink: &mut T,
 ) -> Result<bool, RunFault>
-    ensures shows { OnOk result (Appends (T.contents sink.old) (T.contents sink.new) (reply_shown look (reply_of_events outcome.now))) }
+    ensures shows { OnOk result (Appends (T.contents sink.old) (T.contents sink.new) (reply_shown look broke_before (reply_of_events outcome.now))) }
     ensures done { IfOk result (λ done. done ≡ acts (reply_of_events outcome.now)) }
 {
     match outcome {
@@ -151,7 +196,7 @@ pub(crate) fn tell_outcome<T: Sink>(
             Ok(true)
         }
         Err(halt) => {
-            tell_halt(alloc, look, sink, halt)?;
+            tell_halt(alloc, look, sink, halt, BROKE_BEFORE)?;
             Ok(false)
         }
     }

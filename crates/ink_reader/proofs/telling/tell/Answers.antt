@@ -1,10 +1,9 @@
-use Rattle.std.proofs.Common.{◌∙◌, [], ◌∷◌, ◌++◌, false, true, refl, subst, sym}
+use Rattle.std.proofs.Common.{◌∙◌, [], ◌∷◌, ◌++◌, false, refl, subst, sym}
 use Rattle.std.proofs.lemmas.Result.{err_from_is_err_and}
-use Rattle.ink_model.specs.Command as command
 use Rattle.ink_reader.specs.Course.{IsTold}
-use Rattle.ink_reader.specs.Deeds.{Gives, Goes}
+use Rattle.ink_reader.specs.Deeds.{Goes}
 use Rattle.ink_reader.specs.declared.telling.Told.TheVariants as told
-use Rattle.ink_reader.proofs.Tellings.{leads-line, leads-more, told-break, told-off, told-part}
+use Rattle.ink_reader.proofs.Tellings.{leads-line, leads-more, line_deeds, told-break, told-off, told-part}
 use Rattle.ink_reader.proofs.Playing.{played-goes, played-lost, played-none, played-off, played-played, played-well}
 use Rattle.ink_reader.proofs.telling.tell.Goals as goal
 
@@ -29,10 +28,10 @@ returns-in_err-told-clause-lines g c =
     let line = c.tell_line.ensures.line in
     let more = sym c.can_continue.ensures ∙ c.if-not-can_continue.false in
     let failed = err_from_is_err_and c.from_residual.result c.from_residual.ensures.1 in
-    let ds = so_far.0 ++ (Goes true ∷ Gives command.Continue line.0 ∷ []) in (
+    let ds = so_far.0 ++ line_deeds line.0 line.1 line.2 in (
       ds,
-      told-off c.from_residual.result failed.0 ds failed.1 (told-part told.Stop c.lines.told so_far.0 line.0 so_far.1),
-      λ kept. played-lost failed.1 (played-played (so_far.2 kept) (played-played (played-goes more) (line.2 kept))),
+      told-off c.from_residual.result failed.0 ds failed.1 (told-part told.Stop c.lines.told so_far.0 line.0 line.1 line.2 so_far.1 line.3),
+      λ kept. played-lost failed.1 (played-played (so_far.2 kept) (played-played (played-goes more) (line.5 kept))),
     )
 
 pub returns-in-Break-clause-lines : goal.returns-in-Break-clause-lines
@@ -40,12 +39,12 @@ returns-in-Break-clause-lines g c =
     let so_far = c.lines.invariant in
     let line = c.tell_line.ensures.line in
     let more = sym c.can_continue.ensures ∙ c.if-not-can_continue.false in
-    let is = rw c.in_ok-told.was at line.1 in
-    let ds = Goes true ∷ Gives command.Continue line.0 ∷ [] in
-    let broke = subst (λ t. IsTold c.lines.told ds t) (sym c.in-Break.is) (told-break c.lines.told line.0 (sym c.in-Break.is ∙ is)) in (
+    let is = rw c.in_ok-told.was at line.4 in
+    let ds = line_deeds line.0 line.1 line.2 in
+    let broke = subst (λ t. IsTold c.lines.told ds t) (sym c.in-Break.is) (told-break c.lines.told line.0 line.1 line.2 line.3 (sym c.in-Break.is ∙ is)) in (
       so_far.0 ++ ds,
       so_far.1 ds c.in_ok-told.told broke,
-      λ kept. played-played (so_far.2 kept) (played-played (played-goes more) (played-well c.in_ok-told.was (line.2 kept))),
+      λ kept. played-played (so_far.2 kept) (played-played (played-goes more) (played-well c.in_ok-told.was (line.5 kept))),
     )
 
 pub lines-preserved : goal.lines-preserved
@@ -53,9 +52,9 @@ lines-preserved g c =
     let so_far = c.lines.invariant in
     let line = c.tell_line.ensures.line in
     let more = sym c.can_continue.ensures ∙ c.if-not-can_continue.false in
-    let is = rw c.in_ok-told.was at line.1 in
-    let ds = Goes true ∷ Gives command.Continue line.0 ∷ [] in (
+    let is = rw c.in_ok-told.was at line.4 in
+    let ds = line_deeds line.0 line.1 line.2 in (
       so_far.0 ++ ds,
-      leads-more told.Stop c.lines.told c.in_ok-told.told so_far.0 ds so_far.1 (leads-line c.lines.told c.in_ok-told.told line.0 is c.in_default.not-Break),
-      λ kept. played-played (so_far.2 kept) (played-played (played-goes more) (played-well c.in_ok-told.was (line.2 kept))),
+      leads-more told.Stop c.lines.told c.in_ok-told.told so_far.0 ds so_far.1 (leads-line c.lines.told c.in_ok-told.told line.0 line.1 line.2 line.3 is c.in_default.not-Break),
+      λ kept. played-played (so_far.2 kept) (played-played (played-goes more) (played-well c.in_ok-told.was (line.5 kept))),
     )

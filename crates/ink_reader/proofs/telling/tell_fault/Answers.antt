@@ -2,7 +2,6 @@ use Rattle.std.proofs.Common.{◌∙◌, ◌++◌, List, ℕ, OnOk, ap, append_a
 use Rattle.std.proofs.KnownBytes.{Appends-trans}
 use Rattle.std.specs.Io.KnownBytes.{Appends}
 use Rattle.ink_page.specs.Showing.{events_shown, said}
-use Rattle.ink_reader.specs.Words.{broke_off}
 use Rattle.ink_reader.proofs.Playing.{more-written}
 use Rattle.ink_reader.proofs.telling.tell_fault.Goals as goal
 
@@ -11,10 +10,11 @@ returns g c =
     let look = c.args.look in
     let events = events_shown look c.args.events.now in
     let fault = said look c.fault_words.result.now in
+    let stands = said look c.args.stands.now in
     let old = g.T.Sink.contents c.args.sink.now in
     let mid = g.T.Sink.contents c.say.new.sink in
     let new = g.T.Sink.contents c.say-2.new.sink in
     let two = Appends-trans old (g.T.Sink.contents c.show_events.new.sink) mid events fault c.in_ok-show_events.ensures c.in_ok-say.ensures in
-    let all = more-written old mid new (events ++ fault) (said look broke_off) c.say-2.result two c.say-2.ensures in
-    let whole = append_assoc events fault (said look broke_off) ∙ ap (λ x. events ++ (said look x ++ said look broke_off)) c.fault_words.ensures in
+    let all = more-written old mid new (events ++ fault) stands c.say-2.result two c.say-2.ensures in
+    let whole = append_assoc events fault stands ∙ ap (λ x. events ++ (said look x ++ stands)) c.fault_words.ensures in
     subst (λ (w : List ℕ). OnOk c.say-2.result (Appends old new w)) whole all

@@ -1,0 +1,7 @@
+use Rattle.serde_json.specs.View.{view}
+use Rattle.ink_model.specs.Answer.{Saves}
+use Rattle.ink_reader.proofs.Tellings.{path-tells}
+use Rattle.ink_reader.proofs.whereabouts.next_path.Goals as goal
+
+pub returns-in-Ok : goal.returns-in-Ok
+returns-in-Ok g c = (Saves (view c.in-Ok.save), path-tells (view c.in-Ok.save) c.flow_path.result c.flow_path.ensures, c.in-Ok.ensures)
