@@ -112,6 +112,9 @@ pub(crate) fn enter_landed(
         OnErr result ((adds_rows s ps (counts_in s counts.old.rows) ≡ true) ⊎ (lacks (counts_stood counts.new) (counts_spare counts.new) (4 * length ps) ≡ true)) }
     ensures mark { counts_stood counts.new ≡ counts_stood counts.old }
 {
+    if !tree.has_flags_around(place) {
+        return Ok(());
+    }
     let rest = tree.upward(place);
     if counts.is_marked() {
         make_entering_room(tree, counts, previous, rest)?;

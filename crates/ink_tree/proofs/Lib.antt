@@ -16,3 +16,4 @@ pub mod Contents
 pub mod Down
 pub mod Gaps
 pub mod Firsts
+pub mod Flagged

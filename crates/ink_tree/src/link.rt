@@ -1,4 +1,4 @@
-//! The link from a content to the one after it.
+//! What is kept beside a content: the link to the one after it, and whether flags are around it.
 
 ghost use Rattle.std.specs.Prelude.{◌≡◌, ◌<◌, ◌^◌, Some};
 ghost use Rattle.ink_tree.specs.Kept.{linked_to};
@@ -6,24 +6,25 @@ ghost use Rattle.ink_tree.specs.declared.spot.NodeId.{NodeId};
 
 use crate::spot::NodeId;
 
-/// The content after a content. The root comes after none, so it stands for none.
+/// The content after a content, and whether a container around it has flags. The root comes after none, so it stands for none.
 #[derive(Clone, Copy)]
 pub(crate) struct Link {
     next: u32,
+    pub flagged: bool,
 }
 
 impl Link {
     /// To a content other than the root, or to none.
-    pub(crate) fn to(next: Option<NodeId>) -> Link
+    pub(crate) fn to(next: Option<NodeId>, flagged: bool) -> Link
         requires { (n : NodeId) → next ≡ Some n → (0 < n.number) × (n.number < 2 ^ 32) }
-        ensures { linked_to result ≡ next }
+        ensures next { linked_to result ≡ next }
+        ensures flagged { result.flagged ≡ flagged }
     {
-        match next {
-            Some(next) => Link {
-                next: next.number as u32,
-            },
-            None => Link { next: 0 },
-        }
+        let next = match next {
+            Some(next) => next.number as u32,
+            None => 0,
+        };
+        Link { next, flagged }
     }
 
     /// The content after.

@@ -1,17 +1,21 @@
 //! Linking each content to the one after it.
 
-ghost use Rattle.std.specs.Prelude.{◌≡◌, IfOk, option_map, slice_get};
+ghost use Rattle.std.specs.Prelude.{◌≡◌, ℕ, List, false, IfOk, Option, option_map, reverse, slice_get};
+ghost use Rattle.ink_model.specs.Counts.{CountsOf};
+ghost use Rattle.ink_model.specs.Entered.{entered_places};
 ghost use Rattle.ink_model.specs.Place.{next_place};
-ghost use Rattle.ink_tree.specs.Kept.{AreLinked, IsLinked, MayBeLinked};
+ghost use Rattle.ink_model.specs.Visits.{all_visited};
+ghost use Rattle.ink_model.specs.declared.place.Part.{Part as Step};
+ghost use Rattle.ink_tree.specs.Kept.{AreLinked, IsLinked, MayBeLinked, flagged_above};
 
 use crate::link::Link;
-use crate::spot::NodeId;
+use crate::spot::{NodeId, Spot};
 use crate::tree::Tree;
 use ink_json::Key;
 use std::alloc::AllocError;
 
 impl Tree {
-    ghost use Rattle.ink_tree.specs.Nodes.{story_tree, node_place};
+    ghost use Rattle.ink_tree.specs.Nodes.{story_tree, node_place, place_of};
 
     /// The links of all contents, in reading order. The one error is a refused request for memory.
     pub(crate) fn link_all(&self) -> Result<Vec<Link>, AllocError>
@@ -30,7 +34,45 @@ impl Tree {
         requires { AreLinked (story_tree self.now) links.now.items }
         ensures { IsLinked (story_tree self.now) (node_place (story_tree self.now) node) result }
     {
-        Link::to(self.next_of(links, node))
+        Link::to(self.next_of(links, node), self.is_flagged(links, node))
+    }
+
+    // Whether a container around a content has flags, given the links of some.
+    fn is_flagged(&self, links: &Vec<Link>, node: NodeId) -> bool
+        requires { AreLinked (story_tree self.now) links.now.items }
+        ensures { result ≡ flagged_above (story_tree self.now) (reverse (node_place (story_tree self.now) node)) }
+    {
+        let Some((_, holder)) = self.above(node) else {
+            return false;
+        };
+        self.flags(holder) > 0
+            || match link_at(links, holder.number) {
+                Some(around) => around.flagged,
+                None => self.is_flagged(links, holder),
+            }
+    }
+
+    /// Whether a container around a place has flags: where none has, entering them counts nothing. Takes no memory.
+    pub fn has_flags_around(&self, at: Spot) -> bool
+        ensures flags { result ≡ flagged_above (story_tree self.now) (reverse (place_of (story_tree self.now) at)) }
+        ensures none { result ≡ false → (previous : Option (List Step)) (turn : ℕ) (counts : CountsOf (List Step))
+            → all_visited (story_tree self.now) turn (entered_places (story_tree self.now) previous (place_of (story_tree self.now) at)) counts ≡ counts }
+    {
+        match at.index {
+            Some(_) => self.flags(at.holder) > 0 || self.node_has_flags_around(at.holder),
+            None => self.node_has_flags_around(at.holder),
+        }
+    }
+
+    // The same for a content.
+    #[inline(always)]
+    fn node_has_flags_around(&self, node: NodeId) -> bool
+        ensures { result ≡ flagged_above (story_tree self.now) (reverse (node_place (story_tree self.now) node)) }
+    {
+        match self.linked(node) {
+            Some(link) => link.flagged,
+            None => self.is_flagged(&self.links, node),
+        }
     }
 
     /// The link of a node.

@@ -165,10 +165,12 @@ impl Tree {
         let own = self.own(holder);
         let width = width_of(container) as usize;
         let number = self.children.up_to(self.nodes(), own.number, width, name);
-        if self.is_gap(number, holder, Key::Name(name)) {
+        if self.is_child(number, holder, Key::Name(name)) {
+            Some(NodeId { number })
+        } else if self.is_gap(number, holder, Key::Name(name)) {
             None
         } else {
-            self.near(number, holder, Key::Name(name))
+            self.scan(holder, Key::Name(name))
         }
     }
 

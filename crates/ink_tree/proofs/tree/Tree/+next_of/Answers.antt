@@ -16,7 +16,7 @@ returns-in-Some-link_at t c =
     let s = story_tree c.args.self.now in
     let a = c.in-Some in
     ap (option_map (node_place s)) c.next.ensures
-    ∙ linked_at s c.args.links.now.items a.holder.number c.in-Some-link_at.around.now c.requires c.in-Some-link_at.ensures
+    ∙ (linked_at s c.args.links.now.items a.holder.number c.in-Some-link_at.around.now c.requires c.in-Some-link_at.ensures).0
     ∙ next_behind s (node_place s c.args.node) (node_place s a.holder) (key_part a.last) c.in-Index.index a.ensures.1 (ap key_part c.in-Index.is)
     (omega (arith, c.width.ensures, c.if-index-width.false))
 

@@ -11,4 +11,4 @@ to-requires c = λ n is.
     (later.0, omega (arith, later.1, t.few))
 
 pub returns : goal.returns
-returns c = let s = story_tree c.args.self.now in ap (option_map (node_place s)) c.to.ensures ∙ c.next_of.ensures
+returns c = let s = story_tree c.args.self.now in (ap (option_map (node_place s)) c.to.ensures.next ∙ c.next_of.ensures, c.to.ensures.flagged ∙ c.is_flagged.ensures)
