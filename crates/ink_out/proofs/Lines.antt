@@ -4,6 +4,7 @@ use Rattle.std.specs.List.{prefix_len}
 use Rattle.std.specs.Str.{IsUtf8, IsCharBoundary}
 use Rattle.std.proofs.lemmas.Bool.{cases_lt, or_parts, not-false, not-true}
 use Rattle.std.proofs.lemmas.List.{append-nil, append_assoc, take-append-drop, length-drop, length-take-le, get_or-drop, get_or-take}
+use Rattle.std.proofs.Math.Seq.{drop-length, take-length}
 use Rattle.std.proofs.lemmas.List.Sums.{prefix_len-le-length, prefix_len_passes, prefix_len_stops}
 use Rattle.std.proofs.lemmas.Str.{IsCharBoundary-end, IsCharBoundary-before_ascii, IsCharBoundary-after_ascii}
 use Rattle.ink_model.specs.Bytes.{is_newline, is_blank, is_white, onto, pieces, joined, is_filled}
@@ -214,6 +215,18 @@ words_step out cs more before n some words =
     append_assoc (out ++ space before) (take n cs) (cleaned_on Word (drop n cs ++ more))
     ∙ append_assoc out (space before) (take n cs ++ cleaned_on Word (drop n cs ++ more))
     ∙ ap (λ ds. out ++ ds) (sym (words.cleaned some before more))
+
+-- words and no more are left as they are
+whole_words : (all : List ℕ) (k : ℕ) → k ≡ length all → take k all ++ cleaned_on Word (drop k all ++ []) ≡ all
+whole_words all k is =
+    ap (λ n. take n all ++ cleaned_on Word (drop n all ++ [])) is ∙ ap (λ xs. xs ++ cleaned_on Word (drop (length all) all ++ [])) (take-length all)
+    ∙ ap (λ ys. all ++ cleaned_on Word (ys ++ [])) (drop-length all) ∙ append-nil all
+
+pub words_clean : (cs : List ℕ) (n : ℕ) → AreWords cs n → n ≡ length cs → clean cs ≡ cs
+words_clean [] n words is = clean_is []
+words_clean (c ∷ cs) n words is =
+    let all = c ∷ cs in
+    clean_is all ∙ ap (cleaned_on Nothing) (sym (append-nil all)) ∙ words.cleaned (omega (arith, is)) Nothing [] ∙ whole_words all n is
 
 -- a text may be cut behind words
 pub words_boundary : (cs : List ℕ) (n : ℕ) → AreWords cs n → IsCharBoundary cs n

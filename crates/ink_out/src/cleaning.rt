@@ -140,6 +140,14 @@ fn words_len(text: &[u8]) -> usize
     len
 }
 
+/// Whether a text is such words and no more, or nothing at all: cleaning leaves it as it is.
+#[inline(always)]
+pub(crate) fn is_clean(text: &str) -> bool
+    ensures { result ≡ true → clean text.now ≡ text.now }
+{
+    words_len(text.as_bytes()) == text.len()
+}
+
 /// Whether one space stands at an index, and a word behind it.
 #[inline(always)]
 fn goes_on(text: &[u8], at: usize) -> bool

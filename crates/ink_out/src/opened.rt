@@ -18,7 +18,7 @@ use crate::cutting::Piece;
 use crate::section::Section;
 use crate::state::State;
 use crate::undo::OutputPair;
-use ink_model::{Fault, MAX_MARKS, Mark, Text};
+use ink_model::{Fault, MAX_MARKS, Mark, Shared, Text};
 use ink_trail::Trail;
 use std::alloc::{AllocError, Global};
 use std::marker::Model;
@@ -118,15 +118,15 @@ impl Opened {
         self.marks.take_back(state);
     }
 
-    /// The shown text, cleaned. The one error is a refused request for memory.
-    pub(crate) fn text(&self, alloc: Global) -> Result<Text, AllocError>
+    /// The shown text, cleaned. The one error is a refused request for memory, or a count of owners that is full.
+    pub(crate) fn text(&self, alloc: Global) -> Result<Shared<Text>, AllocError>
         ensures { IfOk result (λ text. text ≡ clean (shown_text self.now.marks)) }
     {
-        self.marks.text(alloc)
+        self.marks.shared_text(alloc)
     }
 
-    /// The shown text as it is, not cleaned. The one error is a refused request for memory.
-    pub(crate) fn raw_text(&self, alloc: Global) -> Result<Text, AllocError>
+    /// The shown text as it is, not cleaned. The one error is a refused request for memory, or a count of owners that is full.
+    pub(crate) fn raw_text(&self, alloc: Global) -> Result<Shared<Text>, AllocError>
         ensures { IfOk result (λ text. text ≡ shown_text self.now.marks) }
     {
         self.marks.raw_text(alloc)

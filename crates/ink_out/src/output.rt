@@ -273,7 +273,7 @@ impl Output {
             return Err(Fault::BadMode);
         }
         let raw_text = opened.raw_text(self.alloc)?;
-        let text = within(self.alloc, raw_text)?;
+        let text = kept(raw_text)?;
         self.close()?;
         Ok(text)
     }
@@ -294,7 +294,7 @@ impl Output {
             return Err(Fault::BadMode);
         }
         let text = opened.text(self.alloc)?;
-        let text = within(self.alloc, text)?;
+        let text = kept(text)?;
         self.end_tag(text)
     }
 
@@ -609,6 +609,16 @@ fn within(alloc: Global, text: Text) -> Result<Shared<Text>, Fault>
         return Err(Fault::TooDeep);
     }
     Ok(Shared::new(alloc, text)?)
+}
+
+/// A text within the limit. `TooDeep` for one over 1 MiB. Takes no memory.
+fn kept(text: Shared<Text>) -> Result<Shared<Text>, Fault>
+    ensures { result ≡ kept_text text text }
+{
+    if text.as_str().len() > MAX_TEXT {
+        return Err(Fault::TooDeep);
+    }
+    Ok(text)
 }
 
 fn has_string(sections: &[Opened]) -> bool

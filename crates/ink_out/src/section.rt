@@ -1,10 +1,11 @@
 //! A section of marks.
 
-ghost use Rattle.std.specs.Prelude.{ℕ, ◌≡◌, ◌≤◌, ◌+◌, [], ◌∷◌, ◌++◌, length, map, true, vec_len, vec_capacity, IfOk, IsOk, OnOk, OnErr};
+ghost use Rattle.std.specs.Prelude.{ℕ, ◌≡◌, ◌≤◌, ◌+◌, [], ◌∷◌, ◌++◌, length, map, true, vec_len, vec_capacity, IfOk, IfSome, IsOk, OnOk, OnErr};
 ghost use Rattle.std.specs.List.{list_any};
 ghost use Rattle.ink_model.specs.Clean.{clean};
 ghost use Rattle.ink_model.specs.Configuration.{Page};
 ghost use Rattle.ink_model.specs.Mark.{tags};
+ghost use Rattle.ink_model.specs.declared.mark.Mark.TheVariants as kinds;
 ghost use Rattle.ink_model.specs.Shown.{is_filled_blank, is_shown, more_from, open_newline, shown_text, shows_more};
 ghost use Rattle.ink_out.specs.Cutting.{piece_mark};
 ghost use Rattle.ink_out.specs.declared.state.State.{State};
@@ -12,6 +13,7 @@ ghost use Rattle.ink_out.specs.Stands.{IsStateOf, Sees, is_past};
 ghost use Rattle.ink_out.specs.Undo.{GoesBack, Held, output_back, with_open};
 ghost use Rattle.ink_trail.specs.Undo.{Trails, TrailsOrKeeps, but_last, spare, trail_of};
 
+use crate::cleaning::is_clean;
 use crate::cutting::{Piece, has_words};
 use crate::enters::Enters;
 use crate::state::{State, is_settled, make_room, settle, unsettle};
@@ -184,11 +186,40 @@ impl Section {
         has_filled_blank(self.marks.as_slice())
     }
 
-    /// The shown text as it is, not cleaned. The one error is a refused request for memory.
-    pub(crate) fn raw_text(&self, alloc: Global) -> Result<Text, AllocError>
+    /// The same, to be shared: a text that stands alone, and that cleaning leaves as it is, is not copied. The one error is a
+    /// refused request for memory, or a count of owners that is full.
+    pub(crate) fn shared_text(&self, alloc: Global) -> Result<Shared<Text>, AllocError>
+        ensures { IfOk result (λ text. text ≡ clean (shown_text self.now)) }
+    {
+        match self.only_text() {
+            Some(text) if is_clean(text.as_str()) => text.share(),
+            _ => Shared::new(alloc, self.text(alloc)?),
+        }
+    }
+
+    /// The shown text as it is, not cleaned, to be shared: a text that stands alone is not copied. The one error is a refused
+    /// request for memory, or a count of owners that is full.
+    pub(crate) fn raw_text(&self, alloc: Global) -> Result<Shared<Text>, AllocError>
         ensures { IfOk result (λ text. text ≡ shown_text self.now) }
     {
-        shown_text(alloc, self.marks.as_slice(), false)
+        match self.only_text() {
+            Some(text) => text.share(),
+            None => Shared::new(alloc, shown_text(alloc, self.marks.as_slice(), false)?),
+        }
+    }
+
+    // The text that is the only mark.
+    #[inline(always)]
+    fn only_text(&self) -> Option<&Shared<Text>>
+        ensures { IfSome result (λ text. self.now ≡ kinds.Text text.now ∷ []) }
+    {
+        if self.marks.len() != 1 {
+            return None;
+        }
+        match &self.marks[0] {
+            Mark::Text(text) => Some(text),
+            _ => None,
+        }
     }
 
     /// The tags, in order. The one error is a refused request for memory, which is never made where there are none.

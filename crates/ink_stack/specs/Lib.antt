@@ -7,3 +7,4 @@ pub mod Rows
 pub mod Saving
 pub mod Cells
 pub mod Undo
+pub mod Temps

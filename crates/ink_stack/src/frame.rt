@@ -7,8 +7,9 @@ ghost use Rattle.ink_model.specs.Rows.{name_order, row};
 ghost use Rattle.ink_model.specs.Threads.{new_frame, same_kind, stale, with_row_in};
 ghost use Rattle.ink_stack.specs.Calls.{frame_kind};
 ghost use Rattle.ink_stack.specs.Cells.{temp_back, with_fresh};
+ghost use Rattle.ink_stack.specs.Temps.{text_of};
 
-use crate::temps::Temps;
+use crate::temps::{TempName, Temps};
 use ink_model::{FrameKind, Value};
 use std::alloc::{AllocError, Global};
 use std::marker::Model;
@@ -216,12 +217,12 @@ impl<P: Copy> Frame<P> {
     /// refused request for memory, which is made only for a new name, and leaves all as it was.
     pub(crate) fn set_temp(
         &mut self,
-        name: &str,
+        name: TempName<'_>,
         value: Value,
     ) -> Result<(usize, Option<Value>), AllocError>
-        ensures ok { OnOk result (self.new ≡ with_row_in name.now value self.old) }
+        ensures ok { OnOk result (self.new ≡ with_row_in (text_of name.entry) value self.old) }
         ensures err { OnErr result (self.new ≡ self.old) }
-        ensures memory { OnErr result (row name_order name.now self.old.temps ≡ None) }
+        ensures memory { OnErr result (row name_order (text_of name.entry) self.old.temps ≡ None) }
         ensures back { IfOk result (λ was. temp_back was.0 was.1 self.new ≡ self.old) }
     {
         self.temps.set(name, value)

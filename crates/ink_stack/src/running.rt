@@ -9,9 +9,11 @@ ghost use Rattle.ink_model.specs.Threads.{frame_count, number_in, popped, pushed
 ghost use Rattle.ink_stack.specs.Calls.{frame_kind};
 ghost use Rattle.ink_stack.specs.Cells.{Within, holds_of, number_back, previous_back, temp_back, unpopped, unpushed, with_frame, with_fresh};
 ghost use Rattle.ink_stack.specs.Quiet.{is_quiet};
+ghost use Rattle.ink_stack.specs.Temps.{text_of};
 ghost use Rattle.ink_stack.specs.Words.{Changes, Grows};
 
 use crate::frame::{CallKind, Frame};
+use crate::temps::TempName;
 use ink_model::{Fault, FrameKind, MAX_FRAMES, Value};
 use std::alloc::{AllocError, Global};
 use std::marker::Model;
@@ -258,15 +260,15 @@ impl<P: Copy> Running<P> {
     pub(crate) fn set_temp(
         &mut self,
         frame: usize,
-        name: &str,
+        name: TempName<'_>,
         value: Value,
     ) -> Result<(usize, Option<Value>), AllocError>
         requires from { 0 < frame }
         requires there { frame ≤ frame_count self.old.thread }
-        ensures ok { OnOk result (self.new.thread ≡ with_temp frame name.now value self.old.thread) }
+        ensures ok { OnOk result (self.new.thread ≡ with_temp frame (text_of name.entry) value self.old.thread) }
         ensures err { OnErr result (self.new.thread ≡ self.old.thread) }
         ensures room { self.new.room ≡ self.old.room }
-        ensures memory { OnErr result (temp_in frame name.now self.old.thread ≡ None) }
+        ensures memory { OnErr result (temp_in frame (text_of name.entry) self.old.thread ≡ None) }
         ensures back { IfOk result (λ was. with_frame (temp_back was.0 was.1) frame self.new.thread ≡ self.old.thread) }
     {
         if frame == self.frames() {

@@ -5,12 +5,41 @@ ghost use Rattle.std.specs.Bool.{OnTrue, OnFalse};
 ghost use Rattle.ink_model.specs.Rows.{name_order, row, rows_rise, with_row};
 ghost use Rattle.ink_stack.specs.Cells.{temps_back, value_at};
 ghost use Rattle.ink_stack.specs.Rows.{FindsName};
+ghost use Rattle.ink_stack.specs.Temps.{text_of};
 
 use ink_model::{Shared, Text, Value};
 use std::alloc::{AllocError, Global};
 use std::cmp::Ordering;
 use std::marker::Model;
 use std::mem;
+
+/// The name of a temporary that is set: one to be copied where it is new, or one that can be shared.
+#[derive(Clone, Copy)]
+pub(crate) enum TempName<'a> {
+    Given(&'a str),
+    Shared(&'a Shared<Text>),
+}
+
+impl TempName<'_> {
+    pub(crate) fn as_str(&self) -> &str
+        ensures { result.now ≡ text_of self.now }
+    {
+        match self {
+            TempName::Given(name) => name,
+            TempName::Shared(name) => name.as_str(),
+        }
+    }
+
+    // The name, to be kept. The one error is a refused request for memory, or a count of owners that is full.
+    fn kept(&self, alloc: Global) -> Result<Shared<Text>, AllocError>
+        ensures { IfOk result (λ name. name ≡ text_of self.now) }
+    {
+        match self {
+            TempName::Given(name) => Shared::new(alloc, Text::from_str(alloc, name)?),
+            TempName::Shared(name) => name.share(),
+        }
+    }
+}
 
 /// Values by name, in the order of the names. The copies of a frame share the names. A contract sees the rows.
 pub(crate) struct Temps {
@@ -97,21 +126,21 @@ impl Temps {
     /// refused request for memory, which is made only for a new name, and leaves all as it was.
     pub(crate) fn set(
         &mut self,
-        name: &str,
+        name: TempName<'_>,
         value: Value,
     ) -> Result<(usize, Option<Value>), AllocError>
-        ensures ok { OnOk result (self.new ≡ with_row name_order name.now value self.old) }
+        ensures ok { OnOk result (self.new ≡ with_row name_order (text_of name.entry) value self.old) }
         ensures err { OnErr result (self.new ≡ self.old) }
-        ensures memory { OnErr result (row name_order name.now self.old ≡ None) }
+        ensures memory { OnErr result (row name_order (text_of name.entry) self.old ≡ None) }
         ensures back { IfOk result (λ was. temps_back was.0 was.1 self.new ≡ self.old) }
     {
-        match find(self.rows.as_slice(), name) {
+        match find(self.rows.as_slice(), name.as_str()) {
             Ok(index) => {
                 let was = mem::replace(&mut self.rows[index].1, value);
                 Ok((index, Some(was)))
             }
             Err(index) => {
-                let name = Shared::new(self.alloc, Text::from_str(self.alloc, name)?)?;
+                let name = name.kept(self.alloc)?;
                 self.rows.insert(index, (name, value))?;
                 Ok((index, None))
             }

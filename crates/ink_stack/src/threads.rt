@@ -7,15 +7,17 @@ ghost use Rattle.ink_model.specs.Threads.{alone, doubled, dropped, frame_count, 
 ghost use Rattle.ink_model.specs.declared.limits.TheConstants.{MAX_THREADS};
 ghost use Rattle.ink_stack.specs.Calls.{frame_kind};
 ghost use Rattle.ink_stack.specs.Running.{threads_in};
+ghost use Rattle.ink_stack.specs.Temps.{text_of};
 ghost use Rattle.ink_stack.specs.Undo.{HasGone, HasMode, threads_back, threads_spare, threads_stood};
 ghost use Rattle.ink_stack.specs.Words.{Changes, Grows};
 ghost use Rattle.ink_trail.specs.Undo.{Begins, Ends, KeepsTrail, Notes, Trails, TrailsOrKeeps, trail_of, writes_of};
 
 use crate::frame::CallKind;
 use crate::running::Running;
+use crate::temps::TempName;
 use crate::thread::Thread;
 use crate::undo::{ThreadsPair, end_freshness, has_gone, has_mode, put_back};
-use ink_model::{Fault, FrameKind, MAX_THREADS, Value};
+use ink_model::{Fault, FrameKind, MAX_THREADS, Shared, Text, Value};
 use ink_trail::Trail;
 use std::alloc::{AllocError, Global};
 use std::marker::Model;
@@ -472,8 +474,43 @@ impl<P: Copy> Threads<P> {
         ensures stood { threads_stood self.new ≡ threads_stood self.old }
         ensures spare { threads_spare self.old ≤ threads_spare self.new + 1 }
     {
+        self.put_temp(frame, TempName::Given(name), value)
+    }
+
+    /// The same of a name that can be shared, of which no copy is made.
+    pub fn set_shared_temp(
+        &mut self,
+        frame: usize,
+        name: &Shared<Text>,
+        value: Value,
+    ) -> Result<(), Fault>
+        requires from { 0 < frame }
+        requires there { frame ≤ frame_count self.old.threads.thread }
+        ensures ok { OnOk result (self.new.threads ≡ on_top (with_temp frame name.now value) self.old.threads) }
+        ensures fault { IfErr result (λ f. f ≡ Fault.OutOfMemory) }
+        ensures kept { OnErr result (self.new.threads ≡ self.old.threads) }
+        ensures memory { OnErr result ((temp_in frame name.now self.old.threads.thread ≡ None) ⊎ (threads_spare self.old < 1)) }
+        ensures trail { TrailsOrKeeps threads_back 1 self.old.threads self.old.trail self.new.threads self.new.trail result }
+        ensures stood { threads_stood self.new ≡ threads_stood self.old }
+        ensures spare { threads_spare self.old ≤ threads_spare self.new + 1 }
+    {
+        self.put_temp(frame, TempName::Shared(name), value)
+    }
+
+    // The same of either.
+    fn put_temp(&mut self, frame: usize, name: TempName<'_>, value: Value) -> Result<(), Fault>
+        requires from { 0 < frame }
+        requires there { frame ≤ frame_count self.old.threads.thread }
+        ensures ok { OnOk result (self.new.threads ≡ on_top (with_temp frame (text_of name.entry) value) self.old.threads) }
+        ensures fault { IfErr result (λ f. f ≡ Fault.OutOfMemory) }
+        ensures kept { OnErr result (self.new.threads ≡ self.old.threads) }
+        ensures memory { OnErr result ((temp_in frame (text_of name.entry) self.old.threads.thread ≡ None) ⊎ (threads_spare self.old < 1)) }
+        ensures trail { TrailsOrKeeps threads_back 1 self.old.threads self.old.trail self.new.threads self.new.trail result }
+        ensures stood { threads_stood self.new ≡ threads_stood self.old }
+        ensures spare { threads_spare self.old ≤ threads_spare self.new + 1 }
+    {
         if self.trail.is_marked() {
-            return self.set_temp_marked(frame, name, value);
+            return self.put_temp_marked(frame, name, value);
         }
         let set = self.running.set_temp(frame, name, value);
         self.running.within();
@@ -483,16 +520,21 @@ impl<P: Copy> Threads<P> {
         Ok(())
     }
 
-    // As `set_temp`, while a mark stands.
+    // As `put_temp`, while a mark stands.
     #[cold]
     #[inline(never)]
-    fn set_temp_marked(&mut self, frame: usize, name: &str, value: Value) -> Result<(), Fault>
+    fn put_temp_marked(
+        &mut self,
+        frame: usize,
+        name: TempName<'_>,
+        value: Value,
+    ) -> Result<(), Fault>
         requires from { 0 < frame }
         requires there { frame ≤ frame_count self.old.threads.thread }
-        ensures ok { OnOk result (self.new.threads ≡ on_top (with_temp frame name.now value) self.old.threads) }
+        ensures ok { OnOk result (self.new.threads ≡ on_top (with_temp frame (text_of name.entry) value) self.old.threads) }
         ensures fault { IfErr result (λ f. f ≡ Fault.OutOfMemory) }
         ensures kept { OnErr result (self.new.threads ≡ self.old.threads) }
-        ensures memory { OnErr result ((temp_in frame name.now self.old.threads.thread ≡ None) ⊎ (threads_spare self.old < 1)) }
+        ensures memory { OnErr result ((temp_in frame (text_of name.entry) self.old.threads.thread ≡ None) ⊎ (threads_spare self.old < 1)) }
         ensures trail { TrailsOrKeeps threads_back 1 self.old.threads self.old.trail self.new.threads self.new.trail result }
         ensures stood { threads_stood self.new ≡ threads_stood self.old }
         ensures spare { threads_spare self.old ≤ threads_spare self.new + 1 }

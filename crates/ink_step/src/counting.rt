@@ -58,8 +58,12 @@ fn enter(tree: &Tree, counts: &mut Counts, container: NodeId, turn: Turn) -> Res
         OnErr result ((rules.adds_row place_order q (flags_at (at s q)) (counts_in s counts.old.rows) ≡ true) ⊎ (lacks (counts_stood counts.new) (counts_spare counts.new) 2 ≡ true)) }
     ensures mark { counts_stood counts.new ≡ counts_stood counts.old }
 {
+    let flags = tree.flags(container);
+    if flags == 0 {
+        return Ok(());
+    }
     ready_counts(counts, 2)?;
-    counts.visit(tree.number_of(container), tree.flags(container), true, turn)
+    counts.visit(tree.number_of(container), flags, true, turn)
 }
 
 // The containers on the way down from a content are entered, to the first content that holds no other by index, which is given;

@@ -114,7 +114,7 @@ pub(crate) fn declare<'a>(
     };
     match kept(globals, threads, value) {
         Ok(value) => {
-            let variable = declared(threads, scope, name.as_str(), number);
+            let variable = declared(threads, scope, name, number);
             store(threads, variable, value, transfer)
         }
         Err(fault) => Err(fault),
@@ -146,7 +146,7 @@ pub(crate) fn assign<'a>(
     let Some(value) = take(stack)? else {
         return Err(Fault::StackEmpty);
     };
-    match assigned(globals, threads, name.as_str(), number) {
+    match assigned(globals, threads, name, number) {
         Ok(variable) => store(threads, variable, value, transfer),
         Err(fault) => Err(fault),
     }
@@ -178,6 +178,6 @@ fn store<'a>(
         });
         return Ok(());
     }
-    threads.set_temp(variable.frame, variable.name.as_str(), value)?;
+    threads.set_shared_temp(variable.frame, variable.name.text(), value)?;
     Ok(())
 }

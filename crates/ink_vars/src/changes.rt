@@ -105,10 +105,9 @@ impl Changes {
         ensures memory { OnErr result ((noted_at (number_of name.now globals.old) self.old ≡ None) ⊎ (is_some (stored name.now globals.old) ≡ false)) }
         ensures tracks { (start : Values) → Tracks start self.old globals.old → Tracks start self.new globals.new }
     {
-        if let Some((index, _)) = globals.found(name, number) {
-            if is_marked(&self.marked, index) {
-                return globals.put_over(index, name, number, value);
-            }
+        let index = globals.number_at(name, number);
+        if index < globals.len() && is_marked(&self.marked, index) {
+            return globals.put_over(index, name, number, value);
         }
         self.note(globals, name, number)?;
         globals.put_at(name, number, value)

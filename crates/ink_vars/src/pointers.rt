@@ -1,6 +1,6 @@
 //! What names and pointers lead to.
 
-ghost use Rattle.std.specs.Prelude.{◌≡◌, option_map};
+ghost use Rattle.std.specs.Prelude.{◌≡◌, IfSome, option_map};
 ghost use Rattle.ink_model.specs.Variables as rules;
 
 use crate::globals::Globals;
@@ -55,27 +55,38 @@ pub(crate) fn stands<P: Copy>(
     }
 }
 
+/// The last pointer of a chain: the number of a frame and a name, and the value that the frame has by it, where it has one.
+#[derive(Clone, Copy)]
+pub(crate) struct ChainEnd<'a> {
+    pub frame: i32,
+    pub name: &'a Shared<Text>,
+    pub value: Option<&'a Value>,
+}
+
 /// The last pointer of the chain that begins with this one; none where it has more pointers than there are frames, and one
 /// more. Takes no memory.
+#[inline(always)]
 pub(crate) fn chain_end<'a, P: Copy>(
     globals: &'a Globals,
     threads: &'a Threads<P>,
     frame: i32,
     name: &'a Shared<Text>,
-) -> Option<(i32, &'a Shared<Text>)>
-    ensures { option_map (λ p. (p.0, p.1.now)) result ≡ rules.chain_end globals.now.rows threads.now.threads.thread frame name.now }
+) -> Option<ChainEnd<'a>>
+    ensures end { option_map (λ e. (e.frame, e.name.now)) result ≡ rules.chain_end globals.now.rows threads.now.threads.thread frame name.now }
+    ensures value { IfSome result (λ e. option_map (λ value. value.now) e.value ≡ rules.held globals.now.rows threads.now.threads.thread e.frame e.name.now) }
 {
     let mut frame = frame;
     let mut name = name;
     let mut left = threads.top().frames() + 1;
     while left > 0 {
         left -= 1;
-        match held(globals, threads, frame, name.get().as_str()) {
+        let value = held(globals, threads, frame, name.as_str());
+        match value {
             Some(Value::Pointer(next, to)) => {
                 frame = *next;
                 name = to;
             }
-            _ => return Some((frame, name)),
+            _ => return Some(ChainEnd { frame, name, value }),
         }
     }
     None

@@ -11,7 +11,7 @@ ghost use Rattle.ink_vars.specs.Words.{Copies, Declares, HandsOut, LeadsInto, Le
 
 use crate::globals::Globals;
 use crate::places::{Name, Variable};
-use crate::pointers::{chain_end, held, named, stands};
+use crate::pointers::{chain_end, named, stands};
 use ink_model::{Fault, Scope, Shared, Text, Value};
 use ink_stack::Threads;
 use std::alloc::Global;
@@ -78,14 +78,19 @@ fn look_at<'a, P: Copy>(
     ensures { let end = rules.chain_end globals.now.rows threads.now.threads.thread frame name.now in
         looked result ≡ rules.value_at globals.now.rows threads.now.threads.thread end }
 {
-    let Some((frame, name)) = chain_end(globals, threads, frame, name) else {
+    let Some(end) = chain_end(globals, threads, frame, name) else {
         return Err(Fault::BadPointer);
     };
-    let name = name.get().as_str();
-    if !stands(globals, threads, frame, name) {
-        return Err(Fault::BadPointer);
+    match end.value {
+        Some(value) => Ok(Some(value)),
+        None => {
+            if stands(globals, threads, end.frame, end.name.as_str()) {
+                Ok(None)
+            } else {
+                Err(Fault::BadPointer)
+            }
+        }
     }
-    Ok(held(globals, threads, frame, name))
 }
 
 fn copied(alloc: Global, value: &Value) -> Result<Value, Fault>
@@ -105,16 +110,16 @@ fn copied(alloc: Global, value: &Value) -> Result<Value, Fault>
 pub fn assigned<'a, P: Copy>(
     globals: &Globals,
     threads: &Threads<P>,
-    name: &'a str,
+    name: &'a Shared<Text>,
     number: Option<usize>,
 ) -> Result<Variable<'a>, Fault>
     ensures { LeadsTo globals.now.rows threads.now.threads.thread name.now result }
 {
-    if let Some(value) = globals.get_at(name, number) {
+    if let Some(value) = globals.get_at(name.as_str(), number) {
         return assigned_in(globals, threads, 0, name, number, value);
     }
     let frame = threads.top().frames();
-    match threads.temp(frame, name) {
+    match threads.temp(frame, name.as_str()) {
         Some(value) => assigned_in(globals, threads, frame, name, None, value),
         None => Err(Fault::NoTemp),
     }
@@ -125,7 +130,7 @@ fn assigned_in<'a, P: Copy>(
     globals: &Globals,
     threads: &Threads<P>,
     frame: usize,
-    name: &'a str,
+    name: &'a Shared<Text>,
     number: Option<usize>,
     value: &Value,
 ) -> Result<Variable<'a>, Fault>
@@ -154,19 +159,16 @@ fn pointed<'a, P: Copy>(
     ensures { let end = rules.chain_end globals.now.rows threads.now.threads.thread frame name.now in
         LeadsInto globals.now.rows threads.now.threads.thread end result }
 {
-    let Some((frame, name)) = chain_end(globals, threads, frame, name) else {
+    let Some(end) = chain_end(globals, threads, frame, name) else {
         return Err(Fault::BadPointer);
     };
-    if !stands(globals, threads, frame, name.get().as_str()) {
-        return Err(Fault::BadPointer);
-    }
-    if held(globals, threads, frame, name.get().as_str()).is_none() {
-        return Err(Fault::NoTemp);
-    }
-    let Ok(frame) = usize::try_from(frame) else {
+    let Some(_) = end.value else {
+        return Err(lacking(globals, threads, end.frame, end.name.as_str()));
+    };
+    let Ok(frame) = usize::try_from(end.frame) else {
         return Err(Fault::BadPointer);
     };
-    match name.share() {
+    match end.name.share() {
         Ok(name) => Ok(Variable {
             frame,
             name: Name::Pointed(name),
@@ -175,12 +177,26 @@ fn pointed<'a, P: Copy>(
     }
 }
 
+// The fault of an assignment to what a pointer leads to, where that has no value: the frame lacks it, or there is no such global or
+// frame.
+#[cold]
+#[inline(never)]
+fn lacking<P: Copy>(globals: &Globals, threads: &Threads<P>, frame: i32, name: &str) -> Fault
+    ensures { result ≡ (if rules.stands globals.now.rows threads.now.threads.thread frame name.now then Fault.NoTemp else Fault.BadPointer) }
+{
+    if stands(globals, threads, frame, name) {
+        Fault::NoTemp
+    } else {
+        Fault::BadPointer
+    }
+}
+
 /// The variable that is written where a name, which may have a number, is declared in a scope, whether it is there or not: a
 /// global, or a temporary of the current frame. Takes no memory.
 pub fn declared<'a, P: Copy>(
     threads: &Threads<P>,
     scope: Scope,
-    name: &'a str,
+    name: &'a Shared<Text>,
     number: Option<usize>,
 ) -> Variable<'a>
     ensures within { result.frame ≤ frame_count threads.now.threads.thread }
@@ -216,11 +232,11 @@ fn kept_pointer<P: Copy>(
     ensures { let end = rules.chain_end globals.now.rows threads.now.threads.thread frame name.now in
         HandsOut true (rules.kept_pointer end) result }
 {
-    let Some((frame, name)) = chain_end(globals, threads, frame, name) else {
+    let Some(end) = chain_end(globals, threads, frame, name) else {
         return Err(Fault::BadPointer);
     };
-    let name = name.share()?;
-    Ok(Value::Pointer(frame, name))
+    let name = end.name.share()?;
+    Ok(Value::Pointer(end.frame, name))
 }
 
 /// The pointer that is pushed for one of the story: where its frame is not known (a number below 0), it leads to the current

@@ -16,7 +16,7 @@ returns-clause-ok c =
     let ready = c.ready_counts.new.counts in
     let found = c.number_of.ensures.found in
     on_ok_weaker c.visit.result
-    (λ is. ap (counts_in s) is ∙ visited_at s c.number_of.ensures.order c.number_of.result found.0 ready.rows _ _ _ found.1 c.flags.ensures c.args.turn
+    (λ is. ap (counts_in s) is ∙ visited_at s c.number_of.ensures.order c.number_of.result found.0 ready.rows _ _ _ found.1 c.flags-flags.ensures c.args.turn
     ∙ ap (λ rows. visited place_order q (flags_at (at s q)) true c.args.turn (counts_in s rows)) c.in_ok-ready_counts.ensures.rows)
     c.visit.ensures.ok
 
@@ -26,6 +26,6 @@ returns-clause-memory c =
     let q = node_place s c.args.container in
     let ready = c.ready_counts.new.counts in
     let found = c.number_of.ensures.found in
-    let adds = adds_at s c.number_of.ensures.order c.number_of.result found.0 ready.rows _ _ _ found.1 c.flags.ensures in
+    let adds = adds_at s c.number_of.ensures.order c.number_of.result found.0 ready.rows _ _ _ found.1 c.flags-flags.ensures in
     let same = ap (λ rows. adds_row place_order q (flags_at (at s q)) (counts_in s rows)) c.in_ok-ready_counts.ensures.rows in
     on_err_weaker c.visit.result (λ lacks. inl (lacks_row _ _ ready (λ h. sym same ∙ sym adds ∙ h) c.in_ok-ready_counts.ensures.room lacks)) c.visit.ensures.memory

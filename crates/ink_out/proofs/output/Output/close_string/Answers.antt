@@ -26,13 +26,13 @@ pub returns-in_err-text-clause-page : goal.returns-in_err-text-clause-page
 returns-in_err-text-clause-page c =
     let turned : reverse c.self.inside.sections.items ≡ c.args.self.now.page.sections = ap (λ w. w.page.sections) c.self.view_is in
     let top = on_top c.self.inside.sections.items c.deref.result.now c.args.self.now.page.sections c.in-Some.opened.now turned c.deref.ensures.value (sym c.in-Some.ensures.value) in
-    hands_nothing _ c.args.self.now.page c.in_err-text.field-0.0 c.from_residual-in_err-text.result c.from_residual-in_err-text.ensures.1 (string_refused c.args.self.now.page c.in-Some.opened.now c.in_ok-raw_text.raw_text c.in_err-text.field-0.0 top c.if-not-is_string.ensures c.in_ok-raw_text.ensures c.in_err-text.ensures)
+    hands_nothing _ c.args.self.now.page c.in_err-text.field-0.0 c.from_residual-in_err-text.result c.from_residual-in_err-text.ensures.1 (string_refused c.args.self.now.page c.in-Some.opened.now c.in_ok-raw_text.raw_text c.in_err-text.field-0.0 top c.if-not-is_string.ensures c.in_ok-raw_text.ensures (inr (sym c.in_err-text.ensures)))
 
 pub returns-clause-page : goal.returns-clause-page
 returns-clause-page c =
     let turned : reverse c.self.inside.sections.items ≡ c.args.self.now.page.sections = ap (λ w. w.page.sections) c.self.view_is in
     let top = on_top c.self.inside.sections.items c.deref.result.now c.args.self.now.page.sections c.in-Some.opened.now turned c.deref.ensures.value (sym c.in-Some.ensures.value) in
-    (string_closed c.args.self.now.page c.close.new.self.page c.in-Some.opened.now c.in_ok-raw_text.raw_text c.in_ok-text.text top c.if-not-is_string.ensures c.in_ok-raw_text.ensures c.in_ok-text.ensures c.in_ok-close.ensures.page.0, tt)
+    (string_closed c.args.self.now.page c.close.new.self.page c.in-Some.opened.now c.in_ok-raw_text.raw_text c.in_ok-text.text top c.if-not-is_string.ensures c.in_ok-raw_text.ensures (sym c.in_ok-text.ensures) c.in_ok-close.ensures.page.0, tt)
 
 pub returns-in_err-close-clause-stood : goal.returns-in_err-close-clause-stood
 unfolding output_stood

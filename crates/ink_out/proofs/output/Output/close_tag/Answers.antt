@@ -26,7 +26,7 @@ pub returns-in_err-text-2-clause-page : goal.returns-in_err-text-2-clause-page
 returns-in_err-text-2-clause-page c =
     let turned : reverse c.self.inside.sections.items ≡ c.args.self.now.page.sections = ap (λ w. w.page.sections) c.self.view_is in
     let top = on_top c.self.inside.sections.items c.deref.result.now c.args.self.now.page.sections c.in-Some.opened.now turned c.deref.ensures.value (sym c.in-Some.ensures.value) in
-    hands_nothing _ c.args.self.now.page c.in_err-text-2.field-0.0 c.from_residual-in_err-text-2.result c.from_residual-in_err-text-2.ensures.1 (tag_refused c.args.self.now.page c.in-Some.opened.now c.in_ok-text.text c.in_err-text-2.field-0.0 top c.if-is_string.ensures c.in_ok-text.ensures c.in_err-text-2.ensures)
+    hands_nothing _ c.args.self.now.page c.in_err-text-2.field-0.0 c.from_residual-in_err-text-2.result c.from_residual-in_err-text-2.ensures.1 (tag_refused c.args.self.now.page c.in-Some.opened.now c.in_ok-text.text c.in_err-text-2.field-0.0 top c.if-is_string.ensures c.in_ok-text.ensures (inr (sym c.in_err-text-2.ensures)))
 
 pub end_tag-requires : goal.end_tag-requires
 end_tag-requires c =
@@ -38,7 +38,7 @@ pub returns-clause-page : goal.returns-clause-page
 returns-clause-page c =
     let turned : reverse c.self.inside.sections.items ≡ c.args.self.now.page.sections = ap (λ w. w.page.sections) c.self.view_is in
     let top = on_top c.self.inside.sections.items c.deref.result.now c.args.self.now.page.sections c.in-Some.opened.now turned c.deref.ensures.value (sym c.in-Some.ensures.value) in
-    rw (tag_closed c.args.self.now.page c.in-Some.opened.now c.in_ok-text.text c.in_ok-text-2.text top c.if-is_string.ensures c.in_ok-text.ensures c.in_ok-text-2.ensures) c.end_tag.ensures.page
+    rw (tag_closed c.args.self.now.page c.in-Some.opened.now c.in_ok-text.text c.in_ok-text-2.text top c.if-is_string.ensures c.in_ok-text.ensures (sym c.in_ok-text-2.ensures)) c.end_tag.ensures.page
 
 pub returns-clause-stood : goal.returns-clause-stood
 unfolding output_stood

@@ -2,6 +2,7 @@ use Rattle.std.proofs.Common.{◌∙◌, ◌≤◌, ap, arith, length, length-se
 use Rattle.std.proofs.lemmas.List.{length-reverse}
 use Rattle.std.proofs.lemmas.Result.{IfOk-weaker}
 use Rattle.ink_stack.specs.Cells.{temp_back}
+use Rattle.ink_stack.specs.Temps.{text_of}
 use Rattle.ink_stack.proofs.Bases.{fresh_along, kind_along, base_same}
 use Rattle.ink_stack.proofs.Framing.{base_set, unframed_below}
 use Rattle.ink_stack.proofs.Numbers.{memory_along, quiet_set, temp_along}
@@ -17,9 +18,9 @@ invariant_of-self-2 g c =
     let was = c.index_mut.result.now in
     let now = c.set_temp-2.new.self in
     let within : c.args.frame ≤ length items = omega (arith, length-reverse items, ap (λ t. length t.thread.below) c.self.view_is) in
-    let kind = kind_along c.set_temp-2.result c.args.name.now c.args.value was now c.set_temp-2.ensures.ok c.set_temp-2.ensures.err ∙ ap (λ f. f.kind) c.index_mut.ensures.value in
-    let fresh = fresh_along c.set_temp-2.result c.args.name.now c.args.value was now c.set_temp-2.ensures.ok c.set_temp-2.ensures.err ∙ ap (λ f. f.fresh) c.index_mut.ensures.value in
-    let number = number_along c.set_temp-2.result c.args.name.now c.args.value was now c.set_temp-2.ensures.ok c.set_temp-2.ensures.err ∙ ap (λ f. f.enter) c.index_mut.ensures.value in (
+    let kind = kind_along c.set_temp-2.result (text_of c.args.name) c.args.value was now c.set_temp-2.ensures.ok c.set_temp-2.ensures.err ∙ ap (λ f. f.kind) c.index_mut.ensures.value in
+    let fresh = fresh_along c.set_temp-2.result (text_of c.args.name) c.args.value was now c.set_temp-2.ensures.ok c.set_temp-2.ensures.err ∙ ap (λ f. f.fresh) c.index_mut.ensures.value in
+    let number = number_along c.set_temp-2.result (text_of c.args.name) c.args.value was now c.set_temp-2.ensures.ok c.set_temp-2.ensures.err ∙ ap (λ f. f.enter) c.index_mut.ensures.value in (
       rw length-set c.self.invariant.0,
       λ quiet. rw (quiet_set items c.args.frame was now c.requires.from within kind fresh) (c.self.invariant.1 quiet),
       base_set c.self.inside.frame.kind items c.args.frame was now c.requires.from within kind c.self.invariant.2,
@@ -31,7 +32,7 @@ returns-clause-ok g c =
     let items = c.self.inside.below.items in
     let within : c.args.frame ≤ length items = omega (arith, length-reverse items, ap (λ t. length t.thread.below) c.self.view_is) in
     rw (← c.self.view_is)
-    (temp_along c.set_temp-2.result c.self.inside.frame items c.self.inside.previous c.args.frame c.index_mut.result.now c.args.name.now c.requires.from within
+    (temp_along c.set_temp-2.result c.self.inside.frame items c.self.inside.previous c.args.frame c.index_mut.result.now (text_of c.args.name) c.requires.from within
     c.args.value c.set_temp-2.new.self (rw (← c.index_mut.ensures.value) c.set_temp-2.ensures.ok))
 
 pub returns-clause-memory : goal.returns-clause-memory
@@ -39,7 +40,7 @@ returns-clause-memory g c =
     let items = c.self.inside.below.items in
     let within : c.args.frame ≤ length items = omega (arith, length-reverse items, ap (λ t. length t.thread.below) c.self.view_is) in
     rw (← c.self.view_is)
-    (memory_along c.set_temp-2.result c.self.inside.frame items c.self.inside.previous c.args.frame c.index_mut.result.now c.args.name.now c.requires.from within
+    (memory_along c.set_temp-2.result c.self.inside.frame items c.self.inside.previous c.args.frame c.index_mut.result.now (text_of c.args.name) c.requires.from within
     (rw (← c.index_mut.ensures.value) c.set_temp-2.ensures.memory))
 
 pub returns-clause-back : goal.returns-clause-back
@@ -56,20 +57,20 @@ returns-clause-back g c =
 pub invariant_of-self : goal.invariant_of-self
 invariant_of-self g c =
     let now = c.set_temp.new.self in
-    let kind = kind_along c.set_temp.result c.args.name.now c.args.value c.self.inside.frame now c.set_temp.ensures.ok c.set_temp.ensures.err in
+    let kind = kind_along c.set_temp.result (text_of c.args.name) c.args.value c.self.inside.frame now c.set_temp.ensures.ok c.set_temp.ensures.err in
     (c.self.invariant.0, c.self.invariant.1, base_same c.self.inside.frame.kind now.kind (reverse c.self.inside.below.items) kind c.self.invariant.2, c.self.invariant.3)
 
 pub returns-then-frame-frames-clause-ok : goal.returns-then-frame-frames-clause-ok
 returns-then-frame-frames-clause-ok g c =
     let top : c.args.frame ≡ frame_count c.args.self.now.thread = c.if-frame-frames.true ∙ c.frames.ensures.count in
     let t : ThreadOf g.row.P.Denot = record { frame = c.self.inside.frame; below = reverse c.self.inside.below.items; previous = c.self.inside.previous } in
-    rw (← c.self.view_is) (temp_top c.set_temp.result t c.args.frame c.args.name.now c.args.value c.set_temp.new.self (top ∙ ap (λ v. frame_count v.thread) (sym c.self.view_is)) c.set_temp.ensures.ok)
+    rw (← c.self.view_is) (temp_top c.set_temp.result t c.args.frame (text_of c.args.name) c.args.value c.set_temp.new.self (top ∙ ap (λ v. frame_count v.thread) (sym c.self.view_is)) c.set_temp.ensures.ok)
 
 pub returns-then-frame-frames-clause-memory : goal.returns-then-frame-frames-clause-memory
 returns-then-frame-frames-clause-memory g c =
     let top : c.args.frame ≡ frame_count c.args.self.now.thread = c.if-frame-frames.true ∙ c.frames.ensures.count in
     let t : ThreadOf g.row.P.Denot = record { frame = c.self.inside.frame; below = reverse c.self.inside.below.items; previous = c.self.inside.previous } in
-    rw (← c.self.view_is) (memory_top c.set_temp.result t c.args.frame c.args.name.now (top ∙ ap (λ v. frame_count v.thread) (sym c.self.view_is)) c.set_temp.ensures.memory)
+    rw (← c.self.view_is) (memory_top c.set_temp.result t c.args.frame (text_of c.args.name) (top ∙ ap (λ v. frame_count v.thread) (sym c.self.view_is)) c.set_temp.ensures.memory)
 
 pub returns-then-frame-frames-clause-back : goal.returns-then-frame-frames-clause-back
 returns-then-frame-frames-clause-back g c =

@@ -3,16 +3,17 @@ use Rattle.ink_model.specs.Rows.{name_order, rows_rise}
 use Rattle.ink_stack.specs.Cells.{temps_back}
 use Rattle.ink_stack.specs.Rows.{FindsName}
 use Rattle.std.specs.List.{remove}
+use Rattle.ink_stack.specs.Temps.{text_of}
 use Rattle.ink_stack.proofs.Cells.{removed_back, value_back}
 use Rattle.ink_stack.proofs.Rises.{put_rises}
 use Rattle.ink_stack.proofs.temps.Temps.set.Goals.{In-Ok, In-Err}
 use Rattle.ink_stack.proofs.temps.Temps.set.Goals as goal
 
-found : (c : In-Ok) → FindsName c.args.name.now c.self.inside.rows.items (Ok c.in-Ok.index)
-found c = rw c.as_slice.ensures.value at c.in-Ok.ensures
+found : (c : In-Ok) → FindsName (text_of c.args.name) c.self.inside.rows.items (Ok c.in-Ok.index)
+found c = rw (c.as_slice.ensures.value, c.as_str.ensures) at c.in-Ok.ensures
 
-absent : (c : In-Err) → FindsName c.args.name.now c.self.inside.rows.items (Err c.in-Err.index)
-absent c = rw c.as_slice.ensures.value at c.in-Err.ensures
+absent : (c : In-Err) → FindsName (text_of c.args.name) c.self.inside.rows.items (Err c.in-Err.index)
+absent c = rw (c.as_slice.ensures.value, c.as_str.ensures) at c.in-Err.ensures
 
 pub invariant_of-self : goal.invariant_of-self
 invariant_of-self c =
@@ -21,16 +22,16 @@ invariant_of-self c =
     subst (λ rs. rows_rise name_order rs ≡ true)
     (h.2 c.index_mut.result.now c.args.value ∙ ap (λ r. set rows c.in-Ok.index (r.0, c.args.value)) (sym c.index_mut.ensures.value)
     ∙ ap (λ v. set rows c.in-Ok.index (c.index_mut.result.now.0, v)) (sym c.replace-was.ensures.after))
-    (put_rises c.args.name.now c.args.value rows c.self.invariant)
+    (put_rises (text_of c.args.name) c.args.value rows c.self.invariant)
 
 pub invariant_of-self-in-Err : goal.invariant_of-self-in-Err
 invariant_of-self-in-Err c =
     let rows = c.self.inside.rows.items in
     let h = absent (goal.at.invariant_of-self-in-Err c).In-Err in
-    let name = c.in_ok-name-in-Err.ensures ∙ c.in_ok-from_str-in-Err.ensures in
+    let name = c.in_ok-name-in-Err.ensures in
     subst (λ rs. rows_rise name_order rs ≡ true)
     (h.2 c.args.value ∙ ap (λ n. take c.in-Err.index rows ++ (n, c.args.value) ∷ drop c.in-Err.index rows) (sym name) ∙ sym c.in_ok-insert-in-Err.ensures.items)
-    (put_rises c.args.name.now c.args.value rows c.self.invariant)
+    (put_rises (text_of c.args.name) c.args.value rows c.self.invariant)
 
 pub returns-in-Ok-clause-back : goal.returns-in-Ok-clause-back
 returns-in-Ok-clause-back c =

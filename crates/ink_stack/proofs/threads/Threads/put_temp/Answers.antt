@@ -7,7 +7,7 @@ use Rattle.ink_stack.proofs.Backs.{spare-of, stood-of, stood-same}
 use Rattle.ink_stack.proofs.Holding.{held-now, held-unmarked}
 use Rattle.ink_model.specs.declared.fault.Fault.TheVariants.{OutOfMemory}
 use Rattle.ink_stack.proofs.Unmarked.{spare-or}
-use Rattle.ink_stack.proofs.threads.Threads.set_temp.Goals as goal
+use Rattle.ink_stack.proofs.threads.Threads.put_temp.Goals as goal
 
 pub invariant_of-self-2 : goal.invariant_of-self-2
 invariant_of-self-2 g c =
@@ -39,7 +39,7 @@ invariant_of-self g c =
     )
 
 pub returns-then-is_marked-clause-memory : goal.returns-then-is_marked-clause-memory
-returns-then-is_marked-clause-memory g c = c.set_temp_marked.ensures.memory
+returns-then-is_marked-clause-memory g c = c.put_temp_marked.ensures.memory
 
 pub returns-in_default-clause-trail : goal.returns-in_default-clause-trail
 returns-in_default-clause-trail g c = rw (← c.self.view_is) (ap (λ t. record { thread = t; below = reverse c.self.inside.below.items }) c.in_default.ensures.err, (refl, omega arith))
@@ -54,22 +54,22 @@ pub returns-in_default-clause-memory : goal.returns-in_default-clause-memory
 returns-in_default-clause-memory g c = rw (← c.self.view_is) (inl c.in_default.ensures.memory)
 
 pub returns-then-is_marked-clause-ok : goal.returns-then-is_marked-clause-ok
-returns-then-is_marked-clause-ok g c = c.set_temp_marked.ensures.ok
+returns-then-is_marked-clause-ok g c = c.put_temp_marked.ensures.ok
 
 pub returns-then-is_marked-clause-fault : goal.returns-then-is_marked-clause-fault
-returns-then-is_marked-clause-fault g c = c.set_temp_marked.ensures.fault
+returns-then-is_marked-clause-fault g c = c.put_temp_marked.ensures.fault
 
 pub returns-then-is_marked-clause-kept : goal.returns-then-is_marked-clause-kept
-returns-then-is_marked-clause-kept g c = c.set_temp_marked.ensures.kept
+returns-then-is_marked-clause-kept g c = c.put_temp_marked.ensures.kept
 
 pub returns-then-is_marked-clause-trail : goal.returns-then-is_marked-clause-trail
-returns-then-is_marked-clause-trail g c = c.set_temp_marked.ensures.trail
+returns-then-is_marked-clause-trail g c = c.put_temp_marked.ensures.trail
 
 pub returns-then-is_marked-clause-stood : goal.returns-then-is_marked-clause-stood
-returns-then-is_marked-clause-stood g c = c.set_temp_marked.ensures.stood
+returns-then-is_marked-clause-stood g c = c.put_temp_marked.ensures.stood
 
 pub returns-then-is_marked-clause-spare : goal.returns-then-is_marked-clause-spare
-returns-then-is_marked-clause-spare g c = c.set_temp_marked.ensures.spare
+returns-then-is_marked-clause-spare g c = c.put_temp_marked.ensures.spare
 
 pub returns-in_default-clause-kept : goal.returns-in_default-clause-kept
 returns-in_default-clause-kept g c = rw (← c.self.view_is) (ap (λ t. record { thread = t; below = reverse c.self.inside.below.items }) c.in_default.ensures.err)

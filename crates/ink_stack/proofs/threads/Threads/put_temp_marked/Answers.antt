@@ -8,7 +8,7 @@ use Rattle.ink_stack.specs.declared.undo.ThreadsPair.TheVariants.{Temp}
 use Rattle.ink_stack.proofs.Backs.{spare-of, stood-of, stood-same}
 use Rattle.ink_model.specs.declared.fault.Fault.TheVariants.{OutOfMemory}
 use Rattle.ink_stack.proofs.Unmarked.{spare-or}
-use Rattle.ink_stack.proofs.threads.Threads.set_temp_marked.Goals as goal
+use Rattle.ink_stack.proofs.threads.Threads.put_temp_marked.Goals as goal
 
 pub returns-clause-trail : goal.returns-clause-trail
 returns-clause-trail g c =
