@@ -47,10 +47,11 @@ impl Nodes {
         }
     }
 
-    /// How many contents there are. Takes no memory.
+    /// How many contents there are, fewer than 2^31. Takes no memory.
     #[inline(always)]
     pub fn len(&self) -> usize
-        ensures { result ≡ length self.now }
+        ensures len { result ≡ length self.now }
+        ensures few { result < 2 ^ 31 }
     {
         self.list.len()
     }

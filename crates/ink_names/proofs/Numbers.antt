@@ -22,6 +22,11 @@ number_pushed (n ∷ ns) name q = by (bytes_eq q n) (number_pushed ns name q)
     by true h = refl
     by false h = ap (option_map suc) h ∙ later (bytes_eq q name) (length ns) (number_of ns q)
 
+-- a name that is not among them, and not the one behind
+pub unlisted : (names : List (List ℕ)) (name q : List ℕ) → number_of names q ≡ None → bytes_eq q name ≡ false → number_of (names ++ name ∷ []) q ≡ None
+unlisted names name q none unlike =
+    number_pushed names name q ∙ ap (last (bytes_eq q name) (length names)) none ∙ ap (λ b. if b then Some (length names) else None) unlike
+
 other : (a b : List ℕ) → bytes_eq a b ≡ false → bytes_eq b a ≡ false
 other a b h = by (bytes_eq b a) refl
   where
@@ -78,6 +83,9 @@ last_away (n ∷ m ∷ ns) name = ap (λ rest. n ∷ rest) (last_away (m ∷ ns)
 present : (b : Bool) (n : ℕ) (o : Option ℕ) → last b n o ≡ None → o ≡ None
 present b n None h = refl
 present b n (Some i) h = absurd (cc)
+
+pub unlisted_before : (names : List (List ℕ)) (name q : List ℕ) → number_of (names ++ name ∷ []) q ≡ None → number_of names q ≡ None
+unlisted_before names name q none = present (bytes_eq q name) (length names) (number_of names q) (sym (number_pushed names name q) ∙ none)
 
 -- what differs without the last, and where the last is not among the others
 pub differ_popped : (names : List (List ℕ)) (name : List ℕ) → Differ (names ++ name ∷ []) → Differ names × (number_of names name ≡ None)

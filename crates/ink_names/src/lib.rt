@@ -1,6 +1,7 @@
 //! Names, each once, that are found by order (docs/VARIABLES.md).
 #![tactic(auto)]
 
+mod hints;
 mod names;
 
 pub use names::Names;

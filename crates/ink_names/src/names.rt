@@ -3,27 +3,30 @@
 ghost use Rattle.std.specs.Prelude.{◌≡◌, [], ◌∷◌, ◌++◌, None, Some, length, option_map, slice_get, IfSome, OnOk, OnErr};
 ghost use Rattle.ink_names.specs.Names.{Differ, number_of, without_last};
 
+use crate::hints::Hints;
 use std::alloc::{AllocError, Global};
 use std::collections::BTreeMap;
 use std::marker::Model;
 
-/// Names, each once, in the order in which they came. They are found by order and not by hash, so that nobody can choose names
-/// that are slow to find.
+/// Names, each once, in the order in which they came. A name that is no one's, and one that stands where it is looked for first, is
+/// seen at once; each other is found by order and not by hash, so that nobody can choose names that are slow to find.
 #[derive(Drop)]
 pub struct Names {
     list: Vec<String>,
     numbers: BTreeMap<String, usize>,
+    hints: Hints,
 }
 
 impl Model for Names {
     ghost use Rattle.std.specs.Prelude.{ℕ, List};
+    ghost use Rattle.ink_names.specs.Hints.{Marks};
     ghost use Rattle.ink_names.specs.Names.{Differ, Finds, names_of};
 
     ghost Value = { List (List ℕ) };
 
     ghost view = { λ n. names_of n.list.items };
 
-    ghost invariant = { λ n. Differ (names_of n.list.items) × Finds n.numbers (names_of n.list.items) };
+    ghost invariant = { λ n. Differ (names_of n.list.items) × Finds n.numbers (names_of n.list.items) × Marks n.hints (names_of n.list.items) };
 }
 
 impl Names {
@@ -34,6 +37,7 @@ impl Names {
         Names {
             list: Vec::new(alloc),
             numbers: BTreeMap::new(alloc),
+            hints: Hints::new(alloc),
         }
     }
 
@@ -49,7 +53,14 @@ impl Names {
     pub fn number(&self, name: &str) -> Option<usize>
         ensures { result ≡ number_of self.now name.now }
     {
-        self.numbers.get(name).copied()
+        let behind = self.hints.behind(name);
+        if behind == 0 {
+            return None;
+        }
+        match self.list.get(behind - 1) {
+            Some(there) if there.as_str() == name => Some(behind - 1),
+            _ => self.numbers.get(name).copied(),
+        }
     }
 
     /// The name of a number; none past the last. Takes no memory.
@@ -72,9 +83,11 @@ impl Names {
         let listed = String::from_str(alloc, name)?;
         let key = String::from_str(alloc, name)?;
         self.list.reserve(1)?;
+        self.hints.make_slots(alloc)?;
         let number = self.list.len();
         self.numbers.insert(key, number)?;
         self.list.push_reserved(listed);
+        self.hints.note(name, self.list.len());
         Ok(())
     }
 

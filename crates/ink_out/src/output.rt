@@ -1,12 +1,13 @@
 //! The text being written (docs/TEXT.md, "Sections").
 
-ghost use Rattle.std.specs.Prelude.{ℕ, ◌≡◌, ◌<◌, ◌≤◌, ◌+◌, ◌&&◌, [], ◌∷◌, Err, Ok, None, Some, is_some, length, map, reverse, true, unwrap_or, ◌≢◌, IfErr, IfOk, IsOk, IsTrue, OnErr, OnOk};
+ghost use Rattle.std.specs.Prelude.{ℕ, ◌≡◌, ◌<◌, ◌≤◌, ◌+◌, ◌&&◌, not, [], ◌∷◌, Err, Ok, None, Some, is_some, length, map, reverse, true, unwrap_or, ◌≢◌, IfErr, IfOk, IsOk, IsTrue, OnErr, OnOk};
 ghost use Rattle.std.specs.List.{list_any};
 ghost use Rattle.ink_model.specs.Asks.{prints_bytes};
 ghost use Rattle.ink_model.specs.Clean.{clean};
 ghost use Rattle.ink_model.specs.Configuration.{string_section, tag_section};
 ghost use Rattle.ink_model.specs.Mark.{cut, piece, tags};
 ghost use Rattle.ink_model.specs.Memory.{Gives, Hands, Leaves};
+ghost use Rattle.ink_model.specs.Bytes.{fits_text};
 ghost use Rattle.ink_model.specs.Output.{writes_marks, writes_value, writes_text, writes_newline, writes_glue, begins_function, ends_function, opens, closes_string, closes_tag, writes_tag, prints_text, ends_line, empty_page, is_string, is_text, kept_text, let_through, tagged};
 ghost use Rattle.ink_model.specs.declared.limits.TheConstants.{MAX_MARKS};
 ghost use Rattle.ink_model.specs.Shown.{shown_text, shows_more, is_shown, open_newline, more_from};
@@ -605,7 +606,7 @@ impl Output {
 fn within(alloc: Global, text: Text) -> Result<Shared<Text>, Fault>
     ensures { Gives result (kept_text text text) }
 {
-    if text.as_str().len() > MAX_TEXT {
+    if is_long(text.as_str()) {
         return Err(Fault::TooDeep);
     }
     Ok(Shared::new(alloc, text)?)
@@ -615,10 +616,17 @@ fn within(alloc: Global, text: Text) -> Result<Shared<Text>, Fault>
 fn kept(text: Shared<Text>) -> Result<Shared<Text>, Fault>
     ensures { result ≡ kept_text text text }
 {
-    if text.as_str().len() > MAX_TEXT {
+    if is_long(text.as_str()) {
         return Err(Fault::TooDeep);
     }
     Ok(text)
+}
+
+/// Whether a text is over the limit.
+fn is_long(text: &str) -> bool
+    ensures { not result ≡ fits_text text.now }
+{
+    text.len() > MAX_TEXT
 }
 
 fn has_string(sections: &[Opened]) -> bool

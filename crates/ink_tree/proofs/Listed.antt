@@ -1,5 +1,5 @@
 -- The names that are kept of containers, one container after another.
-use Rattle.std.proofs.Common.{◌≡◌, ℕ, zero, suc, List, [], ◌∷◌, ◌++◌, slice_get, Some, subst}
+use Rattle.std.proofs.Common.{◌≡◌, zero, suc, List, [], ◌∷◌, ◌++◌, subst}
 use Rattle.ink_model.specs.Tree.{StoryTree, at}
 use Rattle.ink_tree.specs.Names.{AreNamed, KeepsNames}
 use Rattle.ink_tree.specs.Nodes.{node_place}

@@ -1,5 +1,5 @@
 -- What is kept of a story's contents, so that no step walks a place.
-use Rattle.std.specs.Prelude.{◌≡◌, ⊤, ℕ, ◌+◌, ◌<◌, List, [], ◌∷◌, ◌++◌, length, Bool, false, nat_le, nat_lt, ◌&&◌, ◌||◌, reverse, slice_get, if◌then◌else◌, Option, Some, None}
+use Rattle.std.specs.Prelude.{◌≡◌, ⊤, ℕ, ◌+◌, ◌/◌, ◌%◌, ◌==◌, ◌<◌, List, [], ◌∷◌, ◌++◌, length, Bool, false, nat_le, nat_lt, ◌&&◌, ◌||◌, reverse, slice_get, if◌then◌else◌, Option, Some, None}
 use Rattle.std.specs.Borrow.{Bor}
 use Rattle.std.specs.Option.{option_map}
 use Rattle.ink_json.specs.Node.{Node}
@@ -90,7 +90,11 @@ first_inside s p = if nat_lt 0 (width (at s p)) then Some (p ++ Index 0 ∷ []) 
 
 -- where a link leads; the root stands for nowhere
 abbrev pub linked_to : Link → Option NodeId
-linked_to l = if nat_lt 0 l.next then Some (record { number = l.next }) else None
+linked_to l = if nat_lt 0 (l.bits / 2) then Some (record { number = l.bits / 2 }) else None
+
+-- what it notes of the containers around
+abbrev pub is_under_flags : Link → Bool
+is_under_flags l = l.bits % 2 == 1
 
 -- a container around a content has flags, by the way up from its end
 abbrev pub flagged_above : StoryTree → List Part → Bool
@@ -99,7 +103,7 @@ flagged_above s (x ∷ up) = nat_lt 0 (flags_at (at s (reverse up))) || flagged_
 
 -- the content at a place is linked to the one after it, and it is noted whether flags are around it
 abbrev pub IsLinked : StoryTree → List Part → Link → Type 0
-IsLinked s p l = (option_map (node_place s) (linked_to l) ≡ next_place s p) × (l.flagged ≡ flagged_above s (reverse p))
+IsLinked s p l = (option_map (node_place s) (linked_to l) ≡ next_place s p) × (is_under_flags l ≡ flagged_above s (reverse p))
 
 -- the same, where anything is
 abbrev pub MayBeLinked : StoryTree → List Part → Option (Bor Link) → Type 0

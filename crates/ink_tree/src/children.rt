@@ -4,12 +4,13 @@ use ink_json::{Key, Nodes, compare_parts};
 use std::alloc::{AllocError, Global};
 use std::cmp::Ordering;
 
-/// The numbers of the contents in each container, in order: a block for each, and where it ends. Nothing rests on it: what is
-/// found here is looked at again.
+/// The numbers of the contents in each container, in order: a block for each, and where it ends. And at the slot of a container
+/// and a name the number of the content that was noted there last. Nothing rests on it: what is found here is looked at again.
 #[derive(Drop)]
 pub(crate) struct Children {
     numbers: Vec<u32>,
     ends: Vec<u32>,
+    slots: Vec<u32>,
 }
 
 impl Children {
@@ -23,12 +24,25 @@ impl Children {
                 *slot = small(number);
             }
         }
-        Ok(Children { numbers, ends })
+        let slots = note_names(alloc, nodes)?;
+        Ok(Children {
+            numbers,
+            ends,
+            slots,
+        })
     }
 
     /// The number of the content that stands at an index in a container.
     pub(crate) fn at(&self, container: usize, index: usize) -> usize {
         self.number(self.start(container).wrapping_add(index))
+    }
+
+    /// The number that is noted at the slot of a container and a name.
+    pub(crate) fn noted(&self, container: usize, name: &str) -> usize {
+        match self.slots.get(slot(container, name, self.slots.len())) {
+            Some(number) => *number as usize,
+            None => 0,
+        }
     }
 
     /// The number of the last content in a container, behind so many by index, at a key or before it: the keys rise. The
@@ -74,6 +88,46 @@ impl Children {
             None => 0,
         }
     }
+}
+
+// The numbers of the contents that have names, by the slots of these.
+fn note_names(alloc: Global, nodes: &Nodes) -> Result<Vec<u32>, AllocError> {
+    let mut count: usize = 0;
+    for number in 1..nodes.len() {
+        if name_at(nodes, number).is_some() {
+            count = count.wrapping_add(1);
+        }
+    }
+    let mut slots = Vec::from_elem(alloc, 0, count.saturating_mul(2))?;
+    for number in 1..nodes.len() {
+        if let Some(name) = name_at(nodes, number) {
+            let place = slot(holder(nodes, number), name, slots.len());
+            if let Some(noted) = slots.get_mut(place) {
+                *noted = small(number);
+            }
+        }
+    }
+    Ok(slots)
+}
+
+// The name of the content of a number in what is around it.
+fn name_at(nodes: &Nodes, number: usize) -> Option<&str> {
+    match nodes.get(number)?.last() {
+        Some(Key::Name(name)) => Some(name),
+        _ => None,
+    }
+}
+
+// The slot of a container and a name, of so many.
+fn slot(container: usize, name: &str, slots: usize) -> usize {
+    if slots == 0 {
+        return 0;
+    }
+    let mut mixed = container;
+    for byte in name.as_bytes() {
+        mixed = mixed.wrapping_mul(31).wrapping_add(*byte as usize);
+    }
+    mixed % slots
 }
 
 // Where the block of each container starts.

@@ -1,9 +1,10 @@
 //! Linking each content to the one after it.
 
-ghost use Rattle.std.specs.Prelude.{◌≡◌, ℕ, List, false, IfOk, Option, option_map, reverse, slice_get};
+ghost use Rattle.std.specs.Prelude.{◌≡◌, ◌<◌, ◌^◌, ℕ, List, false, IfOk, Option, length, option_map, reverse, slice_get};
 ghost use Rattle.ink_model.specs.Counts.{CountsOf};
 ghost use Rattle.ink_model.specs.Entered.{entered_places};
 ghost use Rattle.ink_model.specs.Place.{next_place};
+ghost use Rattle.ink_model.specs.Places.{places};
 ghost use Rattle.ink_model.specs.Visits.{all_visited};
 ghost use Rattle.ink_model.specs.declared.place.Part.{Part as Step};
 ghost use Rattle.ink_tree.specs.Kept.{AreLinked, IsLinked, MayBeLinked, flagged_above};
@@ -31,7 +32,8 @@ impl Tree {
 
     // The link of one content, given those of the ones before it.
     fn new_link(&self, links: &Vec<Link>, node: NodeId) -> Link
-        requires { AreLinked (story_tree self.now) links.now.items }
+        requires linked { AreLinked (story_tree self.now) links.now.items }
+        requires few { length (places (story_tree self.now)) < 2 ^ 31 }
         ensures { IsLinked (story_tree self.now) (node_place (story_tree self.now) node) result }
     {
         Link::to(self.next_of(links, node), self.is_flagged(links, node))
@@ -47,7 +49,7 @@ impl Tree {
         };
         self.flags(holder) > 0
             || match link_at(links, holder.number) {
-                Some(around) => around.flagged,
+                Some(around) => around.is_under_flags(),
                 None => self.is_flagged(links, holder),
             }
     }
@@ -70,7 +72,7 @@ impl Tree {
         ensures { result ≡ flagged_above (story_tree self.now) (reverse (node_place (story_tree self.now) node)) }
     {
         match self.linked(node) {
-            Some(link) => link.flagged,
+            Some(link) => link.is_under_flags(),
             None => self.is_flagged(&self.links, node),
         }
     }

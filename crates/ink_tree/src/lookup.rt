@@ -163,14 +163,26 @@ impl Tree {
             return None;
         }
         let own = self.own(holder);
-        let width = width_of(container) as usize;
-        let number = self.children.up_to(self.nodes(), own.number, width, name);
+        let number = self.children.noted(own.number, name);
         if self.is_child(number, holder, Key::Name(name)) {
-            Some(NodeId { number })
-        } else if self.is_gap(number, holder, Key::Name(name)) {
+            return Some(NodeId { number });
+        }
+        self.search(own, name)
+    }
+
+    // The same among the keys in their order.
+    #[inline(never)]
+    fn search(&self, holder: NodeId, name: &str) -> Option<NodeId>
+        ensures { Finds (story_tree self.now) (node_place (story_tree self.now) holder ++ Name name.now ∷ []) result }
+    {
+        let width = self.width(holder) as usize;
+        let number = self
+            .children
+            .up_to(self.nodes(), holder.number, width, name);
+        if self.is_gap(number, holder, Key::Name(name)) {
             None
         } else {
-            self.scan(holder, Key::Name(name))
+            self.near(number, holder, Key::Name(name))
         }
     }
 

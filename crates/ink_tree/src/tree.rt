@@ -87,7 +87,7 @@ impl Tree {
     /// How many contents the story has. Their numbers are those below it. Takes no memory.
     pub fn len(&self) -> usize
         ensures all { result ≡ length (places (story_tree self.now)) }
-        ensures few { result < 2 ^ 32 }
+        ensures few { result < 2 ^ 31 }
     {
         self.nodes().len()
     }

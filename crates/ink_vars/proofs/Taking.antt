@@ -1,7 +1,5 @@
 -- What is put back of globals.
-use Rattle.std.proofs.Common.{◌≡◌, ◌∙◌, Option, ◌≤◌, ◌<◌, ℕ, zero, suc, List, [], ◌∷◌, ◌++◌, None, Some, String, Global, ap, arith, bytes_eq, false, true, Bool, if◌then◌else◌, is_some, length, map, refl, slice_get, string_bytes, sym}
-use Rattle.std.proofs.lemmas.List.{map-append}
-use Rattle.std.specs.Option.{option_to_list}
+use Rattle.std.proofs.Common.{◌≡◌, ◌∙◌, Option, ◌≤◌, ◌<◌, ℕ, suc, List, [], ◌∷◌, None, Some, ap, arith, bytes_eq, false, true, Bool, if◌then◌else◌, length, refl}
 use Rattle.ink_vars.specs.Globals.{set_value_at}
 use Rattle.ink_model.specs.Store.{Values, store, stored}
 use Rattle.ink_model.specs.declared.value.Value.{Value}

@@ -18,7 +18,7 @@ const MOST_TOLD: usize = 20;
 /// - `place SPOT`, `spot PLACE`, `node SPOT`, `knot NAME`: places by number, and numbers of places
 /// - `start`, `land PLACE`, `next PLACE`: where flow starts, lands and goes on
 /// - `entered PLACE PLACE`: the containers that a landing at the second enters, coming from the first, which may be
-///   `nowhere`; only their number, if they are more than 20
+///   `nowhere`; only their number, if they are more than 20; `flagged PLACE`: whether any around a place has flags
 /// - `resolve PLACE PATH`: where a path of the content there leads
 /// - `first PLACE`: where a step there performs, and the content; `first_leaf PLACE`: the same with the content only where it
 ///   holds no other; `leaf_at PLACE`: the content there, where it holds no other
@@ -151,6 +151,10 @@ fn ask_place(
         }
         "next" => {
             show_place(said, tree, tree.next(spot));
+            Ok(())
+        }
+        "flagged" => {
+            said.show(tree.has_flags_around(spot));
             Ok(())
         }
         "leaf_at" => {

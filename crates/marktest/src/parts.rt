@@ -4,15 +4,15 @@
 //! difference.
 //!
 //! - `threads`: `go:PLACE`, `put:PLACE`, `mode:EVALUATING`, `number:NUMBER`, `text:DEPTH`, which ends freshness, `call:DEPTH`,
-//!   `tunnel:DEPTH`, `return:DEPTH`, `leave:DEPTH`, `fork`, `drop`, `temp:FRAME:NAME=VALUE`, `alone`, by which a copy of the top
-//!   thread becomes the only one, and `reset`
+//!   `tunnel:DEPTH`, `return:DEPTH`, `leave:DEPTH`, `fork`, `drop`, `temp:FRAME:NAME=VALUE`, `own:FRAME:NAME=VALUE`, which is
+//!   the same of a name that can be shared, `alone`, by which a copy of the top thread becomes the only one, and `reset`
 //! - `globals`: `NAME=VALUE`
 //! - `counts`: `visit:CONTAINER:FLAGS` at its start, and `again:CONTAINER`, which puts back what is known of it
 //! - `choices`: `add:TEXT`, `take:NUMBER` and `clear`
 
 use crate::shown::{compare, show_choices, show_counts, show_globals, show_threads};
 use ink_choice::{Choice, Choices};
-use ink_model::{Fault, FrameKind, Seq, Text};
+use ink_model::{Fault, FrameKind, Seq, Shared, Text};
 use ink_stack::{CallKind, Threads};
 use ink_tree::{NodeId, Spot};
 use ink_vars::{Counts, Globals, Turn};
@@ -133,7 +133,7 @@ fn call_threads(
     rest: &str,
 ) -> Result<(), NoAnswer> {
     match word {
-        "temp" => set_temp(alloc, threads, rest),
+        "temp" | "own" => set_temp(alloc, threads, word == "own", rest),
         "mode" => set_mode(threads, rest == "true"),
         "fork" | "drop" | "alone" | "reset" => call_thread(threads, word),
         _ => call_at(threads, word, number(rest)?),
@@ -198,8 +198,13 @@ fn set_mode(threads: &mut Threads<Spot>, evaluating: bool) -> Result<(), NoAnswe
     Ok(())
 }
 
-/// Sets a temporary of a frame that is there: `FRAME:NAME=VALUE`.
-fn set_temp(alloc: Global, threads: &mut Threads<Spot>, rest: &str) -> Result<(), NoAnswer> {
+/// Sets a temporary of a frame that is there: `FRAME:NAME=VALUE`; its name may be shared.
+fn set_temp(
+    alloc: Global,
+    threads: &mut Threads<Spot>,
+    is_shared: bool,
+    rest: &str,
+) -> Result<(), NoAnswer> {
     let (frame, row) = rest.split_once(':').unwrap_or((rest, ""));
     let (name, value) = row.split_once('=').unwrap_or((row, ""));
     let frame = number::<usize>(frame)?;
@@ -207,6 +212,10 @@ fn set_temp(alloc: Global, threads: &mut Threads<Spot>, rest: &str) -> Result<()
         return Err(NoAnswer::NoQuestion);
     }
     let value = value_of(alloc, value)?;
+    if is_shared {
+        let name = Shared::new(alloc, Text::from_str(alloc, name)?)?;
+        return Ok(threads.set_shared_temp(frame, &name, value)?);
+    }
     Ok(threads.set_temp(frame, name, value)?)
 }
 

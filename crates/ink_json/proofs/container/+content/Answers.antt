@@ -56,7 +56,7 @@ read_container-returns t c =
     let flags = own.1 ∙ ap (λ d. flags_of (own_of d)) is in
     let name = c.in_ok-name.ensures ∙ own.2 ∙ ap (λ d. cond c.args.position.listed (name_in (own_of d)) None) is in
     let old = c.args.nodes.now in
-    let here : c.len-number.result ≡ length old = c.len-number.ensures in
+    let here : c.len-number.result ≡ length old = c.len-number.ensures.len in
     let opened = opened_listed old c.args.position.holder c.args.position.last c.in_ok-name.name c.in-Some-read_own.own.flags c.len-number.result (content_of c.args.position.context.version ds) (keyed_in c.args.position.context.version ds) here
     c.open.new.self c.read_inside.new.nodes c.in_ok-open.ensures c.in_ok-inside.ensures.nodes in
     let closed = c.close.ensures old (nodes_inside (length old + 1) (length old) (content_of c.args.position.context.version ds) (keyed_in c.args.position.context.version ds)) c.args.position.holder c.args.position.last c.in_ok-name.name c.in-Some-read_own.own.flags opened here in

@@ -1,7 +1,8 @@
-use Rattle.std.proofs.Common.{◌≡◌, ◌∙◌, ℕ, List, ◌∷◌, [], ◌++◌, None, Some, ap, bytes_eq, cond, length, map, string_bytes, subst, sym}
+use Rattle.std.proofs.Common.{◌≡◌, ◌∙◌, ℕ, List, ◌∷◌, [], ◌++◌, None, Some, ap, bytes_eq, cond, length, string_bytes, subst, sym}
 use Rattle.std.specs.BTreeMap.{get_by_text}
 use Rattle.std.proofs.lemmas.List.{length-map, map-append}
 use Rattle.std.proofs.lemmas.Map.Text.{btree_map_updates_text}
+use Rattle.ink_names.specs.Hints.{Marks}
 use Rattle.ink_names.specs.Names.{Differ, Finds, names_of, number_of}
 use Rattle.ink_names.proofs.Numbers.{differ_pushed, finds_pushed}
 use Rattle.ink_names.proofs.names.Names.add.Goals as goal
@@ -22,4 +23,5 @@ invariant_of-self-2 c =
     let numbers = c.insert.new.self in (
       subst Differ (sym list) (differ_pushed names name absent c.self.invariant.0),
       subst (Finds numbers) (sym list) (finds_pushed c.self.inside.numbers numbers names name absent c.self.invariant.1 found),
+      subst (Marks c.note.new.self) (sym list) (c.note.ensures names (c.in_ok-make_slots.ensures.marks names c.self.invariant.2)),
     )

@@ -3,8 +3,10 @@ use Rattle.std.proofs.Common.{None, subst}
 use Rattle.std.specs.BTreeMap.{get_by_text}
 use Rattle.std.proofs.lemmas.List.{map-append}
 use Rattle.std.proofs.lemmas.Map.Text.{btree_map_updates_text}
+use Rattle.ink_names.specs.Hints.{Marks}
 use Rattle.ink_names.specs.Names.{Differ, Finds, names_of, without_last}
 use Rattle.ink_names.proofs.Numbers.{differ_popped, finds_popped, last_away}
+use Rattle.ink_names.proofs.Marking.{marks_popped}
 use Rattle.ink_names.proofs.names.Names.remove_last.Goals as goal
 
 pub invariant_of-self : goal.invariant_of-self
@@ -18,7 +20,7 @@ invariant_of-self c =
     let gone : (q : List ℕ) → get_by_text numbers q ≡ cond (bytes_eq name q) None (get_by_text c.self.inside.numbers q) = λ q.
     btree_map_updates_text c.as_str.result.now c.self.inside.numbers numbers _ c.remove-number.ensures.updates q
     ∙ ap (λ key. cond (bytes_eq key q) None (get_by_text c.self.inside.numbers q)) c.as_str.ensures.value in
-    (differ.0, finds_popped c.self.inside.numbers numbers names name differ.1 (subst (Finds c.self.inside.numbers) parts c.self.invariant.1) gone)
+    (differ.0, finds_popped c.self.inside.numbers numbers names name differ.1 (subst (Finds c.self.inside.numbers) parts c.self.invariant.1) gone, marks_popped c.self.inside.hints names name (subst (Marks c.self.inside.hints) parts c.self.invariant.2))
 
 pub returns-in-Some : goal.returns-in-Some
 returns-in-Some c =

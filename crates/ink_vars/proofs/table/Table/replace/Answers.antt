@@ -1,4 +1,4 @@
-use Rattle.std.proofs.Common.{◌≡◌, ◌∙◌, ◌<◌, Some, ap, is_some, length, subst, sym}
+use Rattle.std.proofs.Common.{◌∙◌, ◌<◌, ap, is_some, subst, sym}
 use Rattle.ink_model.specs.Store.{store, stored}
 use Rattle.ink_vars.proofs.Rows.{index_of, is_in, stored_over, within}
 use Rattle.ink_vars.proofs.table.Table.replace.Goals as goal

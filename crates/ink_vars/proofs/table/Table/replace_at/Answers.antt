@@ -1,4 +1,4 @@
-use Rattle.std.proofs.Common.{◌≡◌, ◌∙◌, ◌<◌, ap, is_some, length, subst, sym}
+use Rattle.std.proofs.Common.{◌≡◌, ◌∙◌, ◌<◌, ap, is_some, subst, sym}
 use Rattle.ink_model.specs.Store.{store, stored}
 use Rattle.ink_vars.specs.Changes.{number_of}
 use Rattle.ink_vars.specs.Globals.{rows_of}
