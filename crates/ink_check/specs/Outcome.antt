@@ -1,8 +1,8 @@
 -- How the check of paths ends.
-use Rattle.std.specs.Prelude.{◌≡◌, ◌⊎◌, ⊤, ℕ, List, true, false, IsSome, Option, Some, None, Result, Ok, Err}
+use Rattle.std.specs.Prelude.{◌≡◌, ◌⊎◌, ⊤, ℕ, List, true, false, Option, Some, None, Result, Ok, Err}
 use Rattle.ink_model.specs.Acceptance.{accepted, bad_path, content_counted, content_target, good_content, leads}
 use Rattle.ink_model.specs.Grammar.{here}
-use Rattle.ink_model.specs.Path.{read_path, target}
+use Rattle.ink_model.specs.Path.{ends_in_index, read_path, target}
 use Rattle.ink_model.specs.Tree.{StoryTree}
 use Rattle.ink_model.specs.declared.fault.Cause.TheVariants as cause
 use Rattle.ink_model.specs.declared.fault.Failure.{Failure}
@@ -13,19 +13,13 @@ use Rattle.ink_tree.specs.Nodes.{node_place, place_of}
 use Rattle.ink_tree.specs.declared.spot.NodeId.{NodeId}
 use Rattle.ink_check.specs.Links.{counted_place, has_path, number_of, pushed_of, pushed_path, target_place}
 use Rattle.ink_check.specs.Names.{number_in, variable_of}
-use Rattle.ink_check.specs.declared.leading.Lead.{Lead}
+use Rattle.ink_tree.specs.declared.leading.Lead.{Lead}
 use Rattle.ink_check.specs.declared.link.Link.{Link}
 
--- the path that a node's text spells; or it spells none, which is found without memory
-abbrev pub Reads : NodeId → List ℕ → Result Path (Failure NodeId) → Type 0
-Reads n text (Ok path) = read_path text ≡ Some path
-Reads n text (Err OutOfMemory) = IsSome (read_path text)
-Reads n text (Err (Refused m)) = (m ≡ n) × (read_path text ≡ None)
-
--- that path and where it leads from the node; or it leads nowhere
+-- where the path leads that a node's text spells, and whether by an index; or it leads nowhere
 abbrev pub Leads : StoryTree → NodeId → List ℕ → Result Lead (Failure NodeId) → Type 0
-Leads s n text (Ok lead) = (read_path text ≡ Some lead.path) × (target s (node_place s n) lead.path ≡ Some (place_of s lead.spot))
-Leads s n text (Err OutOfMemory) = IsSome (read_path text)
+Leads s n text (Ok lead) = (path : Path) × (read_path text ≡ Some path) × (target s (node_place s n) path ≡ Some (place_of s lead.spot)) × (ends_in_index path.parts ≡ lead.by_index)
+Leads s n text (Err OutOfMemory) = ⊥
 Leads s n text (Err (Refused m)) = (m ≡ n) × (leads s (node_place s n) text ≡ None)
 
 -- what the written path of a node's content comes to, or the number of its variable; or it is bad; memory is asked for only where there is a path to be read

@@ -7,7 +7,7 @@ ghost use Rattle.ink_check.specs.Outcome.{Follows};
 ghost use Rattle.ink_model.specs.Tree as trees;
 ghost use Rattle.ink_tree.specs.Nodes.{story_tree};
 
-use crate::leading::follow;
+use crate::leading::{follow, link};
 use crate::link::{Link, Purpose};
 use crate::names::variable;
 use ink_model::choice_flags::is_once_only;
@@ -29,8 +29,8 @@ pub(crate) fn leaf_link(
     let Some((text, purpose)) = written(leaf) else {
         return Ok(variable_link(names, leaf));
     };
-    let lead = follow(alloc, tree, node, text)?;
-    match lead.link(alloc, tree, purpose) {
+    let lead = follow(tree, node, text)?;
+    match link(alloc, tree, text, lead, purpose) {
         Ok(Some(link)) => Ok(link),
         Ok(None) => Err(Failure::Refused(node)),
         Err(_) => Err(Failure::OutOfMemory),

@@ -2,116 +2,95 @@
 
 ghost use Rattle.std.specs.Prelude.{◌≡◌, Some, None, IfOk, if◌then◌else◌, option_map};
 ghost use Rattle.ink_check.specs.Links.{IsCountOf, IsLinkFor};
-ghost use Rattle.ink_check.specs.Outcome.{Leads, Reads};
+ghost use Rattle.ink_check.specs.Outcome.{Leads};
 ghost use Rattle.ink_model.specs.Acceptance.{is_counted};
 ghost use Rattle.ink_model.specs.Path as paths;
+ghost use Rattle.ink_model.specs.Path.{ends_in_index, read_path};
 ghost use Rattle.ink_model.specs.Tree.{StoryTree};
+ghost use Rattle.ink_model.specs.declared.place.Path.{Path};
 ghost use Rattle.ink_tree.specs.Nodes.{node_place, place_of, story_tree};
 
 use crate::link::{Link, Purpose};
 use ink_model::flags::counts_visits;
-use ink_model::{Cause, Failure, Part, Path, Shared};
-use ink_tree::{NodeId, Spot, Tree, read_path};
+use ink_model::{Failure, Part, Shared};
+use ink_tree::{Lead, NodeId, Spot, Tree, read_path};
 use std::alloc::{AllocError, Global};
 
-/// A path that was read, and where it leads.
-#[derive(Drop)]
-pub(crate) struct Lead {
-    pub path: Path,
-    pub spot: Spot,
-}
-
-/// Where the path of a content leads, which is bad where that is nowhere.
-pub(crate) fn follow(
-    alloc: Global,
-    tree: &Tree,
-    node: NodeId,
-    text: &str,
-) -> Result<Lead, Failure<NodeId>>
+/// Where the path of a content leads, which is bad where that is nowhere. Takes no memory.
+pub(crate) fn follow(tree: &Tree, node: NodeId, text: &str) -> Result<Lead, Failure<NodeId>>
     ensures { Leads (story_tree tree.now) node text.now result }
 {
-    let path = path_of(alloc, node, text)?;
-    match tree.resolve(node, &path) {
-        Some(spot) => Ok(Lead { path, spot }),
+    match tree.lead(node, text) {
+        Some(lead) => Ok(lead),
         None => Err(Failure::Refused(node)),
     }
 }
 
-fn path_of(alloc: Global, node: NodeId, text: &str) -> Result<Path, Failure<NodeId>>
-    ensures { Reads node text.now result }
+/// What a path comes to that leads there; none where it is bad for that purpose. The one error is a refused request for memory.
+pub(crate) fn link(
+    alloc: Global,
+    tree: &Tree,
+    text: &str,
+    lead: Lead,
+    purpose: Purpose,
+) -> Result<Option<Link>, AllocError>
+    ensures { let s = story_tree tree.now in (path : Path) → read_path text.now ≡ Some path → ends_in_index path.parts ≡ lead.by_index
+        → IfOk result (λ link. IsLinkFor s purpose path (place_of s lead.spot) link) }
 {
-    match read_path(alloc, text) {
-        Ok(path) => Ok(path),
-        Err(refusal) => match refusal.cause {
-            Cause::OutOfMemory => Err(Failure::OutOfMemory),
-            _ => Err(Failure::Refused(node)),
-        },
+    match purpose {
+        Purpose::Value => value(alloc, text, lead),
+        Purpose::Flow => Ok(Some(Link::Flows(landing(tree, lead)))),
+        Purpose::Count => Ok(counting(tree, lead.spot, lead.spot)),
+        Purpose::OnceOnly => Ok(counting(tree, lead.spot, landing(tree, lead))),
     }
 }
 
-impl Lead {
-    /// What the path comes to; none where it is bad for that purpose. The one error is a refused request for memory.
-    pub(crate) fn link(
-        self,
-        alloc: Global,
-        tree: &Tree,
-        purpose: Purpose,
-    ) -> Result<Option<Link>, AllocError>
-        ensures { let s = story_tree tree.now in IfOk result (λ link. IsLinkFor s purpose self.path (place_of s self.spot) link) }
-    {
-        match purpose {
-            Purpose::Value => self.value(alloc),
-            Purpose::Flow => Ok(Some(Link::Flows(self.landing(tree)))),
-            Purpose::Count => Ok(self.counting(tree, self.spot)),
-            Purpose::OnceOnly => Ok(self.counting(tree, self.landing(tree))),
-        }
+// The path itself, unless it is relative.
+fn value(alloc: Global, text: &str, lead: Lead) -> Result<Option<Link>, AllocError>
+    ensures { (s : StoryTree) (path : Path) → read_path text.now ≡ Some path → IfOk result (λ link. IsLinkFor s Purpose.Value path (place_of s lead.spot) link) }
+{
+    let Ok(path) = read_path(alloc, text) else {
+        return Err(AllocError);
+    };
+    if path.relative {
+        return Ok(None);
     }
+    let path = Shared::new(alloc, path)?;
+    Ok(Some(Link::Pushes(lead.spot, path)))
+}
 
-    // The path itself, unless it is relative.
-    fn value(self, alloc: Global) -> Result<Option<Link>, AllocError>
-        ensures { (s : StoryTree) → IfOk result (λ link. IsLinkFor s Purpose.Value self.path (place_of s self.spot) link) }
-    {
-        if self.path.relative {
-            return Ok(None);
-        }
-        let Lead { path, spot } = self;
-        let path = Shared::new(alloc, path)?;
-        Ok(Some(Link::Pushes(spot, path)))
+// A place, with the container to which a path leads, where visits are counted there.
+fn counting(tree: &Tree, led: Spot, target: Spot) -> Option<Link>
+    ensures { let s = story_tree tree.now in IsCountOf s (place_of s led) (place_of s target) result }
+{
+    match counted(tree, led) {
+        Some(container) => Some(Link::Counts(target, container)),
+        None => None,
     }
+}
 
-    // A place, with the container to which the path leads, where visits are counted there.
-    fn counting(&self, tree: &Tree, target: Spot) -> Option<Link>
-        ensures { let s = story_tree tree.now in IsCountOf s (place_of s self.now.spot) (place_of s target) result }
-    {
-        match self.counted(tree) {
-            Some(container) => Some(Link::Counts(target, container)),
-            None => None,
-        }
+// Where flow lands: by a name, on the first content of a container.
+fn landing(tree: &Tree, lead: Lead) -> Spot
+    ensures { let s = story_tree tree.now in (path : Path) → ends_in_index path.parts ≡ lead.by_index
+        → place_of s result ≡ paths.landing s path (place_of s lead.spot) }
+{
+    if lead.by_index {
+        lead.spot
+    } else {
+        tree.land(lead.spot)
     }
+}
 
-    // Where flow lands: by a name, on the first content of a container.
-    fn landing(&self, tree: &Tree) -> Spot
-        ensures { let s = story_tree tree.now in
-            place_of s result ≡ paths.landing s self.now.path (place_of s self.now.spot) }
-    {
-        if ends_in_index(self.path.parts.as_slice()) {
-            self.spot
-        } else {
-            tree.land(self.spot)
-        }
-    }
-
-    // The container to which it leads, where visits are counted there.
-    fn counted(&self, tree: &Tree) -> Option<NodeId>
-        ensures { let s = story_tree tree.now in let p = place_of s self.now.spot in
-            option_map (node_place s) result ≡ (if is_counted s (Some p) then Some p else None) }
-    {
-        let node = tree.node(self.spot)?;
-        if counts_visits(tree.flags(node)) {
-            Some(node)
-        } else {
-            None
-        }
+// The container to which a path leads, where visits are counted there.
+fn counted(tree: &Tree, led: Spot) -> Option<NodeId>
+    ensures { let s = story_tree tree.now in let p = place_of s led in
+        option_map (node_place s) result ≡ (if is_counted s (Some p) then Some p else None) }
+{
+    let node = tree.node(led)?;
+    if counts_visits(tree.flags(node)) {
+        Some(node)
+    } else {
+        None
     }
 }
 

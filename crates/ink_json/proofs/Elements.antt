@@ -1,6 +1,9 @@
 -- What a node tells of the value that begins at its place in a tape.
-use Rattle.std.proofs.Common.{◌≡◌, ℕ, ◌+◌, ◌<◌, ◌≤◌, List, [], ◌∷◌, length, drop, Bool, true, false, Option, Some, None, refl, sym, ap, ◌∙◌, subst, arith}
-use Rattle.std.proofs.lemmas.List.{drop_all, drop-drop, length-drop}
+use Rattle.std.proofs.Common.{◌≡◌, ℕ, ◌+◌, ◌<◌, ◌≤◌, List, [], ◌∷◌, length, drop, get_or, nat_eq, set, Bool, true, false, Option, Some, None, refl, sym, ap, ◌∙◌, subst, arith}
+use Rattle.std.proofs.lemmas.Bool.Decides.{nat_tests}
+use Rattle.std.proofs.lemmas.Grind.{get_or-set_at}
+use Rattle.std.proofs.lemmas.List.{drop_all, drop-drop, get_or-set_other, length-drop}
+use Rattle.std.proofs.lemmas.Slice.Eq.{bytes_eq-Decides}
 use Rattle.std.specs.Borrow.{Bor}
 use Rattle.std.specs.Str.{bytes_eq}
 use Rattle.json.specs.Token.{Token}
@@ -10,6 +13,7 @@ use Rattle.json.specs.Tape.{node_token, Passes}
 use Rattle.json.specs.Find.{BeginsWith, HasValue, InItems, InMembers, later_or, as_str, as_number, as_bool, as_array, as_object, get, get_member}
 use Rattle.json.specs.declared.tape.Node.{Node}
 use Rattle.json.specs.declared.tape.Node.TheVariants.{Object, EndObject, Array, EndArray, Key, String, Number, Bool as Truth}
+use Rattle.ink_json.specs.Marks.{slot}
 use Rattle.json.proofs.Found.{not_found, Some_inj, IsKey, one_reading, opened, not_empty, items_close, items_need_tokens, items_go_on, members_go_on, members_close, members_short}
 use Rattle.json.proofs.Grammar.{value_is, left_some}
 use Rattle.ink_json.proofs.Spelled.{mapped}
@@ -211,3 +215,28 @@ found_now name key j left before same = rw same (later_found (get_member name le
 pub passed_by : (name key : List ℕ) (j : Json) (left : Members) (before : Option Json) → bytes_eq key name ≡ false
     → later_or (get_member name (json.member key j left)) before ≡ later_or (get_member name left) before
 passed_by name key j left before other = rw other (ap (λ o. later_or o before) (or_nothing (get_member name left)))
+
+-- ---- marks of names
+
+other_key : (name key : List ℕ) → (slot name ≡ slot key → ⊥) → bytes_eq key name ≡ false
+other_key name key apart = by (bytes_eq key name) refl
+  where
+    by : (b : Bool) → bytes_eq key name ≡ b → b ≡ false
+    by false e = refl
+    by true e = absurd (apart (sym (ap slot ((bytes_eq-Decides key name).0 e))))
+
+-- a name that has no mark once a key was marked had none before, and is not that key
+pub unmarked : (before after : List ℕ) (name key : List ℕ) → slot key < length before → after ≡ set before (slot key) 1 → get_or after (slot name) 0 ≡ 0
+    → ((j : Json) (left : Members) → get_member name (json.member key j left) ≡ get_member name left) × (get_or before (slot name) 0 ≡ 0)
+unmarked before after name key within is none = by (nat_eq (slot name) (slot key)) refl
+  where
+    by : (b : Bool) → nat_eq (slot name) (slot key) ≡ b
+        → ((j : Json) (left : Members) → get_member name (json.member key j left) ≡ get_member name left) × (get_or before (slot name) 0 ≡ 0)
+    by true e =
+        let same : slot key ≡ slot name = grind (arith, nat_tests) in
+        let there : get_or after (slot name) 0 ≡ 1 = ap (λ xs. get_or xs (slot name) 0) is ∙ get_or-set_at before (slot key) (slot name) 1 0 (sym same) within in
+        absurd (omega (arith, there, none))
+    by false e =
+        let apart : slot name ≡ slot key → ⊥ = λ same. absurd (grind (arith, nat_tests, same, e)) in
+        let kept : get_or after (slot name) 0 ≡ get_or before (slot name) 0 = ap (λ xs. get_or xs (slot name) 0) is ∙ get_or-set_other before (slot key) (slot name) 1 0 apart in
+        (λ j left. rw (other_key name key apart) (or_nothing (get_member name left)), sym kept ∙ none)

@@ -2,6 +2,7 @@ pub mod Story
 pub mod Size
 pub mod Reading
 pub mod Heads
+pub mod Marks
 pub mod Descent
 pub mod Last
 pub mod Node

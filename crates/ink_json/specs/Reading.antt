@@ -1,5 +1,5 @@
 -- What reading functions return, beside the definition of the story that bytes spell.
-use Rattle.std.specs.Prelude.{◌≡◌, ℕ, List, [], ◌∷◌, length, Bool, true, false, not, ◌&&◌, nat_lt, bytes_eq, Option, is_some, if◌then◌else◌, Result, Ok, Err}
+use Rattle.std.specs.Prelude.{◌≡◌, ℕ, List, [], ◌∷◌, length, Bool, true, false, not, ◌&&◌, nat_lt, bytes_eq, Option, option_map, is_some, if◌then◌else◌, Result, Ok, Err}
 use Rattle.std.specs.Borrow.{Bor}
 use Rattle.std.specs.BTreeSet.{BTreeSet, contains_by}
 use Rattle.std.specs.Cmp.Lexicographic.{slice_cmp}
@@ -9,7 +9,8 @@ use Rattle.std.specs.Str.{is_utf8}
 use Rattle.serde_json.specs.Data.{Data}
 use Rattle.serde_json.specs.Find.{as_array}
 use Rattle.ink_model.specs.Bytes.{is_filled}
-use Rattle.ink_model.specs.Grammar.{here, under, unmarked, is_last, are_flags, member_of, flags_key, faults}
+use Rattle.ink_model.specs.Grammar.{here, under, unmarked, is_last, are_flags, is_name, member_of, name_key, name_of, own_of, flags_key, faults}
+use Rattle.ink_json.specs.declared.own.Label.{Label}
 use Rattle.ink_model.specs.declared.limits.TheConstants.{MAX_STORY}
 use Rattle.ink_model.specs.declared.fault.Cause.{Cause}
 use Rattle.ink_model.specs.declared.fault.Cause.TheVariants.{Shape}
@@ -74,6 +75,10 @@ placed (Err c) = Err (here c)
 -- a set has the names of a list
 abbrev pub Holds : BTreeSet (Bor (List ℕ)) → List (List ℕ) → Type 0
 Holds names taken = (q : List ℕ) → contains_by (λ k. slice_cmp nat_cmp q k.now) names ≡ list_any (λ n. bytes_eq q n) taken
+
+-- what content says of its own name: whether what it gives for one is a text, and the name
+abbrev pub IsLabel : Label → Data → Type 0
+IsLabel l d = (l.sound ≡ is_name (member_of name_key (own_of d))) × (option_map (λ n. n.now) l.name ≡ name_of d)
 
 -- a container's last element is one, and gives no flags but such
 abbrev pub is_whole : Option Data → Bool

@@ -20,7 +20,7 @@ use crate::leaf::{read_number, read_string};
 use crate::names::{give, is_misnamed};
 use crate::nodes::Nodes;
 use crate::object::read_object_leaf;
-use crate::own::{copy_name, is_own, name_of, read_own};
+use crate::own::{copy_name, is_own, label_of, read_own};
 use crate::value::{Items, Kind, Value};
 use ink_model::{Cause, Content, InkVersion, Leaf, MAX_NESTING};
 use std::alloc::Global;
@@ -211,9 +211,10 @@ fn read_elements<'t, 'a>(
     let mut left = items;
     let mut index = 0;
     while let Some(next) = left.next() {
-        let misnamed = is_misnamed(&names, &here);
+        let label = label_of(&here);
+        let misnamed = is_misnamed(&names, label);
         read_element(alloc, nodes, number, &here, index, inside, misnamed)?;
-        give(&mut names, name_of(&here))?;
+        give(&mut names, label.name)?;
         here = next;
         index += 1;
     }

@@ -5,8 +5,10 @@ ghost use Rattle.json.specs.Token.{Token};
 ghost use Rattle.json.specs.Json.{Json, array, object, value};
 ghost use Rattle.json.specs.Json as spec;
 ghost use Rattle.json.specs.Tape.{node_token, LinkAt};
+ghost use Rattle.ink_json.specs.Marks.{AreMarked};
 ghost use Rattle.json.specs.Find.{BeginsWith, HasValue, InItems, InMembers, NextItem, NextMember, Finds, get, as_str, as_number, as_bool, as_array, as_object};
 
+use crate::marks::Marks;
 use crate::tape::Tape;
 use json::Node;
 use std::marker::Model;
@@ -92,6 +94,7 @@ impl<'t, 'a> Element<'t, 'a> {
     }
 
     /// The node that it begins with.
+    #[inline(always)]
     fn node(&self) -> Node<'a>
         ensures { self.now ≡ node_token result ∷ drop 1 self.now }
     {
@@ -99,6 +102,7 @@ impl<'t, 'a> Element<'t, 'a> {
     }
 
     /// The text, where it is a string.
+    #[inline(always)]
     pub(crate) fn as_str(&self) -> Option<&'a str>
         ensures { (j : Json) → BeginsWith self.now j → option_map (λ s. s.now) result ≡ as_str j }
     {
@@ -109,6 +113,7 @@ impl<'t, 'a> Element<'t, 'a> {
     }
 
     /// The text of the number, where it is one.
+    #[inline(always)]
     pub(crate) fn as_number(&self) -> Option<&'a str>
         ensures { (j : Json) → BeginsWith self.now j → option_map (λ s. s.now) result ≡ as_number j }
     {
@@ -119,6 +124,7 @@ impl<'t, 'a> Element<'t, 'a> {
     }
 
     /// Which truth it is, where it is one.
+    #[inline(always)]
     pub(crate) fn as_bool(&self) -> Option<bool>
         ensures { (j : Json) → BeginsWith self.now j → result ≡ as_bool j }
     {
@@ -129,6 +135,7 @@ impl<'t, 'a> Element<'t, 'a> {
     }
 
     /// The items, where it is an array.
+    #[inline(always)]
     pub(crate) fn items(&self) -> Option<Items<'t, 'a>>
         ensures { (j : Json) → BeginsWith self.now j
             → MatchOption result (as_array j ≡ None) (λ rest. (js : spec.Items) × (j ≡ array js) × InItems rest js) }
@@ -143,6 +150,7 @@ impl<'t, 'a> Element<'t, 'a> {
     }
 
     /// The members, where it is an object.
+    #[inline(always)]
     pub(crate) fn members(&self) -> Option<Members<'t, 'a>>
         ensures { (j : Json) → BeginsWith self.now j
             → MatchOption result (as_object j ≡ None) (λ rest. (ms : spec.Members) × (j ≡ object ms) × InMembers rest ms) }
@@ -154,6 +162,20 @@ impl<'t, 'a> Element<'t, 'a> {
             }),
             _ => None,
         }
+    }
+
+    /// Which names the members may have, where it is an object.
+    pub(crate) fn marks(&self) -> Marks
+        ensures { (j : Json) → BeginsWith self.now j → AreMarked result (λ name. get name j) }
+    {
+        let mut marks = Marks::none();
+        let Some(mut members) = self.members() else {
+            return marks;
+        };
+        while let Some((name, _element)) = members.next() {
+            marks.mark(name);
+        }
+        marks
     }
 
     /// The last member of this name, where it is an object.

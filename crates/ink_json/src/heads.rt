@@ -5,6 +5,7 @@ ghost use Rattle.ink_json.specs.Value.{json_data};
 ghost use Rattle.ink_model.specs.Leaves.{by_head, jump_readings, value_readings, store_readings};
 ghost use Rattle.ink_json.specs.Heads.{Counts, Adds, reading};
 
+use crate::object::Object;
 use crate::readings::{Jump, Scope};
 use crate::value::Value;
 
@@ -31,7 +32,7 @@ pub(crate) enum Found<'t, 'a> {
 }
 
 /// The heads of an object.
-pub(crate) fn heads<'t, 'a>(object: &Value<'t, 'a>) -> Found<'t, 'a>
+pub(crate) fn heads<'t, 'a>(object: &Object<'_, 't, 'a>) -> Found<'t, 'a>
     ensures { Counts result (json_data object.now) (jump_readings (json_data object.now) ++ (value_readings (json_data object.now) ++ store_readings (json_data object.now))) }
 {
     let found = Found::Nothing;
@@ -41,7 +42,7 @@ pub(crate) fn heads<'t, 'a>(object: &Value<'t, 'a>) -> Found<'t, 'a>
 }
 
 #[tactic(auto, unfolding(ink_model::specs::Leaves::jump_readings))]
-fn add_jumps<'t, 'a>(found: Found<'t, 'a>, object: &Value<'t, 'a>) -> Found<'t, 'a>
+fn add_jumps<'t, 'a>(found: Found<'t, 'a>, object: &Object<'_, 't, 'a>) -> Found<'t, 'a>
     ensures { Adds jump_readings found.entry (json_data object.now) result }
 {
     let found = add(found, object, "->", Head::Jump(Jump::Divert));
@@ -52,7 +53,7 @@ fn add_jumps<'t, 'a>(found: Found<'t, 'a>, object: &Value<'t, 'a>) -> Found<'t, 
 }
 
 #[tactic(auto, unfolding(ink_model::specs::Leaves::value_readings))]
-fn add_values<'t, 'a>(found: Found<'t, 'a>, object: &Value<'t, 'a>) -> Found<'t, 'a>
+fn add_values<'t, 'a>(found: Found<'t, 'a>, object: &Object<'_, 't, 'a>) -> Found<'t, 'a>
     ensures { Adds value_readings found.entry (json_data object.now) result }
 {
     let found = add(found, object, "^->", Head::Target);
@@ -63,7 +64,7 @@ fn add_values<'t, 'a>(found: Found<'t, 'a>, object: &Value<'t, 'a>) -> Found<'t,
 }
 
 #[tactic(auto, unfolding(ink_model::specs::Leaves::store_readings))]
-fn add_stores<'t, 'a>(found: Found<'t, 'a>, object: &Value<'t, 'a>) -> Found<'t, 'a>
+fn add_stores<'t, 'a>(found: Found<'t, 'a>, object: &Object<'_, 't, 'a>) -> Found<'t, 'a>
     ensures { Adds store_readings found.entry (json_data object.now) result }
 {
     let found = add(found, object, "VAR=", Head::Store(Scope::Global));
@@ -71,7 +72,13 @@ fn add_stores<'t, 'a>(found: Found<'t, 'a>, object: &Value<'t, 'a>) -> Found<'t,
 }
 
 /// The heads found before, and this one where the object has it.
-fn add<'t, 'a>(found: Found<'t, 'a>, object: &Value<'t, 'a>, key: &str, head: Head) -> Found<'t, 'a>
+#[inline(always)]
+fn add<'t, 'a>(
+    found: Found<'t, 'a>,
+    object: &Object<'_, 't, 'a>,
+    key: &str,
+    head: Head,
+) -> Found<'t, 'a>
     ensures { Adds (by_head key.now (reading head)) found.entry (json_data object.now) result }
 {
     let Some(value) = object.get(key) else {

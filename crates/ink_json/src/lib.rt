@@ -11,6 +11,7 @@ mod key;
 mod last;
 mod leaf;
 mod limits;
+mod marks;
 mod names;
 mod node;
 mod nodes;

@@ -1,20 +1,19 @@
 //! The names given in a container so far.
 
 ghost use Rattle.std.specs.Prelude.{◌≡◌, ℕ, List, OnOk, option_map};
-ghost use Rattle.ink_json.specs.Value.{json_data};
+ghost use Rattle.serde_json.specs.Data.{Data};
 ghost use Rattle.ink_model.specs.Grammar.{is_taken, with_name, is_misnamed};
-ghost use Rattle.ink_json.specs.Reading.{Holds};
+ghost use Rattle.ink_json.specs.Reading.{Holds, IsLabel};
 
-use crate::own::{has_name, name_of};
-use crate::value::Value;
+use crate::own::Label;
 use std::alloc::AllocError;
 use std::collections::BTreeSet;
 
-/// Whether content may not stand in a list by its name: it is no text, or was given before.
-pub(crate) fn is_misnamed(names: &BTreeSet<&str>, value: &Value<'_, '_>) -> bool
-    ensures { (taken : List (List ℕ)) → Holds names.now taken → result ≡ is_misnamed taken (json_data value.now) }
+/// Whether content of this label may not stand in a list by its name: it is no text, or was given before.
+pub(crate) fn is_misnamed(names: &BTreeSet<&str>, label: Label<'_>) -> bool
+    ensures { (taken : List (List ℕ)) → Holds names.now taken → (d : Data) → IsLabel label.entry d → result ≡ is_misnamed taken d }
 {
-    !has_name(value) || is_taken(names, name_of(value))
+    !label.sound || is_taken(names, label.name)
 }
 
 fn is_taken(names: &BTreeSet<&str>, name: Option<&str>) -> bool

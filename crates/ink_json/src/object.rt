@@ -1,6 +1,7 @@
-//! Reading an object, which is a leaf.
+//! An object, and reading it as a leaf.
 
-ghost use Rattle.std.specs.Prelude.{◌≡◌};
+ghost use Rattle.std.specs.Prelude.{◌≡◌, option_map};
+ghost use Rattle.serde_json.specs.Find.{get};
 ghost use Rattle.ink_json.specs.Value.{json_data};
 ghost use Rattle.ink_model.specs.Leaves.{object_leaf, is_beyond};
 ghost use Rattle.ink_json.specs.Reading.{Reads, placed};
@@ -8,6 +9,7 @@ ghost use Rattle.ink_json.specs.Heads.{reading};
 
 use crate::error::{ReadFailure, refused};
 use crate::heads::{Found, Head, heads};
+use crate::marks::Marks;
 use crate::readings::{
     read_choice, read_count, read_external, read_jump, read_pointer, read_store, read_tag,
     read_target, read_variable,
@@ -15,6 +17,50 @@ use crate::readings::{
 use crate::value::Value;
 use ink_model::{Cause, InkVersion, Leaf};
 use std::alloc::Global;
+use std::marker::Model;
+
+/// An object, and which names its members may have. A contract sees the object.
+#[derive(Drop)]
+pub(crate) struct Object<'v, 't, 'a> {
+    value: &'v Value<'t, 'a>,
+    marks: Marks,
+}
+
+impl<'v, 't, 'a> Model for Object<'v, 't, 'a> {
+    ghost use Rattle.serde_json.specs.Find.{get};
+    ghost use Rattle.ink_json.specs.Marks.{AreMarked};
+    ghost use Rattle.ink_json.specs.Value.{json_data};
+    ghost use Rattle.ink_json.specs.declared.value.Value.{Value as Read};
+
+    ghost Value = { Read };
+
+    ghost view = { λ o. o.value.now };
+
+    ghost invariant = { λ o. AreMarked o.marks (λ name. get name (json_data o.value.now)) };
+}
+
+impl<'v, 't, 'a> Object<'v, 't, 'a> {
+    fn of(value: &'v Value<'t, 'a>) -> Object<'v, 't, 'a>
+        ensures { result ≡ value.now }
+    {
+        Object {
+            value,
+            marks: value.marks(),
+        }
+    }
+
+    /// The last member of this name.
+    #[inline(always)]
+    pub(crate) fn get(&self, name: &str) -> Option<Value<'t, 'a>>
+        ensures { option_map json_data result ≡ get name.now (json_data self.now) }
+    {
+        if self.marks.may_have(name) {
+            self.value.get(name)
+        } else {
+            None
+        }
+    }
+}
 
 /// The leaf that an object is in a version: it has exactly one head, and none of content that is not supported.
 #[tactic(auto, unfolding(ink_model::specs::Leaves::object_leaf))]
@@ -25,17 +71,18 @@ pub(crate) fn read_object_leaf(
 ) -> Result<Leaf, ReadFailure>
     ensures { Reads (λ l. l) result (placed (object_leaf version (json_data object.now))) }
 {
-    if is_beyond(version, object) {
+    let object = Object::of(object);
+    if is_beyond(version, &object) {
         return Err(refused(alloc, Cause::Unsupported));
     }
-    match heads(object) {
-        Found::One(head, value) => read_by(alloc, head, object, &value),
+    match heads(&object) {
+        Found::One(head, value) => read_by(alloc, head, &object, &value),
         Found::Nothing | Found::Several => Err(refused(alloc, Cause::Shape)),
     }
 }
 
 /// Whether an object has a head of content that is not supported in a version.
-fn is_beyond(version: InkVersion, object: &Value<'_, '_>) -> bool
+fn is_beyond(version: InkVersion, object: &Object<'_, '_, '_>) -> bool
     ensures { result ≡ is_beyond version (json_data object.now) }
 {
     match version {
@@ -48,7 +95,7 @@ fn is_beyond(version: InkVersion, object: &Value<'_, '_>) -> bool
 fn read_by(
     alloc: Global,
     head: Head,
-    object: &Value<'_, '_>,
+    object: &Object<'_, '_, '_>,
     value: &Value<'_, '_>,
 ) -> Result<Leaf, ReadFailure>
     ensures { Reads (λ l. l) result (placed (reading head (json_data object.now) (json_data value.now))) }

@@ -1,8 +1,8 @@
 //! What a container's last element says of the container itself.
 
 ghost use Rattle.std.specs.Prelude.{◌≡◌, false, true, not, MatchOption, Some, None, option_map, if◌then◌else◌, IfOk};
-ghost use Rattle.ink_model.specs.Grammar.{own_of, is_last, are_flags, flags_of, is_name, name_in, name_of, member_of, flags_key, name_key, is_own};
-ghost use Rattle.ink_json.specs.Reading.{is_whole};
+ghost use Rattle.ink_model.specs.Grammar.{own_of, is_last, are_flags, flags_of, is_name, name_in, member_of, flags_key, name_key, is_own};
+ghost use Rattle.ink_json.specs.Reading.{IsLabel, is_whole};
 ghost use Rattle.ink_json.specs.Value.{json_data};
 
 use crate::readings::shared_text;
@@ -75,32 +75,40 @@ fn name_in<'a>(last: &Value<'_, 'a>) -> Option<&'a str>
     }
 }
 
-/// The name that content gives itself.
-pub(crate) fn name_of<'a>(value: &Value<'_, 'a>) -> Option<&'a str>
-    ensures { option_map (λ n. n.now) result ≡ name_of (json_data value.now) }
+/// What content says of its own name: whether what it gives for one is a text, and the name.
+#[derive(Clone, Copy)]
+pub(crate) struct Label<'a> {
+    pub(crate) sound: bool,
+    pub(crate) name: Option<&'a str>,
+}
+
+/// The label of content, of which an array's last element alone gives any.
+pub(crate) fn label_of<'a>(value: &Value<'_, 'a>) -> Label<'a>
+    ensures { IsLabel result (json_data value.now) }
 {
     match value.last() {
-        Some(last) => name_in(&last),
-        None => None,
+        Some(last) => label_in(&last),
+        None => Label {
+            sound: true,
+            name: None,
+        },
     }
 }
 
-/// Whether content gives itself no name but a text.
-pub(crate) fn has_name(value: &Value<'_, '_>) -> bool
-    ensures { result ≡ is_name (member_of name_key (own_of (json_data value.now))) }
+fn label_in<'a>(last: &Value<'_, 'a>) -> Label<'a>
+    ensures sound { result.sound ≡ is_name (member_of name_key (Some (json_data last.now))) }
+    ensures name { option_map (λ n. n.now) result.name ≡ name_in (Some (json_data last.now)) }
 {
-    match value.last() {
-        Some(last) => gives_name(&last),
-        None => true,
-    }
-}
-
-fn gives_name(last: &Value<'_, '_>) -> bool
-    ensures { result ≡ is_name (member_of name_key (Some (json_data last.now))) }
-{
-    match last.get("#n") {
-        Some(name) => name.as_str().is_some(),
-        None => true,
+    let Some(name) = last.get("#n") else {
+        return Label {
+            sound: true,
+            name: None,
+        };
+    };
+    let name = name.as_str();
+    Label {
+        sound: name.is_some(),
+        name,
     }
 }
 

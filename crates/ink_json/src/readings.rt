@@ -10,6 +10,7 @@ ghost use Rattle.ink_json.specs.Reading.{Reads, placed};
 
 use crate::error::{ReadFailure, refused};
 use crate::limits::MOST;
+use crate::object::Object;
 use crate::options::{frame, is_on, whole_or};
 use crate::value::Value;
 use ink_model::{Cause, Destination, Leaf, MAX_TEXT, Shared, Text};
@@ -36,7 +37,7 @@ pub(crate) enum Scope {
 /// A jump, which may pop a condition.
 pub(crate) fn read_jump(
     alloc: Global,
-    object: &Value<'_, '_>,
+    object: &Object<'_, '_, '_>,
     head: &Value<'_, '_>,
     jump: Jump,
 ) -> Result<Leaf, ReadFailure>
@@ -71,7 +72,7 @@ fn jump_leaf(jump: Jump, to: Destination, conditional: bool) -> Leaf
 /// A call of an external function.
 pub(crate) fn read_external(
     alloc: Global,
-    object: &Value<'_, '_>,
+    object: &Object<'_, '_, '_>,
     head: &Value<'_, '_>,
 ) -> Result<Leaf, ReadFailure>
     ensures { Reads (λ l. l) result (placed (read_external (json_data object.now) (json_data head.now))) }
@@ -95,7 +96,7 @@ pub(crate) fn read_external(
 
 pub(crate) fn read_choice(
     alloc: Global,
-    object: &Value<'_, '_>,
+    object: &Object<'_, '_, '_>,
     head: &Value<'_, '_>,
 ) -> Result<Leaf, ReadFailure>
     ensures { Reads (λ l. l) result (placed (read_choice (json_data object.now) (json_data head.now))) }
@@ -112,7 +113,7 @@ pub(crate) fn read_choice(
 /// A pointer to a variable. Frames are -1, 0 and above.
 pub(crate) fn read_pointer(
     alloc: Global,
-    object: &Value<'_, '_>,
+    object: &Object<'_, '_, '_>,
     head: &Value<'_, '_>,
 ) -> Result<Leaf, ReadFailure>
     ensures { Reads (λ l. l) result (placed (read_pointer (json_data object.now) (json_data head.now))) }
@@ -139,7 +140,7 @@ fn point(alloc: Global, name: &str, frame: i128) -> Result<Leaf, ReadFailure>
 /// A variable stored to, which is declared, or assigned where it is there already.
 pub(crate) fn read_store(
     alloc: Global,
-    object: &Value<'_, '_>,
+    object: &Object<'_, '_, '_>,
     head: &Value<'_, '_>,
     scope: Scope,
 ) -> Result<Leaf, ReadFailure>

@@ -5,10 +5,12 @@ ghost use Rattle.json.specs.Token.{begin_array};
 ghost use Rattle.serde_json.specs.Data.{no_items, item};
 ghost use Rattle.serde_json.specs.Find.{get, as_bool, as_str, as_array, as_object, as_number, as_u64};
 ghost use Rattle.ink_model.specs.Grammar.{is_blank_object, own_of};
+ghost use Rattle.ink_json.specs.Marks.{AreMarked};
 ghost use Rattle.ink_json.specs.Number.{num};
 ghost use Rattle.ink_json.specs.Spelled.{is_readable, are_sound};
 
 use crate::element::{self, Element};
+use crate::marks::Marks;
 use crate::number::Number;
 use crate::tape::Tape;
 use json::Node;
@@ -104,18 +106,21 @@ impl<'t, 'a> Value<'t, 'a> {
         }
     }
 
+    #[inline(always)]
     pub(crate) fn as_str(&self) -> Option<&'a str>
         ensures { option_map (λ s. s.now) result ≡ as_str (json_data self.now) }
     {
         self.element.as_str()
     }
 
+    #[inline(always)]
     pub(crate) fn as_bool(&self) -> Option<bool>
         ensures { result ≡ as_bool (json_data self.now) }
     {
         self.element.as_bool()
     }
 
+    #[inline(always)]
     pub(crate) fn as_number(&self) -> Option<Number>
         ensures { option_map num result ≡ as_number (json_data self.now) }
     {
@@ -134,6 +139,7 @@ impl<'t, 'a> Value<'t, 'a> {
         }
     }
 
+    #[inline(always)]
     pub(crate) fn is_object(&self) -> bool
         ensures { result ≡ is_some (as_object (json_data self.now)) }
     {
@@ -150,6 +156,13 @@ impl<'t, 'a> Value<'t, 'a> {
         }
     }
 
+    /// Which names the members may have, where it is an object.
+    pub(crate) fn marks(&self) -> Marks
+        ensures { AreMarked result (λ name. get name (json_data self.now)) }
+    {
+        self.element.marks()
+    }
+
     /// The last member of this name, where it is an object.
     pub(crate) fn get(&self, name: &str) -> Option<Value<'t, 'a>>
         ensures { option_map json_data result ≡ get name.now (json_data self.now) }
@@ -161,6 +174,7 @@ impl<'t, 'a> Value<'t, 'a> {
     }
 
     /// The items, where it is an array.
+    #[inline(always)]
     pub(crate) fn items(&self) -> Option<Items<'t, 'a>>
         ensures { option_map items_left result ≡ as_array (json_data self.now) }
     {

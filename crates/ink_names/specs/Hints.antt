@@ -2,14 +2,15 @@
 use Rattle.std.specs.Prelude.{◌≡◌, ◌⊎◌, ◌<◌, ℕ, ◌+◌, ◌-◌, ◌*◌, ◌/◌, ◌%◌, List, length, get_or, None}
 use Rattle.ink_names.specs.Names.{number_of}
 
--- the slot of a name, by its length and three of its bytes
-abbrev pub slot : List ℕ → ℕ
-slot name = (length name % 512 + 5 * get_or name (length name / 4) 0 + 31 * get_or name (length name / 2) 0 + 7 * get_or name (length name - 1) 0) % 512
+-- the hash of a name, by its length and four of its bytes
+abbrev pub hash : List ℕ → ℕ
+hash name = 7919 * (length name % 4096) + 2248091 * get_or name (length name / 2) 0 + 17161 * get_or name (length name - 3) 0 + 131 * get_or name (length name - 2) 0
+    + get_or name (length name - 1) 0
 
--- there are no slots yet, or all
-abbrev pub HasSlots : List ℕ → Type 0
-HasSlots slots = (length slots ≡ 0) ⊎ (length slots ≡ 512)
+-- the slot of a name, of so many
+abbrev pub slot : List ℕ → ℕ → ℕ
+slot name slots = hash name % slots
 
 -- each of these names has something at its slot
 abbrev pub Marks : List ℕ → List (List ℕ) → Type 0
-Marks slots names = (name : List ℕ) → (number_of names name ≡ None) ⊎ (0 < get_or slots (slot name) 0)
+Marks slots names = (name : List ℕ) → (number_of names name ≡ None) ⊎ (0 < get_or slots (slot name (length slots)) 0)

@@ -1,30 +1,29 @@
 //! Where names are looked for first.
 
-ghost use Rattle.std.specs.Prelude.{◌≡◌, ◌<◌, ℕ, List, [], ◌∷◌, ◌++◌, get_or, length, OnOk};
-ghost use Rattle.ink_names.specs.Hints.{Marks, slot};
+ghost use Rattle.std.specs.Prelude.{◌≡◌, ◌<◌, ℕ, List, [], ◌∷◌, ◌++◌, get_or, length, IfOk, OnOk};
+ghost use Rattle.ink_names.specs.Hints.{Marks, hash, slot};
+ghost use Rattle.ink_names.specs.Names.{names_of};
 
 use std::alloc::{AllocError, Global};
 use std::marker::Model;
 
-/// How many slots there are, once there is a name.
-const SLOTS: usize = 512;
+/// How many slots there are at least, once there is a name.
+const FEWEST: usize = 512;
 
 /// By a few bytes of a name, one more than the number of the name that was noted with these last; 0 where none was. So a name with
-/// 0 there is no one's, and each other is looked at. However names are chosen, they are found by order at the worst.
+/// 0 there is no one's, and each other is looked at. However names are chosen, they are found by order at the worst. There are
+/// twice as many slots as names, or more.
 #[derive(Drop)]
 pub(crate) struct Hints {
-    slots: Vec<usize>,
+    slots: Vec<u32>,
 }
 
 impl Model for Hints {
     ghost use Rattle.std.specs.Prelude.{ℕ, List};
-    ghost use Rattle.ink_names.specs.Hints.{HasSlots};
 
     ghost Value = { List ℕ };
 
     ghost view = { λ h. h.slots.items };
-
-    ghost invariant = { λ h. HasSlots h.slots.items };
 }
 
 impl Hints {
@@ -37,49 +36,97 @@ impl Hints {
         }
     }
 
-    /// Makes the slots, where there are none. The one error is a refused request for memory, and leaves all as it was.
-    pub(crate) fn make_slots(&mut self, alloc: Global) -> Result<(), AllocError>
-        ensures slots { OnOk result (length self.new ≡ 512) }
-        ensures marks { (names : List (List ℕ)) → Marks self.old names → Marks self.new names }
+    /// Makes slots for one name more than these, where there are too few, and notes them again. The one error is a refused request
+    /// for memory, and leaves all as it was.
+    pub(crate) fn make_slots(
+        &mut self,
+        alloc: Global,
+        names: &Vec<String>,
+    ) -> Result<(), AllocError>
+        ensures slots { OnOk result (0 < length self.new) }
+        ensures marks { Marks self.old (names_of names.now.items) → Marks self.new (names_of names.now.items) }
     {
-        if self.slots.is_empty() {
-            self.slots = Vec::from_elem(alloc, 0, SLOTS)?;
+        if names.len() < self.slots.len() / 2 {
+            return Ok(());
         }
+        *self = Hints::of(alloc, names)?;
         Ok(())
+    }
+
+    // Hints of names, of which each is noted.
+    fn of(alloc: Global, names: &Vec<String>) -> Result<Hints, AllocError>
+        ensures slots { IfOk result (λ hints. 0 < length hints) }
+        ensures marks { IfOk result (λ hints. Marks hints (names_of names.now.items)) }
+    {
+        let count = names.len().saturating_mul(4).max(FEWEST);
+        let mut hints = Hints {
+            slots: Vec::from_elem(alloc, 0, count)?,
+        };
+        for (number, name) in names.iter().enumerate() {
+            hints.note(name.as_str(), number + 1);
+        }
+        Ok(hints)
     }
 
     /// Notes a name, by one more than its number.
     pub(crate) fn note(&mut self, name: &str, behind: usize)
-        requires slots { length self.old ≡ 512 }
+        requires slots { 0 < length self.old }
         requires behind { 0 < behind }
-        ensures { (names : List (List ℕ)) → Marks self.old names → Marks self.new (names ++ name.now ∷ []) }
+        ensures marks { (names : List (List ℕ)) → Marks self.old names → Marks self.new (names ++ name.now ∷ []) }
+        ensures slots { length self.new ≡ length self.old }
     {
-        self.slots[slot(name)] = behind;
+        let slot = slot(name, self.slots.len());
+        self.slots[slot] = small(behind);
     }
 
     /// One more than the number at which a name is looked for first; 0 where it is no one's.
     pub(crate) fn behind(&self, name: &str) -> usize
-        ensures { result ≡ get_or self.now (slot name.now) 0 }
+        ensures { result ≡ get_or self.now (slot name.now (length self.now)) 0 }
     {
-        match self.slots.get(slot(name)) {
-            Some(behind) => *behind,
+        if self.slots.is_empty() {
+            return 0;
+        }
+        match self.slots.get(slot(name, self.slots.len())) {
+            Some(behind) => *behind as usize,
             None => 0,
         }
     }
 }
 
-// The slot of a name.
-fn slot(name: &str) -> usize
-    ensures slot { result ≡ slot name.now }
-    ensures within { result < 512 }
+// A number, or the largest that a slot has where it is larger: then the name is not found there.
+fn small(number: usize) -> u32
+    ensures { 0 < number → 0 < result }
 {
-    let bytes = name.as_bytes();
-    let len = bytes.len();
-    if len == 0 {
-        return 0;
+    u32::try_from(number).unwrap_or(u32::MAX)
+}
+
+// The slot of a name, of so many.
+fn slot(name: &str, slots: usize) -> usize
+    requires { 0 < slots }
+    ensures slot { result ≡ slot name.now slots }
+    ensures within { result < slots }
+{
+    hash(name.as_bytes()) % slots
+}
+
+// Names that end in numbers differ in their last bytes.
+fn hash(name: &[u8]) -> usize
+    ensures { result ≡ hash name.now }
+{
+    let len = name.len();
+    let middle = byte(name, len / 2);
+    let third = byte(name, len.saturating_sub(3));
+    let second = byte(name, len.saturating_sub(2));
+    let last = byte(name, len.saturating_sub(1));
+    7919 * (len % 4096) + 2_248_091 * middle + 17_161 * third + 131 * second + last
+}
+
+fn byte(name: &[u8], index: usize) -> usize
+    ensures byte { result ≡ get_or name.now index 0 }
+    ensures small { result < 256 }
+{
+    match name.get(index) {
+        Some(byte) => *byte as usize,
+        None => 0,
     }
-    let quarter = bytes[len / 4] as usize;
-    let middle = bytes[len / 2] as usize;
-    let last = bytes[len - 1] as usize;
-    (len % SLOTS + 5 * quarter + 31 * middle + 7 * last) % SLOTS
 }

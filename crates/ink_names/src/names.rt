@@ -80,10 +80,10 @@ impl Names {
         ensures ok { OnOk result (self.new ≡ self.old ++ name.now ∷ []) }
         ensures err { OnErr result (self.new ≡ self.old) }
     {
+        self.hints.make_slots(alloc, &self.list)?;
         let listed = String::from_str(alloc, name)?;
         let key = String::from_str(alloc, name)?;
         self.list.reserve(1)?;
-        self.hints.make_slots(alloc)?;
         let number = self.list.len();
         self.numbers.insert(key, number)?;
         self.list.push_reserved(listed);

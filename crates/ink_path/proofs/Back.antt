@@ -102,7 +102,7 @@ written_components p (q ∷ qs) (h, hs) =
 
 -- ---- paths
 
-some_piece : (cs : List ℕ) → (p : List ℕ) × (ps : List (List ℕ)) × (pieces is_dot cs ≡ p ∷ ps)
+pub some_piece : (cs : List ℕ) → (p : List ℕ) × (ps : List (List ℕ)) × (pieces is_dot cs ≡ p ∷ ps)
 some_piece [] = ([], [], refl)
 some_piece (c ∷ cs) =
     let (p, ps, e) = some_piece cs in

@@ -1,3 +1,4 @@
+pub mod Lefts
 pub mod Reading
 pub mod Writing
 pub mod Back

@@ -47,7 +47,7 @@ pub fn print_path(alloc: Global, path: &Path) -> Result<Text, AllocError>
 
 // A dot in front makes a path relative; behind it stand the components.
 #[tactic(auto, unfolding(ink_model::specs::Path::read_path))]
-fn undotted(text: &str) -> (bool, &str)
+pub(crate) fn undotted(text: &str) -> (bool, &str)
     ensures { rules.read_path text.now ≡ rules.path_with result.0 result.1.now }
 {
     match text.strip_prefix('.') {
@@ -89,7 +89,7 @@ fn is_component(text: &str) -> bool
     !is_number(text) || index_of(text).is_some()
 }
 
-fn is_number(text: &str) -> bool
+pub(crate) fn is_number(text: &str) -> bool
     ensures { result ≡ list_all is_digit text.now }
 {
     text.as_bytes().iter().all(|byte| is_digit(*byte))
@@ -102,7 +102,7 @@ fn is_digit(byte: u8) -> bool
 }
 
 // The index that digits are; none where it is too large.
-fn index_of(digits: &str) -> Option<u32>
+pub(crate) fn index_of(digits: &str) -> Option<u32>
     requires filled { 0 < length digits.now }
     requires digits { list_all is_digit digits.now ≡ true }
     ensures { result ≡ index_of digits.now }

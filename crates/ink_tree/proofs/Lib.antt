@@ -11,6 +11,7 @@ pub mod Spots
 pub mod Knots
 pub mod Further
 pub mod Kept
+pub mod Leads
 pub mod Numbered
 pub mod Contents
 pub mod Down

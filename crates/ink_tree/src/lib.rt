@@ -6,6 +6,7 @@ mod children;
 mod content;
 mod entry;
 mod gap;
+mod leading;
 mod link;
 mod linking;
 mod lookup;
@@ -18,6 +19,7 @@ mod tree;
 mod upward;
 
 pub use ink_path::{print_path, read_path};
+pub use leading::Lead;
 pub use spot::{NodeId, Spot};
 pub use tree::Tree;
 pub use upward::Upward;

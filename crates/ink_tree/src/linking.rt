@@ -96,7 +96,8 @@ impl Tree {
         match last {
             Key::Index(index) => {
                 if (index as usize) + 1 < self.width(holder) as usize {
-                    self.child_at(holder, index + 1)
+                    let behind = self.behind(self.own(node));
+                    self.near(behind, holder, Key::Index(index + 1))
                 } else {
                     match link_at(links, holder.number) {
                         Some(around) => around.next(),

@@ -187,7 +187,7 @@ impl Tree {
     }
 
     // The node one part down, which is looked for at a number first.
-    fn near(&self, number: usize, holder: NodeId, key: Key<'_>) -> Option<NodeId>
+    pub(crate) fn near(&self, number: usize, holder: NodeId, key: Key<'_>) -> Option<NodeId>
         ensures { Finds (story_tree self.now) (node_place (story_tree self.now) holder ++ key_part key.entry ∷ []) result }
     {
         if self.is_child(number, holder, key) {

@@ -12,7 +12,8 @@ use crate::content::name_of;
 use crate::names::{Listed, Names};
 use crate::spot::NodeId;
 use crate::tree::Tree;
-use std::alloc::AllocError;
+use ink_json::Nodes;
+use std::alloc::{AllocError, Global};
 
 /// A list of at most so many contents is looked through each time.
 const FEW: u32 = 8;
@@ -25,8 +26,12 @@ impl Tree {
     pub(crate) fn list_names(&self) -> Result<Vec<Listed>, AllocError>
         ensures { IfOk result (λ lists. AreNamed (story_tree self.now) lists.items) }
     {
+        let holding = holding_names(self.alloc, self.nodes())?;
         let mut lists = Vec::new(self.alloc);
         for number in 0..self.len() {
+            if !is_holding(&holding, number) {
+                continue;
+            }
             let holder = NodeId { number };
             let Some(names) = self.new_names(holder)? else {
                 continue;
@@ -113,6 +118,24 @@ impl Tree {
     {
         name_of(self.content_of(node))
     }
+}
+
+// Which contents hold a container that gives itself a name, by number. Nothing rests on it: the names of the others are not listed.
+fn holding_names(alloc: Global, nodes: &Nodes) -> Result<Vec<bool>, AllocError> {
+    let mut holding = Vec::from_elem(alloc, false, nodes.len())?;
+    for number in 0..nodes.len() {
+        let node = nodes.at(number);
+        if name_of(node.content()).is_some() {
+            if let Some(holds) = holding.get_mut(node.holder() as usize) {
+                *holds = true;
+            }
+        }
+    }
+    Ok(holding)
+}
+
+fn is_holding(holding: &Vec<bool>, number: usize) -> bool {
+    matches!(holding.get(number), Some(true))
 }
 
 // Whether a name is the one that content gives itself.

@@ -2,11 +2,13 @@
 
 ghost use Rattle.std.specs.Prelude.{◌≡◌, option_map};
 ghost use Rattle.ink_model.specs.Path.{by_name, stepped, stepped_last, target, walked};
+ghost use Rattle.ink_path.specs.Components.{part_of};
 ghost use Rattle.ink_model.specs.declared.place.Part.TheVariants.{Index};
 
 use crate::spot::{NodeId, Spot};
 use crate::tree::Tree;
 use ink_model::{Part, Path};
+use ink_path::Component;
 
 impl Tree {
     ghost use Rattle.ink_tree.specs.Nodes.{story_tree, node_place, place_of};
@@ -37,20 +39,20 @@ impl Tree {
         };
         let mut here = from;
         for component in others {
-            here = self.step(here, component)?;
+            here = self.step(here, component_of(component))?;
         }
-        self.last_step(here, last)
+        self.last_step(here, component_of(last))
     }
 
     // One component further.
-    fn step(&self, here: NodeId, component: &Part) -> Option<NodeId>
+    pub(crate) fn step(&self, here: NodeId, component: Component<'_>) -> Option<NodeId>
         ensures { option_map (node_place (story_tree self.now)) result
-            ≡ stepped (story_tree self.now) (node_place (story_tree self.now) here) component.now }
+            ≡ stepped (story_tree self.now) (node_place (story_tree self.now) here) (part_of component.entry) }
     {
         match component {
-            Part::Index(index) => self.step_in(here, *index),
-            Part::Name(name) if name.as_str() == "^" => self.holder(here),
-            Part::Name(name) => self.step_by_name(here, name.as_str()),
+            Component::Index(index) => self.step_in(here, index),
+            Component::Name(name) if name == "^" => self.holder(here),
+            Component::Name(name) => self.step_by_name(here, name),
         }
     }
 
@@ -74,13 +76,13 @@ impl Tree {
     }
 
     // The last component, an index of which may be a container's end.
-    fn last_step(&self, here: NodeId, component: &Part) -> Option<Spot>
+    pub(crate) fn last_step(&self, here: NodeId, component: Component<'_>) -> Option<Spot>
         ensures { option_map (place_of (story_tree self.now)) result
-            ≡ stepped_last (story_tree self.now) (node_place (story_tree self.now) here) component.now }
+            ≡ stepped_last (story_tree self.now) (node_place (story_tree self.now) here) (part_of component.entry) }
     {
         match component {
-            Part::Index(index) => self.last_step_in(here, *index),
-            Part::Name(_) => {
+            Component::Index(index) => self.last_step_in(here, index),
+            Component::Name(_) => {
                 let holder = self.step(here, component)?;
                 Some(Spot {
                     holder,
@@ -112,5 +114,15 @@ impl Tree {
             Some(node) => Spot::of(node),
             None => spot,
         }
+    }
+}
+
+// A component, lent.
+fn component_of(part: &Part) -> Component<'_>
+    ensures { part_of result ≡ part.now }
+{
+    match part {
+        Part::Index(index) => Component::Index(*index),
+        Part::Name(name) => Component::Name(name.as_str()),
     }
 }

@@ -100,6 +100,7 @@ fn ask_tree(said: &mut Report, tree: &Tree, word: &str, rest: &str) -> Result<()
         }
         "entered" => ask_entered(said, tree, rest),
         "resolve" => ask_path(said, tree, rest),
+        "lead" => ask_lead(said, tree, rest),
         "content" | "place" | "node" => {
             ask_spot(said, tree, word, spot_of(rest)?);
             Ok(())
@@ -193,6 +194,23 @@ fn ask_path(said: &mut Report, tree: &Tree, rest: &str) -> Result<(), NoAnswer> 
     let spot = spot_at(said, tree, from)?.ok_or(NoAnswer::NoQuestion)?;
     let from = tree.node(spot).ok_or(NoAnswer::NoQuestion)?;
     show_place(said, tree, tree.resolve(from, &path));
+    Ok(())
+}
+
+fn ask_lead(said: &mut Report, tree: &Tree, rest: &str) -> Result<(), NoAnswer> {
+    let (from, path) = first_word(rest);
+    let spot = spot_at(said, tree, from)?.ok_or(NoAnswer::NoQuestion)?;
+    let from = tree.node(spot).ok_or(NoAnswer::NoQuestion)?;
+    let Some(lead) = tree.lead(from, path) else {
+        said.put("nowhere");
+        return Ok(());
+    };
+    show_place(said, tree, Some(lead.spot));
+    said.put(if lead.by_index {
+        " by index"
+    } else {
+        " by name"
+    });
     Ok(())
 }
 

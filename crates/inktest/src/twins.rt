@@ -8,7 +8,7 @@ use crate::twin::{Twin, below, under};
 use crate::written::{is_path, is_spelled};
 use ink_check::{Story, check};
 use ink_json::{RawStory, read_story};
-use ink_model::{Part, Place, ReadRefusal};
+use ink_model::{Part, Path, Place, ReadRefusal};
 use ink_tree::{NodeId, Spot, Tree, read_path};
 use inkcases::{NoAnswer, Report};
 use std::alloc::{AllocError, Global};
@@ -380,11 +380,29 @@ impl Twins<'_, '_> {
                 self.hold(said, path, from, is_path(path) && is_spelled(&read, path));
                 let fast = self.tree.resolve(NodeId { number: from }, &read);
                 self.alike_spots(said, path, from, fast, self.twin.leads(from, path));
+                self.compare_lead(said, from, path, &read);
             }
             Err(refusal) => match NoAnswer::from(refusal) {
                 NoAnswer::OutOfMemory => said.refuse(),
-                _ => self.hold(said, path, from, !is_path(path)),
+                _ => {
+                    let led = self.tree.lead(NodeId { number: from }, path);
+                    self.hold(said, path, from, !is_path(path) && led.is_none());
+                }
             },
         }
+    }
+
+    // The lead of a text, beside what its path comes to.
+    fn compare_lead(&self, said: &mut Report, from: usize, path: &str, read: &Path) {
+        let led = self.tree.lead(NodeId { number: from }, path);
+        if let Some(lead) = led {
+            let by_index = matches!(read.parts.as_slice().last(), Some(Part::Index(_)));
+            self.hold(said, path, from, lead.by_index == by_index);
+        }
+        let spot = match led {
+            Some(lead) => Some(lead.spot),
+            None => None,
+        };
+        self.alike_spots(said, path, from, spot, self.twin.leads(from, path));
     }
 }

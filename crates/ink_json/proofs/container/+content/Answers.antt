@@ -106,7 +106,7 @@ read_elements-returns-in_err-read_element-clause-err t c =
     let names = l.invariant.names in
     let same = names.2 ∙ ap (λ ds. faults_inside c.args.context.version c.args.context.nesting l.index names.0 (item (json_data l.here) ds)) c.in-Some.ensures.value in
     let p = err_from_is_err_and c.from_residual.result c.from_residual.ensures.1 in
-    let fails = rw (c.is_misnamed-misnamed.ensures names.0 names.1, c.inside-inside.ensures.version, c.inside-inside.ensures.nesting) at c.in_err-read_element.ensures in
+    let fails = rw (c.is_misnamed-misnamed.ensures names.0 names.1 (json_data l.here) c.label_of-label.ensures, c.inside-inside.ensures.version, c.inside-inside.ensures.nesting) at c.in_err-read_element.ensures in
     rw (p.1, p.2) (element_stops c.args.context.version c.args.context.nesting l.index (json_data l.here) (json_data c.in-Some.next) (items_left c.next.new.self) names.0 _ same c.in_err-read_element.field-0.0 fails)
 
 pub read_elements-loop-next-preserved : goal.read_elements-loop-next-preserved
@@ -117,7 +117,7 @@ read_elements-loop-next-preserved t c =
     let next = json_data c.in-Some.next in
     let left = items_left c.next.new.self in
     let names = l.invariant.names in
-    let read = rw (c.is_misnamed-misnamed.ensures names.0 names.1, c.inside-inside.ensures.version, c.inside-inside.ensures.nesting) at c.in_ok-read_element.ensures in
+    let read = rw (c.is_misnamed-misnamed.ensures names.0 names.1 here c.label_of-label.ensures, c.inside-inside.ensures.version, c.inside-inside.ensures.nesting) at c.in_ok-read_element.ensures in
     let same = names.2 ∙ ap (λ ds. faults_inside c.args.context.version c.args.context.nesting l.index names.0 (item here ds)) e in
     let goes = element_goes c.args.context.version c.args.context.nesting l.index here next left names.0 _ same read.0 read.1 in
     let now = l.nodes in
@@ -127,7 +127,7 @@ read_elements-loop-next-preserved t c =
           (ap (λ u. now ++ nodes_from (length now) c.args.number l.index (tree u (content_of c.args.context.version (item next left)))) (sym goes.1)
           ∙ ap (λ ds. now ++ nodes_from (length now) c.args.number l.index (content_of c.args.context.version (item here ds))) (sym e) ∙ listed) read.2;
       wide = omega (arith, l.invariant.wide, ap (λ ds. count (content_of c.args.context.version (item here ds))) e);
-      names = (with_name names.0 (name_of here), rw c.name_of.ensures at (c.in_ok-give.ensures names.0 names.1), goes.0);
+      names = (with_name names.0 (name_of here), rw c.label_of-label.ensures.1 at (c.in_ok-give.ensures names.0 names.1), goes.0);
       last = l.invariant.last ∙ ap (own_after here) e;
       within = omega (arith, l.invariant.within, ap items_size e, size_positive here);
       room = omega (arith, l.invariant.room, ap items_size e, grown c.args.context.version now c.read_element.new.nodes _ _ _ true here read.0 read.2 goes.1);

@@ -1,12 +1,17 @@
-use Rattle.std.proofs.Common.{◌≡◌, ◌∙◌, ◌<◌, ap, arith, length, set, slice_set}
+use Rattle.std.proofs.Common.{◌≡◌, ◌∙◌, ◌<◌, ap, arith, length, set}
+use Rattle.std.proofs.lemmas.List.{length-set}
 use Rattle.ink_names.specs.Hints.{slot}
 use Rattle.ink_names.proofs.Marking.{marks_noted}
 use Rattle.ink_names.proofs.hints.Hints.note.Goals as goal
 
-pub returns : goal.returns
-returns c = λ names marks.
+pub returns-clause-marks : goal.returns-clause-marks
+returns-clause-marks c = λ names marks.
     let slots = c.args.self.now in
-    let new = slice_set c.self.inside.slots.items c.slot.result c.args.behind in
-    let within : slot c.args.name.now < length slots = omega (arith, c.slot.ensures.slot, c.slot.ensures.within, c.requires.slots) in
-    let is : new ≡ set slots (slot c.args.name.now) c.args.behind = ap (λ xs. set xs c.slot.result c.args.behind) c.self.view_is ∙ ap (λ i. set slots i c.args.behind) c.slot.ensures.slot in
-    marks_noted slots new names c.args.name.now c.args.behind within c.requires.behind is marks
+    let name = c.args.name.now in
+    let new = set c.self.inside.slots.items c.slot-slot.result c.small.result in
+    let many : c.len.result ≡ length slots = c.len.ensures ∙ c.self.inside.slots.ok.0 ∙ ap length c.self.view_is in
+    let at : c.slot-slot.result ≡ slot name (length slots) = c.slot-slot.ensures.slot ∙ ap (slot name) many in
+    let within : slot name (length slots) < length slots = omega (arith, at, many, c.slot-slot.ensures.within) in
+    let is : new ≡ set slots (slot name (length slots)) c.small.result = ap (λ xs. set xs c.slot-slot.result c.small.result) c.self.view_is ∙ ap (λ i. set slots i c.small.result) at in
+    let same : length new ≡ length slots = length-set c.self.inside.slots.items c.slot-slot.result c.small.result ∙ ap length c.self.view_is in
+    marks_noted slots new names name c.small.result within (c.small.ensures c.requires.behind) is same marks

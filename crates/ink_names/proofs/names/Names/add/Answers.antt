@@ -1,5 +1,8 @@
 use Rattle.std.proofs.Common.{◌≡◌, ◌∙◌, ℕ, List, ◌∷◌, [], ◌++◌, None, Some, ap, bytes_eq, cond, length, string_bytes, subst, sym}
-use Rattle.std.specs.BTreeMap.{get_by_text}
+use Rattle.std.specs.BTreeMap.{get_by_text, is_at}
+use Rattle.std.specs.Map.{lookup}
+use Rattle.std.specs.Cmp.Lexicographic.{slice_cmp}
+use Rattle.std.specs.Ordering.{nat_cmp}
 use Rattle.std.proofs.lemmas.List.{length-map, map-append}
 use Rattle.std.proofs.lemmas.Map.Text.{btree_map_updates_text}
 use Rattle.ink_names.specs.Hints.{Marks}
@@ -23,5 +26,25 @@ invariant_of-self-2 c =
     let numbers = c.insert.new.self in (
       subst Differ (sym list) (differ_pushed names name absent c.self.invariant.0),
       subst (Finds numbers) (sym list) (finds_pushed c.self.inside.numbers numbers names name absent c.self.invariant.1 found),
-      subst (Marks c.note.new.self) (sym list) (c.note.ensures names (c.in_ok-make_slots.ensures.marks names c.self.invariant.2)),
+      subst (Marks c.note.new.self) (sym list) (c.note.ensures.marks names (c.in_ok-make_slots.ensures.marks c.self.invariant.2)),
+    )
+
+pub invariant_of-self-in_err-reserve : goal.invariant_of-self-in_err-reserve
+invariant_of-self-in_err-reserve c =
+    let names = names_of c.self.inside.list.items in
+    let same : names_of c.reserve.new.self.items ≡ names = ap names_of c.in_err-reserve.ensures.items in (
+      subst Differ (sym same) c.self.invariant.0,
+      subst (Finds c.self.inside.numbers) (sym same) c.self.invariant.1,
+      subst (Marks c.make_slots.new.self) (sym same) (c.in_ok-make_slots.ensures.marks c.self.invariant.2),
+    )
+
+pub invariant_of-self-in_err-insert : goal.invariant_of-self-in_err-insert
+invariant_of-self-in_err-insert c =
+    let names = names_of c.self.inside.list.items in
+    let same : names_of c.reserve.new.self.items ≡ names = ap names_of c.in_ok-reserve.ensures.items in
+    let kept : (q : List ℕ) → get_by_text c.insert.new.self q ≡ get_by_text c.self.inside.numbers q = λ q.
+    ap (lookup (is_at (λ k. slice_cmp nat_cmp q (string_bytes k)))) c.in_err-insert.ensures.err in (
+      subst Differ (sym same) c.self.invariant.0,
+      subst (Finds c.insert.new.self) (sym same) (λ q. kept q ∙ c.self.invariant.1 q),
+      subst (Marks c.make_slots.new.self) (sym same) (c.in_ok-make_slots.ensures.marks c.self.invariant.2),
     )

@@ -9,7 +9,7 @@ returns-then-index-width t c =
     let s = story_tree c.args.self.now in
     let a = c.in-Some in
     next_beside s (node_place s c.args.node) (node_place s a.holder) (key_part a.last) c.in-Index.index a.ensures.1 (ap key_part c.in-Index.is)
-    c.child_at.result (omega (arith, c.width.ensures, c.if-index-width.true)) c.child_at.ensures
+    c.near.result (omega (arith, c.width.ensures, c.if-index-width.true)) c.near.ensures
 
 pub returns-in-Some-link_at : goal.returns-in-Some-link_at
 returns-in-Some-link_at t c =
