@@ -21,6 +21,7 @@ use crate::names::{give, is_misnamed};
 use crate::nodes::Nodes;
 use crate::object::read_object_leaf;
 use crate::own::{copy_name, is_own, label_of, read_own};
+use crate::texts::Texts;
 use crate::value::{Items, Kind, Value};
 use ink_model::{Cause, Content, InkVersion, Leaf, MAX_NESTING};
 use std::alloc::Global;
@@ -77,6 +78,7 @@ struct Inside {
 #[cycle(content)]
 fn read_content(
     alloc: Global,
+    texts: &mut Texts,
     nodes: &mut Nodes,
     value: &Value<'_, '_>,
     position: Position<'_>,
@@ -87,12 +89,12 @@ fn read_content(
         (content position.entry.context.version position.entry.context.nesting position.entry.misnamed position.entry.listed (json_data value.now)) }
 {
     match value.kind() {
-        Kind::Array(items) => read_container(alloc, nodes, value, items, position),
-        Kind::String(text) => list_leaf(alloc, nodes, position, read_string(alloc, text)),
+        Kind::Array(items) => read_container(alloc, texts, nodes, value, items, position),
+        Kind::String(text) => list_leaf(alloc, nodes, position, read_string(alloc, texts, text)),
         Kind::Bool(truth) => list_leaf(alloc, nodes, position, Ok(Leaf::Bool(truth))),
         Kind::Number(number) => list_leaf(alloc, nodes, position, read_number(alloc, number)),
         Kind::Object => {
-            let read = read_object_leaf(alloc, position.context.version, value);
+            let read = read_object_leaf(alloc, texts, position.context.version, value);
             list_leaf(alloc, nodes, position, read)
         }
         Kind::Null => Err(refused(alloc, Cause::Shape)),
@@ -120,6 +122,7 @@ fn list_leaf(
 #[cycle(content)]
 pub(crate) fn read_container(
     alloc: Global,
+    texts: &mut Texts,
     nodes: &mut Nodes,
     array: &Value<'_, '_>,
     items: Items<'_, '_>,
@@ -151,10 +154,10 @@ pub(crate) fn read_container(
     if misnamed {
         return Err(refused(alloc, Cause::Shape));
     }
-    let name = copy_name(alloc, own.name)?;
+    let name = copy_name(texts, own.name)?;
     let number = nodes.len();
     nodes.open(alloc, holder, last, name, own.flags)?;
-    let inside = read_inside(alloc, nodes, number as u32, first, items, context)?;
+    let inside = read_inside(alloc, texts, nodes, number as u32, first, items, context)?;
     nodes.close(number, inside.width, inside.keys);
     Ok(())
 }
@@ -163,6 +166,7 @@ pub(crate) fn read_container(
 #[cycle(content)]
 fn read_inside<'t, 'a>(
     alloc: Global,
+    texts: &mut Texts,
     nodes: &mut Nodes,
     number: u32,
     first: Value<'t, 'a>,
@@ -179,9 +183,9 @@ fn read_inside<'t, 'a>(
     ensures err { IfErr result (λ e. IsFirst e (faults_inside context.version context.nesting 0 [] (item (json_data first.entry) (items_left items.entry)))) }
 {
     let Elements { width, names, last } = read_elements(
-        alloc, nodes, number, first, items, context,
+        alloc, texts, nodes, number, first, items, context,
     )?;
-    let keys = read_last(alloc, nodes, number, &last, context, &names)?;
+    let keys = read_last(alloc, texts, nodes, number, &last, context, &names)?;
     Ok(Inside { width, keys })
 }
 
@@ -189,6 +193,7 @@ fn read_inside<'t, 'a>(
 #[cycle(content)]
 fn read_elements<'t, 'a>(
     alloc: Global,
+    texts: &mut Texts,
     nodes: &mut Nodes,
     number: u32,
     first: Value<'t, 'a>,
@@ -213,7 +218,7 @@ fn read_elements<'t, 'a>(
     while let Some(next) = left.next() {
         let label = label_of(&here);
         let misnamed = is_misnamed(&names, label);
-        read_element(alloc, nodes, number, &here, index, inside, misnamed)?;
+        read_element(alloc, texts, nodes, number, &here, index, inside, misnamed)?;
         give(&mut names, label.name)?;
         here = next;
         index += 1;
@@ -229,6 +234,7 @@ fn read_elements<'t, 'a>(
 #[cycle(content)]
 fn read_element(
     alloc: Global,
+    texts: &mut Texts,
     nodes: &mut Nodes,
     number: u32,
     value: &Value<'_, '_>,
@@ -249,7 +255,7 @@ fn read_element(
         listed: true,
         misnamed,
     };
-    match read_content(alloc, nodes, value, position) {
+    match read_content(alloc, texts, nodes, value, position) {
         Ok(()) => Ok(()),
         Err(error) => Err(at_index(error, index)),
     }
@@ -259,6 +265,7 @@ fn read_element(
 #[cycle(content)]
 fn read_last(
     alloc: Global,
+    texts: &mut Texts,
     nodes: &mut Nodes,
     number: u32,
     last: &Value<'_, '_>,
@@ -271,13 +278,14 @@ fn read_last(
         (first (faults_keyed context.version context.nesting taken (json_data last.now)) (keyed_last context.version (json_data last.now))) }
 {
     let keys = last.members(alloc)?;
-    read_keyed(alloc, nodes, number, &keys, context, names)
+    read_keyed(alloc, texts, nodes, number, &keys, context, names)
 }
 
 /// The containers by key, in the order of the keys; how many they are.
 #[cycle(content)]
 fn read_keyed(
     alloc: Global,
+    texts: &mut Texts,
     nodes: &mut Nodes,
     number: u32,
     keys: &BTreeMap<&str, Value<'_, '_>>,
@@ -295,7 +303,7 @@ fn read_keyed(
         let name = *key;
         if !is_own(name) {
             let misnamed = names.contains(name);
-            read_named(alloc, nodes, number, name, value, inside, misnamed)?;
+            read_named(alloc, texts, nodes, number, name, value, inside, misnamed)?;
             count += 1;
         }
     }
@@ -306,6 +314,7 @@ fn read_keyed(
 #[cycle(content)]
 fn read_named(
     alloc: Global,
+    texts: &mut Texts,
     nodes: &mut Nodes,
     number: u32,
     key: &str,
@@ -325,7 +334,7 @@ fn read_named(
         listed: false,
         misnamed,
     };
-    match read_only_container(alloc, nodes, value, position) {
+    match read_only_container(alloc, texts, nodes, value, position) {
         Ok(()) => Ok(()),
         Err(error) => Err(at_name(alloc, error, key)),
     }
@@ -335,6 +344,7 @@ fn read_named(
 #[cycle(content)]
 fn read_only_container(
     alloc: Global,
+    texts: &mut Texts,
     nodes: &mut Nodes,
     value: &Value<'_, '_>,
     position: Position<'_>,
@@ -345,7 +355,7 @@ fn read_only_container(
         (first (faults_named position.entry.context.version position.entry.context.nesting position.entry.misnamed (json_data value.now)) (tree_of position.entry.context.version position.entry.listed (json_data value.now))) }
 {
     match value.kind() {
-        Kind::Array(items) => read_container(alloc, nodes, value, items, position),
+        Kind::Array(items) => read_container(alloc, texts, nodes, value, items, position),
         _ => Err(refused(alloc, Cause::Shape)),
     }
 }

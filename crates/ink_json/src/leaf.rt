@@ -10,30 +10,30 @@ ghost use Rattle.ink_json.specs.Reading.{Reads, placed};
 use crate::error::{ReadFailure, refused};
 use crate::limits::{LEAST, MOST};
 use crate::number::Number;
-use crate::readings::shared_text;
+use crate::texts::Texts;
 use crate::word::word_leaf;
 use ink_model::{Cause, Leaf, MAX_TEXT};
 use std::alloc::Global;
 
 /// The leaf that a string is.
 #[tactic(auto, unfolding(ink_model::specs::Leaves::string_leaf))]
-pub(crate) fn read_string(alloc: Global, text: &str) -> Result<Leaf, ReadFailure>
+pub(crate) fn read_string(alloc: Global, texts: &mut Texts, text: &str) -> Result<Leaf, ReadFailure>
     ensures { Reads (λ l. l) result (placed (string_leaf text.now)) }
 {
     match text.strip_prefix('^') {
-        Some(written) => read_written(alloc, written),
+        Some(written) => read_written(alloc, texts, written),
         None => read_word(alloc, text),
     }
 }
 
-fn read_written(alloc: Global, written: &str) -> Result<Leaf, ReadFailure>
+fn read_written(alloc: Global, texts: &mut Texts, written: &str) -> Result<Leaf, ReadFailure>
     ensures { Reads (λ l. l) result
         (placed (if nat_lt MAX_TEXT (length written.now) then Err Cause.Limit else Ok (Leaf.Text written.now))) }
 {
     if written.len() > MAX_TEXT {
         return Err(refused(alloc, Cause::Limit));
     }
-    Ok(Leaf::Text(shared_text(alloc, written)?))
+    Ok(Leaf::Text(texts.keep(written)?))
 }
 
 fn read_word(alloc: Global, text: &str) -> Result<Leaf, ReadFailure>

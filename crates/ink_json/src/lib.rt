@@ -23,6 +23,7 @@ mod reading;
 mod readings;
 mod story;
 mod tape;
+mod texts;
 mod value;
 mod word;
 

@@ -14,6 +14,7 @@ use crate::readings::{
     read_choice, read_count, read_external, read_jump, read_pointer, read_store, read_tag,
     read_target, read_variable,
 };
+use crate::texts::Texts;
 use crate::value::Value;
 use ink_model::{Cause, InkVersion, Leaf};
 use std::alloc::Global;
@@ -66,6 +67,7 @@ impl<'v, 't, 'a> Object<'v, 't, 'a> {
 #[tactic(auto, unfolding(ink_model::specs::Leaves::object_leaf))]
 pub(crate) fn read_object_leaf(
     alloc: Global,
+    texts: &mut Texts,
     version: InkVersion,
     object: &Value<'_, '_>,
 ) -> Result<Leaf, ReadFailure>
@@ -76,7 +78,7 @@ pub(crate) fn read_object_leaf(
         return Err(refused(alloc, Cause::Unsupported));
     }
     match heads(&object) {
-        Found::One(head, value) => read_by(alloc, head, &object, &value),
+        Found::One(head, value) => read_by(alloc, texts, head, &object, &value),
         Found::Nothing | Found::Several => Err(refused(alloc, Cause::Shape)),
     }
 }
@@ -94,6 +96,7 @@ fn is_beyond(version: InkVersion, object: &Object<'_, '_, '_>) -> bool
 /// The leaf that an object is by this head, which has this value.
 fn read_by(
     alloc: Global,
+    texts: &mut Texts,
     head: Head,
     object: &Object<'_, '_, '_>,
     value: &Value<'_, '_>,
@@ -101,14 +104,14 @@ fn read_by(
     ensures { Reads (λ l. l) result (placed (reading head (json_data object.now) (json_data value.now))) }
 {
     match head {
-        Head::Jump(jump) => read_jump(alloc, object, value, jump),
-        Head::External => read_external(alloc, object, value),
-        Head::Choice => read_choice(alloc, object, value),
-        Head::Target => read_target(alloc, value),
-        Head::Pointer => read_pointer(alloc, object, value),
-        Head::Variable => read_variable(alloc, value),
-        Head::Count => read_count(alloc, value),
-        Head::Tag => read_tag(alloc, value),
-        Head::Store(scope) => read_store(alloc, object, value, scope),
+        Head::Jump(jump) => read_jump(alloc, texts, object, value, jump),
+        Head::External => read_external(alloc, texts, object, value),
+        Head::Choice => read_choice(alloc, texts, object, value),
+        Head::Target => read_target(alloc, texts, value),
+        Head::Pointer => read_pointer(alloc, texts, object, value),
+        Head::Variable => read_variable(alloc, texts, value),
+        Head::Count => read_count(alloc, texts, value),
+        Head::Tag => read_tag(alloc, texts, value),
+        Head::Store(scope) => read_store(alloc, texts, object, value, scope),
     }
 }

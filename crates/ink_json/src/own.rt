@@ -5,10 +5,10 @@ ghost use Rattle.ink_model.specs.Grammar.{own_of, is_last, are_flags, flags_of, 
 ghost use Rattle.ink_json.specs.Reading.{IsLabel, is_whole};
 ghost use Rattle.ink_json.specs.Value.{json_data};
 
-use crate::readings::shared_text;
+use crate::texts::Texts;
 use crate::value::{Kind, Value};
 use ink_model::{Shared, Text};
-use std::alloc::{AllocError, Global};
+use std::alloc::AllocError;
 
 /// What a container gives itself: its flags, and in list position its name.
 #[derive(Drop)]
@@ -121,13 +121,13 @@ pub(crate) fn is_own(key: &str) -> bool
 
 /// A copy of a name, where there is one.
 pub(crate) fn copy_name(
-    alloc: Global,
+    texts: &mut Texts,
     name: Option<&str>,
 ) -> Result<Option<Shared<Text>>, AllocError>
     ensures { IfOk result (λ copy. copy ≡ option_map (λ n. n.now) name.entry) }
 {
     match name {
-        Some(name) => Ok(Some(shared_text(alloc, name)?)),
+        Some(name) => Ok(Some(texts.keep(name)?)),
         None => Ok(None),
     }
 }

@@ -16,6 +16,7 @@ use crate::last::Last;
 use crate::nodes::Nodes;
 use crate::story::RawStory;
 use crate::tape::Tape;
+use crate::texts::Texts;
 use crate::value::{Kind, Value, root};
 use ink_model::{Cause, Failure, InkVersion, MAX_STORY, ReadRefusal};
 use json::Scratch;
@@ -118,6 +119,7 @@ fn read_root(alloc: Global, version: InkVersion, root: &Value<'_, '_>) -> Result
 {
     match root.kind() {
         Kind::Array(items) => {
+            let mut texts = Texts::new(alloc);
             let mut nodes = Nodes::new(alloc);
             let position = Position {
                 holder: 0,
@@ -129,7 +131,7 @@ fn read_root(alloc: Global, version: InkVersion, root: &Value<'_, '_>) -> Result
                 listed: false,
                 misnamed: false,
             };
-            read_container(alloc, &mut nodes, root, items, position)?;
+            read_container(alloc, &mut texts, &mut nodes, root, items, position)?;
             Ok(nodes)
         }
         _ => Err(refused(alloc, Cause::Shape)),

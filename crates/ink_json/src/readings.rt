@@ -12,9 +12,10 @@ use crate::error::{ReadFailure, refused};
 use crate::limits::MOST;
 use crate::object::Object;
 use crate::options::{frame, is_on, whole_or};
+use crate::texts::Texts;
 use crate::value::Value;
 use ink_model::{Cause, Destination, Leaf, MAX_TEXT, Shared, Text};
-use std::alloc::{AllocError, Global};
+use std::alloc::Global;
 
 /// The flags of a choice that gives none.
 const DEFAULT_FLAGS: u64 = 16;
@@ -37,6 +38,7 @@ pub(crate) enum Scope {
 /// A jump, which may pop a condition.
 pub(crate) fn read_jump(
     alloc: Global,
+    texts: &mut Texts,
     object: &Object<'_, '_, '_>,
     head: &Value<'_, '_>,
     jump: Jump,
@@ -50,7 +52,7 @@ pub(crate) fn read_jump(
     ) else {
         return Err(refused(alloc, Cause::Shape));
     };
-    let target = shared_text(alloc, target)?;
+    let target = texts.keep(target)?;
     let to = if by_variable {
         Destination::Variable(target)
     } else {
@@ -72,6 +74,7 @@ fn jump_leaf(jump: Jump, to: Destination, conditional: bool) -> Leaf
 /// A call of an external function.
 pub(crate) fn read_external(
     alloc: Global,
+    texts: &mut Texts,
     object: &Object<'_, '_, '_>,
     head: &Value<'_, '_>,
 ) -> Result<Leaf, ReadFailure>
@@ -88,7 +91,7 @@ pub(crate) fn read_external(
         return Err(refused(alloc, Cause::Limit));
     }
     Ok(Leaf::External {
-        name: shared_text(alloc, name)?,
+        name: texts.keep(name)?,
         arguments: arguments as u32,
         conditional,
     })
@@ -96,6 +99,7 @@ pub(crate) fn read_external(
 
 pub(crate) fn read_choice(
     alloc: Global,
+    texts: &mut Texts,
     object: &Object<'_, '_, '_>,
     head: &Value<'_, '_>,
 ) -> Result<Leaf, ReadFailure>
@@ -103,7 +107,7 @@ pub(crate) fn read_choice(
 {
     match (head.as_str(), whole_or(DEFAULT_FLAGS, object.get("flg"))) {
         (Some(target), Some(flags)) if flags < 32 => Ok(Leaf::Choice {
-            target: shared_text(alloc, target)?,
+            target: texts.keep(target)?,
             flags: flags as u8,
         }),
         _ => Err(refused(alloc, Cause::Shape)),
@@ -113,18 +117,19 @@ pub(crate) fn read_choice(
 /// A pointer to a variable. Frames are -1, 0 and above.
 pub(crate) fn read_pointer(
     alloc: Global,
+    texts: &mut Texts,
     object: &Object<'_, '_, '_>,
     head: &Value<'_, '_>,
 ) -> Result<Leaf, ReadFailure>
     ensures { Reads (λ l. l) result (placed (read_pointer (json_data object.now) (json_data head.now))) }
 {
     match (head.as_str(), frame(object.get("ci"))) {
-        (Some(name), Some(frame)) => point(alloc, name, frame),
+        (Some(name), Some(frame)) => point(alloc, texts, name, frame),
         _ => Err(refused(alloc, Cause::Shape)),
     }
 }
 
-fn point(alloc: Global, name: &str, frame: i128) -> Result<Leaf, ReadFailure>
+fn point(alloc: Global, texts: &mut Texts, name: &str, frame: i128) -> Result<Leaf, ReadFailure>
     ensures { Reads (λ l. l) result (placed (pointer_to name.now (pointer_frame frame))) }
 {
     if frame < -1 {
@@ -133,13 +138,14 @@ fn point(alloc: Global, name: &str, frame: i128) -> Result<Leaf, ReadFailure>
     if frame > MOST {
         return Err(refused(alloc, Cause::Limit));
     }
-    let name = shared_text(alloc, name)?;
+    let name = texts.keep(name)?;
     Ok(Leaf::Pointer(name, frame as i32))
 }
 
 /// A variable stored to, which is declared, or assigned where it is there already.
 pub(crate) fn read_store(
     alloc: Global,
+    texts: &mut Texts,
     object: &Object<'_, '_, '_>,
     head: &Value<'_, '_>,
     scope: Scope,
@@ -149,7 +155,7 @@ pub(crate) fn read_store(
     let (Some(name), Some(again)) = (head.as_str(), is_on(object.get("re"))) else {
         return Err(refused(alloc, Cause::Shape));
     };
-    Ok(store_leaf(scope, again, shared_text(alloc, name)?))
+    Ok(store_leaf(scope, again, texts.keep(name)?))
 }
 
 fn store_leaf(scope: Scope, again: bool, name: Shared<Text>) -> Leaf
@@ -163,48 +169,61 @@ fn store_leaf(scope: Scope, again: bool, name: Shared<Text>) -> Leaf
     }
 }
 
-pub(crate) fn read_target(alloc: Global, head: &Value<'_, '_>) -> Result<Leaf, ReadFailure>
+pub(crate) fn read_target(
+    alloc: Global,
+    texts: &mut Texts,
+    head: &Value<'_, '_>,
+) -> Result<Leaf, ReadFailure>
     ensures { Reads (λ l. l) result (placed (plain_leaf Leaf.Target (as_str (json_data head.now)))) }
 {
-    Ok(Leaf::Target(read_name(alloc, head)?))
+    Ok(Leaf::Target(read_name(alloc, texts, head)?))
 }
 
-pub(crate) fn read_variable(alloc: Global, head: &Value<'_, '_>) -> Result<Leaf, ReadFailure>
+pub(crate) fn read_variable(
+    alloc: Global,
+    texts: &mut Texts,
+    head: &Value<'_, '_>,
+) -> Result<Leaf, ReadFailure>
     ensures { Reads (λ l. l) result (placed (plain_leaf Leaf.Variable (as_str (json_data head.now)))) }
 {
-    Ok(Leaf::Variable(read_name(alloc, head)?))
+    Ok(Leaf::Variable(read_name(alloc, texts, head)?))
 }
 
-pub(crate) fn read_count(alloc: Global, head: &Value<'_, '_>) -> Result<Leaf, ReadFailure>
+pub(crate) fn read_count(
+    alloc: Global,
+    texts: &mut Texts,
+    head: &Value<'_, '_>,
+) -> Result<Leaf, ReadFailure>
     ensures { Reads (λ l. l) result (placed (plain_leaf Leaf.Count (as_str (json_data head.now)))) }
 {
-    Ok(Leaf::Count(read_name(alloc, head)?))
+    Ok(Leaf::Count(read_name(alloc, texts, head)?))
 }
 
 /// A tag that is given whole.
-pub(crate) fn read_tag(alloc: Global, head: &Value<'_, '_>) -> Result<Leaf, ReadFailure>
+pub(crate) fn read_tag(
+    alloc: Global,
+    texts: &mut Texts,
+    head: &Value<'_, '_>,
+) -> Result<Leaf, ReadFailure>
     ensures { Reads (λ l. l) result (placed (tag_leaf (as_str (json_data head.now)))) }
 {
     match head.as_str() {
-        Some(text) if text.len() <= MAX_TEXT => Ok(Leaf::Tag(shared_text(alloc, text)?)),
+        Some(text) if text.len() <= MAX_TEXT => Ok(Leaf::Tag(texts.keep(text)?)),
         Some(_) => Err(refused(alloc, Cause::Limit)),
         None => Err(refused(alloc, Cause::Shape)),
     }
 }
 
-/// A text, to be shared.
-pub(crate) fn shared_text(alloc: Global, text: &str) -> Result<Shared<Text>, AllocError>
-    ensures { IfOk result (λ shared. shared ≡ text.now) }
-{
-    Shared::new(alloc, Text::from_str(alloc, text)?)
-}
-
 /// The name or the path that a head has for its value.
-fn read_name(alloc: Global, head: &Value<'_, '_>) -> Result<Shared<Text>, ReadFailure>
+fn read_name(
+    alloc: Global,
+    texts: &mut Texts,
+    head: &Value<'_, '_>,
+) -> Result<Shared<Text>, ReadFailure>
     ensures { (make : List ℕ → Leaf) → Reads make result (placed (plain_leaf make (as_str (json_data head.now)))) }
 {
     match head.as_str() {
-        Some(name) => Ok(shared_text(alloc, name)?),
+        Some(name) => Ok(texts.keep(name)?),
         None => Err(refused(alloc, Cause::Shape)),
     }
 }

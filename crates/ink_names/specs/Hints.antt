@@ -1,5 +1,5 @@
 -- Where names are looked for first.
-use Rattle.std.specs.Prelude.{◌≡◌, ◌⊎◌, ◌<◌, ℕ, ◌+◌, ◌-◌, ◌*◌, ◌/◌, ◌%◌, List, length, get_or, None}
+use Rattle.std.specs.Prelude.{◌≡◌, ◌⊎◌, ◌<◌, ℕ, ◌+◌, ◌-◌, ◌*◌, ◌/◌, ◌%◌, bit_and, List, length, get_or, None}
 use Rattle.ink_names.specs.Names.{number_of}
 
 -- the hash of a name, by its length and four of its bytes
@@ -7,9 +7,9 @@ abbrev pub hash : List ℕ → ℕ
 hash name = 7919 * (length name % 4096) + 2248091 * get_or name (length name / 2) 0 + 17161 * get_or name (length name - 3) 0 + 131 * get_or name (length name - 2) 0
     + get_or name (length name - 1) 0
 
--- the slot of a name, of so many
+-- the slot of a name, of so many, by the last bits of its hash
 abbrev pub slot : List ℕ → ℕ → ℕ
-slot name slots = hash name % slots
+slot name slots = bit_and (hash name) (slots - 1)
 
 -- each of these names has something at its slot
 abbrev pub Marks : List ℕ → List (List ℕ) → Type 0

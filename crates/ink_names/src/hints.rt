@@ -7,7 +7,8 @@ ghost use Rattle.ink_names.specs.Names.{names_of};
 use std::alloc::{AllocError, Global};
 use std::marker::Model;
 
-/// How many slots there are at least, once there is a name.
+/// How many slots there are at first, once there is a name. They double, so that their number is a power of two and a slot is found
+/// without a division.
 const FEWEST: usize = 512;
 
 /// By a few bytes of a name, one more than the number of the name that was noted with these last; 0 where none was. So a name with
@@ -49,16 +50,17 @@ impl Hints {
         if names.len() < self.slots.len() / 2 {
             return Ok(());
         }
-        *self = Hints::of(alloc, names)?;
+        let count = self.slots.len().saturating_mul(2).max(FEWEST);
+        *self = Hints::of(alloc, names, count)?;
         Ok(())
     }
 
-    // Hints of names, of which each is noted.
-    fn of(alloc: Global, names: &Vec<String>) -> Result<Hints, AllocError>
+    // So many slots, with each of these names noted.
+    fn of(alloc: Global, names: &Vec<String>, count: usize) -> Result<Hints, AllocError>
+        requires { 0 < count }
         ensures slots { IfOk result (λ hints. 0 < length hints) }
         ensures marks { IfOk result (λ hints. Marks hints (names_of names.now.items)) }
     {
-        let count = names.len().saturating_mul(4).max(FEWEST);
         let mut hints = Hints {
             slots: Vec::from_elem(alloc, 0, count)?,
         };
@@ -106,7 +108,7 @@ fn slot(name: &str, slots: usize) -> usize
     ensures slot { result ≡ slot name.now slots }
     ensures within { result < slots }
 {
-    hash(name.as_bytes()) % slots
+    hash(name.as_bytes()) & (slots - 1)
 }
 
 // Names that end in numbers differ in their last bytes.

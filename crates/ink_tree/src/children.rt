@@ -4,6 +4,9 @@ use ink_json::{Key, Nodes, compare_parts};
 use std::alloc::{AllocError, Global};
 use std::cmp::Ordering;
 
+/// So many names have slots of their own.
+const MOST: usize = 0x8000_0000;
+
 /// The numbers of the contents in each container, in order: a block for each, and where it ends. And at the slot of a container
 /// and a name the number of the content that was noted there last. Nothing rests on it: what is found here is looked at again.
 #[derive(Drop)]
@@ -98,7 +101,7 @@ fn note_names(alloc: Global, nodes: &Nodes) -> Result<Vec<u32>, AllocError> {
             count = count.wrapping_add(1);
         }
     }
-    let mut slots = Vec::from_elem(alloc, 0, count.saturating_mul(2))?;
+    let mut slots = Vec::from_elem(alloc, 0, slots_for(count))?;
     for number in 1..nodes.len() {
         if let Some(name) = name_at(nodes, number) {
             let place = slot(holder(nodes, number), name, slots.len());
@@ -118,7 +121,12 @@ fn name_at(nodes: &Nodes, number: usize) -> Option<&str> {
     }
 }
 
-// The slot of a container and a name, of so many.
+// How many slots so many names have: twice as many or more, a power of two, so that a slot is found without a division.
+fn slots_for(count: usize) -> usize {
+    count.min(MOST).saturating_mul(2).next_power_of_two()
+}
+
+// The slot of a container and a name, of so many, by the last bits of what is mixed.
 fn slot(container: usize, name: &str, slots: usize) -> usize {
     if slots == 0 {
         return 0;
@@ -127,7 +135,7 @@ fn slot(container: usize, name: &str, slots: usize) -> usize {
     for byte in name.as_bytes() {
         mixed = mixed.wrapping_mul(31).wrapping_add(*byte as usize);
     }
-    mixed % slots
+    mixed & (slots - 1)
 }
 
 // Where the block of each container starts.
