@@ -1,17 +1,27 @@
 //! Paths, as they are read and written, and places.
 
 use ink_model::{Part, Path, Place};
+use ink_path::{Component, Components};
 use ink_tree::read_path;
 use inkcases::{NoAnswer, Report, decoded, first_word, part_of, parts_of};
 use std::alloc::{AllocError, Global};
 
-/// What is written of a path that is read from `"TEXT"`, and whether each part is an index or a name; or the place that
-/// comes of `place PLACE`, `push PLACE PART` or `under PLACE PART`.
+/// What is written of a path that is read from `"TEXT"`, and whether each part is an index or a name; the components of
+/// `components "TEXT"`; or the place that comes of `place PLACE`, `push PLACE PART` or `under PLACE PART`.
 pub(crate) fn answer(said: &mut Report, question: &str) -> Result<(), NoAnswer> {
     if let Some(text) = question.strip_prefix('"') {
         return answer_path(said, text.strip_suffix('"').unwrap_or(text));
     }
     let (word, rest) = first_word(question);
+    if word == "components" {
+        return answer_components(
+            said,
+            rest.strip_prefix('"')
+                .unwrap_or(rest)
+                .strip_suffix('"')
+                .unwrap_or(rest),
+        );
+    }
     let (place, part) = first_word(rest);
     let place = place_of(said.alloc(), place)?;
     let moved = moved(said.alloc(), place, word, part)?;
@@ -25,6 +35,31 @@ fn answer_path(said: &mut Report, text: &str) -> Result<(), NoAnswer> {
     let path = path.clone_in(said.alloc())?;
     show_path(said, &path);
     Ok(())
+}
+
+/// A dot where the path is relative, and a letter for each text between the dots: `i` for an index, `n` for a name, `-` for none.
+/// The last has a stop behind it.
+fn answer_components(said: &mut Report, text: &str) -> Result<(), NoAnswer> {
+    let text = decoded(said.alloc(), text)?;
+    let (relative, components) = Components::of(text.as_str());
+    let mut components = components;
+    said.put(if relative { "." } else { "" });
+    for _ in 0..text.len() + 1 {
+        let Some(component) = components.next() else {
+            return Ok(());
+        };
+        said.put(letter(Component::read(component)));
+        said.put(if components.is_empty() { "|" } else { "" });
+    }
+    Ok(())
+}
+
+fn letter(component: Option<Component<'_>>) -> &'static str {
+    match component {
+        Some(Component::Index(_)) => "i",
+        Some(Component::Name(_)) => "n",
+        None => "-",
+    }
 }
 
 /// A path as it is written, a dot where it is relative, and a letter for each part: `i` for an index, `n` for a name.
