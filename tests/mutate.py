@@ -55,7 +55,7 @@ RUNNING = {"continue", "through", "restart", "set", "load"}
 FORMS = {("choices", "events", "loose", "more", "tags", "text"): "passage", ("events",): "events", ("value",): "value", ("saved",): "saved",
          ("visits",): "visits", ("refused",): "refused", ("fault", "refused"): "broken", ("events", "fault"): "fault"}
 STORY_ENDS = re.compile(rb"inkplay: (words refused|file not read|story refused: (NotJson|Version|OutOfMemory)"
-                        rb"|story refused: (Shape|Unsupported|BadPath|Limit) at [^\n]*|story fault: ([A-Za-z]+))\n", re.S)
+                        rb"|story refused: (Shape|Unsupported|BadPath|Limit) at .*|story fault: ([A-Za-z]+))\n", re.S)
 RUN_ENDS = re.compile(rb"inkplay: run fault: (TooLong|OutOfMemory)\n")
 
 # what is hard on parsers, and values that are at edges
