@@ -57,7 +57,7 @@ fn written_links(alloc: Global, tree: &Tree) -> Result<Links, Failure<NodeId>>
     for number in 0..tree.len() {
         let node = NodeId { number };
         let link = node_link(alloc, tree, &names, node)?;
-        links = links.add(link)?;
+        links.add(link)?;
     }
     links.trim();
     Ok(links)

@@ -1,6 +1,6 @@
 //! The links of a story's content.
 
-ghost use Rattle.std.specs.Prelude.{◌≡◌, ◌<◌, ◌+◌, ◌^◌, [], ◌∷◌, ◌++◌, length, IfOk, option_map, unwrap_or, slice_index, slice_index_or};
+ghost use Rattle.std.specs.Prelude.{◌≡◌, ◌<◌, ◌+◌, ◌^◌, [], ◌∷◌, ◌++◌, length, IfOk, OnOk, OnErr, option_map, unwrap_or, slice_index, slice_index_or};
 
 use crate::link::Link;
 use std::alloc::{AllocError, Global};
@@ -37,23 +37,21 @@ impl Links {
         })
     }
 
-    /// These, and the link of one content more. The one error is a refused request for memory.
-    pub(crate) fn add(self, link: Link) -> Result<Links, AllocError>
-        requires { length self + 1 < 2 ^ 32 }
-        ensures { IfOk result (λ links. links ≡ self ++ link ∷ []) }
+    /// The link of one content more. The one error is a refused request for memory, and leaves all as it was.
+    pub(crate) fn add(&mut self, link: Link) -> Result<(), AllocError>
+        requires { length self.old + 1 < 2 ^ 32 }
+        ensures ok { OnOk result (self.new ≡ self.old ++ link ∷ []) }
+        ensures err { OnErr result (self.new ≡ self.old) }
     {
-        let Links {
-            mut slots,
-            mut links,
-        } = self;
+        self.slots.reserve(1)?;
         match link {
-            Link::Nothing => slots.push(0)?,
+            Link::Nothing => self.slots.push_reserved(0),
             link => {
-                links.push(link)?;
-                slots.push(links.len() as u32)?;
+                self.links.push(link)?;
+                self.slots.push_reserved(self.links.len() as u32);
             }
         }
-        Ok(Links { slots, links })
+        Ok(())
     }
 
     /// Gives back the room that no link has taken.

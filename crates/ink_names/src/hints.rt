@@ -1,7 +1,7 @@
 //! Where names are looked for first.
 
 ghost use Rattle.std.specs.Prelude.{◌≡◌, ◌<◌, ℕ, List, [], ◌∷◌, ◌++◌, get_or, length, IfOk, OnOk};
-ghost use Rattle.ink_names.specs.Hints.{Marks, hash, slot};
+ghost use Rattle.ink_names.specs.Hints.{Marks, hash, mixed, slot};
 ghost use Rattle.ink_names.specs.Names.{names_of};
 
 use std::alloc::{AllocError, Global};
@@ -116,11 +116,39 @@ fn hash(name: &[u8]) -> usize
     ensures { result ≡ hash name.now }
 {
     let len = name.len();
-    let middle = byte(name, len / 2);
-    let third = byte(name, len.saturating_sub(3));
-    let second = byte(name, len.saturating_sub(2));
-    let last = byte(name, len.saturating_sub(1));
-    7919 * (len % 4096) + 2_248_091 * middle + 17_161 * third + 131 * second + last
+    if len < 4 {
+        return mixed(
+            len,
+            byte(name, len / 2),
+            byte(name, 0),
+            byte(name, len.saturating_sub(3)),
+            byte(name, len.saturating_sub(2)),
+            byte(name, len.saturating_sub(1)),
+        );
+    }
+    mixed(
+        len,
+        name[len / 2] as usize,
+        name[len - 4] as usize,
+        name[len - 3] as usize,
+        name[len - 2] as usize,
+        name[len - 1] as usize,
+    )
+}
+
+#[inline(always)]
+fn mixed(
+    len: usize,
+    middle: usize,
+    fourth: usize,
+    third: usize,
+    second: usize,
+    last: usize,
+) -> usize
+    requires { (middle < 256) × (fourth < 256) × (third < 256) × (second < 256) × (last < 256) }
+    ensures { result ≡ mixed len middle fourth third second last }
+{
+    7919 * (len % 4096) + 2_248_091 * middle + 8117 * fourth + 17_161 * third + 131 * second + last
 }
 
 fn byte(name: &[u8], index: usize) -> usize

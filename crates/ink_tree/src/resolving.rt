@@ -76,6 +76,7 @@ impl Tree {
     }
 
     // The last component, an index of which may be a container's end.
+    #[inline(always)]
     pub(crate) fn last_step(&self, here: NodeId, component: Component<'_>) -> Option<Spot>
         ensures { option_map (place_of (story_tree self.now)) result
             ≡ stepped_last (story_tree self.now) (node_place (story_tree self.now) here) (part_of component.entry) }

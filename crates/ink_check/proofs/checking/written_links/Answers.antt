@@ -26,10 +26,10 @@ returns-in_err-link-clause-err c =
 pub loop-number-preserved : goal.loop-number-preserved
 unfolding counted_container written_target
 loop-number-preserved c = record {
-  many = omega (arith, c.loop-number.invariant.many, ap length c.in_ok-links-2.ensures, length-append c.loop-number.links (c.in_ok-link.link ∷ []));
+  many = omega (arith, c.loop-number.invariant.many, ap length c.in_ok-add.ensures.ok, length-append c.loop-number.links (c.in_ok-link.link ∷ []));
   good = c.loop-number.invariant.good ∙ good_next _ c.loop-number.number (omega arith) c.in_ok-link.ensures.0;
-  leading = link_next _ (target_place _) (written_target _) c.loop-number.number c.loop-number.links _ c.in_ok-link.link (omega arith) c.in_ok-link.ensures.1 c.in_ok-links-2.ensures c.loop-number.invariant.leading;
-  counting = link_next _ (counted_place _) (counted_container _) c.loop-number.number c.loop-number.links _ c.in_ok-link.link (omega arith) c.in_ok-link.ensures.2 c.in_ok-links-2.ensures c.loop-number.invariant.counting;
-  pushing = link_next _ pushed_of (λ p. pushed_path (at _ p)) c.loop-number.number c.loop-number.links _ c.in_ok-link.link (omega arith) c.in_ok-link.ensures.3 c.in_ok-links-2.ensures c.loop-number.invariant.pushing;
-  numbering = link_next _ number_of (variable_number _) c.loop-number.number c.loop-number.links _ c.in_ok-link.link (omega arith) (rw c.in_ok-names.ensures at c.in_ok-link.ensures.4) c.in_ok-links-2.ensures c.loop-number.invariant.numbering;
+  leading = link_next _ (target_place _) (written_target _) c.loop-number.number c.loop-number.links _ c.in_ok-link.link (omega arith) c.in_ok-link.ensures.1 c.in_ok-add.ensures.ok c.loop-number.invariant.leading;
+  counting = link_next _ (counted_place _) (counted_container _) c.loop-number.number c.loop-number.links _ c.in_ok-link.link (omega arith) c.in_ok-link.ensures.2 c.in_ok-add.ensures.ok c.loop-number.invariant.counting;
+  pushing = link_next _ pushed_of (λ p. pushed_path (at _ p)) c.loop-number.number c.loop-number.links _ c.in_ok-link.link (omega arith) c.in_ok-link.ensures.3 c.in_ok-add.ensures.ok c.loop-number.invariant.pushing;
+  numbering = link_next _ number_of (variable_number _) c.loop-number.number c.loop-number.links _ c.in_ok-link.link (omega arith) (rw c.in_ok-names.ensures at c.in_ok-link.ensures.4) c.in_ok-add.ensures.ok c.loop-number.invariant.numbering;
 }
