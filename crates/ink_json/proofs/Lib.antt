@@ -15,6 +15,7 @@ pub mod Root
 pub mod Rising
 pub mod Many
 pub mod Listing
+pub mod Digits
 pub mod Downward
 pub mod Growing
 pub mod Keeping

@@ -102,6 +102,7 @@ fn read_content(
 }
 
 /// Content that holds no other, where it was read.
+#[inline(always)]
 fn list_leaf(
     alloc: Global,
     nodes: &mut Nodes,

@@ -16,6 +16,7 @@ use ink_model::{Cause, Leaf, MAX_TEXT};
 use std::alloc::Global;
 
 /// The leaf that a string is.
+#[inline(never)]
 #[tactic(auto, unfolding(ink_model::specs::Leaves::string_leaf))]
 pub(crate) fn read_string(alloc: Global, texts: &mut Texts, text: &str) -> Result<Leaf, ReadFailure>
     ensures { Reads (λ l. l) result (placed (string_leaf text.now)) }

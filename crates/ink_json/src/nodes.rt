@@ -78,6 +78,7 @@ impl Nodes {
     }
 
     /// One node more. The one error is a refused request for memory.
+    #[inline(always)]
     pub(crate) fn push(
         &mut self,
         alloc: Global,
@@ -96,6 +97,7 @@ impl Nodes {
     }
 
     // One of which the part is no name.
+    #[inline(always)]
     fn push_kept(&mut self, holder: u32, last: u32, content: Content) -> Result<(), AllocError>
         requires part { IsNoName last }
         requires room { length self.old + 1 < 2 ^ 31 }
@@ -110,6 +112,7 @@ impl Nodes {
     }
 
     // One to which a name leads.
+    #[inline(never)]
     fn push_named(
         &mut self,
         alloc: Global,

@@ -1,6 +1,7 @@
 //! Numbers, read from their texts.
 
-ghost use Rattle.std.specs.Prelude.{◌≡◌, ◌<◌, ◌==◌, true, false, length, slice_index, option_map, IsTrue};
+ghost use Rattle.std.specs.Prelude.{◌≡◌, ◌<◌, ◌==◌, true, false, length, slice_index, option_map, Some, IsTrue, IfSome};
+ghost use Rattle.serde_json.specs.Data.{unsigned};
 ghost use Rattle.serde_json.specs.Find.{as_u64, as_integer};
 ghost use Rattle.serde_json.specs.Read.{number_of, number_from, float_of};
 ghost use Rattle.ink_json.specs.Number.{num};
@@ -17,7 +18,19 @@ pub(crate) enum Number {
 
 impl Number {
     /// The number that a text of JSON writes, where there is one.
+    #[inline(always)]
     pub(crate) fn parse(text: &str) -> Option<Number>
+        ensures { option_map num result ≡ number_of text.now }
+    {
+        match digit(text.as_bytes()) {
+            Some(digit) => Some(Number::Unsigned(digit)),
+            None => Number::parse_any(text),
+        }
+    }
+
+    // The same of a text of any length.
+    #[inline(never)]
+    fn parse_any(text: &str) -> Option<Number>
         ensures { option_map num result ≡ number_of text.now }
     {
         let bytes = text.as_bytes();
@@ -79,6 +92,21 @@ impl Number {
             Number::Float(_) => None,
         }
     }
+}
+
+/// The number that a single digit is; most numbers of a story are.
+#[inline(always)]
+fn digit(bytes: &[u8]) -> Option<u64>
+    ensures { IfSome result (λ n. number_of bytes.now ≡ Some (unsigned n)) }
+{
+    if bytes.len() != 1 {
+        return None;
+    }
+    let digit = bytes[0];
+    if digit < b'0' || digit > b'9' {
+        return None;
+    }
+    Some((digit - b'0') as u64)
 }
 
 fn has_minus(bytes: &[u8]) -> bool

@@ -64,6 +64,7 @@ impl<'v, 't, 'a> Object<'v, 't, 'a> {
 }
 
 /// The leaf that an object is in a version: it has exactly one head, and none of content that is not supported.
+#[inline(never)]
 #[tactic(auto, unfolding(ink_model::specs::Leaves::object_leaf))]
 pub(crate) fn read_object_leaf(
     alloc: Global,

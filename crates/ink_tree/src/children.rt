@@ -19,15 +19,19 @@ pub(crate) struct Children {
 impl Children {
     /// The numbers of these nodes by what is around them. The one error is a refused request for memory.
     pub(crate) fn of(alloc: Global, nodes: &Nodes) -> Result<Children, AllocError> {
-        let mut ends = starts(alloc, nodes)?;
+        let mut ends = Vec::from_elem(alloc, 0, nodes.len())?;
+        let named = count_all(nodes, &mut ends);
         let mut numbers = Vec::from_elem(alloc, 0, nodes.len())?;
+        let mut slots = Vec::from_elem(alloc, 0, slots_for(named))?;
         for number in 1..nodes.len() {
-            let place = count_up(&mut ends, holder(nodes, number));
-            if let Some(slot) = numbers.get_mut(place) {
-                *slot = small(number);
+            let node = nodes.at(number);
+            let holder = node.holder() as usize;
+            note(&mut numbers, count_up(&mut ends, holder), number);
+            if let Some(Key::Name(name)) = node.last() {
+                let place = slot(holder, name, slots.len());
+                note(&mut slots, place, number);
             }
         }
-        let slots = note_names(alloc, nodes)?;
         Ok(Children {
             numbers,
             ends,
@@ -93,31 +97,30 @@ impl Children {
     }
 }
 
-// The numbers of the contents that have names, by the slots of these.
-fn note_names(alloc: Global, nodes: &Nodes) -> Result<Vec<u32>, AllocError> {
-    let mut count: usize = 0;
+// Counts the contents in each container, then puts where its block starts in place of the count, and answers how many contents have
+// names.
+fn count_all(nodes: &Nodes, counts: &mut Vec<u32>) -> usize {
+    let mut named: usize = 0;
     for number in 1..nodes.len() {
-        if name_at(nodes, number).is_some() {
-            count = count.wrapping_add(1);
+        let node = nodes.at(number);
+        count_up(counts, node.holder() as usize);
+        if let Some(Key::Name(_)) = node.last() {
+            named = named.wrapping_add(1);
         }
     }
-    let mut slots = Vec::from_elem(alloc, 0, slots_for(count))?;
-    for number in 1..nodes.len() {
-        if let Some(name) = name_at(nodes, number) {
-            let place = slot(holder(nodes, number), name, slots.len());
-            if let Some(noted) = slots.get_mut(place) {
-                *noted = small(number);
-            }
-        }
+    let mut before: u32 = 0;
+    for start in counts.iter_mut() {
+        let count = *start;
+        *start = before;
+        before = before.wrapping_add(count);
     }
-    Ok(slots)
+    named
 }
 
-// The name of the content of a number in what is around it.
-fn name_at(nodes: &Nodes, number: usize) -> Option<&str> {
-    match nodes.get(number)?.last() {
-        Some(Key::Name(name)) => Some(name),
-        _ => None,
+// Notes the number of a content at a place.
+fn note(numbers: &mut Vec<u32>, place: usize, number: usize) {
+    if let Some(noted) = numbers.get_mut(place) {
+        *noted = small(number);
     }
 }
 
@@ -138,21 +141,6 @@ fn slot(container: usize, name: &str, slots: usize) -> usize {
     mixed & (slots - 1)
 }
 
-// Where the block of each container starts.
-fn starts(alloc: Global, nodes: &Nodes) -> Result<Vec<u32>, AllocError> {
-    let mut starts = Vec::from_elem(alloc, 0, nodes.len())?;
-    for number in 1..nodes.len() {
-        count_up(&mut starts, holder(nodes, number));
-    }
-    let mut before: u32 = 0;
-    for start in starts.iter_mut() {
-        let count = *start;
-        *start = before;
-        before = before.wrapping_add(count);
-    }
-    Ok(starts)
-}
-
 // Counts one more at an index, and answers the count before; the length, where there is no such index.
 fn count_up(counts: &mut Vec<u32>, index: usize) -> usize {
     match counts.get_mut(index) {
@@ -162,14 +150,6 @@ fn count_up(counts: &mut Vec<u32>, index: usize) -> usize {
             before as usize
         }
         None => counts.len(),
-    }
-}
-
-// The number of the content around the content of a number, of which the root, the first, has none.
-fn holder(nodes: &Nodes, number: usize) -> usize {
-    match nodes.get(number) {
-        Some(node) => node.holder() as usize,
-        None => nodes.len(),
     }
 }
 

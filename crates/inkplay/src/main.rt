@@ -16,7 +16,7 @@ use std::alloc::Global;
 use std::fs::Files;
 use std::process::ExitCode;
 use std::rt::Env;
-use std::{env, io};
+use std::{env, io, mem};
 
 /// The input was served to its end.
 const SERVED: u8 = 0;
@@ -103,7 +103,8 @@ fn serve_player<S: Source, T: Sink, P: PureFn + Drop, F: TurnFn + Drop, O: Watch
 ) -> Result<(), RunFault> {
     let mut player = player;
     let outcome = serve(alloc, source, sink, &mut player);
-    let _desk = player.close();
+    // The program ends here, so that nothing of the story and the game has to be walked to be let go.
+    mem::forget(player);
     outcome
 }
 
