@@ -1,8 +1,7 @@
 -- Contents one part down, and the numbers of those that stand there.
-use Rattle.std.proofs.Common.{◌≡◌, ◌∙◌, ap, sym, refl, ℕ, ◌+◌, ◌<◌, ◌≤◌, List, [], ◌∷◌, ◌++◌, length, take, drop, get_or, true, false, true≢false, Option, Some, None, is_some, is_eq, option_map, option_and_then, Ordering, Less, Equal, Greater, arith}
-use Rattle.std.proofs.lemmas.Cmp.{tied_itself}
+use Rattle.std.proofs.Common.{◌≡◌, ◌∙◌, ap, sym, refl, ℕ, ◌+◌, ◌<◌, ◌≤◌, List, [], ◌∷◌, ◌++◌, length, take, drop, get_or, true, Option, Some, None, is_some, option_map, option_and_then, arith}
 use Rattle.std.proofs.lemmas.List.{length-append, take_more, take-append-drop}
-use Rattle.ink_json.specs.Order.{key_part, keys_rise, part_order}
+use Rattle.ink_json.specs.Order.{key_part, keys_rise}
 use Rattle.ink_json.specs.declared.key.Key.{Key}
 use Rattle.ink_json.specs.Node.{Node}
 use Rattle.ink_model.specs.Places.{places}
@@ -15,21 +14,9 @@ use Rattle.ink_tree.specs.Nodes.{node_place, Finds, IsNode}
 use Rattle.ink_tree.specs.declared.spot.NodeId.{NodeId}
 use Rattle.ink_tree.proofs.Absent.{one_node}
 use Rattle.ink_tree.proofs.Kept.{led_by, led_by_none}
-use Rattle.ink_tree.proofs.Rising.{part_same, part_total}
 use Rattle.ink_tree.proofs.Standing.{at_append, index_within}
 
 -- ---- parts
-
-is_equal : (o : Ordering) → is_eq o ≡ true → o ≡ Equal
-is_equal Less h = absurd cc
-is_equal Equal h = refl
-is_equal Greater h = absurd cc
-
-pub equal_parts : (x y : Part) → is_eq (part_order x y) ≡ true → x ≡ y
-equal_parts x y h = part_same x y (is_equal (part_order x y) h)
-
-pub other_parts : (x y : Part) → is_eq (part_order x y) ≡ false → x ≡ y → ⊥
-other_parts x y h e = true≢false (sym (ap is_eq (ap (part_order x) (sym e) ∙ tied_itself part_total x)) ∙ h)
 
 pub last_same : (p q : List Part) (x y : Part) → p ++ x ∷ [] ≡ q ++ y ∷ [] → (p ≡ q) × (x ≡ y)
 last_same [] [] x y e = let same : x ≡ y = cc in (refl, same)

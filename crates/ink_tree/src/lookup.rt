@@ -15,7 +15,7 @@ ghost use Rattle.ink_tree.specs.Kept.{Keeps, KeepsAll, KeepsAt};
 use crate::content::{keys_of, reaches, width_of};
 use crate::spot::NodeId;
 use crate::tree::Tree;
-use ink_json::{Key, Node, Nodes, compare_parts, key_of};
+use ink_json::{Key, Node, Nodes, key_of};
 use ink_model::{Content, Part};
 
 impl Tree {
@@ -243,5 +243,9 @@ fn is_part(part: Key<'_>, key: Key<'_>) -> bool
     ensures yes { result ≡ true → key_part part.entry ≡ key_part key.entry }
     ensures no { result ≡ false → key_part part.entry ≡ key_part key.entry → ⊥ }
 {
-    compare_parts(part, key).is_eq()
+    match (part, key) {
+        (Key::Index(index), Key::Index(other)) => index == other,
+        (Key::Name(name), Key::Name(other)) => name == other,
+        (Key::Index(_), Key::Name(_)) | (Key::Name(_), Key::Index(_)) => false,
+    }
 }
