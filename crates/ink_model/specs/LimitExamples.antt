@@ -1,6 +1,6 @@
 -- The limits, as docs/ has them, each proved by computation.
 use Rattle.std.specs.Prelude.{◌≡◌, refl}
-use Rattle.ink_model.specs.declared.limits.TheConstants.{MAX_STORY, MAX_NESTING, MAX_TEXT, MAX_STACK, MAX_MARKS, MAX_SECTIONS, MAX_FRAMES, MAX_THREADS, MAX_CHOICES, MAX_STEPS, MAX_LINE, MAX_INPUT, MAX_COUNT}
+use Rattle.ink_model.specs.declared.limits.TheConstants.{MAX_STORY, MAX_NESTING, MAX_TEXT, MAX_STACK, MAX_MARKS, MAX_SECTIONS, MAX_FRAMES, MAX_THREADS, MAX_CHOICES, MAX_FLOWS, MAX_STEPS, MAX_LINE, MAX_INPUT, MAX_COUNT}
 
 a_story : MAX_STORY ≡ 16777216
 a_story = refl
@@ -28,6 +28,9 @@ threads = refl
 
 choices : MAX_CHOICES ≡ 1000
 choices = refl
+
+flows : MAX_FLOWS ≡ 100
+flows = refl
 
 steps : MAX_STEPS ≡ 1000000
 steps = refl
