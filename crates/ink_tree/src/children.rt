@@ -7,6 +7,9 @@ use std::cmp::Ordering;
 /// So many names have slots of their own.
 const MOST: usize = 0x8000_0000;
 
+/// An odd number whose bits are without order: what is multiplied by it has in its upper half bits of all that it was.
+const SPREAD: usize = 0x9e37_79b9_7f4a_7c15;
+
 /// The numbers of the contents in each container, in order: a block for each, and where it ends. And at the slot of a container
 /// and a name the number of the content that was noted there last. Nothing rests on it: what is found here is looked at again.
 #[derive(Drop)]
@@ -124,12 +127,12 @@ fn note(numbers: &mut Vec<u32>, place: usize, number: usize) {
     }
 }
 
-// How many slots so many names have: twice as many or more, a power of two, so that a slot is found without a division.
+// How many slots so many names have: four times as many or more, a power of two, so that a slot is found without a division.
 fn slots_for(count: usize) -> usize {
-    count.min(MOST).saturating_mul(2).next_power_of_two()
+    count.min(MOST).saturating_mul(4).next_power_of_two()
 }
 
-// The slot of a container and a name, of so many, by the last bits of what is mixed.
+// The slot of a container and a name, of so many. Names of one form, with a number each, are spread as any others.
 fn slot(container: usize, name: &str, slots: usize) -> usize {
     if slots == 0 {
         return 0;
@@ -138,7 +141,7 @@ fn slot(container: usize, name: &str, slots: usize) -> usize {
     for byte in name.as_bytes() {
         mixed = mixed.wrapping_mul(31).wrapping_add(*byte as usize);
     }
-    mixed & (slots - 1)
+    (mixed.wrapping_mul(SPREAD) >> 32) & (slots - 1)
 }
 
 // Counts one more at an index, and answers the count before; the length, where there is no such index.
