@@ -111,11 +111,20 @@ impl Written for Thread<Spot> {
     ghost spelling = { λ s thread. thread_data (map_thread (place_of s) thread) };
 
     fn write(&self, alloc: Global, tree: &Tree) -> Result<Json, AllocError> {
-        write_thread(alloc, tree, self.below(), self.top(), self.previous())
+        let below = self.below(alloc)?;
+        write_thread(alloc, tree, below.as_slice(), self.top(), self.previous())
     }
 
     fn put(&self, alloc: Global, tree: &Tree, out: &mut Writer) -> Result<(), AllocError> {
-        put_thread(alloc, tree, out, self.below(), self.top(), self.previous())
+        let below = self.below(alloc)?;
+        put_thread(
+            alloc,
+            tree,
+            out,
+            below.as_slice(),
+            self.top(),
+            self.previous(),
+        )
     }
 }
 
@@ -123,11 +132,20 @@ impl Written for Running<Spot> {
     ghost spelling = { λ s running. thread_data (map_thread (place_of s) running.thread) };
 
     fn write(&self, alloc: Global, tree: &Tree) -> Result<Json, AllocError> {
-        write_thread(alloc, tree, self.below(), self.top(), self.previous())
+        let below = self.below(alloc)?;
+        write_thread(alloc, tree, below.as_slice(), self.top(), self.previous())
     }
 
     fn put(&self, alloc: Global, tree: &Tree, out: &mut Writer) -> Result<(), AllocError> {
-        put_thread(alloc, tree, out, self.below(), self.top(), self.previous())
+        let below = self.below(alloc)?;
+        put_thread(
+            alloc,
+            tree,
+            out,
+            below.as_slice(),
+            self.top(),
+            self.previous(),
+        )
     }
 }
 

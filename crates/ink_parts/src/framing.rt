@@ -65,7 +65,7 @@ impl Built for SavedThread {
         };
         let mut frames = below;
         frames.push(frame)?;
-        Ok(Thread::from_frames(alloc, frames, previous))
+        Thread::from_frames(alloc, frames, previous)
     }
 }
 

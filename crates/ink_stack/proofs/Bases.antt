@@ -40,6 +40,12 @@ module _ {P : Type 0} where
     | false ↦ refl
   ]
 
+  pub stale_temps : (d : ℕ) (f : FrameOf P) → (stale d f).temps ≡ f.temps
+  stale_temps d f = elim (nat_eq f.depth d) as (λ b. (if b then record f { fresh = false } else f).temps ≡ f.temps) [
+    | true ↦ refl
+    | false ↦ refl
+  ]
+
   pub base_stale : (d : ℕ) (k : FrameKind) (fs : List (FrameOf P)) → BaseFirst k fs → BaseFirst k (stale_run d fs)
   base_stale d k [] h = h
   base_stale d k (f ∷ fs) h = elim (is_function f.kind) as (λ b. BaseFirst k (if b then stale d f ∷ stale_run d fs else f ∷ fs)) [

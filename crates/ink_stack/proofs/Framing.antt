@@ -1,11 +1,12 @@
 -- A change of the frame of a number.
-use Rattle.std.proofs.Common.{◌≡◌, ◌∙◌, ◌<◌, ◌≤◌, ◌+◌, ◌-◌, ℕ, List, [], ◌∷◌, ◌++◌, true, false, Option, ap, arith, drop, get_or, if◌then◌else◌, length, length-set, nat_eq, refl, reverse, set, subst, sym, take}
+use Rattle.std.proofs.Common.{◌≡◌, ◌∙◌, ◌<◌, ◌≤◌, ◌+◌, ◌-◌, ℕ, List, [], ◌∷◌, ◌++◌, true, false, Option, ap, arith, drop, get_or, if◌then◌else◌, length, length-set, nat_eq, refl, reverse, set, subst, suc, sym, take}
 use Rattle.std.proofs.lemmas.List.{get_or-set_same, length-reverse, set-get_or, set-set}
 use Rattle.ink_model.specs.Bases.{BaseFirst}
 use Rattle.ink_model.specs.Frames.{FrameOf, ThreadOf}
 use Rattle.ink_model.specs.Threads.{changed, frame_count}
 use Rattle.ink_model.specs.declared.frame.FrameKind.{FrameKind}
 use Rattle.ink_stack.specs.Cells.{Within, with_frame}
+use Rattle.ink_stack.specs.Frames.{Room, is_bare, with_temps}
 use Rattle.ink_stack.proofs.Bases.{base_same}
 use Rattle.ink_stack.proofs.Numbers.{changed_is, other_number, other_number_above, same_number, split_at, split_set}
 
@@ -84,13 +85,28 @@ module _ {P : Type 0} where
         | false ↦ (h.0, base_changed change same n f.kind fs h.1)
       ]
 
-  pub within_framed : (change : FrameOf P → FrameOf P) → ((f : FrameOf P) → (change f).kind ≡ f.kind) → (n : ℕ) (room : ℕ) (t : ThreadOf P) → Within room t → Within room (with_frame change n t)
-  within_framed change same n room t h =
+  -- ---- room
+
+  changed_temps : (change : FrameOf P → FrameOf P) → ((f : FrameOf P) → (change f).temps ≡ f.temps) → (n : ℕ) (fs : List (FrameOf P)) → with_temps (changed change n fs) ≡ with_temps fs
+  changed_temps change same n [] = refl
+  changed_temps change same n (f ∷ fs) =
+      elim (nat_eq n (length fs + 1)) as (λ b. with_temps (if b then change f ∷ fs else f ∷ changed change n fs) ≡ with_temps (f ∷ fs)) [
+        | true ↦ ap (λ b. if b then with_temps fs else suc (length fs)) (ap (λ rows. is_bare (record f { temps = rows })) (same f))
+        | false ↦ ap (λ m. if is_bare f then m else suc (length (changed change n fs))) (changed_temps change same n fs)
+            ∙ ap (λ m. if is_bare f then with_temps fs else suc m) (length-changed change n fs)
+      ]
+
+  pub within_framed : (change : FrameOf P → FrameOf P) → ((f : FrameOf P) → (change f).kind ≡ f.kind) → ((f : FrameOf P) → (change f).temps ≡ f.temps) → (n : ℕ) (room : Room) (t : ThreadOf P)
+      → Within room t → Within room (with_frame change n t)
+  within_framed change same rows n room t h =
       elim (nat_eq n (frame_count t)) as (λ b. Within room (if b then record t { frame = change t.frame } else record t { below = changed change n t.below })) [
         | true ↦ record { few = h.few; fit = h.fit; base = base_same t.frame.kind (change t.frame).kind t.below (same t.frame) h.base }
         | false ↦ record {
           few = omega (arith, h.few, length-changed change n t.below);
-          fit = omega (arith, h.fit, length-changed change n t.below);
+          fit = record {
+            frames = omega (arith, h.fit.frames, length-changed change n t.below);
+            temps = omega (arith, h.fit.temps, changed_temps change rows n t.below);
+          };
           base = base_changed change same n t.frame.kind t.below h.base;
         }
       ]

@@ -8,23 +8,39 @@ use Rattle.ink_trail.specs.Undo.{Undo, trail_of, with_count, with_pair}
 use Rattle.ink_stack.proofs.Backs.{gone-is, mode-is}
 use Rattle.ink_stack.proofs.Bases.{base_same}
 use Rattle.ink_stack.specs.Cells.{Within, previous_back}
+use Rattle.ink_stack.specs.Frames.{FitsIn, MoreRoom, Room}
 use Rattle.ink_stack.specs.Running.{RunningView, threads_in}
 use Rattle.ink_stack.specs.Undo.{HasGone, HasMode, Held, More, Rooms, StaysHeld, rooms_of, threads_back}
 use Rattle.ink_stack.specs.declared.undo.ThreadsPair.{ThreadsPair}
 use Rattle.ink_stack.specs.declared.undo.ThreadsPair.TheVariants.{Placed, Previous, Evaluating, Numbered, Fresh, Temp, FramePushed, FramePopped, ThreadPushed, ThreadPopped, Replaced}
 
+pub room-refl : (r : Room) → MoreRoom r r
+room-refl r = record { frames = omega arith; temps = omega arith }
+
+-- a room that is the same
+pub room-same : (r s : Room) → s ≡ r → MoreRoom r s
+room-same r s is = record { frames = omega (arith, ap (λ m. m.frames) is); temps = omega (arith, ap (λ m. m.temps) is) }
+
+-- more room, of which no less is left
+pub room-as : (r s t : Room) → MoreRoom r s → t ≡ s → MoreRoom r t
+room-as r s t more is = subst (λ u. MoreRoom r u) (sym is) more
+
 pub more-refl : (r : Rooms) → More r r
-more-refl r = record { frames = omega arith; threads = omega arith }
+more-refl r = record { frames = room-refl r.frames; threads = omega arith }
 
 module _ {P : Type 0} where
-  within-more : (r s : ℕ) (t : ThreadOf P) → r ≤ s → Within r t → Within s t
-  within-more r s t more h = record { few = h.few; fit = omega (arith, h.fit, more); base = h.base }
+  within-more : (r s : Room) (t : ThreadOf P) → MoreRoom r s → Within r t → Within s t
+  within-more r s t more h = record {
+    few = h.few;
+    fit = record { frames = omega (arith, h.fit.frames, more.frames); temps = omega (arith, h.fit.temps, more.temps) };
+    base = h.base;
+  }
 
   -- the frames below stay, and the top one's kind
-  pub within-same : (room : ℕ) (t s : ThreadOf P) → s.below ≡ t.below → s.frame.kind ≡ t.frame.kind → Within room t → Within room s
+  pub within-same : (room : Room) (t s : ThreadOf P) → s.below ≡ t.below → s.frame.kind ≡ t.frame.kind → Within room t → Within room s
   within-same room t s below kind h = record {
     few = omega (arith, h.few, ap length below);
-    fit = omega (arith, h.fit, ap length below);
+    fit = subst (λ fs. FitsIn room fs) (sym below) h.fit;
     base = subst (λ fs. BaseFirst s.frame.kind fs) (sym below) (base_same t.frame.kind s.frame.kind t.below kind h.base);
   }
 
@@ -45,8 +61,8 @@ module _ {P : Type 0} where
   rooms-more FramePushed r s h = h
   rooms-more (FramePopped f) r s h = h
   rooms-more ThreadPushed r s h = h
-  rooms-more (ThreadPopped t) r s h = record { frames = omega arith; threads = h.threads }
-  rooms-more (Replaced t below) r s h = record { frames = omega arith; threads = omega arith }
+  rooms-more (ThreadPopped t) r s h = record { frames = room-refl t.room; threads = h.threads }
+  rooms-more (Replaced t below) r s h = record { frames = room-refl t.room; threads = omega arith }
 
   pub stays-roomy : (r s : Rooms) (es : List (ThreadsPair P)) (ts : ThreadsOf P) → More r s → StaysHeld r es ts → StaysHeld s es ts
   stays-roomy r s es ts more h = stays-more threads_back rooms_of Held More held-more rooms-more r s es ts more h

@@ -18,3 +18,4 @@ pub mod Backs
 pub mod Unmarked
 pub mod Keeping
 pub mod Tops
+pub mod Flat

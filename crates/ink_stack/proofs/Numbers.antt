@@ -1,7 +1,7 @@
 -- Frames by their number, over a list whose last item is the top one.
-use Rattle.std.proofs.Common.{◌≡◌, ◌∙◌, ◌<◌, ◌≤◌, ◌+◌, ◌-◌, ℕ, List, [], ◌∷◌, ◌++◌, true, false, Option, Some, None, option_and_then, Result, OnOk, OnErr, add-one, ap, append_assoc, arith, drop, get_or, if◌then◌else◌, length, length-append, nat_eq, not, ◌&&◌, refl, reverse, set, sym, take}
+use Rattle.std.proofs.Common.{◌≡◌, ◌∙◌, ◌<◌, ◌≤◌, ◌+◌, ◌-◌, ℕ, List, [], ◌∷◌, ◌++◌, true, false, Option, Some, None, option_and_then, Result, Ok, Err, OnOk, OnErr, add-one, ap, append_assoc, arith, drop, get_or, if◌then◌else◌, length, length-append, nat_eq, not, ◌&&◌, refl, reverse, set, sym, take}
 use Rattle.std.proofs.lemmas.Bool.Decides.{nat_tests}
-use Rattle.std.proofs.lemmas.List.{drop_more, length-reverse, length-take-le, reverse-append, set_split, take-append-drop}
+use Rattle.std.proofs.lemmas.List.{drop_more, get_or-set_same, length-reverse, length-take-le, reverse-append, set-get_or, set_split, take-append-drop}
 use Rattle.std.proofs.lemmas.Result.{on_err_weaker, on_ok_weaker}
 use Rattle.ink_model.specs.Frames.{FrameOf, ThreadOf, frame_numbered, is_function}
 use Rattle.ink_model.specs.Rows.{name_order, row}
@@ -96,6 +96,11 @@ module _ {P : Type 0} where
   numbered_below f fs n d above within =
       rw (other_number n (length (reverse fs) + 1) (omega (arith, length-reverse fs))) (numbered_is fs n d above within)
 
+  pub temp_below : (t : ThreadOf P) (fs : List (FrameOf P)) (n : ℕ) (d : FrameOf P) (name : List ℕ) → t.below ≡ reverse fs → 0 < n → n ≤ length fs
+      → temp_in n name t ≡ row name_order name (get_or fs (n - 1) d).temps
+  temp_below t fs n d name is above within =
+      ap (λ h. option_and_then (λ g. row name_order name g.temps) h) (ap (λ gs. frame_numbered n (t.frame ∷ gs)) is ∙ numbered_below t.frame fs n d above within)
+
   module _ {U E : Type 0} (r : Result U E) (f : FrameOf P) (fs : List (FrameOf P)) (previous : Option P) (n : ℕ) (d : FrameOf P) (name : List ℕ)
       (above : 0 < n) (within : n ≤ length fs) where
     -- the thread of these frames
@@ -112,3 +117,24 @@ module _ {P : Type 0} where
 
     pub memory_along : OnErr r (row name_order name (get_or fs (n - 1) d).temps ≡ None) → OnErr r (temp_in n name (thread_of fs) ≡ None)
     memory_along err = on_err_weaker r (λ absent. ap (λ h. option_and_then (λ g. row name_order name g.temps) h) (numbered_below f fs n d above within) ∙ absent) err
+
+  -- some frame of a list that has one
+  pub some_frame : (fs : List (FrameOf P)) → 0 < length fs → FrameOf P
+  some_frame [] h = absurd (omega arith)
+  some_frame (f ∷ fs) h = f
+
+  -- ---- a list of which one frame has a temporary more, or which is as it was
+
+  module _ {U E : Type 0} (r : Result U E) (was now : List (FrameOf P)) (i : ℕ) (d : FrameOf P) (inside : i < length was) where
+    pub set_either : (h : FrameOf P) → OnOk r (now ≡ set was i h) → OnErr r (now ≡ was) → now ≡ set was i (get_or now i d)
+    set_either h made kept = by r made kept
+      where
+        by : (s : Result U E) → OnOk s (now ≡ set was i h) → OnErr s (now ≡ was) → now ≡ set was i (get_or now i d)
+        by (Ok u) made kept = made ∙ ap (λ f. set was i f) (sym (ap (λ fs. get_or fs i d) made ∙ get_or-set_same was i h d inside))
+        by (Err e) made kept = kept ∙ sym (ap (λ fs. set was i (get_or fs i d)) kept ∙ set-get_or was i d)
+
+    pub row_made : (name : List ℕ) (v : Value) → OnOk r (now ≡ set was i (with_row_in name v (get_or was i d))) → OnOk r (get_or now i d ≡ with_row_in name v (get_or was i d))
+    row_made name v ok = on_ok_weaker r (λ made. ap (λ fs. get_or fs i d) made ∙ get_or-set_same was i (with_row_in name v (get_or was i d)) d inside) ok
+
+    pub row_kept : OnErr r (now ≡ was) → OnErr r (get_or now i d ≡ get_or was i d)
+    row_kept err = on_err_weaker r (λ kept. ap (λ fs. get_or fs i d) kept) err

@@ -1,5 +1,5 @@
 -- The function frames that come first, seen from the end of a list.
-use Rattle.std.proofs.Common.{◌≡◌, ◌∙◌, ℕ, ◌+◌, ◌<◌, List, [], ◌∷◌, ◌++◌, true, false, ap, append_assoc, arith, drop, get_or, length, refl, reverse, set, sym, take}
+use Rattle.std.proofs.Common.{◌≡◌, ◌∙◌, ℕ, ◌+◌, ◌<◌, List, [], ◌∷◌, ◌++◌, true, false, ap, append_assoc, arith, drop, get_or, if◌then◌else◌, length, refl, reverse, set, sym, take}
 use Rattle.std.proofs.lemmas.List.{append-nil, drop-set, drop_all, reverse-append, take-append-drop, take-set, take_all, take_more}
 use Rattle.ink_model.specs.Frames.{FrameOf, is_function}
 use Rattle.ink_model.specs.Threads.{stale, stale_run}
@@ -49,3 +49,10 @@ module _ {P : Type 0} (depth : ℕ) where
   run_start fs =
       ap (λ gs. reverse gs ++ stale_run depth (reverse (take (length fs) fs))) (drop_all (length fs) fs (omega arith))
       ∙ ap (λ gs. stale_run depth (reverse gs)) (take_all (length fs) fs (omega arith))
+
+  pub length-run : (fs : List (FrameOf P)) → length (stale_run depth fs) ≡ length fs
+  length-run [] = refl
+  length-run (f ∷ fs) = elim (is_function f.kind) as (λ b. length (if b then stale depth f ∷ stale_run depth fs else f ∷ fs) ≡ length (f ∷ fs)) [
+    | true ↦ omega (arith, length-run fs)
+    | false ↦ refl
+  ]

@@ -4,6 +4,7 @@ use Rattle.std.proofs.lemmas.Bool.Decides.{nat_tests}
 use Rattle.ink_model.specs.Frames.{FrameOf, ThreadOf, frame_numbered, is_function}
 use Rattle.ink_model.specs.Threads.{changed, stale, stale_run, staled}
 use Rattle.ink_stack.specs.Cells.{holds_of, with_frame}
+use Rattle.ink_stack.specs.Frames.{Room}
 use Rattle.ink_stack.specs.Running.{RunningView}
 use Rattle.ink_stack.proofs.Bases.{stale_kind}
 use Rattle.ink_stack.proofs.Framing.{length-changed}
@@ -87,7 +88,7 @@ module _ {P : Type 0} (d : ℕ) where
       ∙ ap (λ fs. record t { frame = stale d t.frame; below = fs }) (run_twice t.below)
 
 -- a thread that runs, by its parts
-pub running_is : {P : Type 0} (v : RunningView P) (t : ThreadOf P) (room : ℕ) → v.thread.frame ≡ t.frame → v.thread.below ≡ t.below → v.thread.previous ≡ t.previous → v.room ≡ room
+pub running_is : {P : Type 0} (v : RunningView P) (t : ThreadOf P) (room : Room) → v.thread.frame ≡ t.frame → v.thread.below ≡ t.below → v.thread.previous ≡ t.previous → v.room ≡ room
     → v ≡ record { thread = t; room = room }
 running_is v t room frame below previous same =
     ap (λ f. record { thread = record { frame = f; below = v.thread.below; previous = v.thread.previous }; room = v.room }) frame

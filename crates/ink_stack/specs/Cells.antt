@@ -1,11 +1,12 @@
 -- What cells of a thread held, put back.
-use Rattle.std.specs.Prelude.{◌≤◌, ◌<◌, ℕ, zero, suc, List, [], ◌∷◌, length, remove, nat_eq, Bool, false, if◌then◌else◌, Option, Some, None}
+use Rattle.std.specs.Prelude.{◌<◌, ℕ, zero, suc, List, [], ◌∷◌, length, remove, nat_eq, Bool, false, if◌then◌else◌, Option, Some, None}
 use Rattle.ink_model.specs.Bases.{BaseFirst}
 use Rattle.ink_model.specs.Frames.{FrameOf, ThreadOf}
 use Rattle.ink_model.specs.Store.{Values}
 use Rattle.ink_model.specs.Threads.{changed, frame_count}
 use Rattle.ink_model.specs.declared.limits.TheConstants.{MAX_FRAMES}
 use Rattle.ink_model.specs.declared.value.Value.{Value}
+use Rattle.ink_stack.specs.Frames.{FitsIn, Room}
 
 -- ---- temporaries
 
@@ -58,7 +59,7 @@ module _ {P : Type 0} where
   unpopped f t = record t { frame = f; below = t.frame ∷ t.below }
 
   -- its frames are within their limit and within a room, and the bottom one alone is the base
-  pub record Within (room : ℕ) (t : ThreadOf P) : Type 0 where
+  pub record Within (room : Room) (t : ThreadOf P) : Type 0 where
     pub few : length t.below < MAX_FRAMES
-    pub fit : length t.below ≤ room
+    pub fit : FitsIn room t.below
     pub base : BaseFirst t.frame.kind t.below

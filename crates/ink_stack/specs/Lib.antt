@@ -8,3 +8,4 @@ pub mod Saving
 pub mod Cells
 pub mod Undo
 pub mod Temps
+pub mod Frames

@@ -1,11 +1,12 @@
 -- The thread that runs, as contracts see it.
-use Rattle.std.specs.Prelude.{ℕ, List, reverse}
+use Rattle.std.specs.Prelude.{List, reverse}
 use Rattle.ink_model.specs.Frames.{ThreadOf, ThreadsOf}
+use Rattle.ink_stack.specs.Frames.{Room}
 
 -- its frames and its previous place, and how many frames below the top one fit without memory
 pub record RunningView (P : Type 0) : Type 0 where
   pub thread : ThreadOf P
-  pub room : ℕ
+  pub room : Room
 
 module _ {P : Type 0} where
   -- it and those below it, which are listed with the nearest last

@@ -5,6 +5,7 @@ use Rattle.ink_model.specs.declared.limits.TheConstants.{MAX_THREADS}
 use Rattle.ink_trail.specs.Stays.{Stays}
 use Rattle.ink_trail.specs.Undo.{spare, stood_at}
 use Rattle.ink_stack.specs.Cells.{Within, number_back, previous_back, temp_back, unpopped, unpushed, with_frame, with_fresh}
+use Rattle.ink_stack.specs.Frames.{MoreRoom, Room}
 use Rattle.ink_stack.specs.Running.{threads_in}
 use Rattle.ink_stack.specs.Threads.{ThreadsView}
 use Rattle.ink_stack.specs.declared.undo.ThreadsPair.{ThreadsPair}
@@ -12,12 +13,12 @@ use Rattle.ink_stack.specs.declared.undo.ThreadsPair.TheVariants.{Placed, Previo
 
 -- the room for frames below the top one, and for threads below the top one
 pub record Rooms : Type 0 where
-  pub frames : ℕ
+  pub frames : Room
   pub threads : ℕ
 
 -- no less room
 pub record More (r s : Rooms) : Type 0 where
-  pub frames : r.frames ≤ s.frames
+  pub frames : MoreRoom r.frames s.frames
   pub threads : r.threads ≤ s.threads
 
 module _ {P : Type 0} where

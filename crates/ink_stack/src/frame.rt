@@ -1,13 +1,15 @@
 //! Frames.
 
-ghost use Rattle.std.specs.Prelude.{◌≡◌, ◌≢◌, [], None, true, option_map, IfOk, IfSome, OnOk, OnErr};
+ghost use Rattle.std.specs.Prelude.{◌≡◌, ◌≢◌, [], None, true, option_map, IfOk, OnOk, OnErr};
 ghost use Rattle.std.specs.Bool.{OnTrue, OnFalse};
 ghost use Rattle.ink_model.specs.Frames.{fresh_depth, is_function};
 ghost use Rattle.ink_model.specs.Rows.{name_order, row};
 ghost use Rattle.ink_model.specs.Threads.{new_frame, same_kind, stale, with_row_in};
 ghost use Rattle.ink_stack.specs.Calls.{frame_kind};
 ghost use Rattle.ink_stack.specs.Cells.{temp_back, with_fresh};
+ghost use Rattle.ink_stack.specs.Frames.{frame_with, is_bare};
 ghost use Rattle.ink_stack.specs.Temps.{text_of};
+ghost use Rattle.ink_model.specs.Store.{Values};
 
 use crate::temps::{TempName, Temps};
 use ink_model::{FrameKind, Value};
@@ -42,6 +44,29 @@ pub(crate) struct Header<P> {
     pub(crate) depth: usize,
     pub(crate) place: Option<P>,
     pub(crate) enter: Option<u64>,
+}
+
+impl<P> Header<P> {
+    /// Whether the frame is a function.
+    pub(crate) fn is_function(&self) -> bool
+        ensures { result ≡ is_function self.now.kind }
+    {
+        matches!(self.kind, FrameKind::Function)
+    }
+
+    /// A text is written where so many sections are open: the frame is fresh no more if it was pushed there. Whether it was fresh until
+    /// then.
+    pub(crate) fn end_one(&mut self, depth: usize) -> bool
+        ensures frame { (rows : Values) → frame_with self.new rows ≡ stale depth (frame_with self.old rows) }
+        ensures ended { (rows : Values) → OnTrue result (with_fresh true (stale depth (frame_with self.old rows)) ≡ frame_with self.old rows) }
+        ensures kept { (rows : Values) → OnFalse result (stale depth (frame_with self.old rows) ≡ frame_with self.old rows) }
+    {
+        if self.fresh && self.depth == depth {
+            self.fresh = false;
+            return true;
+        }
+        false
+    }
 }
 
 /// A frame: its header, and its temporaries. A contract sees it as one record.
@@ -99,18 +124,21 @@ impl<P: Copy> Frame<P> {
         })
     }
 
-    /// A copy where there are no temporaries, which takes no memory.
+    /// Its header and its temporaries.
     #[inline(always)]
-    pub(crate) fn bare(&self, alloc: Global) -> Option<Frame<P>>
-        ensures { IfSome result (λ copy. copy ≡ self.now) }
+    pub(crate) fn parts(self) -> (Header<P>, Temps)
+        ensures { frame_with result.0 result.1 ≡ self }
     {
-        if !self.temps.is_empty() {
-            return None;
-        }
-        Some(Frame {
-            header: self.header,
-            temps: Temps::new(alloc),
-        })
+        let Frame { header, temps } = self;
+        (header, temps)
+    }
+
+    /// Whether there are no temporaries.
+    #[inline(always)]
+    pub(crate) fn is_bare(&self) -> bool
+        ensures { result ≡ is_bare self.now }
+    {
+        self.temps.is_empty()
     }
 
     /// What it was pushed for.
@@ -215,6 +243,7 @@ impl<P: Copy> Frame<P> {
 
     /// Gives a temporary a value, and answers the index of its row and what that held; none where it is new. The one error is a
     /// refused request for memory, which is made only for a new name, and leaves all as it was.
+    #[inline(never)]
     pub(crate) fn set_temp(
         &mut self,
         name: TempName<'_>,

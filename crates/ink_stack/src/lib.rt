@@ -2,6 +2,8 @@
 #![tactic(auto)]
 
 mod frame;
+mod frames;
+mod listing;
 mod running;
 mod saving;
 mod temps;

@@ -1,18 +1,20 @@
 //! The thread that runs.
 
-ghost use Rattle.std.specs.Prelude.{◌≡◌, ◌≢◌, ◌⊎◌, [], ◌∷◌, ◌<◌, ◌≤◌, ◌+◌, None, true, length, map, option_map, reverse, IfOk, OnOk, OnErr};
+ghost use Rattle.std.specs.Prelude.{◌≡◌, ◌≢◌, ◌⊎◌, [], ◌∷◌, ◌<◌, ◌≤◌, ◌+◌, None, true, option_map, reverse, IfOk, OnOk, OnErr};
 ghost use Rattle.std.specs.Bool.{OnTrue, OnFalse};
 ghost use Rattle.ink_model.specs.Bases.{BaseFirst};
-ghost use Rattle.ink_model.specs.Frames.{base_frame, fresh_depth, frame_numbered, gone, is_function, mode_in, put_in, unnumbered_frame, unnumbered_thread};
+ghost use Rattle.ink_model.specs.Frames.{base_frame, fresh_depth, frame_numbered, gone, is_function, mode_in, put_in, unnumbered_thread};
 ghost use Rattle.ink_model.specs.declared.limits.TheConstants.{MAX_FRAMES};
 ghost use Rattle.ink_model.specs.Threads.{frame_count, number_in, popped, pushed, stale, stale_run, staled, temp_in, with_temp};
 ghost use Rattle.ink_stack.specs.Calls.{frame_kind};
 ghost use Rattle.ink_stack.specs.Cells.{Within, holds_of, number_back, previous_back, temp_back, unpopped, unpushed, with_frame, with_fresh};
+ghost use Rattle.ink_stack.specs.Frames.{MoreRoom};
 ghost use Rattle.ink_stack.specs.Quiet.{is_quiet};
 ghost use Rattle.ink_stack.specs.Temps.{text_of};
 ghost use Rattle.ink_stack.specs.Words.{Changes, Grows};
 
 use crate::frame::{CallKind, Frame};
+use crate::frames::Frames;
 use crate::temps::TempName;
 use ink_model::{Fault, FrameKind, MAX_FRAMES, Value};
 use std::alloc::{AllocError, Global};
@@ -28,7 +30,7 @@ use std::mem;
 /// look at them where none has one.
 pub struct Running<P> {
     pub(crate) frame: Frame<P>,
-    pub(crate) below: Vec<Frame<P>>,
+    pub(crate) below: Frames<P>,
     pub(crate) previous: Option<P>,
     pub(crate) quiet: bool,
     pub(crate) numbered: bool,
@@ -49,7 +51,7 @@ impl<P: Drop> Drop for Running<P> {
 }
 
 impl<P> Model for Running<P> {
-    ghost use Rattle.std.specs.Prelude.{◌≡◌, reverse, ◌<◌, length, false, true, vec_capacity};
+    ghost use Rattle.std.specs.Prelude.{◌≡◌, reverse, ◌<◌, length, false, true};
     ghost use Rattle.ink_model.specs.Bases.{BaseFirst};
     ghost use Rattle.ink_model.specs.declared.limits.TheConstants.{MAX_FRAMES};
     ghost use Rattle.ink_stack.specs.Quiet.{is_quiet, is_unnumbered};
@@ -59,7 +61,7 @@ impl<P> Model for Running<P> {
 
     ghost view = { λ t. record {
       thread = record { frame = t.frame; below = reverse t.below.items; previous = t.previous };
-      room = vec_capacity t.below;
+      room = t.below.room;
     } };
 
     ghost invariant = { λ t. (length t.below.items < MAX_FRAMES) × (t.quiet ≡ true → is_quiet (reverse t.below.items) ≡ true)
@@ -73,7 +75,7 @@ impl<P: Copy> Running<P> {
     {
         Running {
             frame: Frame::new(alloc, FrameKind::Base, place, 0),
-            below: Vec::new(alloc),
+            below: Frames::new(alloc),
             previous: None,
             quiet: true,
             numbered: false,
@@ -134,12 +136,13 @@ impl<P: Copy> Running<P> {
     }
 
     /// A copy. The one error is a refused request for memory, which a frame alone without temporaries never makes.
+    #[inline(always)]
     pub(crate) fn clone_in(&self, alloc: Global) -> Result<Running<P>, AllocError>
         ensures copy { IfOk result (λ copy. copy.thread ≡ self.now.thread) }
         ensures memory { OnErr result ((self.now.thread.frame.temps ≢ []) ⊎ (self.now.thread.below ≢ [])) }
     {
         let frame = self.frame.clone_in(alloc)?;
-        let below = copied_frames(alloc, self.below.as_slice())?;
+        let below = self.below.clone_in(alloc)?;
         Ok(Running {
             frame,
             below,
@@ -180,7 +183,7 @@ impl<P: Copy> Running<P> {
     {
         self.frame.set_number(None);
         if self.numbered {
-            clear_numbers_of(self.below.as_mut_slice());
+            self.below.clear_numbers();
             self.numbered = false;
         }
     }
@@ -190,25 +193,25 @@ impl<P: Copy> Running<P> {
     {
         self.frame.end_freshness(depth);
         if !self.quiet {
-            self.quiet = end_freshness_of(self.below.as_mut_slice(), depth);
+            self.quiet = end_freshness_of(&mut self.below, depth);
         }
     }
 
     pub(crate) fn push(&mut self, kind: CallKind, depth: usize) -> Result<(), Fault>
         ensures thread { Grows (pushed (frame_kind kind) depth self.old.thread) self.old.thread self.new.thread result }
-        ensures room { self.old.room ≤ self.new.room }
+        ensures room { MoreRoom self.old.room self.new.room }
     {
         if self.frames() >= MAX_FRAMES {
             return Err(Fault::TooDeep);
         }
-        if self.below.reserve(1).is_err() {
+        let Ok(_) = self.below.make_room(&self.frame) else {
             return Err(Fault::OutOfMemory);
-        }
+        };
         let frame = Frame::new(self.alloc, kind.frame_kind(), self.frame.place(), depth);
         let caller = mem::replace(&mut self.frame, frame);
         self.quiet = !caller.is_function() || !caller.is_fresh() && self.quiet;
         self.numbered = self.numbered || caller.number().is_some();
-        self.below.push(caller).unwrap();
+        self.below.push_reserved(caller);
         Ok(())
     }
 
@@ -218,7 +221,7 @@ impl<P: Copy> Running<P> {
         ensures frame { IfOk result (λ frame. frame ≡ self.old.thread.frame) }
         ensures room { self.new.room ≡ self.old.room }
     {
-        if !self.frame.is(kind) || self.below.is_empty() {
+        if !self.frame.is(kind) || self.below.len() == 0 {
             return Err(Fault::BadPop);
         }
         if self.frame.depth() != depth {
@@ -237,23 +240,13 @@ impl<P: Copy> Running<P> {
     pub(crate) fn temp(&self, frame: usize, name: &str) -> Option<&Value>
         ensures { option_map (λ value. value.now) result ≡ temp_in frame name.now self.now.thread }
     {
-        match self.frame_numbered(frame) {
-            Some(frame) => frame.temp(name),
-            None => None,
+        if frame == self.frames() {
+            return self.frame.temp(name);
         }
-    }
-
-    // A frame by its number, which the bottom one has as 1.
-    fn frame_numbered(&self, number: usize) -> Option<&Frame<P>>
-        ensures { option_map (λ frame. frame.now) result ≡ frame_numbered number (self.now.thread.frame ∷ self.now.thread.below) }
-    {
-        if number == self.frames() {
-            return Some(&self.frame);
-        }
-        if number == 0 || number > self.frames() {
+        if frame == 0 || frame > self.frames() {
             return None;
         }
-        Some(&self.below[number - 1])
+        self.below.temp(frame - 1, name)
     }
 
     // Gives a temporary a value, and answers the index of its row and what that held; none where it is new.
@@ -267,14 +260,14 @@ impl<P: Copy> Running<P> {
         requires there { frame ≤ frame_count self.old.thread }
         ensures ok { OnOk result (self.new.thread ≡ with_temp frame (text_of name.entry) value self.old.thread) }
         ensures err { OnErr result (self.new.thread ≡ self.old.thread) }
-        ensures room { self.new.room ≡ self.old.room }
+        ensures room { MoreRoom self.old.room self.new.room }
         ensures memory { OnErr result (temp_in frame (text_of name.entry) self.old.thread ≡ None) }
         ensures back { IfOk result (λ was. with_frame (temp_back was.0 was.1) frame self.new.thread ≡ self.old.thread) }
     {
         if frame == self.frames() {
             return self.frame.set_temp(name, value);
         }
-        self.below[frame - 1].set_temp(name, value)
+        self.below.set_temp(frame - 1, name, value)
     }
 
     // ---- what a mark needs
@@ -284,7 +277,7 @@ impl<P: Copy> Running<P> {
     pub(crate) fn within(&self)
         ensures { Within self.now.room self.now.thread }
     {
-        let _ = &self.below;
+        self.below.within();
     }
 
     // Whether it is known of the function frames nearest below the top one that none is fresh.
@@ -298,10 +291,13 @@ impl<P: Copy> Running<P> {
     pub(crate) fn is_function(&self, number: usize) -> bool
         ensures { result ≡ holds_of (λ f. is_function f.kind) (frame_numbered number (self.now.thread.frame ∷ self.now.thread.below)) }
     {
-        match self.frame_numbered(number) {
-            Some(frame) => frame.is_function(),
-            None => false,
+        if number == self.frames() {
+            return self.frame.is_function();
         }
+        if number == 0 || number > self.frames() {
+            return false;
+        }
+        self.below.is_function(number - 1)
     }
 
     // A text is written where so many sections are open: the frame of a number is fresh no more if it was pushed there. Whether
@@ -317,7 +313,7 @@ impl<P: Copy> Running<P> {
             return self.frame.end_one(depth);
         }
         self.quiet = false;
-        self.below[number - 1].end_one(depth)
+        self.below.end_one(number - 1, depth)
     }
 
     pub(crate) fn put_previous_back(&mut self, previous: Option<P>)
@@ -342,7 +338,7 @@ impl<P: Copy> Running<P> {
         }
         if 0 < number && number <= self.below.len() {
             self.quiet = false;
-            self.below[number - 1].freshen();
+            self.below.freshen(number - 1);
         }
     }
 
@@ -355,7 +351,7 @@ impl<P: Copy> Running<P> {
             return;
         }
         if 0 < number && number <= self.below.len() {
-            self.below[number - 1].put_temp_back(index, was);
+            self.below.put_temp_back(number - 1, index, was);
         }
     }
 
@@ -381,46 +377,22 @@ impl<P: Copy> Running<P> {
     }
 }
 
-/// Copies of frames. The one error is a refused request for memory.
-fn copied_frames<P: Copy>(alloc: Global, frames: &[Frame<P>]) -> Result<Vec<Frame<P>>, AllocError>
-    ensures copy { IfOk result (λ copies. copies.items ≡ frames.now) }
-    ensures memory { OnErr result (frames.now ≢ []) }
-{
-    let mut copies = Vec::with_capacity(alloc, frames.len())?;
-    for frame in frames {
-        match frame.bare(alloc) {
-            Some(copy) => copies.push_reserved(copy),
-            None => copies.push_reserved(frame.clone_in(alloc)?),
-        }
-    }
-    Ok(copies)
-}
-
 /// A text is written where so many sections are open: of the function frames that come last here, those that were pushed
 /// there are fresh no more. Whether none of them is fresh then.
-fn end_freshness_of<P: Copy>(frames: &mut [Frame<P>], depth: usize) -> bool
-    ensures run { reverse frames.new ≡ stale_run depth (reverse frames.old) }
-    ensures quiet { result ≡ is_quiet (reverse frames.new) }
+fn end_freshness_of<P: Copy>(frames: &mut Frames<P>, depth: usize) -> bool
+    ensures run { reverse frames.new.items ≡ stale_run depth (reverse frames.old.items) }
+    ensures quiet { result ≡ is_quiet (reverse frames.new.items) }
+    ensures room { frames.new.room ≡ frames.old.room }
 {
     let mut quiet = true;
     let mut count = frames.len();
     while count > 0 {
         count -= 1;
-        let frame = &mut frames[count];
-        if !frame.is_function() {
+        if !frames.is_function(count) {
             return quiet;
         }
-        frame.end_freshness(depth);
-        quiet &= !frame.is_fresh();
+        let _was = frames.end_one(count, depth);
+        quiet &= !frames.is_fresh(count);
     }
     quiet
-}
-
-/// No frame has the number of its mark any more.
-fn clear_numbers_of<P: Copy>(frames: &mut [Frame<P>])
-    ensures { frames.new ≡ map unnumbered_frame frames.old }
-{
-    for frame in frames {
-        frame.set_number(None);
-    }
 }

@@ -1,6 +1,6 @@
 //! Frames and threads as a save lends and gives them.
 
-ghost use Rattle.std.specs.Prelude.{◌≡◌, ◌≤◌, true, length, option_map, reverse, IfSome, Some, None, if◌then◌else◌};
+ghost use Rattle.std.specs.Prelude.{◌≡◌, ◌≢◌, ◌<◌, ◌≤◌, [], true, length, option_map, reverse, IfOk, IfSome, OnErr, Some, None, if◌then◌else◌};
 ghost use Rattle.std.specs.List.{list_all};
 ghost use Rattle.ink_model.specs.Rows.{name_order, rows_rise};
 ghost use Rattle.ink_model.specs.declared.limits.TheConstants.{MAX_FRAMES, MAX_THREADS};
@@ -8,13 +8,14 @@ ghost use Rattle.ink_stack.specs.Saving.{base_first, is_after, is_call, rise_aft
 ghost use Rattle.ink_stack.specs.Undo.{threads_stood};
 
 use crate::frame::{Frame, Header};
+use crate::frames::Frames;
 use crate::running::Running;
 use crate::temps::Temps;
 use crate::thread::Thread;
 use crate::threads::Threads;
 use ink_model::{FrameKind, MAX_FRAMES, MAX_THREADS, Shared, Text, Value};
 use ink_trail::Trail;
-use std::alloc::Global;
+use std::alloc::{AllocError, Global};
 use std::cmp::Ordering;
 
 impl<P: Copy> Frame<P> {
@@ -78,29 +79,39 @@ impl Temps {
 
 impl<P: Copy> Thread<P> {
     /// The thread of these frames, the bottom one first, and the place from which it last moved; none where there is no frame,
-    /// the bottom one alone is not the base, or there are more than 1,000. Takes no memory.
+    /// the bottom one alone is not the base, or there are more than 1,000. The one error is a refused request for memory, which
+    /// one frame alone never makes.
     pub fn from_frames(
         alloc: Global,
         frames: Vec<Frame<P>>,
         previous: Option<P>,
-    ) -> Option<Thread<P>>
-        ensures { result ≡ thread_from frames.items previous }
+    ) -> Result<Option<Thread<P>>, AllocError>
+        ensures thread { IfOk result (λ made. made ≡ thread_from frames.items previous) }
+        ensures memory { OnErr result (1 < length frames.items) }
     {
         if base_first(frames.as_slice()) && frames.len() <= MAX_FRAMES {
             Thread::with(alloc, frames, previous)
         } else {
-            None
+            Ok(None)
         }
     }
 
     // The same of frames that are within their limit, of which the first alone is the base.
-    fn with(alloc: Global, frames: Vec<Frame<P>>, previous: Option<P>) -> Option<Thread<P>>
+    fn with(
+        alloc: Global,
+        frames: Vec<Frame<P>>,
+        previous: Option<P>,
+    ) -> Result<Option<Thread<P>>, AllocError>
         requires few { length frames.items ≤ MAX_FRAMES }
         requires base { base_first frames.items ≡ true }
-        ensures { result ≡ thread_with (reverse frames.items) previous }
+        ensures thread { IfOk result (λ made. made ≡ thread_with (reverse frames.items) previous) }
+        ensures memory { OnErr result (1 < length frames.items) }
     {
-        let mut below = frames;
-        let frame = below.pop()?;
+        let mut rest = frames;
+        let Some(frame) = rest.pop() else {
+            return Ok(None);
+        };
+        let below = Frames::of(alloc, rest)?;
         let running = Running {
             frame,
             below,
@@ -109,7 +120,7 @@ impl<P: Copy> Thread<P> {
             numbered: true,
             alloc,
         };
-        Some(Thread { running })
+        Ok(Some(Thread { running }))
     }
 
     /// The top frame.
@@ -119,11 +130,13 @@ impl<P: Copy> Thread<P> {
         self.running.top()
     }
 
-    /// The frames below the top one, the bottom one first.
-    pub fn below(&self) -> &[Frame<P>]
-        ensures { reverse result.now ≡ self.now.below }
+    /// Copies of the frames below the top one, the bottom one first. The one error is a refused request for memory, which a
+    /// frame alone never makes.
+    pub fn below(&self, alloc: Global) -> Result<Vec<Frame<P>>, AllocError>
+        ensures copies { IfOk result (λ frames. reverse frames.items ≡ self.now.below) }
+        ensures memory { OnErr result (self.now.below ≢ []) }
     {
-        self.running.below()
+        self.running.below(alloc)
     }
 }
 
@@ -135,11 +148,13 @@ impl<P: Copy> Running<P> {
         &self.frame
     }
 
-    /// The frames below the top one, the bottom one first.
-    pub fn below(&self) -> &[Frame<P>]
-        ensures { reverse result.now ≡ self.now.thread.below }
+    /// Copies of the frames below the top one, the bottom one first. The one error is a refused request for memory, which a
+    /// frame alone never makes.
+    pub fn below(&self, alloc: Global) -> Result<Vec<Frame<P>>, AllocError>
+        ensures copies { IfOk result (λ frames. reverse frames.items ≡ self.now.thread.below) }
+        ensures memory { OnErr result (self.now.thread.below ≢ []) }
     {
-        self.below.as_slice()
+        self.below.list(alloc)
     }
 }
 

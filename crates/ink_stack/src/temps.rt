@@ -124,6 +124,7 @@ impl Temps {
 
     /// Gives a name a value, and answers the index of its row and what that held; none where it is new. The one error is a
     /// refused request for memory, which is made only for a new name, and leaves all as it was.
+    #[inline(always)]
     pub(crate) fn set(
         &mut self,
         name: TempName<'_>,
@@ -186,6 +187,7 @@ impl Temps {
 const FEW: usize = 8;
 
 /// Where a name stands among rows that rise by name, or where it would stand.
+#[inline(always)]
 fn find(rows: &[(Shared<Text>, Value)], name: &str) -> Result<usize, usize>
     requires { rows_rise name_order rows.now ≡ true }
     ensures { FindsName name.now rows.now result }

@@ -443,6 +443,7 @@ impl<P: Copy> Threads<P> {
 
     /// A copy of the top thread. The one error is `OutOfMemory` for a refused request for memory, which a frame alone
     /// without temporaries never makes.
+    #[inline(always)]
     pub fn fork(&self) -> Result<Thread<P>, Fault>
         ensures copy { IfOk result (λ copy. copy ≡ self.now.threads.thread) }
         ensures fault { IfErr result (λ f. f ≡ Fault.OutOfMemory) }

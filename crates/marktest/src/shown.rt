@@ -37,14 +37,20 @@ pub(crate) fn show_threads(said: &mut Report, threads: &Threads<Spot>) {
         show_thread(said, thread);
     }
     let top = threads.top();
-    show_frames(said, top.below(), top.top(), top.previous());
+    match top.below(said.alloc()) {
+        Ok(below) => show_frames(said, below.as_slice(), top.top(), top.previous()),
+        Err(_) => said.refuse(),
+    }
     said.put("number ");
     show_number(said, top.number());
     said.put("\n");
 }
 
 fn show_thread(said: &mut Report, thread: &Thread<Spot>) {
-    show_frames(said, thread.below(), thread.top(), thread.previous());
+    match thread.below(said.alloc()) {
+        Ok(below) => show_frames(said, below.as_slice(), thread.top(), thread.previous()),
+        Err(_) => said.refuse(),
+    }
 }
 
 /// The frames of a thread, the top one last.

@@ -1,50 +1,82 @@
-use Rattle.std.proofs.Common.{◌≡◌, ◌∙◌, ◌-◌, ◌+◌, ◌<◌, ◌++◌, true, false, ap, arith, get_or, length, length-set, reverse, sym}
-use Rattle.std.proofs.lemmas.List.{drop_all, set-get_or}
+use Rattle.std.proofs.Common.{◌≡◌, ◌∙◌, ◌-◌, ◌+◌, ◌<◌, ◌++◌, true, false, ap, arith, get_or, length, length-set, refl, reverse, set, sym}
+use Rattle.std.proofs.lemmas.List.{drop_all, get_or-set_same}
 use Rattle.ink_model.specs.Frames.{is_function}
+use Rattle.ink_model.specs.Threads.{stale}
+use Rattle.ink_stack.proofs.Numbers.{some_frame}
 use Rattle.ink_stack.proofs.Quietness.{quiet_end, quiet_step, quiet_stop}
 use Rattle.ink_stack.proofs.Runs.{run_at, run_end, run_start, run_step, run_stop}
 use Rattle.ink_stack.specs.Quiet.{is_quiet}
 use Rattle.ink_stack.proofs.running.end_freshness_of.Goals as goal
 
 pub loop-count-init : goal.loop-count-init
-loop-count-init g c = record {
-  within = omega arith;
-  run = run_start c.args.depth c.args.frames.now;
-  quiet = λ more. ap (λ gs. is_quiet (reverse gs ++ more)) (drop_all (length c.args.frames.now) c.args.frames.now (omega arith));
-}
+loop-count-init g c =
+    let fs = c.args.frames.now.items in
+    record {
+      within = omega arith;
+      run = ap (λ n. run_at c.args.depth n fs) c.len-count.ensures ∙ run_start c.args.depth fs;
+      quiet = λ more. ap (λ gs. is_quiet (reverse gs ++ more)) (drop_all c.len-count.result fs (omega arith));
+      room = refl;
+    }
 
-pub returns-then-not-is_function : goal.returns-then-not-is_function
-returns-then-not-is_function g c =
-    let fs = c.loop-count.frames in
+pub returns-then-not-is_function-clause-run : goal.returns-then-not-is_function-clause-run
+returns-then-not-is_function-clause-run g c =
+    let fs = c.loop-count.frames.items in
     let n = c.loop-count.count in
-    let other : is_function (get_or fs (n - 1) c.index-frames-count.result).kind ≡ false = cc in
-    let count : n ≡ n - 1 + 1 = omega arith in
     let inside : n - 1 < length fs = omega arith in
-    record {
-      run = rw set-get_or (run_stop c.args.depth fs (n - 1) n _ count inside other ∙ c.loop-count.invariant.run);
-      quiet = rw set-get_or (quiet_stop fs (n - 1) n _ c.loop-count.quiet count inside other c.loop-count.invariant.quiet);
-    }
+    let d = some_frame fs (omega arith) in
+    let kind = c.is_function.ensures d in
+    let other : is_function (get_or fs (n - 1) d).kind ≡ false = cc in
+    let count : n ≡ n - 1 + 1 = omega arith in
+    run_stop c.args.depth fs (n - 1) n d count inside other ∙ c.loop-count.invariant.run
 
-pub returns : goal.returns
-returns g c =
-    let fs = c.loop-count.frames in
+pub returns-then-not-is_function-clause-quiet : goal.returns-then-not-is_function-clause-quiet
+returns-then-not-is_function-clause-quiet g c =
+    let fs = c.loop-count.frames.items in
+    let n = c.loop-count.count in
+    let inside : n - 1 < length fs = omega arith in
+    let d = some_frame fs (omega arith) in
+    let kind = c.is_function.ensures d in
+    let other : is_function (get_or fs (n - 1) d).kind ≡ false = cc in
+    let count : n ≡ n - 1 + 1 = omega arith in
+    quiet_stop fs (n - 1) n d c.loop-count.quiet count inside other c.loop-count.invariant.quiet
+
+pub returns-clause-run : goal.returns-clause-run
+returns-clause-run g c =
+    let fs = c.loop-count.frames.items in
     let none : c.loop-count.count ≡ 0 = omega arith in
-    record {
-      run = run_end c.args.depth fs ∙ ap (λ n. run_at c.args.depth n fs) (sym none) ∙ c.loop-count.invariant.run;
-      quiet = quiet_end fs c.loop-count.quiet (rw none at c.loop-count.invariant.quiet);
-    }
+    run_end c.args.depth fs ∙ ap (λ n. run_at c.args.depth n fs) (sym none) ∙ c.loop-count.invariant.run
+
+pub returns-clause-quiet : goal.returns-clause-quiet
+returns-clause-quiet g c =
+    let fs = c.loop-count.frames.items in
+    let none : c.loop-count.count ≡ 0 = omega arith in
+    quiet_end fs c.loop-count.quiet (rw none at c.loop-count.invariant.quiet)
 
 pub loop-count-preserved : goal.loop-count-preserved
 loop-count-preserved g c =
-    let fs = c.loop-count.frames in
+    let fs = c.loop-count.frames.items in
     let n = c.loop-count.count in
-    let function : is_function (get_or fs (n - 1) c.index-frames-count.result).kind ≡ true = cc in
-    let count : n ≡ n - 1 + 1 = omega arith in
+    let depth = c.args.depth in
     let inside : n - 1 < length fs = omega arith in
+    let d = some_frame fs (omega arith) in
+    let kind = c.is_function.ensures d in
+    let function : is_function (get_or fs (n - 1) d).kind ≡ true = cc in
+    let count : n ≡ n - 1 + 1 = omega arith in
+    let g = stale depth (get_or fs (n - 1) d) in
+    let items : c.end_one-was.new.self.items ≡ set fs (n - 1) g = c.end_one-was.ensures.items d in
+    let fresh : c.is_fresh.result ≡ g.fresh = c.is_fresh.ensures d ∙ ap (λ gs. (get_or gs (n - 1) d).fresh) items ∙ ap (λ f. f.fresh) (get_or-set_same fs (n - 1) g d inside) in
     record {
-      within = rw length-set (omega arith);
-      run = run_step c.args.depth fs (n - 1) n _ _ count inside function c.end_freshness.ensures ∙ c.loop-count.invariant.run;
+      within = rw items (rw length-set (omega arith));
+      run = ap (λ gs. run_at depth (n - 1) gs) items ∙ run_step depth fs (n - 1) n d g count inside function refl ∙ c.loop-count.invariant.run;
       quiet =
-          rw c.is_fresh.ensures
-          (quiet_step c.args.depth fs (n - 1) n _ c.end_freshness.new.self c.loop-count.quiet count inside function c.end_freshness.ensures c.loop-count.invariant.quiet);
+          rw (items, fresh)
+          (quiet_step depth fs (n - 1) n (get_or fs (n - 1) d) g c.loop-count.quiet count inside function refl c.loop-count.invariant.quiet);
+      room = c.end_one-was.ensures.room ∙ c.loop-count.invariant.room;
     }
+
+pub is_fresh-requires : goal.is_fresh-requires
+is_fresh-requires g c =
+    let fs = c.loop-count.frames.items in
+    let n = c.loop-count.count in
+    let d = some_frame fs (omega arith) in
+    rw (c.end_one-was.ensures.items d) (rw length-set (omega arith))

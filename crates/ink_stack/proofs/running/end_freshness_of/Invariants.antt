@@ -6,9 +6,10 @@ use Rattle.ink_stack.proofs.running.end_freshness_of.Given as goal
 
 abbrev pub invariant-loop-count : goal.invariant-loop-count
 invariant-loop-count g l = record {
-  within : l.count ≤ length l.frames;
-  run : run_at l.depth l.count l.frames ≡ stale_run l.depth (reverse l.initial.frames);
-  quiet : QuietSoFar l.count l.frames l.quiet;
+  within : l.count ≤ length l.frames.items;
+  run : run_at l.depth l.count l.frames.items ≡ stale_run l.depth (reverse l.initial.frames.items);
+  quiet : QuietSoFar l.count l.frames.items l.quiet;
+  room : l.frames.room ≡ l.initial.frames.room;
 }
 
 abbrev pub decreases-loop-count : goal.decreases-loop-count

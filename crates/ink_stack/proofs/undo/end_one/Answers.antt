@@ -6,7 +6,7 @@ use Rattle.ink_stack.specs.Cells.{with_frame, with_fresh}
 use Rattle.ink_stack.specs.Running.{threads_in}
 use Rattle.ink_stack.specs.Undo.{Rooms, threads_back}
 use Rattle.ink_stack.specs.declared.undo.ThreadsPair.TheVariants.{Fresh}
-use Rattle.ink_stack.proofs.Bases.{stale_kind}
+use Rattle.ink_stack.proofs.Bases.{stale_kind, stale_temps}
 use Rattle.ink_stack.proofs.Framing.{within_framed}
 use Rattle.ink_stack.proofs.Holding.{held-now, held-top, more-refl}
 use Rattle.ink_stack.proofs.undo.end_one.Goals as goal
@@ -27,4 +27,4 @@ returns-then-end_one-clause-held g c =
     let now = held-now r (trail_of c.args.trail.now.undo) (threads_in c.args.running.now c.args.below.now.items) c.requires.held in
     rw (c.note.ensures.undo, c.end_one.ensures.running)
     (held-top (Fresh n) 1 t s below c.args.trail.now.undo r (ap (λ u. record { thread = u; below = below }) back)
-    (within_framed (stale c.args.depth) (stale_kind c.args.depth) n c.args.running.now.room t now.thread) (more-refl r) c.requires.held)
+    (within_framed (stale c.args.depth) (stale_kind c.args.depth) (stale_temps c.args.depth) n c.args.running.now.room t now.thread) (more-refl r) c.requires.held)

@@ -1,4 +1,5 @@
 use Rattle.std.proofs.Common.{ap, arith, ◌∙◌, [], ◌∷◌, refl, reverse}
+use Rattle.ink_stack.proofs.Holding.{room-refl, room-same}
 use Rattle.ink_stack.specs.Running.{threads_in}
 use Rattle.std.proofs.lemmas.List.{reverse-append}
 use Rattle.ink_stack.proofs.undo.put_one_back.Goals as goal
@@ -7,49 +8,49 @@ pub returns-in-Placed-clause-threads : goal.returns-in-Placed-clause-threads
 returns-in-Placed-clause-threads g c = rw c.in-Placed.is (ap (λ v. threads_in v c.args.below.now.items) c.put.ensures)
 
 pub returns-in-Placed-clause-room : goal.returns-in-Placed-clause-room
-returns-in-Placed-clause-room g c = rw c.in-Placed.is (record { frames = omega (arith, ap (λ v. v.room) c.put.ensures); threads = omega arith })
+returns-in-Placed-clause-room g c = rw c.in-Placed.is (record { frames = room-same _ _ (ap (λ v. v.room) c.put.ensures); threads = omega arith })
 
 pub returns-in-Previous-clause-threads : goal.returns-in-Previous-clause-threads
 returns-in-Previous-clause-threads g c = rw c.in-Previous.is (ap (λ v. threads_in v c.args.below.now.items) c.put_previous_back.ensures)
 
 pub returns-in-Previous-clause-room : goal.returns-in-Previous-clause-room
-returns-in-Previous-clause-room g c = rw c.in-Previous.is (record { frames = omega (arith, ap (λ v. v.room) c.put_previous_back.ensures); threads = omega arith })
+returns-in-Previous-clause-room g c = rw c.in-Previous.is (record { frames = room-same _ _ (ap (λ v. v.room) c.put_previous_back.ensures); threads = omega arith })
 
 pub returns-in-Evaluating-clause-threads : goal.returns-in-Evaluating-clause-threads
 returns-in-Evaluating-clause-threads g c = rw c.in-Evaluating.is (ap (λ v. threads_in v c.args.below.now.items) c.set_mode.ensures)
 
 pub returns-in-Evaluating-clause-room : goal.returns-in-Evaluating-clause-room
-returns-in-Evaluating-clause-room g c = rw c.in-Evaluating.is (record { frames = omega (arith, ap (λ v. v.room) c.set_mode.ensures); threads = omega arith })
+returns-in-Evaluating-clause-room g c = rw c.in-Evaluating.is (record { frames = room-same _ _ (ap (λ v. v.room) c.set_mode.ensures); threads = omega arith })
 
 pub returns-in-Fresh-clause-threads : goal.returns-in-Fresh-clause-threads
 returns-in-Fresh-clause-threads g c = rw c.in-Fresh.is (ap (λ v. threads_in v c.args.below.now.items) c.freshen.ensures)
 
 pub returns-in-Fresh-clause-room : goal.returns-in-Fresh-clause-room
-returns-in-Fresh-clause-room g c = rw c.in-Fresh.is (record { frames = omega (arith, ap (λ v. v.room) c.freshen.ensures); threads = omega arith })
+returns-in-Fresh-clause-room g c = rw c.in-Fresh.is (record { frames = room-same _ _ (ap (λ v. v.room) c.freshen.ensures); threads = omega arith })
 
 pub returns-in-Temp-clause-threads : goal.returns-in-Temp-clause-threads
 returns-in-Temp-clause-threads g c = rw c.in-Temp.is (ap (λ v. threads_in v c.args.below.now.items) c.put_temp_back.ensures)
 
 pub returns-in-Temp-clause-room : goal.returns-in-Temp-clause-room
-returns-in-Temp-clause-room g c = rw c.in-Temp.is (record { frames = omega (arith, ap (λ v. v.room) c.put_temp_back.ensures); threads = omega arith })
+returns-in-Temp-clause-room g c = rw c.in-Temp.is (record { frames = room-same _ _ (ap (λ v. v.room) c.put_temp_back.ensures); threads = omega arith })
 
 pub returns-in-FramePushed-clause-threads : goal.returns-in-FramePushed-clause-threads
 returns-in-FramePushed-clause-threads g c = rw c.in-FramePushed.is (ap (λ v. threads_in v c.args.below.now.items) c.unpush.ensures)
 
 pub returns-in-FramePushed-clause-room : goal.returns-in-FramePushed-clause-room
-returns-in-FramePushed-clause-room g c = rw c.in-FramePushed.is (record { frames = omega (arith, ap (λ v. v.room) c.unpush.ensures); threads = omega arith })
+returns-in-FramePushed-clause-room g c = rw c.in-FramePushed.is (record { frames = room-same _ _ (ap (λ v. v.room) c.unpush.ensures); threads = omega arith })
 
 pub returns-in-FramePopped-clause-threads : goal.returns-in-FramePopped-clause-threads
 returns-in-FramePopped-clause-threads g c = rw c.in-FramePopped.is (ap (λ v. threads_in v c.args.below.now.items) c.unpop.ensures)
 
 pub returns-in-FramePopped-clause-room : goal.returns-in-FramePopped-clause-room
-returns-in-FramePopped-clause-room g c = rw c.in-FramePopped.is (record { frames = omega (arith, ap (λ v. v.room) c.unpop.ensures); threads = omega arith })
+returns-in-FramePopped-clause-room g c = rw c.in-FramePopped.is (record { frames = room-same _ _ (ap (λ v. v.room) c.unpop.ensures); threads = omega arith })
 
 pub returns-in-Numbered-clause-threads : goal.returns-in-Numbered-clause-threads
 returns-in-Numbered-clause-threads g c = rw c.in-Numbered.is (ap (λ v. threads_in v c.args.below.now.items) c.put_number_back.ensures)
 
 pub returns-in-Numbered-clause-room : goal.returns-in-Numbered-clause-room
-returns-in-Numbered-clause-room g c = rw c.in-Numbered.is (record { frames = omega (arith, ap (λ v. v.room) c.put_number_back.ensures); threads = omega arith })
+returns-in-Numbered-clause-room g c = rw c.in-Numbered.is (record { frames = room-same _ _ (ap (λ v. v.room) c.put_number_back.ensures); threads = omega arith })
 
 pub returns-in-ThreadPopped-clause-threads : goal.returns-in-ThreadPopped-clause-threads
 returns-in-ThreadPopped-clause-threads g c =
@@ -64,7 +65,7 @@ returns-in-ThreadPopped-clause-threads g c =
 pub returns-in-ThreadPopped-clause-room : goal.returns-in-ThreadPopped-clause-room
 returns-in-ThreadPopped-clause-room g c =
     rw c.in-ThreadPopped.is (record {
-      frames = omega (arith, ap (λ v. v.room) c.replace-under.ensures.after);
+      frames = room-same _ _ (ap (λ v. v.room) c.replace-under.ensures.after);
       threads = omega (arith, c.push_reserved.ensures.capacity);
     })
 
@@ -72,4 +73,4 @@ pub returns-in-Replaced-clause-threads : goal.returns-in-Replaced-clause-threads
 returns-in-Replaced-clause-threads g c = rw c.in-Replaced.is refl
 
 pub returns-in-Replaced-clause-room : goal.returns-in-Replaced-clause-room
-returns-in-Replaced-clause-room g c = rw c.in-Replaced.is (record { frames = omega arith; threads = omega arith })
+returns-in-Replaced-clause-room g c = rw c.in-Replaced.is (record { frames = room-refl _; threads = omega arith })

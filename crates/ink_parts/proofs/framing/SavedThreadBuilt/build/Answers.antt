@@ -1,8 +1,10 @@
-use Rattle.std.proofs.Common.{◌∙◌, ap, map, refl, subst, sym}
+use Rattle.std.proofs.Common.{◌≡◌, ◌∙◌, IfOk, List, ap, map, refl, reverse, subst, sym}
+use Rattle.std.proofs.lemmas.Result.{IfOk-weaker}
 use Rattle.std.specs.List.{AllByRecursion, list_all}
 use Rattle.std.specs.declared.alloc.Global.{Global}
 use Rattle.std.specs.declared.vec.Vec.{Vec}
-use Rattle.ink_model.specs.Frames.{FrameOf, map_frame, map_thread}
+use Rattle.ink_model.specs.Frames.{FrameOf, ThreadOf, map_frame, map_thread}
+use Rattle.ink_model.specs.declared.place.Part.{Part}
 use Rattle.ink_parts.specs.Building.{Builds, FrameBuilds, ThreadBuilds}
 use Rattle.ink_parts.proofs.Making.{built, never}
 use Rattle.ink_parts.proofs.Standing.{below_refused, standing, standing_refused, thread_built}
@@ -34,7 +36,9 @@ returns c =
     let rest = built (λ (v : Vec (FrameOf Spot) Global). map (map_frame (place_of s)) v.items) (AllByRecursion (FrameBuilds s)) _ c.self.inside.below.items c.in_ok-below.field-0 c.in-Some-2.below
     c.as_slice.ensures.value c.in-Some-2.is c.in_ok-below.ensures in
     let top = built (map_frame (place_of s)) (FrameBuilds s) c.self.inside.frame c.self.inside.frame c.in_ok-frame.field-0 c.in-Some-3.frame refl c.in-Some-3.is c.in_ok-frame.ensures in
-    subst (λ t. Builds (map_thread (place_of s)) (ThreadBuilds s) t c.from_frames.result) c.self.view_is
-    (thread_built s c.in-Some-3.frame c.in-Some-2.below.items c.in-Some.previous c.self.inside.frame c.self.inside.below.items c.self.inside.previous top rest
-    (sym (c.all_stand.ensures ∙ ap (list_all standing) c.as_slice-2.ensures.value) ∙ c.if-not-all_stand.false) c.in-Some.ensures c.from_frames.result
-    (c.from_frames.ensures ∙ ap (λ fs. thread_from fs c.in-Some.previous) c.in_ok-push.ensures.items))
+    let thread : ThreadOf (List Part) = record { frame = c.self.inside.frame; below = reverse c.self.inside.below.items; previous = c.self.inside.previous } in
+    subst (λ t. IfOk c.from_frames.result (λ made. Builds (map_thread (place_of s)) (ThreadBuilds s) t made)) c.self.view_is
+    (IfOk-weaker c.from_frames.result (λ made. made ≡ thread_from c.push.new.self.items c.in-Some.previous) (λ made. Builds (map_thread (place_of s)) (ThreadBuilds s) thread made)
+    (λ made is. thread_built s c.in-Some-3.frame c.in-Some-2.below.items c.in-Some.previous c.self.inside.frame c.self.inside.below.items c.self.inside.previous top rest
+    (sym (c.all_stand.ensures ∙ ap (list_all standing) c.as_slice-2.ensures.value) ∙ c.if-not-all_stand.false) c.in-Some.ensures made
+    (is ∙ ap (λ fs. thread_from fs c.in-Some.previous) c.in_ok-push.ensures.items)) c.from_frames.ensures.thread)

@@ -1,5 +1,5 @@
-use Rattle.std.proofs.Common.{◌≡◌, ◌∙◌, ap, length, map, refl, reverse, subst, vec_len}
-use Rattle.std.proofs.lemmas.List.{length-map, with_items_is}
+use Rattle.std.proofs.Common.{refl, reverse, subst, ap}
+use Rattle.std.proofs.lemmas.List.{length-map}
 use Rattle.ink_model.specs.Bases.{BaseFirst}
 use Rattle.ink_model.specs.Frames.{unnumbered_frame}
 use Rattle.ink_stack.proofs.Bases.{base_same, base_unnumbered}
@@ -9,11 +9,7 @@ use Rattle.ink_stack.proofs.Unnumbered.{unnumbered_map, unnumbered_same}
 use Rattle.ink_stack.proofs.running.Running.clear_numbers.Goals as goal
 
 pub returns-then-self : goal.returns-then-self
-returns-then-self g c =
-    let items : c.clear_numbers_of.new.frames ≡ map unnumbered_frame c.self.inside.below.items =
-    c.clear_numbers_of.ensures ∙ ap (map unnumbered_frame) c.as_mut_slice.ensures.value in
-    let kept : length c.clear_numbers_of.new.frames ≡ vec_len c.self.inside.below = c.clear_numbers_of.auto.frames ∙ c.as_mut_slice.ensures.len in
-    rw (← c.self.view_is) (rw (with_items_is c.self.inside.below c.clear_numbers_of.new.frames kept, c.set_number.ensures, items, map-reverse) refl)
+returns-then-self g c = rw (← c.self.view_is) (rw (c.set_number.ensures, c.clear_numbers.ensures.items, c.clear_numbers.ensures.room, map-reverse) refl)
 
 -- no frame below has a number
 pub returns-else-self : goal.returns-else-self
@@ -24,10 +20,7 @@ returns-else-self g c =
 pub invariant_of-self : goal.invariant_of-self
 invariant_of-self g c =
     let old = c.self.inside.below.items in
-    let items : c.clear_numbers_of.new.frames ≡ map unnumbered_frame old =
-    c.clear_numbers_of.ensures ∙ ap (map unnumbered_frame) c.as_mut_slice.ensures.value in
-    let kept : length c.clear_numbers_of.new.frames ≡ vec_len c.self.inside.below = c.clear_numbers_of.auto.frames ∙ c.as_mut_slice.ensures.len in
-    rw (with_items_is c.self.inside.below c.clear_numbers_of.new.frames kept, items) (
+    rw c.clear_numbers.ensures.items (
       rw length-map c.self.invariant.0,
       λ quiet. rw (← map-reverse unnumbered_frame old, quiet_unnumbered (reverse old)) (c.self.invariant.1 quiet),
       subst (λ fs. BaseFirst c.set_number.new.self.kind fs) (map-reverse unnumbered_frame old)

@@ -6,4 +6,4 @@ use Rattle.ink_stack.proofs.running.Running.clone_in.Goals as goal
 pub returns-in_err-below-clause-memory : goal.returns-in_err-below-clause-memory
 returns-in_err-below-clause-memory g c =
     let p = err_from_is_err_and c.from_residual-in_err-below.result c.from_residual-in_err-below.ensures.1 in
-    rw p.1 (inr (rw (← c.self.view_is) (some_reversed _ (rw c.as_slice.ensures.value at c.in_err-below.ensures.memory))))
+    rw p.1 (inr (rw (← c.self.view_is) (some_reversed _ c.in_err-below.ensures.memory)))

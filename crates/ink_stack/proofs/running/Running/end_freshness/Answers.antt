@@ -1,12 +1,16 @@
-use Rattle.std.proofs.Common.{◌≡◌, ◌∙◌, ap, length, refl, reverse, subst, sym, vec_len}
-use Rattle.std.proofs.lemmas.List.{with_items_is}
+use Rattle.std.proofs.Common.{◌≡◌, ◌∙◌, ap, arith, length, refl, reverse, subst, sym}
+use Rattle.std.proofs.lemmas.List.{length-reverse}
 use Rattle.ink_model.specs.Bases.{BaseFirst}
 use Rattle.ink_model.specs.Threads.{stale_run}
 use Rattle.ink_stack.proofs.Bases.{base_same, base_stale, stale_kind}
 use Rattle.ink_stack.proofs.Quietness.{quiet_run}
+use Rattle.ink_stack.proofs.Runs.{length-run}
 use Rattle.ink_stack.proofs.Unnumbered.{unnumbered_run}
 use Rattle.ink_stack.specs.Quiet.{is_unnumbered}
 use Rattle.ink_stack.proofs.running.Running.end_freshness.Goals as goal
+
+pub returns-then-not-self : goal.returns-then-not-self
+returns-then-not-self g c = rw (← c.self.view_is) (rw (c.end_freshness.ensures, c.end_freshness_of-self-inside.ensures.run, c.end_freshness_of-self-inside.ensures.room) refl)
 
 pub returns-else-not-self : goal.returns-else-not-self
 returns-else-not-self g c =
@@ -15,17 +19,16 @@ returns-else-not-self g c =
 
 pub invariant_of-self : goal.invariant_of-self
 invariant_of-self g c =
+    let depth = c.args.depth in
     let old = c.self.inside.below.items in
-    let new = c.end_freshness_of-self-inside.new.frames in
+    let new = c.end_freshness_of-self-inside.new.frames.items in
     let top = c.end_freshness.new.self in
-    let run : reverse new ≡ stale_run c.args.depth (reverse old) = c.end_freshness_of-self-inside.ensures.run ∙ ap (λ fs. stale_run c.args.depth (reverse fs)) c.as_mut_slice.ensures.value in
-    let many : length new ≡ length old = c.end_freshness_of-self-inside.auto.frames ∙ ap length c.as_mut_slice.ensures.value in
-    let kept : length new ≡ vec_len c.self.inside.below = c.end_freshness_of-self-inside.auto.frames ∙ c.as_mut_slice.ensures.len in
-    let kind : top.kind ≡ c.self.inside.frame.kind = ap (λ f. f.kind) c.end_freshness.ensures ∙ stale_kind c.args.depth c.self.inside.frame in
-    rw (with_items_is c.self.inside.below new kept) (
-      rw many c.self.invariant.0,
+    let run : reverse new ≡ stale_run depth (reverse old) = c.end_freshness_of-self-inside.ensures.run in
+    let many : length new ≡ length old = omega (arith, length-reverse new, ap length run, length-run depth (reverse old), length-reverse old) in
+    let kind : top.kind ≡ c.self.inside.frame.kind = ap (λ f. f.kind) c.end_freshness.ensures ∙ stale_kind depth c.self.inside.frame in (
+      omega (arith, many, c.self.invariant.0),
       λ quiet. sym c.end_freshness_of-self-inside.ensures.quiet ∙ quiet,
       subst (λ fs. BaseFirst top.kind fs) (sym run)
-          (base_same c.self.inside.frame.kind top.kind (stale_run c.args.depth (reverse old)) kind (base_stale c.args.depth c.self.inside.frame.kind (reverse old) c.self.invariant.2)),
-      λ none. ap is_unnumbered run ∙ unnumbered_run c.args.depth (reverse old) ∙ c.self.invariant.3 none,
+          (base_same c.self.inside.frame.kind top.kind (stale_run depth (reverse old)) kind (base_stale depth c.self.inside.frame.kind (reverse old) c.self.invariant.2)),
+      λ none. ap is_unnumbered run ∙ unnumbered_run depth (reverse old) ∙ c.self.invariant.3 none,
     )

@@ -1,4 +1,4 @@
-use Rattle.std.proofs.Common.{◌≡◌, ◌∙◌, [], ◌∷◌, ◌++◌, false, true, ap, arith, if◌then◌else◌, is_ok, is_some, length, reverse}
+use Rattle.std.proofs.Common.{◌≡◌, ◌∙◌, [], ◌∷◌, ◌++◌, false, true, ap, arith, is_some, length, reverse}
 use Rattle.std.proofs.lemmas.List.{length-append, length-reverse, reverse-append}
 use Rattle.ink_model.specs.Frames.{is_function}
 use Rattle.ink_stack.specs.Calls.{frame_kind}
@@ -13,9 +13,7 @@ pub invariant_of-self-2 : goal.invariant_of-self-2
 invariant_of-self-2 g c =
     let items = c.self.inside.below.items in
     let f = c.replace-caller.result in
-    let more : c.push.new.self.items ≡ items ++ f ∷ [] =
-    c.push.ensures.items ∙ ap (λ r. if is_ok r then c.reserve.new.self.items ++ f ∷ [] else c.reserve.new.self.items) c.unwrap.ensures
-    ∙ ap (λ fs. fs ++ f ∷ []) c.reserve.ensures.items in
+    let more : c.push_reserved.new.self.items ≡ items ++ f ∷ [] = c.push_reserved.ensures.items ∙ ap (λ fs. fs ++ f ∷ []) c.make_room.ensures.items in
     let kind : c.replace-caller.new.dest.kind ≡ frame_kind c.args.kind = ap (λ h. h.kind) (c.replace-caller.ensures.after ∙ c.new-frame.ensures) ∙ c.frame_kind.ensures in
     let quiet : c.if-not-is_function.self ≡ true → is_function f.kind ≡ true → (f.fresh ≡ false) × (c.self.inside.quiet ≡ true) =
     elim c.if-not-is_function.branch [
@@ -39,12 +37,12 @@ pub returns-then-frames-ge-MAX_FRAMES-clause-thread : goal.returns-then-frames-g
 returns-then-frames-ge-MAX_FRAMES-clause-thread g c = pushed_full (frame_kind c.args.kind) c.args.depth c.args.self.now.thread (omega (arith, c.frames.ensures.count))
 
 pub invariant_of-self : goal.invariant_of-self
-invariant_of-self g c = rw c.reserve.ensures.items c.self.invariant
+invariant_of-self g c = rw c.make_room.ensures.items c.self.invariant
 
-pub returns-then-is_err-clause-thread : goal.returns-then-is_err-clause-thread
-returns-then-is_err-clause-thread g c =
+pub returns-in_default-clause-thread : goal.returns-in_default-clause-thread
+returns-in_default-clause-thread g c =
     let items = c.self.inside.below.items in
-    rw (← c.self.view_is, c.reserve.ensures.items)
+    rw (← c.self.view_is, c.make_room.ensures.items)
     (pushed_refused (frame_kind c.args.kind) c.args.depth (record { frame = c.self.inside.frame; below = reverse items; previous = c.self.inside.previous })
     (omega (arith, c.frames.ensures.count, ap (λ v. length v.thread.below) c.self.view_is)))
 
@@ -52,12 +50,14 @@ pub returns-clause-thread : goal.returns-clause-thread
 returns-clause-thread g c =
     let items = c.self.inside.below.items in
     let f = c.replace-caller.result in
-    let more : c.push.new.self.items ≡ items ++ f ∷ [] =
-    c.push.ensures.items ∙ ap (λ r. if is_ok r then c.reserve.new.self.items ++ f ∷ [] else c.reserve.new.self.items) c.unwrap.ensures
-    ∙ ap (λ fs. fs ++ f ∷ []) c.reserve.ensures.items in
+    let more : c.push_reserved.new.self.items ≡ items ++ f ∷ [] = c.push_reserved.ensures.items ∙ ap (λ fs. fs ++ f ∷ []) c.make_room.ensures.items in
     let top = c.replace-caller.ensures.after ∙ c.new-frame.ensures ∙ ap (λ k. new_frame k c.place.result c.args.depth) c.frame_kind.ensures
     ∙ ap (λ p. new_frame (frame_kind c.args.kind) p c.args.depth) c.place.ensures in
     rw (← c.self.view_is)
     (pushed_made (frame_kind c.args.kind) c.args.depth (record { frame = c.self.inside.frame; below = reverse items; previous = c.self.inside.previous }) c.replace-caller.new.dest
-    (reverse c.push.new.self.items) (omega (arith, c.frames.ensures.count, ap (λ v. length v.thread.below) c.self.view_is)) top
+    (reverse c.push_reserved.new.self.items) (omega (arith, c.frames.ensures.count, ap (λ v. length v.thread.below) c.self.view_is)) top
     (ap reverse more ∙ reverse-append items (f ∷ []) ∙ ap (λ g. g ∷ reverse items) c.replace-caller.ensures.value))
+
+pub push_reserved-requires : goal.push_reserved-requires
+push_reserved-requires g c =
+    rw (c.make_room.ensures.items, c.replace-caller.ensures.value) c.in-Ok.ensures.ok

@@ -1,58 +1,80 @@
-use Rattle.std.proofs.Common.{◌∙◌, ◌≤◌, ap, arith, length, length-set, reverse, ◌≡◌, sym}
+use Rattle.std.proofs.Common.{◌≡◌, ◌∙◌, ◌<◌, ◌≤◌, ◌-◌, IfOk, OnOk, ap, arith, get_or, length, length-set, reverse, subst, sym}
 use Rattle.std.proofs.lemmas.List.{length-reverse}
 use Rattle.std.proofs.lemmas.Result.{IfOk-weaker}
-use Rattle.ink_stack.specs.Cells.{temp_back}
+use Rattle.ink_stack.specs.Cells.{temp_back, with_frame}
 use Rattle.ink_stack.specs.Temps.{text_of}
 use Rattle.ink_stack.proofs.Bases.{fresh_along, kind_along, base_same}
 use Rattle.ink_stack.proofs.Framing.{base_set, unframed_below}
-use Rattle.ink_stack.proofs.Numbers.{memory_along, quiet_set, temp_along}
+use Rattle.ink_stack.proofs.Numbers.{memory_along, quiet_set, row_kept, row_made, set_either, temp_along}
 use Rattle.ink_stack.proofs.Unnumbered.{number_along, unnumbered_set}
 use Rattle.ink_stack.proofs.Tops.{back_top, memory_top, temp_top}
 use Rattle.ink_model.specs.Frames.{ThreadOf}
-use Rattle.ink_model.specs.Threads.{frame_count}
+use Rattle.ink_model.specs.Bases.{BaseFirst}
+use Rattle.ink_model.specs.Threads.{frame_count, with_row_in, with_temp}
+use Rattle.ink_stack.specs.Quiet.{is_quiet, is_unnumbered}
 use Rattle.ink_stack.proofs.running.Running.set_temp.Goals as goal
 
 pub invariant_of-self-2 : goal.invariant_of-self-2
 invariant_of-self-2 g c =
     let items = c.self.inside.below.items in
-    let was = c.index_mut.result.now in
-    let now = c.set_temp-2.new.self in
+    let d = c.self.inside.frame in
+    let i = c.args.frame - 1 in
+    let now = c.set_temp-2.new.self.items in
+    let name = text_of c.args.name in
     let within : c.args.frame ≤ length items = omega (arith, length-reverse items, ap (λ t. length t.thread.below) c.self.view_is) in
-    let kind = kind_along c.set_temp-2.result (text_of c.args.name) c.args.value was now c.set_temp-2.ensures.ok c.set_temp-2.ensures.err ∙ ap (λ f. f.kind) c.index_mut.ensures.value in
-    let fresh = fresh_along c.set_temp-2.result (text_of c.args.name) c.args.value was now c.set_temp-2.ensures.ok c.set_temp-2.ensures.err ∙ ap (λ f. f.fresh) c.index_mut.ensures.value in
-    let number = number_along c.set_temp-2.result (text_of c.args.name) c.args.value was now c.set_temp-2.ensures.ok c.set_temp-2.ensures.err ∙ ap (λ f. f.enter) c.index_mut.ensures.value in (
-      rw length-set c.self.invariant.0,
-      λ quiet. rw (quiet_set items c.args.frame was now c.requires.from within kind fresh) (c.self.invariant.1 quiet),
-      base_set c.self.inside.frame.kind items c.args.frame was now c.requires.from within kind c.self.invariant.2,
-      λ none. rw (unnumbered_set items c.args.frame was now c.requires.from within number) (c.self.invariant.3 none),
+    let inside : i < length items = omega (arith, c.requires.from) in
+    let is = set_either c.set_temp-2.result items now i d inside (with_row_in name c.args.value (get_or items i d)) (c.set_temp-2.ensures.ok d) c.set_temp-2.ensures.err in
+    let was = get_or items i d in
+    let f = get_or now i d in
+    let made = row_made c.set_temp-2.result items now i d inside name c.args.value (c.set_temp-2.ensures.ok d) in
+    let kept = row_kept c.set_temp-2.result items now i d inside c.set_temp-2.ensures.err in
+    let kind = kind_along c.set_temp-2.result name c.args.value was f made kept in
+    let fresh = fresh_along c.set_temp-2.result name c.args.value was f made kept in
+    let number = number_along c.set_temp-2.result name c.args.value was f made kept in (
+      omega (arith, ap length is ∙ length-set items i f, c.self.invariant.0),
+      λ quiet. ap (λ fs. is_quiet (reverse fs)) is ∙ quiet_set items c.args.frame d f c.requires.from within kind fresh ∙ c.self.invariant.1 quiet,
+      subst (λ fs. BaseFirst d.kind (reverse fs)) (sym is) (base_set d.kind items c.args.frame d f c.requires.from within kind c.self.invariant.2),
+      λ none. ap (λ fs. is_unnumbered (reverse fs)) is ∙ unnumbered_set items c.args.frame d f c.requires.from within number ∙ c.self.invariant.3 none,
     )
 
 pub returns-clause-ok : goal.returns-clause-ok
 returns-clause-ok g c =
     let items = c.self.inside.below.items in
+    let d = c.self.inside.frame in
+    let i = c.args.frame - 1 in
+    let now = c.set_temp-2.new.self.items in
+    let name = text_of c.args.name in
     let within : c.args.frame ≤ length items = omega (arith, length-reverse items, ap (λ t. length t.thread.below) c.self.view_is) in
+    let inside : i < length items = omega (arith, c.requires.from) in
+    let is = set_either c.set_temp-2.result items now i d inside (with_row_in name c.args.value (get_or items i d)) (c.set_temp-2.ensures.ok d) c.set_temp-2.ensures.err in
+    let made = row_made c.set_temp-2.result items now i d inside name c.args.value (c.set_temp-2.ensures.ok d) in
     rw (← c.self.view_is)
-    (temp_along c.set_temp-2.result c.self.inside.frame items c.self.inside.previous c.args.frame c.index_mut.result.now (text_of c.args.name) c.requires.from within
-    c.args.value c.set_temp-2.new.self (rw (← c.index_mut.ensures.value) c.set_temp-2.ensures.ok))
+    (subst (λ fs. OnOk c.set_temp-2.result (record { frame = d; below = reverse fs; previous = c.self.inside.previous } ≡ with_temp c.args.frame name c.args.value (record { frame = d; below = reverse items; previous = c.self.inside.previous }))) (sym is)
+    (temp_along c.set_temp-2.result d items c.self.inside.previous c.args.frame d name c.requires.from within c.args.value (get_or now i d) made))
 
 pub returns-clause-memory : goal.returns-clause-memory
 returns-clause-memory g c =
     let items = c.self.inside.below.items in
     let within : c.args.frame ≤ length items = omega (arith, length-reverse items, ap (λ t. length t.thread.below) c.self.view_is) in
     rw (← c.self.view_is)
-    (memory_along c.set_temp-2.result c.self.inside.frame items c.self.inside.previous c.args.frame c.index_mut.result.now (text_of c.args.name) c.requires.from within
-    (rw (← c.index_mut.ensures.value) c.set_temp-2.ensures.memory))
+    (memory_along c.set_temp-2.result c.self.inside.frame items c.self.inside.previous c.args.frame c.self.inside.frame (text_of c.args.name) c.requires.from within
+    (c.set_temp-2.ensures.memory c.self.inside.frame))
 
 pub returns-clause-back : goal.returns-clause-back
 returns-clause-back g c =
     let items = c.self.inside.below.items in
+    let d = c.self.inside.frame in
+    let i = c.args.frame - 1 in
+    let now = c.set_temp-2.new.self.items in
+    let name = text_of c.args.name in
     let within : c.args.frame ≤ length items = omega (arith, length-reverse items, ap (λ t. length t.thread.below) c.self.view_is) in
+    let inside : i < length items = omega (arith, c.requires.from) in
+    let is = set_either c.set_temp-2.result items now i d inside (with_row_in name c.args.value (get_or items i d)) (c.set_temp-2.ensures.ok d) c.set_temp-2.ensures.err in
     rw (← c.self.view_is)
+    (subst (λ fs. IfOk c.set_temp-2.result (λ was. with_frame (temp_back was.0 was.1) c.args.frame (record { frame = d; below = reverse fs; previous = c.self.inside.previous }) ≡ record { frame = d; below = reverse items; previous = c.self.inside.previous })) (sym is)
     (IfOk-weaker c.set_temp-2.result _ _
-    (λ was back.
-    unframed_below (temp_back was.0 was.1) c.self.inside.frame items c.self.inside.previous c.args.frame c.index_mut.result.now c.set_temp-2.new.self c.requires.from within
-    (back ∙ c.index_mut.ensures.value))
-    c.set_temp-2.ensures.back)
+    (λ was back. unframed_below (temp_back was.0 was.1) d items c.self.inside.previous c.args.frame d (get_or now i d) c.requires.from within back)
+    (c.set_temp-2.ensures.back d)))
 
 pub invariant_of-self : goal.invariant_of-self
 invariant_of-self g c =

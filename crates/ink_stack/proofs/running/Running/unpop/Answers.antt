@@ -1,4 +1,4 @@
-use Rattle.std.proofs.Common.{◌≡◌, ◌∙◌, [], ◌∷◌, false, true, ap, arith, is_some, length, refl, vec_capacity, reverse}
+use Rattle.std.proofs.Common.{◌≡◌, ◌∙◌, [], ◌∷◌, false, true, ap, arith, is_some, length, refl, reverse}
 use Rattle.std.proofs.lemmas.List.{length-append, length-reverse, reverse-append}
 use Rattle.ink_model.specs.Frames.{is_function, ThreadOf}
 use Rattle.ink_stack.proofs.Keeping.{base_more, quiet_more, unnumbered_more}
@@ -36,6 +36,9 @@ returns g c =
     let f = c.replace-under.result in
     let t : ThreadOf g.row.P.Denot = record { frame = c.self.inside.frame; below = reverse items; previous = c.self.inside.previous } in
     rw (← c.self.view_is)
-    (running_is (record { thread = record { frame = c.replace-under.new.dest; below = reverse c.push_reserved.new.self.items; previous = c.self.inside.previous }; room = vec_capacity c.push_reserved.new.self })
-    (unpopped c.args.frame t) (vec_capacity c.self.inside.below) c.replace-under.ensures.after
-    (ap reverse c.push_reserved.ensures.items ∙ reverse-append items (f ∷ []) ∙ ap (λ h. h ∷ reverse items) c.replace-under.ensures.value) refl c.push_reserved.ensures.capacity)
+    (running_is (record { thread = record { frame = c.replace-under.new.dest; below = reverse c.push_reserved.new.self.items; previous = c.self.inside.previous }; room = c.push_reserved.new.self.room })
+    (unpopped c.args.frame t) c.self.inside.below.room c.replace-under.ensures.after
+    (ap reverse c.push_reserved.ensures.items ∙ reverse-append items (f ∷ []) ∙ ap (λ h. h ∷ reverse items) c.replace-under.ensures.value) refl c.push_reserved.ensures.room)
+
+pub push_reserved-requires : goal.push_reserved-requires
+push_reserved-requires g c = rw c.replace-under.ensures.value (rw (← c.self.view_is) at c.requires.fit)

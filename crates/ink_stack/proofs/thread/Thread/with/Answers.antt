@@ -6,7 +6,8 @@ use Rattle.ink_stack.proofs.thread.Thread.with.Goals as goal
 
 pub invariant_of-running : goal.invariant_of-running
 invariant_of-running g c =
-    let below = c.pop.new.self.items in
-    let whole : c.args.frames.items ≡ below ++ c.in_ok-frame.frame ∷ [] = c.in_ok-frame.ensures.items in
-    let few : length below < MAX_FRAMES = omega (arith, ap length whole ∙ length-append below (c.in_ok-frame.frame ∷ []), c.requires.few) in
-    (few, λ quiet. cc, bottom_base below c.in_ok-frame.frame c.args.frames.items whole c.requires.base, λ none. cc)
+    let rest = c.pop.new.self.items in
+    let frame = c.in-Some.frame in
+    let whole : c.args.frames.items ≡ rest ++ frame ∷ [] = c.in-Some.ensures.items in
+    let few : length rest < MAX_FRAMES = omega (arith, ap length whole ∙ length-append rest (frame ∷ []), c.requires.few) in
+    rw c.in_ok-below.ensures.frames (few, λ quiet. cc, bottom_base rest frame c.args.frames.items whole c.requires.base, λ none. cc)

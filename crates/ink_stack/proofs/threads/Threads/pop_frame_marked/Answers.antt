@@ -8,7 +8,7 @@ use Rattle.ink_stack.specs.Undo.{Rooms, threads_back, threads_spare}
 use Rattle.ink_stack.specs.declared.undo.ThreadsPair.TheVariants.{FramePopped}
 use Rattle.ink_stack.proofs.Backs.{changed-err, changed-kept, changed-ok, spare-of, stood-of, stood-same, unpopped-changed}
 use Rattle.ink_stack.proofs.Bases.{top_changes}
-use Rattle.ink_stack.proofs.Holding.{held-as, held-now, held-with}
+use Rattle.ink_stack.proofs.Holding.{held-as, held-now, held-with, room-same}
 use Rattle.ink_stack.proofs.Unmarked.{spare-or}
 use Rattle.ink_stack.proofs.threads.Threads.pop_frame_marked.Given.{Over}
 use Rattle.ink_stack.proofs.threads.Threads.pop_frame_marked.Goals.{After-note, In-Err}
@@ -41,7 +41,7 @@ invariant_of-self g c =
     let r : Rooms = record { frames = v.room; threads = vec_capacity c.self.inside.below } in
     let s : Rooms = record { frames = c.pop-popped.new.self.room; threads = vec_capacity c.self.inside.below } in
     let now = held-now r (trail_of u) ts c.self.invariant.1 in
-    let more : v.room ≤ c.pop-popped.new.self.room = omega (arith, c.pop-popped.ensures.room) in
+    let more = room-same v.room c.pop-popped.new.self.room c.pop-popped.ensures.room in
     rw c.note.ensures.undo (
       c.self.invariant.0,
       held-with (FramePopped c.in-Ok.frame) 1 ts us u r s (back g c) (record { thread = c.within.ensures; few = now.few; fit = now.fit }) (record { frames = more; threads = omega arith }) c.self.invariant.1,
@@ -52,7 +52,7 @@ invariant_of-self-in-Err g c =
     let u = c.self.inside.trail.undo in
     let r : Rooms = record { frames = c.self.inside.running.room; threads = vec_capacity c.self.inside.below } in
     let s : Rooms = record { frames = c.pop-popped.new.self.room; threads = vec_capacity c.self.inside.below } in
-    let more : c.self.inside.running.room ≤ c.pop-popped.new.self.room = omega (arith, c.pop-popped.ensures.room) in (
+    let more = room-same c.self.inside.running.room c.pop-popped.new.self.room c.pop-popped.ensures.room in (
       c.self.invariant.0,
       held-as u u r s (threads_in c.self.inside.running c.self.inside.below.items) (threads_in c.pop-popped.new.self c.self.inside.below.items) refl (kept g c)
           (record { frames = more; threads = omega arith }) c.self.invariant.1,

@@ -6,7 +6,7 @@ use Rattle.ink_stack.specs.Running.{threads_in}
 use Rattle.ink_stack.specs.Undo.{Rooms, threads_back, threads_spare}
 use Rattle.ink_stack.specs.declared.undo.ThreadsPair.TheVariants.{ThreadPopped}
 use Rattle.ink_stack.proofs.Backs.{spare-of, stood-of, thread-popped-back}
-use Rattle.ink_stack.proofs.Holding.{held-as, held-next, held-now, held-with}
+use Rattle.ink_stack.proofs.Holding.{held-as, held-next, held-now, held-with, room-refl, room-same}
 use Rattle.ink_stack.proofs.threads.Threads.pop_thread_marked.Given.{Over}
 use Rattle.ink_stack.proofs.threads.Threads.pop_thread_marked.Goals.{After-note}
 use Rattle.ink_stack.proofs.threads.Threads.pop_thread_marked.Goals as goal
@@ -29,7 +29,7 @@ invariant_of-self-2 g c =
     let more : vec_capacity c.self.inside.below ≤ vec_capacity c.pop.new.self = omega (arith, c.pop.ensures.capacity) in
     let held = held-next r c.self.inside.running c.run.result c.in-Some.next rest items (vec_capacity c.pop.new.self) whole c.run.ensures.within more now in
     let s : Rooms = record { frames = c.run.result.room; threads = vec_capacity c.pop.new.self } in
-    let frames : c.self.inside.running.room ≤ c.replace-top.result.room = omega (arith, ap (λ v. v.room) c.replace-top.ensures.value) in
+    let frames = room-same c.self.inside.running.room c.replace-top.result.room (ap (λ v. v.room) c.replace-top.ensures.value) in
     rw (c.note.ensures.undo, c.replace-top.ensures.after) (
       omega (arith, fewer, c.self.invariant.0),
       held-with (ThreadPopped c.replace-top.result) 1 (threads_in c.self.inside.running items) (threads_in c.run.result rest) c.self.inside.trail.undo r s
@@ -58,7 +58,7 @@ invariant_of-self g c =
     let same : rest ≡ items = sym (c.pop.ensures.items ∙ ap (λ o. rest ++ option_to_list o) c.in_default.is ∙ append-nil rest) in (
       omega (arith, ap length same, c.self.invariant.0),
       held-as u u r s (threads_in c.self.inside.running items) (threads_in c.self.inside.running rest) refl (ap (threads_in c.self.inside.running) same)
-          (record { frames = omega arith; threads = omega (arith, c.pop.ensures.capacity) }) c.self.invariant.1,
+          (record { frames = room-refl _; threads = omega (arith, c.pop.ensures.capacity) }) c.self.invariant.1,
     )
 
 pub returns-in_default-clause-trail : goal.returns-in_default-clause-trail

@@ -1,4 +1,4 @@
-use Rattle.std.proofs.Common.{◌≡◌, ◌∙◌, ◌≤◌, Err, ap, arith, refl, reverse, subst, vec_capacity}
+use Rattle.std.proofs.Common.{◌≡◌, ◌∙◌, Err, ap, arith, refl, reverse, subst, vec_capacity}
 use Rattle.ink_model.specs.Threads.{pushed, top_result}
 use Rattle.ink_model.specs.declared.fault.Fault.TheVariants.{OutOfMemory}
 use Rattle.ink_trail.proofs.Undoing.{trails-one}
@@ -11,7 +11,7 @@ use Rattle.ink_stack.specs.declared.undo.ThreadsPair.TheVariants.{FramePushed}
 use Rattle.ink_stack.specs.Words.{Grows}
 use Rattle.ink_stack.proofs.Backs.{grown-kept, grown-refused, spare-of, stood-of, stood-same, unpushed-grown}
 use Rattle.ink_stack.proofs.Bases.{top_grows}
-use Rattle.ink_stack.proofs.Holding.{held-as, held-now, held-with}
+use Rattle.ink_stack.proofs.Holding.{held-as, held-now, held-with, room-as}
 use Rattle.ink_stack.proofs.Unmarked.{spare-or}
 use Rattle.ink_stack.proofs.threads.Threads.push_frame_marked.Given.{Over}
 use Rattle.ink_stack.proofs.threads.Threads.push_frame_marked.Goals.{After-add, After-unpush, In-Err}
@@ -54,7 +54,7 @@ pub invariant_of-self-in_default-add : goal.invariant_of-self-in_default-add
 invariant_of-self-in_default-add g c =
     let r : Rooms = record { frames = c.self.inside.running.room; threads = vec_capacity c.self.inside.below } in
     let s : Rooms = record { frames = c.unpush.new.self.room; threads = vec_capacity c.self.inside.below } in
-    let more : c.self.inside.running.room ≤ c.unpush.new.self.room = omega (arith, c.push-pushed.ensures.room, ap (λ v. v.room) c.unpush.ensures) in (
+    let more = room-as c.self.inside.running.room c.push-pushed.new.self.room c.unpush.new.self.room c.push-pushed.ensures.room (ap (λ v. v.room) c.unpush.ensures) in (
       c.self.invariant.0,
       held-as c.self.inside.trail.undo c.add.new.self.undo r s (threads_in c.self.inside.running c.self.inside.below.items) (threads_in c.unpush.new.self c.self.inside.below.items)
           c.in_default-add.ensures.err.0 (unpushed_threads g c) (record { frames = more; threads = omega arith }) c.self.invariant.1,

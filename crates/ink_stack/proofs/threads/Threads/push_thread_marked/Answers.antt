@@ -8,7 +8,7 @@ use Rattle.ink_stack.specs.Undo.{Rooms, threads_back}
 use Rattle.ink_stack.specs.Words.{Grows}
 use Rattle.ink_stack.specs.declared.undo.ThreadsPair.TheVariants.{ThreadPushed}
 use Rattle.ink_stack.proofs.Backs.{doubled-back, grown-kept, grown-refused, popped-drop, spare-of, stood-of, stood-same}
-use Rattle.ink_stack.proofs.Holding.{held-as, held-now, held-with}
+use Rattle.ink_stack.proofs.Holding.{held-as, held-now, held-with, room-refl}
 use Rattle.ink_model.specs.declared.fault.Fault.TheVariants.{OutOfMemory}
 use Rattle.ink_stack.proofs.Unmarked.{spare-or}
 use Rattle.ink_stack.proofs.threads.Threads.push_thread_marked.Given.{Over}
@@ -24,7 +24,7 @@ invariant_of-self g c =
     let s : Rooms = record { frames = c.self.inside.running.room; threads = vec_capacity c.push_copy.new.below } in (
       c.push_copy.ensures.few,
       held-as u u r s ts us refl (grown-kept (doubled ts) ts us c.push_copy.result c.in-Err.fault c.in-Err.is c.push_copy.ensures.threads)
-          (record { frames = omega arith; threads = c.push_copy.ensures.room }) c.self.invariant.1,
+          (record { frames = room-refl _; threads = c.push_copy.ensures.room }) c.self.invariant.1,
     )
 
 -- the copy goes again
@@ -50,7 +50,7 @@ invariant_of-self-in_default-add g c =
     let more : vec_capacity c.self.inside.below ≤ vec_capacity c.pop-copy.new.self = omega (arith, c.push_copy.ensures.room, c.pop-copy.ensures.capacity) in (
       omega (arith, ap (λ us. length us.below) same, length-reverse rest, length-reverse items, c.self.invariant.0),
       held-as c.self.inside.trail.undo c.add.new.self.undo r s (threads_in c.self.inside.running items) (threads_in c.self.inside.running rest) c.in_default-add.ensures.err.0 same
-          (record { frames = omega arith; threads = more }) c.self.invariant.1,
+          (record { frames = room-refl _; threads = more }) c.self.invariant.1,
     )
 
 pub returns-in_default-add-clause-threads : goal.returns-in_default-add-clause-threads
@@ -82,7 +82,7 @@ invariant_of-self-in-Ok g c =
         thread = now.thread;
         few = omega (arith, c.push_copy.ensures.few, length-reverse items);
         fit = omega (arith, length-reverse items, c.push_copy.new.below.ok.0, c.push_copy.new.below.ok.1);
-      }) (record { frames = omega arith; threads = c.push_copy.ensures.room }) c.self.invariant.1,
+      }) (record { frames = room-refl _; threads = c.push_copy.ensures.room }) c.self.invariant.1,
     )
 
 pub returns-clause-threads : goal.returns-clause-threads

@@ -40,7 +40,7 @@ invariant_of-self-in_default-set g c =
       c.self.invariant.0,
       held-as c.self.inside.trail.undo c.ready.new.self.undo r s ts (threads_in c.set_temp-set.new.self c.self.inside.below.items) c.ready.ensures.kept.0
           (ap (λ t. record { thread = t; below = reverse c.self.inside.below.items }) c.in_default-set.ensures.err)
-          (record { frames = omega (arith, c.set_temp-set.ensures.room); threads = omega arith }) c.self.invariant.1,
+          (record { frames = c.set_temp-set.ensures.room; threads = omega arith }) c.self.invariant.1,
     )
 
 pub invariant_of-self-2 : goal.invariant_of-self-2
@@ -54,7 +54,7 @@ invariant_of-self-2 g c =
       c.self.invariant.0,
       held-with pair 1 ts (threads_in c.set_temp-set.new.self c.self.inside.below.items) c.ready.new.self.undo r s
           (ap (λ t. record { thread = t; below = reverse c.self.inside.below.items }) c.in-Ok-set.ensures.back) (record { thread = c.within.ensures; few = now.few; fit = now.fit })
-          (record { frames = omega (arith, c.set_temp-set.ensures.room); threads = omega arith }) (held-as c.self.inside.trail.undo c.ready.new.self.undo r r ts ts c.ready.ensures.kept.0 refl (more-refl r) c.self.invariant.1),
+          (record { frames = c.set_temp-set.ensures.room; threads = omega arith }) (held-as c.self.inside.trail.undo c.ready.new.self.undo r r ts ts c.ready.ensures.kept.0 refl (more-refl r) c.self.invariant.1),
     )
 
 pub returns-in_default-clause-trail : goal.returns-in_default-clause-trail

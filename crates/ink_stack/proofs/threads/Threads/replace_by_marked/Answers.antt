@@ -4,7 +4,7 @@ use Rattle.ink_stack.specs.Running.{threads_in}
 use Rattle.ink_stack.specs.Undo.{Rooms, threads_back, threads_spare}
 use Rattle.ink_stack.specs.declared.undo.ThreadsPair.TheVariants.{Replaced}
 use Rattle.ink_stack.proofs.Backs.{spare-of, stood-of}
-use Rattle.ink_stack.proofs.Holding.{held-with}
+use Rattle.ink_stack.proofs.Holding.{held-with, room-same}
 use Rattle.ink_stack.proofs.threads.Threads.replace_by_marked.Given.{Over}
 use Rattle.ink_stack.proofs.threads.Threads.replace_by_marked.Goals.{After-note}
 use Rattle.ink_stack.proofs.threads.Threads.replace_by_marked.Goals as goal
@@ -20,7 +20,7 @@ invariant_of-self g c =
     let none : c.replace-below.new.dest.items ≡ [] = ap (λ b. b.items) c.replace-below.ensures.after ∙ c.new.ensures.items in
     let r : Rooms = record { frames = c.self.inside.running.room; threads = vec_capacity c.self.inside.below } in
     let s : Rooms = record { frames = c.args.running.room; threads = vec_capacity c.replace-below.new.dest } in
-    let frames : c.self.inside.running.room ≤ c.replace-top.result.room = omega (arith, ap (λ v. v.room) c.replace-top.ensures.value) in
+    let frames = room-same c.self.inside.running.room c.replace-top.result.room (ap (λ v. v.room) c.replace-top.ensures.value) in
     let threads : vec_capacity c.self.inside.below ≤ vec_capacity c.replace-below.result = omega (arith, ap (λ b. vec_capacity b) c.replace-below.ensures.value) in
     rw (c.note.ensures.undo, c.replace-top.ensures.after, none) (
       omega arith,

@@ -1,0 +1,20 @@
+use Rattle.std.proofs.Common.{◌<◌, true, ap, arith, length}
+use Rattle.ink_stack.specs.Cells.{with_fresh}
+use Rattle.ink_stack.specs.Frames.{frame_with}
+use Rattle.ink_stack.proofs.Flat.{framed_length, header_changed}
+use Rattle.ink_stack.proofs.frames.Frames.freshen.Goals as goal
+
+pub index_mut-requires : goal.index_mut-requires
+index_mut-requires g c =
+    let hs = c.self.inside.headers.items in
+    let ts = c.self.inside.temps.items in
+    let inside : c.args.index < length hs = omega (arith, c.requires, ap (λ v. length v.items) c.self.view_is, framed_length hs ts) in
+    omega (arith, inside, c.self.inside.headers.ok.0)
+
+pub returns-clause-items : goal.returns-clause-items
+returns-clause-items g c = λ d.
+    let hs = c.self.inside.headers.items in
+    let ts = c.self.inside.temps.items in
+    let inside : c.args.index < length hs = omega (arith, c.requires, ap (λ v. length v.items) c.self.view_is, framed_length hs ts) in
+    rw (← c.self.view_is) (header_changed (with_fresh true) hs ts c.args.index (record c.index_mut.result.now { fresh = true }) c.index_mut.result.now d inside
+    (λ rows. ap (λ h. with_fresh true (frame_with h rows)) c.index_mut.ensures.value))

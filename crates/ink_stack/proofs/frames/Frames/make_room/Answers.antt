@@ -1,0 +1,18 @@
+use Rattle.std.proofs.Common.{◌≡◌, arith, true, false}
+use Rattle.ink_stack.specs.Frames.{is_bare}
+use Rattle.ink_stack.proofs.Flat.{fits_bare, fits_more}
+use Rattle.ink_stack.proofs.frames.Frames.make_room.Goals as goal
+
+pub returns-in_ok-reserve-2-clause-ok : goal.returns-in_ok-reserve-2-clause-ok
+returns-in_ok-reserve-2-clause-ok g c =
+    let hs = c.self.inside.headers.items in
+    let ts = c.self.inside.temps.items in
+    let some : is_bare c.args.frame.now ≡ false = cc in
+    rw (← c.self.view_is) (fits_more _ hs ts c.args.frame.now some (omega (arith, c.in_ok-reserve.ensures.ok, c.in_ok-reserve.ensures.len, c.self.inside.headers.ok.0)) (omega (arith, c.in_ok-reserve-2.ensures.ok, c.in_ok-reserve-2.ensures.len, c.in_ok-reserve.ensures.len, c.self.inside.headers.ok.0, c.self.inside.temps.ok.0, c.self.invariant)))
+
+pub returns-else-not-is_bare-clause-ok : goal.returns-else-not-is_bare-clause-ok
+returns-else-not-is_bare-clause-ok g c =
+    let hs = c.self.inside.headers.items in
+    let ts = c.self.inside.temps.items in
+    let none : is_bare c.args.frame.now ≡ true = cc in
+    rw (← c.self.view_is) (fits_bare _ hs ts c.args.frame.now none (omega (arith, c.in_ok-reserve.ensures.ok, c.in_ok-reserve.ensures.len, c.self.inside.headers.ok.0)) (omega (arith, c.self.inside.temps.ok.0, c.self.inside.temps.ok.1)))

@@ -1,0 +1,89 @@
+use Rattle.std.proofs.Common.{rules, ◌≡◌, ◌∙◌, ◌<◌, ◌+◌, ◌-◌, ap, arith, false, get_or, length, length-set, nat_lt, set, sym}
+use Rattle.std.proofs.lemmas.Bool.Decides.{nat_tests}
+use Rattle.std.proofs.lemmas.List.{length-append, length-replicate, set-get_or}
+use Rattle.std.proofs.lemmas.Result.{IfOk-weaker, err_from_is_err_and, on_err_weaker, on_ok_weaker}
+use Rattle.ink_model.specs.Rows.{name_order, row, with_row}
+use Rattle.ink_stack.specs.Frames.{framed}
+use Rattle.ink_stack.specs.Temps.{text_of}
+use Rattle.ink_stack.proofs.Flat.{framed_length, rows_past, temps_at, temps_filled, temps_put, temps_restored, temps_were}
+use Rattle.ink_stack.proofs.frames.Frames.set_temp.Goals as goal
+
+pub overflow_add-index : goal.overflow_add-index
+overflow_add-index g c =
+    let inside : c.args.index < length c.self.inside.headers.items = omega (arith, c.requires, ap (λ v. length v.items) c.self.view_is, framed_length c.self.inside.headers.items c.self.inside.temps.items) in
+    search rules
+
+pub returns-in_err-fill_up-clause-memory : goal.returns-in_err-fill_up-clause-memory
+returns-in_err-fill_up-clause-memory g c = λ d.
+    let hs = c.self.inside.headers.items in
+    let ts = c.self.inside.temps.items in
+    let i = c.args.index in
+    let inside : i < length hs = omega (arith, c.requires, ap (λ v. length v.items) c.self.view_is, framed_length hs ts) in
+    let past : false ≡ nat_lt i (length ts) = grind (arith, nat_tests, c.in_err-fill_up.ensures.memory) in
+    let p = err_from_is_err_and c.from_residual.result c.from_residual.ensures.1 in
+    rw p.1 (rw (← c.self.view_is) (ap (row name_order (text_of c.args.name)) (temps_at hs ts i d inside ∙ rows_past ts i past)))
+
+pub invariant_of-self-2 : goal.invariant_of-self-2
+invariant_of-self-2 g c =
+    let hs = c.self.inside.headers.items in
+    let ts = c.self.inside.temps.items in
+    let i = c.args.index in
+    let inside : i < length hs = omega (arith, c.requires, ap (λ v. length v.items) c.self.view_is, framed_length hs ts) in
+    let more : length c.fill_up.new.temps.items ≡ length ts + (i + 1 - length ts) = ap length c.in_ok-fill_up.ensures.ok ∙ length-append ts _ ∙ ap (λ k. length ts + k) (length-replicate (i + 1 - length ts) _) in
+    omega (arith, more, inside, c.self.invariant, length-set c.fill_up.new.temps.items i c.set.new.self)
+
+pub returns-clause-ok : goal.returns-clause-ok
+returns-clause-ok g c = λ d.
+    let hs = c.self.inside.headers.items in
+    let ts = c.self.inside.temps.items in
+    let filled = c.fill_up.new.temps.items in
+    let i = c.args.index in
+    let n = i + 1 - length ts in
+    let inside : i < length hs = omega (arith, c.requires, ap (λ v. length v.items) c.self.view_is, framed_length hs ts) in
+    let more : length filled ≡ length ts + n = ap length c.in_ok-fill_up.ensures.ok ∙ length-append ts _ ∙ ap (λ k. length ts + k) (length-replicate n _) in
+    let were = temps_were hs ts filled n i c.index_mut.result.now d c.in_ok-fill_up.ensures.ok (omega arith) (omega (arith, c.self.invariant)) in
+    rw (← c.self.view_is)
+    (on_ok_weaker c.set.result
+    (λ made. temps_put hs ts filled n i c.set.new.self d c.in_ok-fill_up.ensures.ok (omega arith) (omega (arith, c.self.invariant))
+    ∙ ap (λ rows. set (framed hs ts) i (record (get_or (framed hs ts) i d) { temps = rows })) (made ∙ ap (with_row name_order (text_of c.args.name) c.args.value) (c.index_mut.ensures.value ∙ were)))
+    c.set.ensures.ok)
+
+pub returns-clause-err : goal.returns-clause-err
+returns-clause-err g c =
+    let hs = c.self.inside.headers.items in
+    let ts = c.self.inside.temps.items in
+    let filled = c.fill_up.new.temps.items in
+    let i = c.args.index in
+    rw (← c.self.view_is)
+    (on_err_weaker c.set.result
+    (λ kept. ap (framed hs) (ap (λ rows. set filled i rows) (kept ∙ c.index_mut.ensures.value) ∙ set-get_or filled i c.index_mut.result.now ∙ c.in_ok-fill_up.ensures.ok)
+    ∙ temps_filled hs ts (i + 1 - length ts))
+    c.set.ensures.err)
+
+pub returns-clause-memory : goal.returns-clause-memory
+returns-clause-memory g c = λ d.
+    let hs = c.self.inside.headers.items in
+    let ts = c.self.inside.temps.items in
+    let filled = c.fill_up.new.temps.items in
+    let i = c.args.index in
+    let n = i + 1 - length ts in
+    let inside : i < length hs = omega (arith, c.requires, ap (λ v. length v.items) c.self.view_is, framed_length hs ts) in
+    let more : length filled ≡ length ts + n = ap length c.in_ok-fill_up.ensures.ok ∙ length-append ts _ ∙ ap (λ k. length ts + k) (length-replicate n _) in
+    let were = temps_were hs ts filled n i c.index_mut.result.now d c.in_ok-fill_up.ensures.ok (omega arith) (omega (arith, c.self.invariant)) in
+    rw (← c.self.view_is)
+    (on_err_weaker c.set.result (λ absent. ap (row name_order (text_of c.args.name)) (sym (c.index_mut.ensures.value ∙ were)) ∙ absent) c.set.ensures.memory)
+
+pub returns-clause-back : goal.returns-clause-back
+returns-clause-back g c = λ d.
+    let hs = c.self.inside.headers.items in
+    let ts = c.self.inside.temps.items in
+    let filled = c.fill_up.new.temps.items in
+    let i = c.args.index in
+    let n = i + 1 - length ts in
+    let inside : i < length hs = omega (arith, c.requires, ap (λ v. length v.items) c.self.view_is, framed_length hs ts) in
+    let more : length filled ≡ length ts + n = ap length c.in_ok-fill_up.ensures.ok ∙ length-append ts _ ∙ ap (λ k. length ts + k) (length-replicate n _) in
+    let were = temps_were hs ts filled n i c.index_mut.result.now d c.in_ok-fill_up.ensures.ok (omega arith) (omega (arith, c.self.invariant)) in
+    rw (← c.self.view_is)
+    (IfOk-weaker c.set.result _ _
+    (λ was back. temps_restored hs ts filled n i was.0 c.set.new.self was.1 d c.in_ok-fill_up.ensures.ok (omega arith) (omega (arith, c.self.invariant)) (back ∙ c.index_mut.ensures.value ∙ were))
+    c.set.ensures.back)

@@ -1,0 +1,17 @@
+use Rattle.std.proofs.Common.{◌∙◌, ◌<◌, arith, get_or, length, refl}
+use Rattle.ink_stack.specs.Frames.{unnumbered}
+use Rattle.ink_stack.proofs.Mapping.{map_step, map_done}
+use Rattle.ink_stack.proofs.frames.clear_numbers_of.Goals as goal
+
+pub loop-header-preserved : goal.loop-header-preserved
+loop-header-preserved g c =
+    let items = c.loop-header.header-items in
+    let i = c.loop-header.header-index in
+    let inside : i < length items = omega arith in
+    map_step unnumbered items i c.header-item.result (unnumbered (get_or items i c.header-item.result)) inside refl ∙ c.loop-header.invariant
+
+pub loop-header-init : goal.loop-header-init
+loop-header-init g c = refl
+
+pub returns : goal.returns
+returns g c = map_done unnumbered c.loop-header.header-items _ c.loop-header.header-index (omega arith) c.loop-header.invariant

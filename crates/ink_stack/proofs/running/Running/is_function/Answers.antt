@@ -1,0 +1,24 @@
+use Rattle.std.proofs.Common.{◌≡◌, ◌∙◌, ◌∷◌, ◌<◌, ◌≤◌, ap, arith, length, sym}
+use Rattle.std.proofs.lemmas.List.{length-reverse}
+use Rattle.ink_model.specs.Frames.{frame_numbered, is_function}
+use Rattle.ink_stack.specs.Cells.{holds_of}
+use Rattle.ink_stack.proofs.Numbers.{none_numbered, none_zero, numbered_below}
+use Rattle.ink_stack.proofs.running.Running.is_function.Goals.{then-number-eq0-via-then-number-eq0, then-number-eq0-via-else-number-eq0+then-number-frames-2}
+use Rattle.ink_stack.proofs.running.Running.is_function.Goals as goal
+
+pub returns-then-number-eq0 : goal.returns-then-number-eq0
+returns-then-number-eq0 g c =
+    let frames = c.args.self.now.thread.frame ∷ c.args.self.now.thread.below in
+    elim c.then-number-eq0.branch [
+      | then-number-eq0-via-then-number-eq0 w ↦ sym (ap (λ f. holds_of (λ h. is_function h.kind) f) (ap (λ n. frame_numbered n frames) w.if-number-eq0.true ∙ none_zero frames))
+      | then-number-eq0-via-else-number-eq0+then-number-frames-2 w ↦ sym (ap (λ f. holds_of (λ h. is_function h.kind) f) (none_numbered frames c.args.number (omega arith)))
+    ]
+
+pub returns : goal.returns
+returns g c =
+    let items = c.self.inside.below.items in
+    let d = c.self.inside.frame in
+    let count : length c.args.self.now.thread.below ≡ length items = rw (← c.self.view_is) (length-reverse items) in
+    let above : 0 < c.args.number = omega arith in
+    let within : c.args.number ≤ length items = omega (arith, count) in
+    rw (← c.self.view_is) (c.is_function-2.ensures d ∙ sym (ap (λ f. holds_of (λ h. is_function h.kind) f) (numbered_below d items c.args.number d above within)))

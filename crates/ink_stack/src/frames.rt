@@ -1,0 +1,285 @@
+//! The frames below the top one of a thread.
+
+ghost use Rattle.std.specs.Prelude.{◌≡◌, ◌≢◌, [], ◌∷◌, ◌++◌, ◌<◌, ◌≤◌, ◌+◌, ◌-◌, None, Some, true, get_or, length, map, option_map, replicate, reverse, set, vec_capacity, IfOk, OnOk, OnErr, MatchOption};
+ghost use Rattle.std.specs.Bool.{OnTrue, OnFalse};
+ghost use Rattle.ink_model.specs.Frames.{FrameOf, is_function, unnumbered_frame};
+ghost use Rattle.ink_model.specs.Rows.{name_order, row};
+ghost use Rattle.ink_model.specs.Threads.{stale, with_row_in};
+ghost use Rattle.ink_stack.specs.Cells.{temp_back, with_fresh};
+ghost use Rattle.ink_stack.specs.Frames.{FitsIn, MoreRoom, unnumbered};
+ghost use Rattle.ink_stack.specs.Temps.{text_of};
+
+use crate::frame::{Frame, Header};
+use crate::temps::{TempName, Temps};
+use ink_model::Value;
+use std::alloc::{AllocError, Global};
+use std::marker::Model;
+
+/// Frames, the bottom one first: their headers, and the temporaries of those up to the last that has any. So frames without
+/// temporaries are copied as a whole, and are let go without a look. A contract sees the frames, and how many fit without memory.
+pub(crate) struct Frames<P> {
+    pub(crate) headers: Vec<Header<P>>,
+    pub(crate) temps: Vec<Temps>,
+    pub(crate) alloc: Global,
+}
+
+impl<P: Drop> Drop for Frames<P> {
+    fn drop(self) {
+        let Frames {
+            headers: _,
+            temps: _,
+            alloc: _,
+        } = self;
+    }
+}
+
+impl<P> Model for Frames<P> {
+    ghost use Rattle.std.specs.Prelude.{◌≤◌, length, vec_capacity};
+    ghost use Rattle.ink_stack.specs.Frames.{FramesView, framed};
+
+    ghost Value = { FramesView P };
+
+    ghost view = { λ f. record { items = framed f.headers.items f.temps.items; room = record { frames = vec_capacity f.headers; temps = vec_capacity f.temps } } };
+
+    ghost invariant = { λ f. length f.temps.items ≤ length f.headers.items };
+}
+
+impl<P: Copy> Frames<P> {
+    /// No frame, which takes no memory.
+    pub(crate) fn new(alloc: Global) -> Frames<P>
+        ensures { result.items ≡ [] }
+    {
+        Frames {
+            headers: Vec::new(alloc),
+            temps: Vec::new(alloc),
+            alloc,
+        }
+    }
+
+    /// How many there are.
+    pub(crate) fn len(&self) -> usize
+        ensures { result ≡ length self.now.items }
+    {
+        self.headers.len()
+    }
+
+    /// What is true of each.
+    #[inline(always)]
+    pub(crate) fn within(&self)
+        ensures { FitsIn self.now.room (reverse self.now.items) }
+    {
+        let _ = &self.headers;
+    }
+
+    /// A copy. The one error is a refused request for memory.
+    #[inline(always)]
+    pub(crate) fn clone_in(&self, alloc: Global) -> Result<Frames<P>, AllocError>
+        ensures copy { IfOk result (λ copy. copy.items ≡ self.now.items) }
+        ensures memory { OnErr result (self.now.items ≢ []) }
+    {
+        if self.headers.len() == 0 {
+            return Ok(Frames::new(alloc));
+        }
+        let headers = Vec::from_slice(alloc, self.headers.as_slice())?;
+        let temps = copied(alloc, self.temps.as_slice())?;
+        Ok(Frames {
+            headers,
+            temps,
+            alloc,
+        })
+    }
+
+    /// Whether the frame at an index is a function.
+    pub(crate) fn is_function(&self, index: usize) -> bool
+        requires { index < length self.now.items }
+        ensures { (d : FrameOf P) → result ≡ is_function (get_or self.now.items index d).kind }
+    {
+        self.headers[index].is_function()
+    }
+
+    /// Whether it is fresh.
+    pub(crate) fn is_fresh(&self, index: usize) -> bool
+        requires { index < length self.now.items }
+        ensures { (d : FrameOf P) → result ≡ (get_or self.now.items index d).fresh }
+    {
+        self.headers[index].fresh
+    }
+
+    /// The value of a temporary of the frame at an index, none where it has none of that name. Takes no memory.
+    pub(crate) fn temp(&self, index: usize, name: &str) -> Option<&Value>
+        requires { index < length self.now.items }
+        ensures { (d : FrameOf P) → option_map (λ value. value.now) result ≡ row name_order name.now (get_or self.now.items index d).temps }
+    {
+        match self.temps.get(index) {
+            Some(temps) => temps.get(name),
+            None => None,
+        }
+    }
+
+    /// A text is written where so many sections are open: the frame at an index is fresh no more if it was pushed there. Whether it
+    /// was fresh until then.
+    pub(crate) fn end_one(&mut self, index: usize, depth: usize) -> bool
+        requires { index < length self.old.items }
+        ensures items { (d : FrameOf P) → self.new.items ≡ set self.old.items index (stale depth (get_or self.old.items index d)) }
+        ensures room { self.new.room ≡ self.old.room }
+        ensures ended { (d : FrameOf P) → OnTrue result (with_fresh true (stale depth (get_or self.old.items index d)) ≡ get_or self.old.items index d) }
+        ensures kept { (d : FrameOf P) → OnFalse result (stale depth (get_or self.old.items index d) ≡ get_or self.old.items index d) }
+    {
+        self.headers[index].end_one(depth)
+    }
+
+    /// The frame at an index is fresh again.
+    pub(crate) fn freshen(&mut self, index: usize)
+        requires { index < length self.old.items }
+        ensures items { (d : FrameOf P) → self.new.items ≡ set self.old.items index (with_fresh true (get_or self.old.items index d)) }
+        ensures room { self.new.room ≡ self.old.room }
+    {
+        self.headers[index].fresh = true;
+    }
+
+    /// The row at an index of the temporaries of a frame holds what it held; where that was nothing it goes. Takes no memory.
+    pub(crate) fn put_temp_back(&mut self, index: usize, row: usize, was: Option<Value>)
+        requires { index < length self.old.items }
+        ensures items { (d : FrameOf P) → self.new.items ≡ set self.old.items index (temp_back row was (get_or self.old.items index d)) }
+        ensures room { self.new.room ≡ self.old.room }
+    {
+        if index < self.temps.len() {
+            self.temps[index].put_back(row, was);
+        }
+    }
+
+    /// Gives a temporary of the frame at an index a value, and answers the index of its row and what that held; none where it is
+    /// new. The one error is a refused request for memory, which is made only for a new name, and leaves all as it was.
+    #[inline(never)]
+    pub(crate) fn set_temp(
+        &mut self,
+        index: usize,
+        name: TempName<'_>,
+        value: Value,
+    ) -> Result<(usize, Option<Value>), AllocError>
+        requires { index < length self.old.items }
+        ensures ok { (d : FrameOf P) → OnOk result (self.new.items ≡ set self.old.items index (with_row_in (text_of name.entry) value (get_or self.old.items index d))) }
+        ensures err { OnErr result (self.new.items ≡ self.old.items) }
+        ensures memory { (d : FrameOf P) → OnErr result (row name_order (text_of name.entry) (get_or self.old.items index d).temps ≡ None) }
+        ensures back { (d : FrameOf P) → IfOk result (λ was. temp_back was.0 was.1 (get_or self.new.items index d) ≡ get_or self.old.items index d) }
+        ensures room { MoreRoom self.old.room self.new.room }
+    {
+        fill_up(self.alloc, &mut self.temps, index + 1)?;
+        self.temps[index].set(name, value)
+    }
+
+    /// Makes room for a frame, which the room may have already. The one error is a refused request for memory, and leaves all as it
+    /// was.
+    pub(crate) fn make_room(&mut self, frame: &Frame<P>) -> Result<(), AllocError>
+        ensures items { self.new.items ≡ self.old.items }
+        ensures more { MoreRoom self.old.room self.new.room }
+        ensures ok { OnOk result (FitsIn self.new.room (frame.now ∷ reverse self.old.items)) }
+    {
+        self.headers.reserve(1)?;
+        if !frame.is_bare() {
+            let missing = self.headers.len() - self.temps.len() + 1;
+            self.temps.reserve(missing)?;
+        }
+        Ok(())
+    }
+
+    /// One frame more, for which there is room.
+    pub(crate) fn push_reserved(&mut self, frame: Frame<P>)
+        requires { FitsIn self.old.room (frame ∷ reverse self.old.items) }
+        ensures items { self.new.items ≡ self.old.items ++ frame ∷ [] }
+        ensures room { self.new.room ≡ self.old.room }
+    {
+        let (header, temps) = frame.parts();
+        if temps.is_empty() {
+            self.headers.push_reserved(header);
+            return;
+        }
+        let missing = self.headers.len() - self.temps.len();
+        fill(self.alloc, &mut self.temps, missing);
+        self.temps.push_reserved(temps);
+        self.headers.push_reserved(header);
+    }
+
+    /// Takes the last frame out, where there is one.
+    pub(crate) fn pop(&mut self) -> Option<Frame<P>>
+        ensures items { MatchOption result ((self.old.items ≡ []) × (self.new ≡ self.old)) (λ frame. self.old.items ≡ self.new.items ++ frame ∷ []) }
+        ensures room { self.new.room ≡ self.old.room }
+    {
+        let header = self.headers.pop()?;
+        let temps = take_last(self.alloc, &mut self.temps, self.headers.len());
+        Some(Frame { header, temps })
+    }
+
+    /// No frame has the number of its mark any more.
+    pub(crate) fn clear_numbers(&mut self)
+        ensures items { self.new.items ≡ map unnumbered_frame self.old.items }
+        ensures room { self.new.room ≡ self.old.room }
+    {
+        clear_numbers_of(self.headers.as_mut_slice());
+    }
+}
+
+/// No header has the number of its mark any more.
+fn clear_numbers_of<P: Copy>(headers: &mut [Header<P>])
+    ensures { headers.new ≡ map unnumbered headers.old }
+{
+    for header in headers {
+        header.enter = None;
+    }
+}
+
+/// Takes out the temporaries of the frame at an index, which is the last; where none are kept there, it has none.
+fn take_last(alloc: Global, temps: &mut Vec<Temps>, index: usize) -> Temps
+    requires { length temps.old.items ≤ index + 1 }
+    ensures taken { length temps.old.items ≡ index + 1 → temps.old.items ≡ temps.new.items ++ result ∷ [] }
+    ensures none { length temps.old.items ≤ index → (temps.new.items ≡ temps.old.items) × (result ≡ []) }
+    ensures few { length temps.new.items ≤ index }
+    ensures room { vec_capacity temps.new ≡ vec_capacity temps.old }
+{
+    if temps.len() <= index {
+        return Temps::new(alloc);
+    }
+    match temps.pop() {
+        Some(last) => last,
+        None => Temps::new(alloc),
+    }
+}
+
+/// There are so many temporaries at least: where there are fewer, none are put there. The one error is a refused request for memory,
+/// and leaves all as it was.
+fn fill_up(alloc: Global, temps: &mut Vec<Temps>, len: usize) -> Result<(), AllocError>
+    ensures ok { OnOk result (temps.new.items ≡ temps.old.items ++ replicate (len - length temps.old.items) []) }
+    ensures err { OnErr result (temps.new.items ≡ temps.old.items) }
+    ensures memory { OnErr result (length temps.old.items < len) }
+    ensures room { vec_capacity temps.old ≤ vec_capacity temps.new }
+{
+    let missing = len.saturating_sub(temps.len());
+    temps.reserve(missing)?;
+    fill(alloc, temps, missing);
+    Ok(())
+}
+
+/// So many times no temporaries more, for which there is room.
+fn fill(alloc: Global, temps: &mut Vec<Temps>, count: usize)
+    requires { length temps.old.items + count ≤ vec_capacity temps.old }
+    ensures items { temps.new.items ≡ temps.old.items ++ replicate count [] }
+    ensures room { vec_capacity temps.new ≡ vec_capacity temps.old }
+{
+    let mut left = count;
+    while left > 0 {
+        left -= 1;
+        temps.push_reserved(Temps::new(alloc));
+    }
+}
+
+/// Copies of temporaries. The one error is a refused request for memory.
+fn copied(alloc: Global, temps: &[Temps]) -> Result<Vec<Temps>, AllocError>
+    ensures copy { IfOk result (λ copies. copies.items ≡ temps.now) }
+    ensures memory { OnErr result (temps.now ≢ []) }
+{
+    let mut copies = Vec::with_capacity(alloc, temps.len())?;
+    for own in temps {
+        copies.push_reserved(own.clone_in(alloc)?);
+    }
+    Ok(copies)
+}
