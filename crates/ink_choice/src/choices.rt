@@ -68,6 +68,7 @@ impl<P: Copy> Choices<P> {
     /// Adds a choice behind the others, which is one change of a cell. `TooDeep` where there are 1,000; `OutOfMemory` for a refused
     /// request for memory. On an error nothing has changed (docs/CHOICES.md, "The list").
     #[tactic(auto, using(crate::proofs::Lists::full), unfolding(crate::specs::Undo::choices_stood, crate::specs::Undo::choices_spare, ink_trail::specs::Undo::stood_at, ink_trail::specs::Undo::spare))]
+    #[inline(always)]
     pub fn add(&mut self, choice: Choice<P>) -> Result<(), Fault>
         ensures items { Adds (rules.added choice self.old.items) self.old.items self.new.items result }
         ensures trail { TrailsOrKeeps choices_back 1 self.old.items self.old.trail self.new.items self.new.trail result }

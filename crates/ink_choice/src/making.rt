@@ -26,6 +26,7 @@ use std::alloc::{AllocError, Global};
 /// than a text may be; `OutOfMemory` for a refused request for memory, which is made only for a choice: for a text that is not
 /// empty, for tags, and for a thread with temporaries or more than one frame, and while the stack has a mark. Each value that is
 /// popped is a change of a cell of the stack. On an error nothing has changed.
+#[inline(always)]
 pub fn make<P: Copy>(
     alloc: Global,
     flags: u8,
@@ -49,6 +50,7 @@ pub fn make<P: Copy>(
 }
 
 // The choice, and how many values are to be popped for it.
+#[inline(always)]
 fn found<P: Copy>(
     alloc: Global,
     flags: u8,
@@ -81,6 +83,7 @@ fn is_offered(flags: u8, visited: bool, condition: bool) -> bool
 }
 
 // The choice of what was found. `TooDeep` where its text is longer than a text may be, before memory is asked for.
+#[inline(always)]
 fn choice_of<P: Copy>(
     alloc: Global,
     flags: u8,
