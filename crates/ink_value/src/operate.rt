@@ -10,8 +10,8 @@ ghost use Rattle.ink_value.specs.Words as words;
 use crate::numbers::of_numbers;
 use crate::printing::printed;
 use crate::targets::of_targets;
-use crate::texts::{is_for_texts, of_texts};
-use ink_model::{Fault, Op, Path, Value};
+use crate::texts::{is_for_texts, of_shared, of_texts};
+use ink_model::{Fault, Op, Path, Shared, Text, Value};
 use std::alloc::Global;
 
 /// What an operator makes of as many values as it takes, in the order in which they were pushed (docs/VALUES.md).
@@ -65,7 +65,7 @@ fn of_two(alloc: Global, operator: Op, left: &Value, right: &Value) -> Result<Va
         return after_number(alloc, operator, left, number, right);
     }
     match left {
-        Value::Text(text) => after_text(alloc, operator, text.get().as_str(), right),
+        Value::Text(text) => after_text(alloc, operator, text, right),
         Value::Target(path) => after_target(operator, path.get(), right),
         _ => Err(Fault::BadOperands),
     }
@@ -122,15 +122,20 @@ fn before_text(alloc: Global, operator: Op, left: &Value, right: &Value) -> Resu
 // A text and any value.
 #[tactic(auto, unfolding(ink_model::specs::Value::printed))]
 #[inline(never)]
-fn after_text(alloc: Global, operator: Op, left: &str, right: &Value) -> Result<Value, Fault>
+fn after_text(
+    alloc: Global,
+    operator: Op,
+    left: &Shared<Text>,
+    right: &Value,
+) -> Result<Value, Fault>
     ensures result { Gives result (rules.of_two operator (both (rules.words left.now) (operand right.now))) }
     ensures memory { joins operator (Value.Text left.now ∷ right.now ∷ []) || is_number right.now ≡ false → result ≢ Err Fault.OutOfMemory }
 {
     match right {
-        Value::Text(text) => of_texts(alloc, operator, left, text.get().as_str()),
+        Value::Text(text) => of_shared(alloc, operator, left, text),
         Value::Int(_) | Value::Bool(_) if is_for_texts(operator) => {
             let text = printed(alloc, right)?;
-            of_texts(alloc, operator, left, text.as_str())
+            of_texts(alloc, operator, left.as_str(), text.as_str())
         }
         _ => Err(Fault::BadOperands),
     }

@@ -20,6 +20,41 @@ pub(crate) fn is_for_texts(operator: Op) -> bool
     )
 }
 
+/// What an operator makes of two texts that are owned together: joined with nothing, one of them is the answer as it stands.
+pub(crate) fn of_shared(
+    alloc: Global,
+    operator: Op,
+    left: &Shared<Text>,
+    right: &Shared<Text>,
+) -> Result<Value, Fault>
+    ensures result { Gives result (rules.of_texts operator left.now right.now) }
+    ensures memory { joins operator (Value.Text left.now ∷ Value.Text right.now ∷ []) ≡ false → result ≢ Err Fault.OutOfMemory }
+{
+    match operator {
+        Op::Add => joined_or_shared(alloc, left, right),
+        _ => of_texts(alloc, operator, left.as_str(), right.as_str()),
+    }
+}
+
+fn joined_or_shared(
+    alloc: Global,
+    left: &Shared<Text>,
+    right: &Shared<Text>,
+) -> Result<Value, Fault>
+    ensures result { Gives result (rules.joined_text (left.now ++ right.now)) }
+    ensures memory { bytes.fits_text (left.now ++ right.now) ≡ false → result ≢ Err Fault.OutOfMemory }
+{
+    let before = left.as_str();
+    let behind = right.as_str();
+    if behind.is_empty() && before.len() <= MAX_TEXT {
+        return Ok(Value::Text(left.share()?));
+    }
+    if before.is_empty() && behind.len() <= MAX_TEXT {
+        return Ok(Value::Text(right.share()?));
+    }
+    joined(alloc, before, behind)
+}
+
 pub(crate) fn of_texts(alloc: Global, operator: Op, left: &str, right: &str) -> Result<Value, Fault>
     ensures result { Gives result (rules.of_texts operator left.now right.now) }
     ensures memory { joins operator (Value.Text left.now ∷ Value.Text right.now ∷ []) ≡ false → result ≢ Err Fault.OutOfMemory }
