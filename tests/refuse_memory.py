@@ -433,8 +433,8 @@ def are_excused(table, told):
                 break
             found.append(player.index(line, at))
             at = found[-1] + 1
-        if len(found) == len(differing):
-            return any(line.startswith("short ") for line in player[:found[0] + 1])
+        if len(found) == len(differing) and any(line.startswith("short ") for line in player[:found[0] + 1]):
+            return True
     return False
 
 
